@@ -1,0 +1,6 @@
+-- Places, as the definitions have them.
+use Rattle.csp_semantics.specs.Text.Place as text
+use Rattle.csp_lex.specs.declared.places.Place.{Place}
+
+abbrev pub place_of : Place → text.Place
+place_of p = record { line = p.line; column = p.column }

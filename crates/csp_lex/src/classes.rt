@@ -1,0 +1,48 @@
+ghost use Rattle.std.specs.Prelude.{◌≡◌};
+ghost use Rattle.csp_lex.specs.Classes.{class_test};
+ghost use Rattle.csp_lex.specs.Cursors.{RunsOver};
+
+use crate::cursors::Cursor;
+
+/// A class of characters that go on as what has begun.
+#[derive(Clone, Copy)]
+pub(crate) enum Class {
+    /// what may go on in a name
+    Continuing,
+    /// the `'` that a name may end in
+    Prime,
+    /// the digits 0 to 9
+    Digit,
+    /// all but the end of a line
+    WithinLine,
+    /// every character
+    Any,
+}
+
+impl Class {
+    pub(crate) fn contains(self, character: char) -> bool
+        ensures { result ≡ class_test self character }
+    {
+        match self {
+            Class::Continuing => unicode_ident::is_xid_continue(character),
+            Class::Prime => character == '\'',
+            Class::Digit => character.is_ascii_digit(),
+            Class::WithinLine => character != '\n',
+            Class::Any => true,
+        }
+    }
+}
+
+/// The cursor behind all the characters of a class that stand next.
+pub(crate) fn behind_run<'a>(cursor: Cursor<'a>, class: Class) -> Cursor<'a>
+    ensures { RunsOver (class_test class) cursor.entry result }
+{
+    let mut end = cursor;
+    while let Some((character, behind)) = end.next() {
+        if !class.contains(character) {
+            break;
+        }
+        end = behind;
+    }
+    end
+}

@@ -1,0 +1,35 @@
+use crate::keywords::Keyword;
+use crate::places::Place;
+use crate::signs::Sign;
+use std::alloc::Allocator;
+
+/// What a token is. A name is known by its text.
+#[derive(Clone, Copy, Debug, PartialEq, Eq, Hash)]
+pub enum TokenKind {
+    Keyword(Keyword),
+    Sign(Sign),
+    Name,
+    /// a number, of at most `GREATEST_NUMBER`
+    Number(u32),
+}
+
+/// A token of a text, with the slice of the text that it is.
+#[derive(Clone, Copy, Debug)]
+pub struct Token<'a> {
+    pub kind: TokenKind,
+    pub text: &'a str,
+    /// the place of its first character
+    pub place: Place,
+    /// the number of bytes before it
+    pub from: usize,
+    /// the number of bytes before what follows it
+    pub to: usize,
+}
+
+/// The tokens of a text, in order.
+#[derive(Drop)]
+pub struct TokenList<'a, A: Allocator> {
+    pub tokens: Vec<Token<'a>, A>,
+    /// the place behind the text's last character
+    pub end: Place,
+}
