@@ -1,0 +1,11 @@
+-- Terms that stand for the same process are equal, and equal terms make the same writes.
+use Rattle.std.proofs.Common.{sym, ◌∙◌, ap}
+use Rattle.std.specs.List.{fold}
+use Rattle.csp_term.specs.contracts.term.TermHash.TheImpl.Laws as laws
+use Rattle.csp_term.proofs.Equality.{term_tells}
+use Rattle.csp_term.proofs.laws.hash_term.Goals as goal
+
+pub returns : goal.returns
+returns g c other same =
+    let equal = (term_tells g.row.A g.A.Allocator g.A.Allocator-dict g.A.Destruct-dict).complete c.args.term.now other (sym same) in
+    c.hash.ensures ∙ ap (fold g.H.Hasher.write c.args.hasher.now) (laws.respects_eq-law g.row.A g.A.Allocator g.A.Allocator-dict g.A.Destruct-dict c.args.term.now other equal)

@@ -1,0 +1,5 @@
+pub mod Action
+pub mod Copies
+pub mod Fault
+pub mod Term
+pub mod Script

@@ -1,0 +1,40 @@
+//! Assertions.
+
+ghost use Rattle.std.specs.Prelude.{◌≡◌};
+
+use crate::copy::TryCopy;
+use crate::memory::Memory;
+use crate::term::Term;
+use std::alloc::Allocator;
+
+/// What a refinement compares (FDR manual).
+#[derive(Clone, Copy, Debug, PartialEq, Eq, PartialOrd, Ord, Hash)]
+pub enum Model {
+    /// `[T=`: the traces.
+    Traces,
+    /// `[F=`: the traces and the stable failures.
+    Failures,
+}
+
+/// That the implementation refines the specification in the model.
+#[derive(Drop)]
+#[derive_where(PartialEq, Eq, PartialOrd, Ord, Hash)]
+pub struct Assertion<A: Allocator> {
+    pub model: Model,
+    pub specification: Term<A>,
+    pub implementation: Term<A>,
+}
+
+impl<A: Allocator + Copy> TryCopy<A> for Assertion<A> {
+    ghost use Rattle.csp_term.specs.Script.{assertion_of};
+
+    ghost is_copy = { λ a copy. assertion_of copy ≡ assertion_of a };
+
+    fn try_copy(&self, alloc: A) -> Result<Assertion<A>, Memory> {
+        Ok(Assertion {
+            model: self.model,
+            specification: self.specification.try_copy(alloc)?,
+            implementation: self.implementation.try_copy(alloc)?,
+        })
+    }
+}

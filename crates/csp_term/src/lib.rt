@@ -1,0 +1,30 @@
+//! Terms of processes and the scripts that hold them.
+//!
+//! A term stands for a process of the definitions, by `process_of`, and every call here is stated over that process:
+//! a copy stands for the same process, values are put in as the definitions say, the limits are decided exactly, and
+//! `==`, the order and the hash of two terms are those of their processes, whichever allocator holds them.
+#![tactic(auto)]
+
+mod action;
+mod assertion;
+mod copy;
+mod fault;
+pub mod laws;
+mod limits;
+mod memory;
+mod name;
+mod script;
+mod substitution;
+mod term;
+#[cfg(test)]
+mod tests;
+
+pub use action::{Action, Event};
+pub use assertion::{Assertion, Model};
+pub use copy::{TryCopy, copy_all};
+pub use fault::Fault;
+pub use memory::Memory;
+pub use name::{ChannelId, Name};
+pub use script::{Channel, Equation, Script, Types};
+pub use substitution::TermFault;
+pub use term::Term;

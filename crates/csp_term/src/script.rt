@@ -1,0 +1,78 @@
+//! Scripts, with their channels and equations.
+
+ghost use Rattle.std.specs.Prelude.{◌≡◌};
+ghost use Rattle.std.specs.String.{string_bytes};
+
+use crate::assertion::Assertion;
+use crate::copy::{TryCopy, copy_all};
+use crate::memory::Memory;
+use crate::name::Name;
+use crate::term::Term;
+use std::alloc::Allocator;
+
+/// The datatypes and nametypes of a script. There are none yet.
+#[derive(Clone, Copy, Debug, PartialEq, Eq, PartialOrd, Ord, Hash)]
+pub struct Types;
+
+/// A channel with its spelling. Channels have no fields yet.
+#[derive(Drop)]
+#[derive_where(PartialEq, Eq, PartialOrd, Ord, Hash)]
+pub struct Channel<A: Allocator> {
+    pub spelling: String<A>,
+}
+
+/// `name(parameters) = body`
+#[derive(Drop)]
+#[derive_where(PartialEq, Eq, PartialOrd, Ord, Hash)]
+pub struct Equation<A: Allocator> {
+    pub parameters: Vec<Name, A>,
+    pub body: Term<A>,
+}
+
+/// A script, each part in the order of the text.
+#[derive(Drop)]
+#[derive_where(PartialEq, Eq, PartialOrd, Ord, Hash)]
+pub struct Script<A: Allocator> {
+    pub types: Types,
+    pub channels: Vec<Channel<A>, A>,
+    pub equations: Vec<Equation<A>, A>,
+    pub assertions: Vec<Assertion<A>, A>,
+}
+
+impl<A: Allocator + Copy> TryCopy<A> for Channel<A> {
+    ghost is_copy = { λ c copy. string_bytes copy.spelling ≡ string_bytes c.spelling };
+
+    fn try_copy(&self, alloc: A) -> Result<Channel<A>, Memory> {
+        Ok(Channel {
+            spelling: String::from_str(alloc, self.spelling.as_str())?,
+        })
+    }
+}
+
+impl<A: Allocator + Copy> TryCopy<A> for Equation<A> {
+    ghost use Rattle.csp_term.specs.Script.{equation_of};
+
+    ghost is_copy = { λ e copy. equation_of copy ≡ equation_of e };
+
+    fn try_copy(&self, alloc: A) -> Result<Equation<A>, Memory> {
+        Ok(Equation {
+            parameters: Vec::from_slice(alloc, self.parameters.as_slice())?,
+            body: self.body.try_copy(alloc)?,
+        })
+    }
+}
+
+impl<A: Allocator + Copy> TryCopy<A> for Script<A> {
+    ghost use Rattle.csp_term.specs.Script.{script_of};
+
+    ghost is_copy = { λ s copy. script_of copy ≡ script_of s };
+
+    fn try_copy(&self, alloc: A) -> Result<Script<A>, Memory> {
+        Ok(Script {
+            types: self.types,
+            channels: copy_all(alloc, self.channels.as_slice())?,
+            equations: copy_all(alloc, self.equations.as_slice())?,
+            assertions: copy_all(alloc, self.assertions.as_slice())?,
+        })
+    }
+}
