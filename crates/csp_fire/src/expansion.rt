@@ -1,0 +1,68 @@
+//! Expansions: a term of a script with its form.
+
+ghost use Rattle.std.specs.Prelude.{◌≡◌};
+ghost use Rattle.csp_semantics.specs.Meaning.Expansions.{IsExpansion};
+ghost use Rattle.csp_term.specs.Term.{process_of};
+ghost use Rattle.csp_term.specs.Script.{script_of};
+ghost use Rattle.csp_fire.specs.Form.{form_of};
+
+use crate::form::Form;
+use csp_term::{Script, Term};
+use std::alloc::Allocator;
+use std::marker::Model;
+
+/// A term of a script with its form, which is exactly what the rules say of the term. It lends the script.
+#[derive(Drop)]
+pub struct Expansion<'s, A: Allocator> {
+    pub(crate) script: &'s Script<A>,
+    pub(crate) term: Term<A>,
+    pub(crate) form: Form<A>,
+}
+
+impl<'s, A: Allocator> Model for Expansion<'s, A> {
+    ghost use Rattle.csp_semantics.specs.Meaning.Expansions as meaning;
+    ghost use Rattle.csp_semantics.specs.Codes.Coding.{coded};
+    ghost use Rattle.csp_semantics.specs.Codes.Expansions.{coding_expansion};
+
+    ghost Value = { meaning.Expansion };
+
+    ghost coded = { coded coding_expansion };
+
+    ghost use Rattle.csp_semantics.specs.Meaning.Expansions.{IsExpansion};
+    ghost use Rattle.csp_fire.specs.Expansion.{expansion_of};
+
+    ghost view = { expansion_of };
+
+    ghost invariant = { λ e. IsExpansion (expansion_of e) };
+}
+
+impl<'s, A: Allocator> Expansion<'s, A> {
+    /// The script that the term is of.
+    pub fn script(&self) -> &'s Script<A>
+        ensures { script_of result.now ≡ self.now.script }
+    {
+        self.script
+    }
+
+    /// The term that was fired.
+    pub fn term(&self) -> &Term<A>
+        ensures { process_of result.now ≡ self.now.term }
+    {
+        &self.term
+    }
+
+    /// What the firing showed.
+    pub fn form(&self) -> &Form<A>
+        ensures value { form_of result.now ≡ self.now.form }
+        ensures exact { IsExpansion self.now }
+    {
+        &self.form
+    }
+
+    /// What the firing showed, to keep.
+    pub fn into_form(self) -> Form<A>
+        ensures { form_of result ≡ self.entry.form }
+    {
+        self.form
+    }
+}

@@ -1,0 +1,44 @@
+//! Firing a term.
+
+ghost use Rattle.std.specs.Prelude.{◌≡◌, IfOk};
+ghost use Rattle.csp_semantics.specs.Meaning.Expansions.{IsFormOf, IsExpansion};
+ghost use Rattle.csp_term.specs.Term.{process_of};
+ghost use Rattle.csp_term.specs.Script.{script_of};
+ghost use Rattle.csp_fire.specs.Form.{form_of};
+
+use crate::expansion::Expansion;
+use crate::form::Form;
+use crate::rules::{prefix, stop};
+use csp_term::{Memory, Script, Term};
+use std::alloc::Allocator;
+
+/// Fires a closed term of the script. The expansion names the script and the term that were handed in.
+pub fn fire<'s, A: Allocator + Copy>(
+    alloc: A,
+    script: &'s Script<A>,
+    term: &Term<A>,
+) -> Result<Expansion<'s, A>, Memory>
+    ensures script { IfOk result (λ e. e.script ≡ script_of script.now) }
+    ensures term { IfOk result (λ e. e.term ≡ process_of term.now) }
+    ensures exact { IfOk result IsExpansion }
+{
+    let form = form_of_term(alloc, script, term)?;
+    let term = term.try_copy(alloc)?;
+    Ok(Expansion { script, term, form })
+}
+
+fn form_of_term<A: Allocator + Copy>(
+    alloc: A,
+    script: &Script<A>,
+    term: &Term<A>,
+) -> Result<Form<A>, Memory>
+    ensures { IfOk result (λ f. IsFormOf (script_of script.now) (process_of term.now) (form_of f)) }
+{
+    if !term.fits() {
+        return Ok(Form::Large);
+    }
+    match term {
+        Term::Stop => stop::form(alloc),
+        Term::Prefix(channel, body) => prefix::form(alloc, script, *channel, body),
+    }
+}
