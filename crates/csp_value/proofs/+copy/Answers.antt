@@ -1,0 +1,9 @@
+-- One more value is copied.
+use Rattle.csp_value.specs.Value.{value_of}
+use Rattle.csp_value.proofs.Copying.{map_push}
+use Rattle.csp_value.proofs.+copy.Goals as goal
+
+pub value::copy_values-loop-value-preserved : goal.value::copy_values-loop-value-preserved
+value::copy_values-loop-value-preserved g t c =
+    map_push value_of c.loop-value.copies.items c.push.new.self.items c.in_ok-try_copy.field-0 c.args.values.now c.loop-value.value-index c.value-item.result
+    c.loop-value.invariant c.loop-value-test.true c.value-item.is c.in_ok-try_copy.ensures c.in_ok-push.ensures.items

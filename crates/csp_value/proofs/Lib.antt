@@ -1,0 +1,10 @@
+pub mod ActionEquality
+pub mod ActionOrder
+pub mod Copying
+pub mod Equality
+pub mod Finding
+pub mod Forms
+pub mod Sameness
+pub mod Sets
+pub mod Sorting
+pub mod ValueOrder

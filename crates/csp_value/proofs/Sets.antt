@@ -1,0 +1,147 @@
+-- Lists of values that rise, and what they have.
+use Rattle.std.proofs.Common.{◌≡◌, ℕ, zero, suc, List, [], ◌∷◌, ◌++◌, map, filter, refl, sym, ◌∙◌, ap, subst, Bool, true, false, ◌||◌, Some, slice_get}
+use Rattle.std.specs.declared.cmp.Ordering.{Ordering}
+use Rattle.std.specs.declared.cmp.Ordering.TheVariants.{Less, Equal, Greater}
+use Rattle.std.specs.Ordering.{is_lt, is_eq, ordering_reverse}
+use Rattle.csp_semantics.specs.Syntax.Value.{Value, value_cmp, value_eq, has_value, insert_value, insert_values, sorted_values}
+use Rattle.csp_semantics.specs.Meaning.Offers.{RisesBy}
+use Rattle.csp_semantics.proofs.Equalities.{is_eq-Equal, value_same, value_refl}
+use Rattle.csp_semantics.proofs.Orders.{value_total}
+use Rattle.csp_semantics.proofs.Rising.{Stands, rising_same}
+
+abbrev pub Rises : List Value → Type 0
+Rises = RisesBy value_cmp
+
+-- ---- tests
+
+or_true : (a : Bool) → a || true ≡ true
+or_true true = refl
+or_true false = refl
+
+or_swap : (a b c : Bool) → a || (b || c) ≡ b || (a || c)
+or_swap true true c = refl
+or_swap true false c = refl
+or_swap false b c = refl
+
+or_again : (a c : Bool) → a || c ≡ a || (a || c)
+or_again true c = refl
+or_again false c = refl
+
+-- ---- equality of values
+
+pub eq_same : (v w : Value) → value_eq v w ≡ true → v ≡ w
+eq_same v w e = value_same v w (is_eq-Equal (value_cmp v w) e)
+
+pub eq_refl : (v : Value) → value_eq v v ≡ true
+eq_refl v = ap is_eq (value_refl v)
+
+-- ---- what a list has
+
+pub has_stands : (vs : List Value) (v : Value) → has_value vs v ≡ true → Stands vs v
+has_stands [] v e = absurd (cc e)
+has_stands (w ∷ ws) v e = either (value_eq v w) refl (has_stands ws v)
+  where
+    either : (b : Bool) → value_eq v w ≡ b → (has_value ws v ≡ true → Stands ws v) → Stands (w ∷ ws) v
+    either true is behind = (0, ap Some (sym (eq_same v w is)))
+    either false is behind = let h = behind (sym (ap (λ c. c || has_value ws v) is) ∙ e) in (suc h.0, h.1)
+
+pub stands_has : (vs : List Value) (v : Value) (i : ℕ) → slice_get vs i ≡ Some v → has_value vs v ≡ true
+stands_has [] v i at = absurd (cc at)
+stands_has (w ∷ ws) v zero at =
+    let f : Some w ≡ Some v = at in
+    let g : w ≡ v = cc f in
+    ap (λ b. b || has_value ws v) (subst (λ z. value_eq v z ≡ true) (sym g) (eq_refl v))
+stands_has (w ∷ ws) v (suc i) at = ap (λ b. value_eq v w || b) (stands_has ws v i at) ∙ or_true (value_eq v w)
+
+-- lists that rise and have the same values are the same
+pub rising_alike : (vs ws : List Value) → Rises vs → Rises ws → ((v : Value) → has_value vs v ≡ has_value ws v) → vs ≡ ws
+rising_alike vs ws rv rw' same =
+    rising_same value_cmp value_total vs ws rv rw'
+    (λ z at. has_stands ws z (sym (same z) ∙ stands_has vs z at.0 at.1)) (λ z at. has_stands vs z (same z ∙ stands_has ws z at.0 at.1))
+
+-- ---- one value put in
+
+pub insert_has : (v : Value) (ws : List Value) (z : Value) → has_value (insert_value v ws) z ≡ value_eq z v || has_value ws z
+insert_has v [] z = refl
+insert_has v (w ∷ ws) z = by_order (value_cmp v w) refl (insert_has v ws z)
+  where
+    by_order : (r : Ordering) → value_cmp v w ≡ r → has_value (insert_value v ws) z ≡ value_eq z v || has_value ws z → has_value (insert_value v (w ∷ ws)) z ≡ value_eq z v || (value_eq z w || has_value ws z)
+    by_order Less is behind = rw is refl
+    by_order Equal is behind = rw is (let same = value_same v w is in subst (λ u. value_eq z w || has_value ws z ≡ value_eq z u || (value_eq z w || has_value ws z)) (sym same) (or_again (value_eq z w) (has_value ws z)))
+    by_order Greater is behind = rw is (ap (λ b. value_eq z w || b) behind ∙ or_swap (value_eq z w) (value_eq z v) (has_value ws z))
+
+pub rises_behind : (w : Value) (us : List Value) → Rises (w ∷ us) → Rises us
+rises_behind w [] r = tt
+rises_behind w (u ∷ us) r = r.1
+
+above : (v w : Value) → value_cmp v w ≡ Greater → is_lt (value_cmp w v) ≡ true
+above v w is = ap is_lt (value_total.antisymm w v ∙ ap ordering_reverse is)
+
+pub insert_rises : (v : Value) (ws : List Value) → Rises ws → Rises (insert_value v ws)
+insert_rises v [] rises = tt
+insert_rises v (w ∷ ws) rises = by_order (value_cmp v w) refl (insert_rises v ws (rises_behind w ws rises))
+  where
+    below : (us : List Value) → Rises (w ∷ us) → value_cmp v w ≡ Greater → Rises (insert_value v us) → Rises (w ∷ insert_value v us)
+    below [] r is behind = (above v w is, tt)
+    below (u ∷ us) r is behind = next (value_cmp v u) refl
+      where
+        next : (s : Ordering) → value_cmp v u ≡ s → Rises (w ∷ insert_value v (u ∷ us))
+        next Less to = rw to ((above v w is, (ap is_lt to, r.1)))
+        next Equal to = rw to (r.0, r.1)
+        next Greater to = rw to (r.0, rw to at behind)
+
+    by_order : (r : Ordering) → value_cmp v w ≡ r → Rises (insert_value v ws) → Rises (insert_value v (w ∷ ws))
+    by_order Less is behind = rw is (ap is_lt is, rises)
+    by_order Equal is behind = rw is rises
+    by_order Greater is behind = rw is (below ws rises is behind)
+
+-- ---- several values put in
+
+pub inserts_rise : (vs ws : List Value) → Rises ws → Rises (insert_values vs ws)
+inserts_rise [] ws rises = rises
+inserts_rise (v ∷ vs) ws rises = inserts_rise vs (insert_value v ws) (insert_rises v ws rises)
+
+pub inserts_have : (vs ws : List Value) (z : Value) → has_value (insert_values vs ws) z ≡ has_value vs z || has_value ws z
+inserts_have [] ws z = refl
+inserts_have (v ∷ vs) ws z = inserts_have vs (insert_value v ws) z ∙ ap (λ b. has_value vs z || b) (insert_has v ws z) ∙ swap (has_value vs z) (value_eq z v) (has_value ws z)
+  where
+    swap : (a b c : Bool) → a || (b || c) ≡ (b || a) || c
+    swap true true c = refl
+    swap true false c = refl
+    swap false true c = refl
+    swap false false c = refl
+
+or_nothing : (a : Bool) → a || false ≡ a
+or_nothing true = refl
+or_nothing false = refl
+
+pub sorted_rise : (vs : List Value) → Rises (sorted_values vs)
+sorted_rise vs = inserts_rise vs [] tt
+
+pub sorted_have : (vs : List Value) (z : Value) → has_value (sorted_values vs) z ≡ has_value vs z
+sorted_have vs z = inserts_have vs [] z ∙ or_nothing (has_value vs z)
+
+-- ---- both lists, and part of a list
+
+or_later : (a b c : Bool) → a || (b || c) ≡ (a || b) || c
+or_later true b c = refl
+or_later false b c = refl
+
+pub append_has : (vs ws : List Value) (z : Value) → has_value (vs ++ ws) z ≡ has_value vs z || has_value ws z
+append_has [] ws z = refl
+append_has (v ∷ vs) ws z = ap (λ b. value_eq z v || b) (append_has vs ws z) ∙ or_later (value_eq z v) (has_value vs z) (has_value ws z)
+
+-- putting values into a list that rises sorts all of them
+pub sorted_append : (vs ws : List Value) → Rises ws → sorted_values (vs ++ ws) ≡ insert_values vs ws
+sorted_append vs ws rises =
+    rising_alike (sorted_values (vs ++ ws)) (insert_values vs ws) (sorted_rise (vs ++ ws)) (inserts_rise vs ws rises)
+    (λ z. sorted_have (vs ++ ws) z ∙ append_has vs ws z ∙ sym (inserts_have vs ws z))
+
+-- what is kept by what it stands for stands for what is kept
+pub map-filter : {X : Type 0} (meaning : X → Value) (test : Value → Bool) (xs : List X) → map meaning (filter (λ x. test (meaning x)) xs) ≡ filter test (map meaning xs)
+map-filter meaning test [] = refl
+map-filter meaning test (x ∷ xs) = either (test (meaning x)) refl (map-filter meaning test xs)
+  where
+    either : (b : Bool) → test (meaning x) ≡ b → map meaning (filter (λ x. test (meaning x)) xs) ≡ filter test (map meaning xs) → map meaning (filter (λ x. test (meaning x)) (x ∷ xs)) ≡ filter test (meaning x ∷ map meaning xs)
+    either true is rest = rw is (ap (λ vs. meaning x ∷ vs) rest)
+    either false is rest = rw is rest

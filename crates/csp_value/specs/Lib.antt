@@ -1,0 +1,4 @@
+pub mod Action
+pub mod Copies
+pub mod Handle
+pub mod Value

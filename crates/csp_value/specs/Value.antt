@@ -1,0 +1,33 @@
+-- The value that a value of the code stands for.
+use Rattle.std.specs.Prelude.{List, map}
+use Rattle.csp_semantics.specs.Syntax.Value as pure
+use Rattle.csp_semantics.specs.Meaning.Offers.{RisesBy}
+use Rattle.csp_value.specs.declared.value.Value.{Value}
+use Rattle.csp_value.specs.declared.set.SetOf.{SetOf}
+use Rattle.csp_value.specs.declared.value.Value.TheOpen as layer
+use Rattle.csp_value.specs.declared.value.Value.TheFolds.{fold-Value, fold-SetOf}
+
+-- one layer, with the values of the members in their places
+abbrev pub value_step : {A : Type 0} → layer.Value-F A pure.Value pure.Values → pure.Value
+value_step (layer.Int n) = pure.Integer n
+value_step (layer.Bool b) = pure.Truth b
+value_step (layer.Con k) = pure.Constructor k.0
+value_step (layer.Seq vs) = pure.Sequence (pure.to_values vs.items)
+value_step (layer.Set vs) = pure.Set vs
+
+abbrev pub members_step : {A : Type 0} → layer.SetOf-F A pure.Value pure.Values → pure.Values
+members_step s = pure.to_values s.members.items
+
+abbrev pub value_of : {A : Type 0} → Value A → pure.Value
+value_of {A} = fold-Value A pure.Value pure.Values value_step members_step
+
+-- the members of a set
+abbrev pub members_of : {A : Type 0} → SetOf A → pure.Values
+members_of {A} = fold-SetOf A pure.Value pure.Values value_step members_step
+
+abbrev pub values_of : {A : Type 0} → List (Value A) → List pure.Value
+values_of vs = map value_of vs
+
+-- a set as the definitions have it: its members rise, so that none is there twice
+abbrev pub IsRisingSet : {A : Type 0} → SetOf A → Type 0
+IsRisingSet s = RisesBy pure.value_cmp (pure.values_list (members_of s))

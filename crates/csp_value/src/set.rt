@@ -1,0 +1,92 @@
+//! Sets of values.
+
+ghost use Rattle.std.specs.Prelude.{◌≡◌, IfOk, filter, not};
+ghost use Rattle.csp_semantics.specs.Syntax.Value.{has_value, insert_values, sorted_values, to_values, values_list};
+ghost use Rattle.csp_value.specs.Value.{IsRisingSet, members_of, value_of, values_of};
+
+use crate::memory::Memory;
+use crate::value::{Value, copy_values};
+use std::alloc::Allocator;
+
+/// A set of values: its members rise, so that none is there twice.
+#[cycle(value)]
+#[derive(Drop)]
+#[derive_where(PartialEq, Eq, PartialOrd, Ord, Hash)]
+pub struct SetOf<A: Allocator> {
+    members: Vec<Value<A>, A>,
+}
+
+impl<A: Allocator + Copy> SetOf<A> {
+    /// An equal set in the given allocator, or `Memory` where that has no room.
+    #[cycle(copy)]
+    pub fn try_copy(&self, alloc: A) -> Result<SetOf<A>, Memory>
+        ensures { IfOk result (λ copy. members_of copy ≡ members_of self.now) }
+    {
+        let members = copy_values(&self.members, alloc)?;
+        Ok(SetOf { members })
+    }
+}
+
+impl<A: Allocator> SetOf<A> {
+    /// The set of the values, in whatever order and however often they are given. It moves them where they lie, so it
+    /// needs no memory.
+    pub fn from_values(mut values: Vec<Value<A>, A>) -> SetOf<A>
+        ensures members { members_of result ≡ to_values (sorted_values (values_of values.items)) }
+        ensures rising { IsRisingSet result }
+    {
+        values.sort_unstable();
+        values.dedup();
+        SetOf { members: values }
+    }
+
+    /// The members, in order.
+    pub fn members(&self) -> &[Value<A>]
+        ensures { values_of result.now ≡ values_list (members_of self.now) }
+    {
+        self.members.as_slice()
+    }
+
+    /// Whether the value is a member, by a binary search.
+    pub fn contains(&self, value: &Value<A>) -> bool
+        requires { IsRisingSet self.now }
+        ensures { result ≡ has_value (values_list (members_of self.now)) (value_of value.now) }
+    {
+        self.members.binary_search(value).is_ok()
+    }
+
+    /// The members of either set, or `Memory` where there is no room for them side by side.
+    pub fn union(self, other: SetOf<A>) -> Result<SetOf<A>, Memory>
+        requires { IsRisingSet other }
+        ensures members { IfOk result (λ both. members_of both ≡ to_values (insert_values (values_list (members_of self)) (values_list (members_of other)))) }
+        ensures rising { IfOk result IsRisingSet }
+    {
+        let mut both = self.members;
+        let mut others = other.members;
+        both.append(&mut others)?;
+        // The stable sort merges the two runs, so that the sort of `from_values` has nothing to move.
+        both.sort()?;
+        Ok(SetOf::from_values(both))
+    }
+
+    /// The members that are in the other set too. Nothing is copied.
+    pub fn intersection(self, other: &SetOf<A>) -> SetOf<A>
+        requires { IsRisingSet other.now }
+        ensures members { members_of result ≡ to_values (filter (λ v. has_value (values_list (members_of other.now)) v) (values_list (members_of self))) }
+        ensures rising { IsRisingSet self → IsRisingSet result }
+    {
+        let mut members = self.members;
+        members.retain(|value| other.contains(value));
+        SetOf { members }
+    }
+
+    /// The members that are not in the other set. Nothing is copied.
+    pub fn difference(self, other: &SetOf<A>) -> SetOf<A>
+        requires { IsRisingSet other.now }
+        ensures members { members_of result ≡ to_values (filter (λ v. not (has_value (values_list (members_of other.now)) v)) (values_list (members_of self))) }
+        ensures rising { IsRisingSet self → IsRisingSet result }
+    {
+        let mut members = self.members;
+        members.retain(|value| !other.contains(value));
+        SetOf { members }
+    }
+}
