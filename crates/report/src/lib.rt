@@ -1,0 +1,14 @@
+//! The report: a line for each outcome, and the sinks that it goes out to.
+//!
+//! `write` gives a sink the bytes of the report as the definitions say them, whole and in order, or says why it did
+//! not: where the sink failed, a beginning of the report went out and no more, and where memory was refused, nothing did.
+#![tactic(auto)]
+
+mod push_all;
+mod report;
+mod sink;
+#[cfg(test)]
+mod tests;
+
+pub use report::{WriteFault, write};
+pub use sink::{Buffer, Failed, Out, Sink};
