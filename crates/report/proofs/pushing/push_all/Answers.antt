@@ -1,5 +1,5 @@
 use Rattle.report.proofs.Sending.{pushes}
-use Rattle.report.proofs.push_all.push_all.Goals as goal
+use Rattle.report.proofs.pushing.push_all.Goals as goal
 
 pub loop-rest-preserved : goal.loop-rest-preserved
 loop-rest-preserved g c =
