@@ -1,0 +1,40 @@
+-- Right outcomes, one by one.
+use Rattle.std.proofs.Common.{◌≡◌, ℕ, ◌+◌, ◌<◌, List, [], ◌∷◌, ◌++◌, length, get_or, take, map, refl, sym, ◌∙◌, ap}
+use Rattle.std.proofs.lemmas.List.{map-append, take_more}
+use Rattle.std.specs.List.{AllZip}
+use Rattle.csp_semantics.specs.Syntax.Process.{Assertion, Script}
+use Rattle.csp_semantics.specs.Meaning.Evaluation.{Cause}
+use Rattle.csp_semantics.specs.Meaning.Refinement.{IsRefinement}
+use Rattle.csp_semantics.specs.Meaning.Violations.{Violation, IsViolation}
+use Rattle.csp_semantics.specs.Answers.Outcome.{Bounds, TooManyPairs, TooManyNodes, LargeTerm, Fault, NoMemory, Outcome, Holds, Fails, Unknown}
+use Rattle.csp_semantics.specs.Answers.Sound.{NoneStuck}
+use Rattle.refcheck.specs.Answering.{AreRight, IsReason, IsRight}
+
+-- An outcome is right where each answer that it may be says what it should.
+module _ (script : Script) (a : Assertion) (bounds : Bounds) where
+  pub is_right : (o : Outcome) → (o ≡ Holds → IsRefinement script a) → (o ≡ Holds → NoneStuck script a.specification × NoneStuck script a.implementation) →
+      ((v : Violation) → o ≡ Fails v → IsViolation script a v) → (o ≡ Unknown TooManyPairs → IsReason script a bounds TooManyPairs) → (o ≡ Unknown TooManyNodes → IsReason script a bounds TooManyNodes) →
+      (o ≡ Unknown LargeTerm → IsReason script a bounds LargeTerm) → ((cause : Cause) → o ≡ Unknown (Fault cause) → IsReason script a bounds (Fault cause)) → IsRight script a bounds o
+  is_right Holds refines unstuck fails pairs nodes term fault = (refines refl, (unstuck refl).0, (unstuck refl).1)
+  is_right (Fails v) refines unstuck fails pairs nodes term fault = fails v refl
+  is_right (Unknown TooManyPairs) refines unstuck fails pairs nodes term fault = pairs refl
+  is_right (Unknown TooManyNodes) refines unstuck fails pairs nodes term fault = nodes refl
+  is_right (Unknown LargeTerm) refines unstuck fails pairs nodes term fault = term refl
+  is_right (Unknown (Fault cause)) refines unstuck fails pairs nodes term fault = fault cause refl
+  is_right (Unknown NoMemory) refines unstuck fails pairs nodes term fault = tt
+
+zip_end : {X Y : Type 0} (R : X → Y → Type 0) (xs : List X) (ys : List Y) (x : X) (y : Y) → AllZip R xs ys → R x y → AllZip R (xs ++ x ∷ []) (ys ++ y ∷ [])
+zip_end R [] [] x y all here = (here, tt)
+zip_end R [] (w ∷ ys) x y all here = absurd all
+zip_end R (v ∷ xs) [] x y all here = absurd all
+zip_end R (v ∷ xs) (w ∷ ys) x y all here = (all.0, zip_end R xs ys x y all.1 here)
+
+-- the right outcome of the next assertion goes behind those before it
+pub one_more_right : {S O : Type 0} (assertion_of : S → Assertion) (outcome_of : O → Outcome) (script : Script) (bounds : Bounds) (assertions : List S) (outcomes more : List O) (i : ℕ) (a : S) (o : O) →
+    AreRight script bounds (map assertion_of (take i assertions)) (map outcome_of outcomes) → i < length assertions → a ≡ get_or assertions i a → more ≡ outcomes ++ o ∷ [] →
+    IsRight script (assertion_of a) bounds (outcome_of o) → AreRight script bounds (map assertion_of (take (i + 1) assertions)) (map outcome_of more)
+one_more_right assertion_of outcome_of script bounds assertions outcomes more i a o right within read pushed here =
+    let left : map assertion_of (take (i + 1) assertions) ≡ map assertion_of (take i assertions) ++ assertion_of a ∷ [] =
+    ap (map assertion_of) (take_more assertions i a within) ∙ map-append assertion_of (take i assertions) (get_or assertions i a ∷ []) ∙ ap (λ x. map assertion_of (take i assertions) ++ assertion_of x ∷ []) (sym read) in
+    let behind : map outcome_of more ≡ map outcome_of outcomes ++ outcome_of o ∷ [] = ap (map outcome_of) pushed ∙ map-append outcome_of outcomes (o ∷ []) in
+    rw (left, behind) (zip_end (λ b p. IsRight script b bounds p) (map assertion_of (take i assertions)) (map outcome_of outcomes) (assertion_of a) (outcome_of o) right here)

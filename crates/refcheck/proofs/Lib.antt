@@ -1,0 +1,4 @@
+pub mod Working
+pub mod Ending
+pub mod Answering
+pub mod Reporting

@@ -1,0 +1,5 @@
+pub mod Reading
+pub mod Refusal
+pub mod Running
+pub mod Answering
+pub mod Rounds

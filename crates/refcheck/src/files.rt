@@ -1,0 +1,73 @@
+//! Where scripts are read from.
+
+ghost use Rattle.std.specs.Prelude.{◌≡◌, ◌↔◌, IfOk};
+
+use std::alloc::Allocator;
+use std::io::ErrorKind;
+use std::{fs, rt};
+use thiserror::Error;
+
+/// Why a file's bytes are not answered.
+#[derive(Clone, Copy, Debug, PartialEq, Eq, Error)]
+pub enum Unread {
+    /// There is no such file, or it cannot be read.
+    #[error("the file cannot be read")]
+    File,
+    /// Memory was refused.
+    #[error("out of memory")]
+    Memory,
+}
+
+/// Files by their names.
+pub trait Files<A: Allocator> {
+    /// The bytes of the file of that name.
+    fn read(&mut self, name: &str) -> Result<Vec<u8, A>, Unread>;
+}
+
+/// The files of the machine.
+#[derive(Clone, Copy, Drop)]
+pub struct MachineFiles<'r, R> {
+    machine: &'r R,
+}
+
+impl<'r, R> MachineFiles<'r, R> {
+    /// The files of this machine.
+    pub fn new(machine: &'r R) -> MachineFiles<'r, R>
+        ensures { result.machine ≡ machine.entry }
+    {
+        MachineFiles { machine }
+    }
+}
+
+impl<R: rt::Files + Alloc> Files<R::A> for MachineFiles<'_, R> {
+    fn read(&mut self, name: &str) -> Result<Vec<u8, R::A>, Unread> {
+        match fs::read(self.machine, name) {
+            Ok(bytes) => Ok(bytes),
+            Err(error) if error.kind() == ErrorKind::OutOfMemory => Err(Unread::Memory),
+            Err(_) => Err(Unread::File),
+        }
+    }
+}
+
+/// One text in memory, under a name. There is no other file.
+#[derive(Drop)]
+pub struct OneText<'t, A> {
+    pub name: &'t str,
+    pub text: &'t [u8],
+    pub alloc: A,
+}
+
+impl<A: Allocator + Copy> Files<A> for OneText<'_, A> {
+    fn read(&mut self, name: &str) -> Result<Vec<u8, A>, Unread>
+        ensures text { IfOk result (λ bytes. bytes.items ≡ self.old.text.now) }
+        ensures name { result ≡ Err Unread.File ↔ (name.now ≡ self.old.name.now → ⊥) }
+    {
+        if name != self.name {
+            return Err(Unread::File);
+        }
+        match self.text.to_vec(self.alloc) {
+            Ok(bytes) => Ok(bytes),
+            Err(_) => Err(Unread::Memory),
+        }
+    }
+}
