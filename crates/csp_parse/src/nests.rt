@@ -1,0 +1,160 @@
+use csp_lex::{Keyword, Sign, TokenKind};
+use std::alloc::{AllocFailed, Allocator};
+
+/// The greatest height that a declaration may have.
+pub const GREATEST_HEIGHT: u32 = 100;
+
+/// What a token does for the height of its declaration.
+#[derive(Clone, Copy)]
+pub(crate) enum Nesting {
+    /// it opens a bracket group
+    Opens,
+    /// it closes a bracket group
+    Closes,
+    /// it counts one in its group
+    Counts,
+    Plain,
+}
+
+fn nesting_of_sign(sign: Sign) -> Nesting {
+    match sign {
+        Sign::OpenRound
+        | Sign::OpenSquare
+        | Sign::OpenShared
+        | Sign::OpenRenaming
+        | Sign::OpenBrace
+        | Sign::OpenProductions => Nesting::Opens,
+        Sign::CloseRound
+        | Sign::CloseSquare
+        | Sign::CloseShared
+        | Sign::CloseRenaming
+        | Sign::CloseBrace
+        | Sign::CloseProductions => Nesting::Closes,
+        Sign::Arrow
+        | Sign::Guard
+        | Sign::At
+        | Sign::Box
+        | Sign::Internal
+        | Sign::Semicolon
+        | Sign::TripleBar
+        | Sign::Interrupt
+        | Sign::Hiding
+        | Sign::Same
+        | Sign::Differs
+        | Sign::Less
+        | Sign::AtMost
+        | Sign::Greater
+        | Sign::AtLeast
+        | Sign::Plus
+        | Sign::Minus
+        | Sign::Times
+        | Sign::Percent
+        | Sign::Caret
+        | Sign::Hash => Nesting::Counts,
+        _ => Nesting::Plain,
+    }
+}
+
+fn nesting_of_keyword(keyword: Keyword) -> Nesting {
+    match keyword {
+        Keyword::If | Keyword::Then | Keyword::Else | Keyword::And | Keyword::Or | Keyword::Not =>
+            Nesting::Counts,
+        _ => Nesting::Plain,
+    }
+}
+
+pub(crate) fn nesting_of(kind: TokenKind) -> Nesting {
+    match kind {
+        TokenKind::Sign(sign) => nesting_of_sign(sign),
+        TokenKind::Keyword(keyword) => nesting_of_keyword(keyword),
+        _ => Nesting::Plain,
+    }
+}
+
+/// A bracket group so far.
+#[derive(Clone, Copy)]
+pub(crate) struct Group {
+    /// the tokens that count directly in it
+    direct: u32,
+    /// the greatest height of a group in it
+    deepest: u32,
+}
+
+impl Group {
+    fn empty() -> Group {
+        Group {
+            direct: 0,
+            deepest: 0,
+        }
+    }
+
+    fn height(self) -> u32 {
+        self.direct.saturating_add(self.deepest)
+    }
+
+    fn one_more(self) -> Group {
+        Group {
+            direct: self.direct.saturating_add(1),
+            deepest: self.deepest,
+        }
+    }
+
+    /// This group with another in it.
+    fn with_group(self, inner: Group) -> Group {
+        Group {
+            direct: self.direct,
+            deepest: self.deepest.max(inner.height()),
+        }
+    }
+}
+
+/// Where the next token stands among the bracket groups of its declaration.
+#[derive(Drop)]
+pub(crate) struct Nest<A: Allocator> {
+    current: Group,
+    /// the groups around it, the outermost first
+    around: Vec<Group, A>,
+}
+
+impl<A: Allocator> Nest<A> {
+    /// Before the first token of a declaration.
+    pub(crate) fn new(alloc: A) -> Nest<A> {
+        Nest {
+            current: Group::empty(),
+            around: Vec::new(alloc),
+        }
+    }
+
+    /// Goes back to before the first token of a declaration.
+    pub(crate) fn begin(&mut self) {
+        self.current = Group::empty();
+        self.around.clear();
+    }
+
+    /// Counts one more token.
+    pub(crate) fn count(&mut self, nesting: Nesting) -> Result<(), AllocFailed<Group>> {
+        match nesting {
+            Nesting::Opens => {
+                self.around.push(self.current.one_more())?;
+                self.current = Group::empty();
+            }
+            Nesting::Closes => {
+                if let Some(around) = self.around.pop() {
+                    self.current = around.with_group(self.current);
+                }
+            }
+            Nesting::Counts => self.current = self.current.one_more(),
+            Nesting::Plain => {}
+        }
+        Ok(())
+    }
+
+    /// The height of the tokens so far.
+    pub(crate) fn height(&self) -> u32 {
+        let mut group = self.current;
+        for around in self.around.iter().rev() {
+            group = around.with_group(group);
+        }
+        group.height()
+    }
+}
