@@ -8,9 +8,9 @@ use Rattle.csp_semantics.specs.Meaning.Violations.{IsViolation}
 use Rattle.csp_semantics.specs.Answers.Outcome.{Bounds, Why, TooManyPairs, TooManyNodes, LargeTerm, Fault, NoMemory, Outcome, Holds, Fails, Unknown}
 use Rattle.csp_semantics.specs.Answers.Sound.{SomeReachable, NoneStuck, ManyReachable}
 use Rattle.csp_term.specs.Fault.{cause_of}
-use Rattle.pair_store.specs.NormFault.{HasNoTable}
-use Rattle.pair_store.specs.declared.normal.fault.NormFault.{NormFault}
-use Rattle.pair_store.specs.declared.normal.fault.NormFault.TheVariants as fault
+use Rattle.csp_norm.specs.NormFault.{HasNoTable}
+use Rattle.csp_norm.specs.declared.fault.NormFault.{NormFault}
+use Rattle.csp_norm.specs.declared.fault.NormFault.TheVariants as fault
 
 -- a side of the assertion reaches such a term
 abbrev pub SomeSideReaches : Script → Assertion → (Process → Type 0) → Type 0

@@ -2,7 +2,7 @@
 
 ghost use Rattle.std.specs.Prelude.{◌≡◌, ◌≤◌, ◌<◌, ◌≢◌, map, false, length, IfOk, IfErr, OnOk};
 ghost use Rattle.csp_term.specs.Script.{script_of};
-ghost use Rattle.pair_store.specs.Outcome.{outcome_of};
+ghost use Rattle.verdict.specs.Outcome.{outcome_of};
 ghost use Rattle.refcheck.specs.Refusal.{refusal_line};
 ghost use Rattle.refcheck.specs.Answering.{AreRight};
 ghost use Rattle.refcheck.specs.Running.{IsReported, IsRefused, IsGiven, Leaves, outcome_status, program_bounds, status_of};
@@ -13,7 +13,7 @@ use crate::reader::read;
 use crate::refusal::Refusal;
 use csp_term::Script;
 use pair_store::limits::Limits;
-use pair_store::verdict::Outcome;
+use verdict::Outcome;
 use report::{Sink, push_all, write};
 use std::alloc::{AllocError, Allocator};
 

@@ -1,7 +1,7 @@
 use Rattle.std.proofs.Common.{◌≡◌, List, map, sym, ap, subst, ◌∙◌, arith}
 use Rattle.csp_term.specs.Script.{script_of}
-use Rattle.pair_store.specs.declared.verdict.Outcome.{Outcome}
-use Rattle.pair_store.specs.Outcome.{outcome_of}
+use Rattle.verdict.specs.declared.outcome.Outcome.{Outcome}
+use Rattle.verdict.specs.Outcome.{outcome_of}
 use Rattle.refcheck.specs.Answering.{AreRight}
 use Rattle.refcheck.specs.Running.{program_bounds, status_of}
 use Rattle.refcheck.proofs.Reporting.{left_behind, status_at_most}

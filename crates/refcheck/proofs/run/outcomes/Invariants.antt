@@ -1,6 +1,6 @@
 use Rattle.std.proofs.Common.{map, take}
 use Rattle.csp_term.specs.Script.{assertion_of, script_of}
-use Rattle.pair_store.specs.Outcome.{outcome_of}
+use Rattle.verdict.specs.Outcome.{outcome_of}
 use Rattle.refcheck.specs.Answering.{AreRight}
 use Rattle.refcheck.specs.Running.{program_bounds}
 use Rattle.refcheck.proofs.run.outcomes.Given as goal

@@ -1,5 +1,5 @@
 use Rattle.std.proofs.Common.{◌≡◌, map, drop, max}
-use Rattle.pair_store.specs.Outcome.{outcome_of}
+use Rattle.verdict.specs.Outcome.{outcome_of}
 use Rattle.refcheck.specs.Running.{status_of}
 use Rattle.refcheck.proofs.run.status.Given as goal
 

@@ -4,7 +4,7 @@ use Rattle.csp_semantics.specs.Syntax.Process.{Script}
 use Rattle.csp_semantics.specs.Answers.Outcome as pure
 use Rattle.csp_semantics.specs.Answers.Printing.{line, lines_from, report}
 use Rattle.csp_term.specs.Script.{script_of}
-use Rattle.pair_store.specs.Outcome.{outcome_of}
+use Rattle.verdict.specs.Outcome.{outcome_of}
 use Rattle.report.proofs.report.lines.Goals as goal
 
 -- the line of the first outcome that is left goes behind the text

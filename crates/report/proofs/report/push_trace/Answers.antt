@@ -4,8 +4,8 @@ use Rattle.csp_semantics.specs.Syntax.Value.{Action}
 use Rattle.csp_semantics.specs.Answers.Printing.{actions_text, action_text}
 use Rattle.csp_term.specs.Action.{action_of}
 use Rattle.csp_term.specs.Script.{script_of}
-use Rattle.pair_store.specs.declared.verdict.Trace.{Trace}
-use Rattle.pair_store.specs.Outcome.{trace_left}
+use Rattle.verdict.specs.declared.trace.Trace.{Trace}
+use Rattle.verdict.specs.Outcome.{trace_left}
 use Rattle.report.proofs.Joining.{following, finishes}
 use Rattle.report.proofs.report.push_trace.Goals as goal
 

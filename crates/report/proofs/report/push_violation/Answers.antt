@@ -5,7 +5,7 @@ use Rattle.std.specs.String.{string_bytes}
 use Rattle.csp_semantics.specs.Meaning.Runs.{trace}
 use Rattle.csp_semantics.specs.Answers.Printing.{actions_text, evidence_text}
 use Rattle.csp_term.specs.Script.{script_of}
-use Rattle.pair_store.specs.Outcome.{violation_of}
+use Rattle.verdict.specs.Outcome.{violation_of}
 use Rattle.report.proofs.report.push_violation.Goals as goal
 
 in_turn : (r s t u v a b c d : List ℕ) → s ≡ r ++ a → t ≡ s ++ b → u ≡ t ++ c → v ≡ u ++ d → v ≡ r ++ (a ++ (b ++ (c ++ d)))
