@@ -54,6 +54,3 @@ pub fn tokens<'a, A: Allocator>(alloc: A, bytes: &'a [u8]) -> Result<TokenList<'
     let text = texts::text_of(bytes)?;
     divisions::divide(alloc, text)
 }
-
-#[cfg(test)]
-mod tests;

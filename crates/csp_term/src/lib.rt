@@ -16,8 +16,6 @@ mod name;
 mod script;
 mod substitution;
 mod term;
-#[cfg(test)]
-mod tests;
 
 pub use action::{Action, Event};
 pub use assertion::{Assertion, Model};

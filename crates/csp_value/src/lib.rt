@@ -21,6 +21,3 @@ pub use memory::Memory;
 pub use name::{ChannelId, ConId};
 pub use set::SetOf;
 pub use value::{Value, copy_values};
-
-#[cfg(test)]
-mod tests;

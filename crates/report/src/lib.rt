@@ -8,8 +8,6 @@
 mod pushing;
 mod report;
 mod sink;
-#[cfg(test)]
-mod tests;
 
 pub use pushing::push_all;
 pub use report::{WriteFault, write};

@@ -1,10 +1,10 @@
 //! Terms at the edge of the limits, their copies and their order, and equal terms in two allocators.
 
-use crate::laws::{
+use csp_term::laws::{
     compare_actions, compare_terms, equal_actions, equal_assertions, equal_scripts, equal_terms,
     hash_term,
 };
-use crate::{
+use csp_term::{
     Action, Assertion, Channel, ChannelId, Equation, Event, Fault, Memory, Model, Name, Script,
     Term, TermFault, TryCopy, Types, copy_all,
 };

@@ -1,4 +1,4 @@
-use crate::{Refused, TokenKind, TokenList, tokens};
+use csp_lex::{Refused, TokenKind, TokenList, tokens};
 use linked_list_allocator::LocalHeap;
 use std::alloc::{AllocError, Allocator, Global};
 use std::fmt::Write;

@@ -1,7 +1,7 @@
 ghost use Rattle.std.specs.Prelude.{IfOk};
 ghost use Rattle.csp_value.specs.Value.{IsRisingSet};
 
-use crate::{Action, ChannelId, ConId, Event, Memory, SetOf, Value};
+use csp_value::{Action, ChannelId, ConId, Event, Memory, SetOf, Value};
 use linked_list_allocator::LocalHeap;
 use smallvec::SmallVec;
 use std::alloc::{Allocator, Global};

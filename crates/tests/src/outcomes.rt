@@ -1,9 +1,9 @@
 //! Copies of outcomes and the traces of their violations.
 
-use crate::{Evidence, Outcome, Shown, Why};
 use csp_term::{Action, ChannelId, Event, Fault, Memory};
 use std::alloc::Allocator;
 use std::test::Fail;
+use verdict::{Evidence, Outcome, Shown, Why};
 
 fn event(channel: u32) -> Action {
     Action::Event(Event {
@@ -59,7 +59,12 @@ fn copies_of_outcomes_answer_the_same(rt: HostRuntime) -> Result<(), Fail> {
     let alloc = rt.alloc();
     assert!(rt; matches!(Outcome::Holds.try_copy(alloc)?, Outcome::Holds));
     let unknown = Outcome::Unknown(Why::Fault(Fault::Choice));
-    assert!(rt; matches!(unknown.try_copy(alloc)?, Outcome::Unknown(Why::Fault(Fault::Choice))));
+    assert!(rt;
+        matches!(
+            unknown.try_copy(alloc)?,
+            Outcome::Unknown(Why::Fault(Fault::Choice))
+        )
+    );
     let fails = Outcome::Fails(shown(alloc, Evidence::Event(event(2)))?);
     match (&fails, fails.try_copy(alloc)?) {
         (Outcome::Fails(one), Outcome::Fails(other)) => assert!(rt; is_same(one, &other)),
