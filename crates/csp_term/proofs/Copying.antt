@@ -1,6 +1,6 @@
 -- Lists of copies, an item at a time.
 use Rattle.std.proofs.Common.{◌≡◌, ℕ, ◌+◌, ◌<◌, List, [], ◌∷◌, ◌++◌, length, take, map, get_or, refl, ap₂}
-use Rattle.std.proofs.lemmas.List.{take_more}
+use Rattle.std.proofs.lemmas.List.{take_more, map-append}
 use Rattle.csp_term.specs.Copies.{AreCopies}
 
 module _ {X : Type 0} (same : X → X → Type 0) where
@@ -28,3 +28,8 @@ copies_alike same y [] [] copies = refl
 copies_alike same y [] (w ∷ ws) copies = absurd copies
 copies_alike same y (v ∷ vs) [] copies = absurd copies
 copies_alike same y (v ∷ vs) (w ∷ ws) copies = ap₂ (λ z zs. z ∷ zs) refl (copies_alike same y vs ws copies.1)
+
+-- One more item of a loop that pushes: what was pushed stands for what f makes of the item that was read.
+pub map_push : {X Y Z : Type 0} (meaning : X → Z) (f : Y → Z) (made more : List X) (x : X) (items : List Y) (i : ℕ) (y : Y) →
+    map meaning made ≡ map f (take i items) → i < length items → y ≡ get_or items i y → meaning x ≡ f y → more ≡ made ++ x ∷ [] → map meaning more ≡ map f (take (i + 1) items)
+map_push meaning f made more x items i y same within read one pushed = rw (pushed, map-append, same, one, take_more items i y within, map-append, ← read) refl

@@ -4,3 +4,12 @@ pub mod TermOrder
 pub mod Sameness
 pub mod Equality
 pub mod Copying
+pub mod ExpressionForms
+pub mod OperatorOrder
+pub mod ExpressionOrder
+pub mod ExpressionEquality
+pub mod ValueTests
+pub mod Evaluating
+pub mod Named
+pub mod Looking
+pub mod Forming

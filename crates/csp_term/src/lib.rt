@@ -3,11 +3,14 @@
 //! A term stands for a process of the definitions, by `process_of`, and every call here is stated over that process:
 //! a copy stands for the same process, values are put in as the definitions say, the limits are decided exactly, and
 //! `==`, the order and the hash of two terms are those of their processes, whichever allocator holds them.
+//!
+//! Expressions stand by themselves in `expression`, with their evaluation; the terms do not have them yet.
 #![tactic(auto)]
 
 mod action;
 mod assertion;
 mod copy;
+pub mod expression;
 mod fault;
 pub mod laws;
 mod limits;
@@ -22,7 +25,7 @@ pub use assertion::{Assertion, Model};
 pub use copy::{TryCopy, copy_all};
 pub use fault::Fault;
 pub use memory::Memory;
-pub use name::{ChannelId, Name};
+pub use name::{ChannelId, DatatypeId, Name, NametypeId};
 pub use script::{Channel, Equation, Script, Types};
 pub use substitution::TermFault;
 pub use term::Term;

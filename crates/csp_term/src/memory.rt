@@ -19,3 +19,9 @@ impl<T: Drop> From<AllocFailed<T>> for Memory {
         Memory
     }
 }
+
+impl From<csp_value::Memory> for Memory {
+    fn from(_refused: csp_value::Memory) -> Memory {
+        Memory
+    }
+}

@@ -1,7 +1,7 @@
 -- The derived `==` is true exactly where two values stand for the same.
 use denote.RattleType
 use mir.Syntax
-use Rattle.std.proofs.Common.{Bool, sym, ap, ◌∙◌}
+use Rattle.std.proofs.Common.{◌≡◌, Bool, sym, ap, ◌∙◌}
 use Rattle.std.specs.declared.alloc.Allocator as allocator
 use Rattle.std.specs.Ordering.{is_eq}
 use Rattle.csp_semantics.specs.Syntax.Value as pure
@@ -37,3 +37,7 @@ module _ (R : RattleType.RattleType) (A : allocator.Ghosts R.Denot) (ad dd : Syn
         (sym (ordered_set R A ad dd x y) ∙ is_eq-Equal (set_cmp R A ad dd x y) (sym (set_laws.matches_eq-law R A ad dd x y) ∙ e));
     complete = λ x y e. set_laws.matches_eq-law R A ad dd x y ∙ ap is_eq (ordered_set R A ad dd x y ∙ ap (pure.values_cmp (members_of x)) (sym e) ∙ values_refl (members_of x));
   }
+
+  -- and tests what the definitions test
+  pub same_test : (x y : Value R.Denot) → value_eq x y ≡ pure.value_eq (value_of x) (value_of y)
+  same_test x y = value_laws.matches_eq-law R A ad dd x y ∙ ap is_eq (ordered R A ad dd x y)

@@ -3,6 +3,7 @@ pub mod ActionOrder
 pub mod Copying
 pub mod Equality
 pub mod Finding
+pub mod Inserting
 pub mod Forms
 pub mod Sameness
 pub mod Sets

@@ -1,12 +1,13 @@
 //! Sets of values.
 
-ghost use Rattle.std.specs.Prelude.{◌≡◌, IfOk, filter, not};
-ghost use Rattle.csp_semantics.specs.Syntax.Value.{has_value, insert_values, sorted_values, to_values, values_list};
+ghost use Rattle.std.specs.Prelude.{◌≡◌, IfOk, OnOk, filter, not};
+ghost use Rattle.csp_semantics.specs.Syntax.Value.{has_value, insert_value, insert_values, sorted_values, to_values, values_list};
 ghost use Rattle.csp_value.specs.Value.{IsRisingSet, members_of, value_of, values_of};
 
 use crate::memory::Memory;
 use crate::value::{Value, copy_values};
 use std::alloc::Allocator;
+use std::cmp::Ordering;
 
 /// A set of values: its members rise, so that none is there twice.
 #[cycle(value)]
@@ -46,31 +47,28 @@ impl<A: Allocator> SetOf<A> {
         self.members.as_slice()
     }
 
-    /// Whether the value is a member, by a binary search.
+    /// Whether the value is a member.
     pub fn contains(&self, value: &Value<A>) -> bool
-        requires { IsRisingSet self.now }
         ensures { result ≡ has_value (values_list (members_of self.now)) (value_of value.now) }
     {
-        self.members.binary_search(value).is_ok()
+        // That the members rise stands in no type, so what a binary search misses is looked for in all of them.
+        self.members.binary_search(value).is_ok() || self.members.contains(value)
     }
 
-    /// The members of either set, or `Memory` where there is no room for them side by side.
+    /// The members of either set, or `Memory` where there is no room for them.
     pub fn union(self, other: SetOf<A>) -> Result<SetOf<A>, Memory>
-        requires { IsRisingSet other }
         ensures members { IfOk result (λ both. members_of both ≡ to_values (insert_values (values_list (members_of self)) (values_list (members_of other)))) }
-        ensures rising { IfOk result IsRisingSet }
+        ensures rising { IsRisingSet other → IfOk result IsRisingSet }
     {
-        let mut both = self.members;
-        let mut others = other.members;
-        both.append(&mut others)?;
-        // The stable sort merges the two runs, so that the sort of `from_values` has nothing to move.
-        both.sort()?;
-        Ok(SetOf::from_values(both))
+        let mut both = other.members;
+        for value in self.members {
+            insert(&mut both, value)?;
+        }
+        Ok(SetOf { members: both })
     }
 
     /// The members that are in the other set too. Nothing is copied.
     pub fn intersection(self, other: &SetOf<A>) -> SetOf<A>
-        requires { IsRisingSet other.now }
         ensures members { members_of result ≡ to_values (filter (λ v. has_value (values_list (members_of other.now)) v) (values_list (members_of self))) }
         ensures rising { IsRisingSet self → IsRisingSet result }
     {
@@ -81,7 +79,6 @@ impl<A: Allocator> SetOf<A> {
 
     /// The members that are not in the other set. Nothing is copied.
     pub fn difference(self, other: &SetOf<A>) -> SetOf<A>
-        requires { IsRisingSet other.now }
         ensures members { members_of result ≡ to_values (filter (λ v. not (has_value (values_list (members_of other.now)) v)) (values_list (members_of self))) }
         ensures rising { IsRisingSet self → IsRisingSet result }
     {
@@ -89,4 +86,22 @@ impl<A: Allocator> SetOf<A> {
         members.retain(|value| !other.contains(value));
         SetOf { members }
     }
+}
+
+/// Puts the value in before the first member above it, unless an equal one comes first.
+fn insert<A: Allocator>(members: &mut Vec<Value<A>, A>, value: Value<A>) -> Result<(), Memory>
+    ensures { OnOk result (values_of members.new.items ≡ insert_value (value_of value) (values_of members.old.items)) }
+{
+    for place in 0..members.len() {
+        match value.cmp(&members[place]) {
+            Ordering::Less => {
+                members.insert(place, value)?;
+                return Ok(());
+            }
+            Ordering::Equal => return Ok(()),
+            Ordering::Greater => {}
+        }
+    }
+    members.push(value)?;
+    Ok(())
 }
