@@ -13,6 +13,8 @@ mod expr;
 mod fault;
 pub mod laws;
 mod operator;
+#[cfg(test)]
+mod parts;
 mod ranges;
 mod seen;
 mod sequences;
