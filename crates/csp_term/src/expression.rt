@@ -13,8 +13,6 @@ mod expr;
 mod fault;
 pub mod laws;
 mod operator;
-#[cfg(test)]
-mod parts;
 mod ranges;
 mod seen;
 mod sequences;
@@ -27,6 +25,3 @@ pub use fault::EvalFault;
 pub use operator::{BinaryOperator, UnaryOperator};
 pub use substitution::Binding;
 pub use types::{Constructors, TypeTable};
-
-#[cfg(test)]
-mod tests;

@@ -6,6 +6,8 @@
 #[cfg(test)]
 mod batches;
 #[cfg(test)]
+mod expressions;
+#[cfg(test)]
 mod firing;
 #[cfg(test)]
 mod normal_forms;

@@ -1,9 +1,11 @@
 //! Expressions of each form: their order, copies and hashes, their values, and values put in for names.
 
-use crate::expression::laws::{compare_expressions, equal_expressions, hash_expression};
-use crate::expression::parts::{Answer, Part, answers, expression, value, values};
-use crate::expression::{BinaryOperator, Binding, EvalFault, Expr, UnaryOperator};
-use crate::{Fault, Memory, Name, TryCopy, copy_all};
+mod parts;
+
+use crate::expressions::parts::{Answer, Part, answers, expression, value, values};
+use csp_term::expression::laws::{compare_expressions, equal_expressions, hash_expression};
+use csp_term::expression::{BinaryOperator, Binding, EvalFault, Expr, UnaryOperator};
+use csp_term::{Fault, Memory, Name, TryCopy, copy_all};
 use csp_value::Value;
 use linked_list_allocator::LocalHeap;
 use std::alloc::{Allocator, Global};
