@@ -273,10 +273,10 @@ fn comparisons(rt: HostRuntime) -> Result<(), Fail> {
 }
 
 /// Whether the operator answers this of the two parts.
-fn of_parts(
+fn of_parts<'p>(
     alloc: Global,
-    left: Part<'_>,
-    right: Part<'_>,
+    left: Part<'p>,
+    right: Part<'p>,
     operator: BinaryOperator,
     answer: Answer<'_>,
 ) -> bool {
