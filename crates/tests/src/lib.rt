@@ -16,6 +16,8 @@ mod outcomes;
 #[cfg(test)]
 mod reports;
 #[cfg(test)]
+mod scripts;
+#[cfg(test)]
 mod searches;
 #[cfg(test)]
 mod terms;

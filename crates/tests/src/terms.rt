@@ -1,52 +1,32 @@
 //! Terms at the edge of the limits, their copies and their order, and equal terms in two allocators.
 
+use crate::scripts::{repeated, script};
 use csp_term::laws::{
     compare_actions, compare_terms, equal_actions, equal_assertions, equal_scripts, equal_terms,
     hash_term,
 };
 use csp_term::{
-    Action, Assertion, Channel, ChannelId, Equation, Event, Fault, Memory, Model, Name, Script,
-    Term, TermFault, TryCopy, Types, copy_all,
+    Action, Assertion, ChannelId, Equation, Event, Fault, Memory, Model, Name, Script, Term,
+    TermFault, TryCopy, copy_all,
 };
 use std::alloc::{Allocator, Global};
 use std::hash::{DefaultHasher, Hasher};
 use std::process::Abort;
 use std::test::Fail;
 
-// As many prefixes over the channel before STOP.
-fn chain<A: Allocator + Copy>(alloc: A, channel: u32, prefixes: u32) -> Result<Term<A>, Memory> {
-    let mut term = Term::Stop;
-    for _ in 0..prefixes {
-        term = Term::Prefix(ChannelId(channel), Box::new(alloc, term)?);
-    }
-    Ok(term)
-}
-
 // `channel a, b`, `P(x) = a -> a -> STOP`, `assert b -> STOP [F= STOP`
-fn script(alloc: Global) -> Result<Script<Global>, Fail> {
-    let mut channels = Vec::new(alloc);
-    for spelling in ["a", "b"] {
-        channels.push(Channel {
-            spelling: String::from_str(alloc, spelling)?,
-        })?;
-    }
-    let mut equations = Vec::new(alloc);
-    equations.push(Equation {
+fn whole_script(alloc: Global) -> Result<Script<Global>, Fail> {
+    let mut script = script(alloc, &["a", "b"])?;
+    script.equations.push(Equation {
         parameters: Vec::from_slice(alloc, &[Name(0)])?,
-        body: chain(alloc, 0, 2)?,
+        body: repeated(alloc, 0, 2)?,
     })?;
-    let mut assertions = Vec::new(alloc);
-    assertions.push(Assertion {
+    script.assertions.push(Assertion {
         model: Model::Failures,
-        specification: chain(alloc, 1, 1)?,
+        specification: repeated(alloc, 1, 1)?,
         implementation: Term::Stop,
     })?;
-    Ok(Script {
-        types: Types,
-        channels,
-        equations,
-        assertions,
-    })
+    Ok(script)
 }
 
 #[test]
@@ -59,7 +39,7 @@ fn limits(rt: HostRuntime) -> Result<(), Fail> {
         (256, false),
         (2000, false),
     ] {
-        let term = chain(alloc, 0, prefixes)?;
+        let term = repeated(alloc, 0, prefixes)?;
         assert_eq!(rt; term.fits(), within, "{prefixes} prefixes");
         assert!(rt; term.put_in(alloc)? == term, "{prefixes} prefixes");
         match term.subst(alloc) {
@@ -73,7 +53,7 @@ fn limits(rt: HostRuntime) -> Result<(), Fail> {
 #[test]
 fn copies(rt: HostRuntime) -> Result<(), Fail> {
     let alloc = rt.alloc();
-    let script = script(alloc)?;
+    let script = whole_script(alloc)?;
     let copy = script.try_copy(alloc)?;
     assert!(rt; copy == script && equal_scripts(&copy, &script));
     for channel in &script.channels {
@@ -97,7 +77,7 @@ fn order_is_by_form_then_by_parts(rt: HostRuntime) -> Result<(), Fail> {
     let alloc = rt.alloc();
     let mut rising = Vec::new(alloc);
     for (channel, prefixes) in [(0, 0), (0, 1), (0, 2), (0, 255), (1, 1), (1, 2), (2, 1)] {
-        rising.push(chain(alloc, channel, prefixes)?)?;
+        rising.push(repeated(alloc, channel, prefixes)?)?;
     }
     for (i, left) in rising.iter().enumerate() {
         for (j, right) in rising.iter().enumerate() {
@@ -130,8 +110,8 @@ fn equal_terms_in_two_allocators(rt: HostRuntime) -> Result<(), Fail> {
 
 fn same_in_both<B: Allocator>(rt: &impl Abort, here: &B, there: &B) -> Result<(), Fail> {
     for prefixes in [0, 1, 255, 256] {
-        let left = chain(here, 3, prefixes)?;
-        let right = chain(there, 3, prefixes)?;
+        let left = repeated(here, 3, prefixes)?;
+        let right = repeated(there, 3, prefixes)?;
         assert!(rt; left == right, "{prefixes} prefixes");
         assert_eq!(rt; hash_of(&left), hash_of(&right), "{prefixes} prefixes");
         let copy = left.try_copy(there)?;
