@@ -13,9 +13,9 @@ use crate::reader::read;
 use crate::refusal::Refusal;
 use csp_term::Script;
 use pair_store::limits::Limits;
-use verdict::Outcome;
 use report::{Sink, push_all, write};
 use std::alloc::{AllocError, Allocator};
+use verdict::Outcome;
 
 // The most pairs and the most nodes of a search.
 const MAX_PAIRS: usize = 100_000;
