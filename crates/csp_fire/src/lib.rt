@@ -9,6 +9,8 @@ mod expansion;
 mod firing;
 mod form;
 mod rules;
+#[cfg(test)]
+mod tests;
 
 pub use expansion::Expansion;
 pub use firing::fire;

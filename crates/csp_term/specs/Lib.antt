@@ -1,8 +1,7 @@
-pub mod Action
 pub mod Bindings
-pub mod Copies
 pub mod Evaluation
 pub mod Expression
 pub mod Fault
+pub mod Field
 pub mod Term
 pub mod Script

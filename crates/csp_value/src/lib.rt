@@ -9,6 +9,7 @@ mod action;
 mod copy;
 mod handle;
 pub mod laws;
+mod limits;
 mod memory;
 mod name;
 mod set;
@@ -21,3 +22,6 @@ pub use memory::Memory;
 pub use name::{ChannelId, ConId};
 pub use set::SetOf;
 pub use value::{Value, copy_values};
+
+#[cfg(test)]
+mod tests;

@@ -8,6 +8,9 @@
 mod pushing;
 mod report;
 mod sink;
+#[cfg(test)]
+mod tests;
+mod values;
 
 pub use pushing::push_all;
 pub use report::{WriteFault, write};

@@ -5,6 +5,8 @@
 
 mod outcome;
 mod shown;
+#[cfg(test)]
+mod tests;
 mod trace;
 
 pub use outcome::{Outcome, Why};

@@ -1,0 +1,188 @@
+//! Expressions that tests put together from parts, and what they expect of their values.
+
+use crate::expression::{BinaryOperator, Constructors, EvalFault, Expr, TypeTable, UnaryOperator};
+use crate::{DatatypeId, Fault, Memory, Name, NametypeId};
+use csp_value::{ConId, SetOf, Value};
+use std::alloc::Allocator;
+
+/// A part of an expression. Parts are put together in turn, each operator behind its operands.
+#[derive(Clone, Copy)]
+pub(super) enum Part<'p> {
+    Number(i32),
+    Truth(bool),
+    Constructor(u32),
+    /// A sequence of numbers that is a value.
+    Items(&'p [i32]),
+    /// A set of numbers that is a value.
+    Members(&'p [i32]),
+    Name(u32),
+    Apply(UnaryOperator),
+    Combine(BinaryOperator),
+    /// A sequence of numbers, as it is written.
+    Sequence(&'p [i32]),
+    /// A set of numbers, as it is written.
+    Set(&'p [i32]),
+    /// The set of so many parts before it.
+    SetOf(u32),
+    Range,
+    Booleans,
+    Datatype(u32),
+    Nametype(u32),
+}
+
+/// The expression of the parts.
+pub(super) fn expression<A: Allocator + Copy>(
+    alloc: A,
+    parts: &[Part<'_>],
+) -> Result<Expr<A>, Memory> {
+    let mut made = Vec::new(alloc);
+    for part in parts {
+        let next = from_part(alloc, *part, &mut made)?;
+        made.push(next)?;
+    }
+    Ok(last(&mut made))
+}
+
+fn from_part<A: Allocator + Copy>(
+    alloc: A,
+    part: Part<'_>,
+    made: &mut Vec<Expr<A>, A>,
+) -> Result<Expr<A>, Memory> {
+    match part {
+        Part::Number(number) => Ok(Expr::Literal(Value::Int(number))),
+        Part::Truth(truth) => Ok(Expr::Literal(Value::Bool(truth))),
+        Part::Constructor(constructor) => Ok(Expr::Literal(Value::Con(ConId(constructor)))),
+        Part::Items(items) => Ok(Expr::Literal(Value::Seq(values(alloc, items)?))),
+        Part::Members(members) => Ok(Expr::Literal(value_set(alloc, members)?)),
+        Part::Name(name) => Ok(Expr::Name(Name(name))),
+        Part::Apply(operator) => Ok(Expr::Apply(operator, Box::new(alloc, last(made))?)),
+        Part::Combine(operator) => {
+            let right = Box::new(alloc, last(made))?;
+            let left = Box::new(alloc, last(made))?;
+            Ok(Expr::Combine(operator, left, right))
+        }
+        Part::Sequence(items) => Ok(Expr::Sequence(numbers(alloc, items)?)),
+        Part::Set(members) => Ok(Expr::Set(numbers(alloc, members)?)),
+        Part::SetOf(count) => set_of(alloc, count, made),
+        Part::Range => {
+            let to = Box::new(alloc, last(made))?;
+            let from = Box::new(alloc, last(made))?;
+            Ok(Expr::Range(from, to))
+        }
+        Part::Booleans => Ok(Expr::Booleans),
+        Part::Datatype(datatype) => Ok(Expr::Datatype(DatatypeId(datatype))),
+        Part::Nametype(nametype) => Ok(Expr::Nametype(NametypeId(nametype))),
+    }
+}
+
+fn last<A: Allocator>(made: &mut Vec<Expr<A>, A>) -> Expr<A> {
+    match made.pop() {
+        Some(expression) => expression,
+        None => Expr::Booleans,
+    }
+}
+
+fn numbers<A: Allocator + Copy>(alloc: A, items: &[i32]) -> Result<Vec<Expr<A>, A>, Memory> {
+    let mut all = Vec::new(alloc);
+    for item in items {
+        all.push(Expr::Literal(Value::Int(*item)))?;
+    }
+    Ok(all)
+}
+
+fn set_of<A: Allocator + Copy>(
+    alloc: A,
+    count: u32,
+    made: &mut Vec<Expr<A>, A>,
+) -> Result<Expr<A>, Memory> {
+    let mut members = Vec::new(alloc);
+    for _ in 0..count {
+        members.push(last(made))?;
+    }
+    members.reverse();
+    Ok(Expr::Set(members))
+}
+
+/// The numbers as values.
+pub(super) fn values<A: Allocator + Copy>(
+    alloc: A,
+    items: &[i32],
+) -> Result<Vec<Value<A>, A>, Memory> {
+    let mut all = Vec::new(alloc);
+    for item in items {
+        all.push(Value::Int(*item))?;
+    }
+    Ok(all)
+}
+
+fn value_set<A: Allocator + Copy>(alloc: A, members: &[i32]) -> Result<Value<A>, Memory> {
+    Ok(Value::Set(SetOf::from_values(values(alloc, members)?)))
+}
+
+/// What is expected of a value.
+#[derive(Clone, Copy)]
+pub(super) enum Answer<'p> {
+    Number(i32),
+    Truth(bool),
+    /// The sequence of the numbers.
+    Sequence(&'p [i32]),
+    /// The set of the numbers, which rise.
+    Set(&'p [i32]),
+    /// There is no value, for this cause.
+    Cause(Fault),
+}
+
+/// Whether the expression of the parts has this answer.
+pub(super) fn answers<A: Allocator + Copy>(
+    alloc: A,
+    parts: &[Part<'_>],
+    answer: Answer<'_>,
+) -> bool {
+    let found = value(alloc, parts);
+    is_answer(&found, answer)
+}
+
+/// The value of the expression of the parts.
+pub(super) fn value<A: Allocator + Copy>(
+    alloc: A,
+    parts: &[Part<'_>],
+) -> Result<Value<A>, EvalFault> {
+    let types = types(alloc)?;
+    expression(alloc, parts)?.eval(&types, alloc)
+}
+
+/// One datatype of the constructors 2 to 4, and one nametype, `{5, 7}`.
+fn types<A: Allocator + Copy>(alloc: A) -> Result<TypeTable<A>, Memory> {
+    let mut datatypes = Vec::new(alloc);
+    datatypes.push(Constructors {
+        first: ConId(2),
+        behind: ConId(5),
+    })?;
+    let mut nametypes = Vec::new(alloc);
+    nametypes.push(SetOf::from_values(values(alloc, &[7, 5])?))?;
+    Ok(TypeTable {
+        datatypes,
+        nametypes,
+    })
+}
+
+fn is_answer<A: Allocator>(found: &Result<Value<A>, EvalFault>, answer: Answer<'_>) -> bool {
+    match (found, answer) {
+        (Ok(Value::Int(found)), Answer::Number(number)) => *found == number,
+        (Ok(Value::Bool(found)), Answer::Truth(truth)) => *found == truth,
+        (Ok(Value::Seq(found)), Answer::Sequence(items)) => are_numbers(found.as_slice(), items),
+        (Ok(Value::Set(found)), Answer::Set(members)) => are_numbers(found.members(), members),
+        (Err(EvalFault::Fault(found)), Answer::Cause(cause)) => *found == cause,
+        _ => false,
+    }
+}
+
+fn are_numbers<A: Allocator>(values: &[Value<A>], numbers: &[i32]) -> bool {
+    for (value, number) in values.iter().zip(numbers) {
+        match value {
+            Value::Int(found) if found == number => {}
+            _ => return false,
+        }
+    }
+    values.len() == numbers.len()
+}
