@@ -9,10 +9,11 @@ ghost use Rattle.csp_fire.specs.Form.{form_of};
 use crate::expansion::Expansion;
 use crate::form::Form;
 use crate::rules::{prefix, stop};
-use csp_term::{AllocHandle, Memory, Script, Term};
+use csp_term::{Memory, Script, Term};
+use std::alloc::Allocator;
 
 /// Fires a closed term of the script. The expansion names the script and the term that were handed in.
-pub fn fire<'s, A: AllocHandle>(
+pub fn fire<'s, A: Allocator + Copy>(
     alloc: A,
     script: &'s Script<A>,
     term: &Term<A>,
@@ -26,7 +27,7 @@ pub fn fire<'s, A: AllocHandle>(
     Ok(Expansion { script, term, form })
 }
 
-fn form_of_term<A: AllocHandle>(
+fn form_of_term<A: Allocator + Copy>(
     alloc: A,
     script: &Script<A>,
     term: &Term<A>,

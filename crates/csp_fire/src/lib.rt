@@ -9,8 +9,6 @@ mod expansion;
 mod firing;
 mod form;
 mod rules;
-#[cfg(test)]
-mod tests;
 
 pub use expansion::Expansion;
 pub use firing::fire;

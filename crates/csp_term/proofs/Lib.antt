@@ -1,10 +1,6 @@
 pub mod Answering
 pub mod Forms
-pub mod FieldOrder
 pub mod TermOrder
-pub mod ExpressionPutting
-pub mod TermCopying
-pub mod TermPutting
 pub mod Sameness
 pub mod Equality
 pub mod Copying
@@ -17,5 +13,3 @@ pub mod Evaluating
 pub mod Named
 pub mod Looking
 pub mod Forming
-pub mod Measures
-pub mod Hiding

@@ -1,7 +1,8 @@
+pub mod Action
 pub mod Bindings
+pub mod Copies
 pub mod Evaluation
 pub mod Expression
 pub mod Fault
-pub mod Field
 pub mod Term
 pub mod Script

@@ -2,8 +2,9 @@
 
 ghost use Rattle.std.specs.Prelude.{◌≡◌};
 
+use crate::copy::TryCopy;
+use crate::memory::Memory;
 use crate::term::Term;
-use csp_value::{Memory, TryCopy};
 use std::alloc::Allocator;
 
 /// What a refinement compares (FDR manual).

@@ -12,10 +12,7 @@ mod eval;
 mod expr;
 mod fault;
 pub mod laws;
-mod limits;
 mod operator;
-#[cfg(test)]
-mod parts;
 mod ranges;
 mod seen;
 mod sequences;
@@ -24,13 +21,7 @@ mod substitution;
 mod types;
 
 pub use expr::Expr;
-pub(crate) use expr::copy_expressions;
 pub use fault::EvalFault;
-pub(crate) use limits::{are_within_depth, room_left_by};
 pub use operator::{BinaryOperator, UnaryOperator};
 pub use substitution::Binding;
-pub(crate) use substitution::put_in_all;
 pub use types::{Constructors, TypeTable};
-
-#[cfg(test)]
-mod tests;

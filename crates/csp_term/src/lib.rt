@@ -4,27 +4,28 @@
 //! a copy stands for the same process, values are put in as the definitions say, the limits are decided exactly, and
 //! `==`, the order and the hash of two terms are those of their processes, whichever allocator holds them.
 //!
-//! Expressions stand in `expression`, with their evaluation.
+//! Expressions stand by themselves in `expression`, with their evaluation; the terms do not have them yet.
 #![tactic(auto)]
 
+mod action;
 mod assertion;
+mod copy;
 pub mod expression;
 mod fault;
-mod field;
 pub mod laws;
 mod limits;
+mod memory;
 mod name;
 mod script;
 mod substitution;
 mod term;
-#[cfg(test)]
-mod tests;
 
+pub use action::{Action, Event};
 pub use assertion::{Assertion, Model};
-pub use csp_value::{Action, AllocHandle, ChannelId, Event, Memory, TryCopy, copy_all};
+pub use copy::{TryCopy, copy_all};
 pub use fault::Fault;
-pub use field::Field;
-pub use name::{DatatypeId, EquationId, Name, NametypeId};
+pub use memory::Memory;
+pub use name::{ChannelId, DatatypeId, Name, NametypeId};
 pub use script::{Channel, Equation, Script, Types};
 pub use substitution::TermFault;
 pub use term::Term;

@@ -9,7 +9,6 @@ mod action;
 mod copy;
 mod handle;
 pub mod laws;
-mod limits;
 mod memory;
 mod name;
 mod set;
@@ -22,6 +21,3 @@ pub use memory::Memory;
 pub use name::{ChannelId, ConId};
 pub use set::SetOf;
 pub use value::{Value, copy_values};
-
-#[cfg(test)]
-mod tests;

@@ -2,10 +2,9 @@
 
 use crate::files::{Files, OneText, Unread};
 use crate::run::run;
-use csp_term::AllocHandle;
 use linked_list_allocator::LocalHeap;
 use report::{Buffer, Out};
-use std::alloc::{AllocError, Global};
+use std::alloc::{AllocError, Allocator, Global};
 use std::test::Fail;
 
 const BEYOND_STOP: &str = "channel a, b, c\nassert STOP [T= a -> STOP\n";
@@ -107,7 +106,7 @@ impl Files<Global> for NoMemory {
 }
 
 // A run whose memory is the allocator's, and whose outputs have room.
-fn run_in<A: AllocHandle, F: Files<A>>(
+fn run_in<A: Allocator + Copy, F: Files<A>>(
     room: Global,
     alloc: A,
     words: &[&str],

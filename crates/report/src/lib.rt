@@ -8,9 +8,6 @@
 mod pushing;
 mod report;
 mod sink;
-#[cfg(test)]
-mod tests;
-mod values;
 
 pub use pushing::push_all;
 pub use report::{WriteFault, write};

@@ -5,8 +5,6 @@
 
 mod outcome;
 mod shown;
-#[cfg(test)]
-mod tests;
 mod trace;
 
 pub use outcome::{Outcome, Why};

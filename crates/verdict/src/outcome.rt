@@ -3,7 +3,8 @@
 ghost use Rattle.std.specs.Prelude.{◌≡◌, IfOk};
 
 use crate::shown::Shown;
-use csp_term::{AllocHandle, Fault, Memory};
+use csp_term::{Fault, Memory};
+use std::alloc::Allocator;
 
 /// Why there is no answer.
 #[derive(Clone, Copy, Debug, PartialEq, Eq)]
@@ -22,7 +23,7 @@ pub enum Why {
 
 /// The answer to an assertion.
 #[derive(Drop)]
-pub enum Outcome<A: AllocHandle> {
+pub enum Outcome<A: Allocator> {
     /// The implementation refines the specification.
     Holds,
     /// It does not: this is a violation.
@@ -31,7 +32,7 @@ pub enum Outcome<A: AllocHandle> {
     Unknown(Why),
 }
 
-impl<A: AllocHandle> Outcome<A> {
+impl<A: Allocator + Copy> Outcome<A> {
     ghost use Rattle.verdict.specs.Outcome.{outcome_of};
 
     /// An equal outcome in the given allocator.

@@ -3,9 +3,11 @@
 ghost use Rattle.std.specs.Prelude.{◌≡◌, IfOk};
 ghost use Rattle.csp_term.specs.Expression.{expression_of, expressions_of};
 
+use crate::copy::TryCopy;
 use crate::expression::operator::{BinaryOperator, UnaryOperator};
+use crate::memory::Memory;
 use crate::name::{DatatypeId, Name, NametypeId};
-use csp_value::{Memory, TryCopy, Value};
+use csp_value::Value;
 use std::alloc::Allocator;
 
 /// An expression as it is written. The order is that of the forms, then of the parts in turn.
@@ -68,7 +70,7 @@ impl<A: Allocator + Copy> Expr<A> {
 
 /// A copy of each expression, in order, or `Memory` where there is no room.
 #[cycle(copy)]
-pub(crate) fn copy_expressions<A: Allocator + Copy>(
+fn copy_expressions<A: Allocator + Copy>(
     expressions: &[Expr<A>],
     alloc: A,
 ) -> Result<Vec<Expr<A>, A>, Memory>

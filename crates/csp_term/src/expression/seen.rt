@@ -4,7 +4,8 @@ ghost use Rattle.std.specs.Prelude.{◌≡◌, IfOk};
 ghost use Rattle.csp_value.specs.Value.{value_of};
 ghost use Rattle.csp_term.specs.Evaluation.{seen_value};
 
-use csp_value::{Memory, Value};
+use crate::memory::Memory;
+use csp_value::Value;
 use std::alloc::Allocator;
 
 /// A value that lies in the expression, or one that was made.

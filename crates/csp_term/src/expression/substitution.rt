@@ -6,8 +6,9 @@ ghost use Rattle.csp_term.specs.Expression.{expression_of, expressions_of};
 ghost use Rattle.csp_term.specs.Bindings.{bindings_of, found_of, puts};
 
 use crate::expression::expr::Expr;
+use crate::memory::Memory;
 use crate::name::Name;
-use csp_value::{Memory, Value};
+use csp_value::Value;
 use std::alloc::Allocator;
 
 /// A name with the value that it stands for.
@@ -67,7 +68,7 @@ impl<A: Allocator + Copy> Expr<A> {
 
 /// Each expression with the values put in, in order, or `Memory` where there is no room.
 #[cycle(put)]
-pub(crate) fn put_in_all<A: Allocator + Copy>(
+fn put_in_all<A: Allocator + Copy>(
     expressions: &[Expr<A>],
     bindings: &[Binding<'_, A>],
     alloc: A,
