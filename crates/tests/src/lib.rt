@@ -1,12 +1,10 @@
-//! What the libraries are seen to do: each public call once, tables of worked values, and refused memory.
+//! What terms, steps, searches and reports are seen to do: each public call once, tables of worked values, and refused memory.
 //!
-//! The tests stand in a crate above all libraries, since a crate is proved anew for the tests that it has of its own.
+//! The tests stand in a crate above the libraries, since a crate is proved anew for the tests that it has of its own.
 #![tactic(auto)]
 
 #[cfg(test)]
 mod batches;
-#[cfg(test)]
-mod expressions;
 #[cfg(test)]
 mod firing;
 #[cfg(test)]
@@ -21,7 +19,3 @@ mod scripts;
 mod searches;
 #[cfg(test)]
 mod terms;
-#[cfg(test)]
-mod tokens;
-#[cfg(test)]
-mod values;

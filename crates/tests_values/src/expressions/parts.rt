@@ -5,7 +5,7 @@ use csp_term::expression::{
 };
 use csp_term::{DatatypeId, Fault, Memory, Name, NametypeId};
 use csp_value::{ConId, SetOf, Value};
-use std::alloc::Allocator;
+use std::alloc::{Allocator, Global};
 
 /// A part of an expression. Parts are put together in turn, each operator behind its operands.
 #[derive(Clone, Copy)]
@@ -187,4 +187,26 @@ fn are_numbers<A: Allocator>(values: &[Value<A>], numbers: &[i32]) -> bool {
         }
     }
     values.len() == numbers.len()
+}
+
+/// Whether the operator answers this of the two parts.
+pub(super) fn of_parts<'p>(
+    alloc: Global,
+    left: Part<'p>,
+    right: Part<'p>,
+    operator: BinaryOperator,
+    answer: Answer<'_>,
+) -> bool {
+    let parts = [left, right, Part::Combine(operator)];
+    answers(alloc, &parts, answer)
+}
+
+/// The numbers from 0 up to and without the end, and then a 0 again.
+pub(super) fn counted(alloc: Global, end: i32) -> Result<Vec<i32>, Memory> {
+    let mut all = Vec::new(alloc);
+    for item in 0..end {
+        all.push(item)?;
+    }
+    all.push(0)?;
+    Ok(all)
 }

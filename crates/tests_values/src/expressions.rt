@@ -1,0 +1,10 @@
+//! Expressions of each form: their order, copies and hashes, their values, and values put in for names.
+
+mod decisions;
+mod forms;
+mod memory;
+mod numbers;
+mod parts;
+mod sequences;
+mod sets;
+mod substitution;
