@@ -2,13 +2,13 @@
 //!
 //! `write` gives a sink the bytes of the report as the definitions say them, whole and in order, or says why it did
 //! not: where the sink failed, a beginning of the report went out and no more, and where memory was refused, nothing did.
-//! `push_all` does so for any text.
+//! `push_all` does so for any text, and `push_each` for several.
 #![tactic(auto)]
 
 mod pushing;
 mod report;
 mod sink;
 
-pub use pushing::push_all;
+pub use pushing::{push_all, push_each};
 pub use report::{WriteFault, write};
 pub use sink::{Buffer, Failed, Out, Sink};
