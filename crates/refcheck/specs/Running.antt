@@ -41,6 +41,8 @@ pub record IsCutOff (old new : Option (List ℕ)) (failed : Bool) : Type 0 where
 -- A refusal leaves the output as it was, but for a report that was cut off.
 abbrev pub Leaves : {S : Type 0} → Refusal → (S → Option (List ℕ)) → (S → Bool) → S → S → Type 0
 Leaves refusal.File taken failed old new = new ≡ old
+Leaves (refusal.Text f p) taken failed old new = new ≡ old
+Leaves (refusal.Grammar f p) taken failed old new = new ≡ old
 Leaves refusal.Part taken failed old new = new ≡ old
 Leaves refusal.Memory taken failed old new = new ≡ old
 Leaves refusal.Output taken failed old new = (new ≡ old) ⊎ IsCutOff (taken old) (taken new) (failed new)

@@ -7,7 +7,7 @@
 
 mod explore;
 mod files;
-mod heights;
+mod part;
 mod reader;
 mod refusal;
 mod run;

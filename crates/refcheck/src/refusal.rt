@@ -1,10 +1,15 @@
 //! Why nothing was answered.
 
-ghost use Rattle.std.specs.Prelude.{◌≡◌};
-ghost use Rattle.refcheck.specs.Refusal.{refusal_line};
+ghost use Rattle.std.specs.Prelude.{◌≡◌, false};
+ghost use Rattle.refcheck.specs.Refusal.{refusal_line, place_line};
+ghost use Rattle.refcheck.specs.Running.{IsGiven};
 
 use crate::files::Unread;
 use crate::reader::ReadFault;
+use csp_lex::{Place, TextFault};
+use csp_parse::GrammarFault;
+use itoa::Buffer;
+use report::{Failed, Sink, push_all, push_each};
 use std::alloc::AllocError;
 
 /// What was refused.
@@ -12,7 +17,11 @@ use std::alloc::AllocError;
 pub enum Refusal {
     /// The file cannot be read, or there is not one word.
     File,
-    /// The text lies outside the part of the language that is read.
+    /// The text has no tokens, by this fault at this place.
+    Text { fault: TextFault, place: Place },
+    /// The tokens are no script, by this fault at this place.
+    Grammar { fault: GrammarFault, place: Place },
+    /// The script lies outside the part of the language that is checked.
     Part,
     /// The words, the file or the script could not be read for memory.
     Memory,
@@ -20,18 +29,37 @@ pub enum Refusal {
     Output,
 }
 
-impl Refusal {
-    /// The line that is printed for it.
-    pub fn line(self) -> &'static str
-        ensures { result.now ≡ refusal_line self }
-    {
-        match self {
-            Refusal::File => "refused file\n",
-            Refusal::Part => "refused part\n",
-            Refusal::Memory => "refused memory\n",
-            Refusal::Output => "refused output\n",
-        }
-    }
+/// Gives the line of a refusal to the sink. No memory is taken for it.
+pub fn push_line<E: Sink>(why: Refusal, sink: &mut E)
+    requires { E.has_failed sink.old ≡ false }
+    ensures { IsGiven (E.taken sink.old) (E.taken sink.new) (E.has_failed sink.new) (refusal_line why) }
+{
+    let _ = match why {
+        Refusal::File => push_all(b"refused file\n", sink),
+        Refusal::Text { fault, place } => push_place(fault.number(), place, sink),
+        Refusal::Grammar { fault, place } => push_place(fault.number(), place, sink),
+        Refusal::Part => push_all(b"refused part\n", sink),
+        Refusal::Memory => push_all(b"refused memory\n", sink),
+        Refusal::Output => push_all(b"refused output\n", sink),
+    };
+}
+
+// Gives the line of a refusal that has a place.
+fn push_place<E: Sink>(number: &str, place: Place, sink: &mut E) -> Result<(), Failed>
+    requires { E.has_failed sink.old ≡ false }
+    ensures { IsGiven (E.taken sink.old) (E.taken sink.new) (E.has_failed sink.new) (place_line number.now place) }
+{
+    let (mut line, mut column) = (Buffer::new(), Buffer::new());
+    let texts = [
+        "refused ",
+        number,
+        " at ",
+        line.format(place.line),
+        ":",
+        column.format(place.column),
+        "\n",
+    ];
+    push_each(&texts, sink)
 }
 
 impl From<Unread> for Refusal {
@@ -54,6 +82,8 @@ impl From<ReadFault> for Refusal {
 
     fn from(fault: ReadFault) -> Refusal {
         match fault {
+            ReadFault::Text { fault, place } => Refusal::Text { fault, place },
+            ReadFault::Grammar { fault, place } => Refusal::Grammar { fault, place },
             ReadFault::Part => Refusal::Part,
             ReadFault::Memory => Refusal::Memory,
         }

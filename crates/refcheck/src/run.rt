@@ -10,10 +10,10 @@ ghost use Rattle.refcheck.specs.Running.{IsReported, IsRefused, IsGiven, Leaves,
 use crate::explore::explore;
 use crate::files::Files;
 use crate::reader::read;
-use crate::refusal::Refusal;
+use crate::refusal::{Refusal, push_line};
 use csp_term::Script;
 use pair_store::limits::Limits;
-use report::{Sink, push_all, write};
+use report::{Sink, write};
 use std::alloc::{AllocError, Allocator};
 use verdict::Outcome;
 
@@ -55,7 +55,7 @@ pub fn refuse<E: Sink>(why: Refusal, err: &mut E) -> u8
     ensures status { result ≡ 3 }
     ensures line { IsGiven (E.taken err.old) (E.taken err.new) (E.has_failed err.new) (refusal_line why) }
 {
-    let _ = push_all(why.line().as_bytes(), err);
+    push_line(why, err);
     3
 }
 

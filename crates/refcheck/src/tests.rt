@@ -10,7 +10,7 @@ use std::test::Fail;
 const BEYOND_STOP: &str = "channel a, b, c\nassert STOP [T= a -> STOP\n";
 
 // Texts with their reports and statuses.
-const REPORTS: [(&str, &str, u8); 9] = [
+const REPORTS: [(&str, &str, u8); 10] = [
     ("", "", 0),
     (BEYOND_STOP, "1 fails trace <> event a\n", 1),
     (
@@ -18,8 +18,13 @@ const REPORTS: [(&str, &str, u8); 9] = [
         "1 holds\n",
         0,
     ),
-    ("channel a' -- nothing to check", "", 0),
+    ("channel a' -- nothing to check é", "", 0),
     ("assert STOP [T= STOP", "1 holds\n", 0),
+    (
+        "channel α\nassert STOP [T= α -> STOP",
+        "1 fails trace <> event α\n",
+        1,
+    ),
     (
         "channel a, b\nassert a -> b -> STOP [T= a -> a -> STOP",
         "1 fails trace <a> event a\n",
@@ -42,37 +47,74 @@ const REPORTS: [(&str, &str, u8); 9] = [
     ),
 ];
 
-// Texts outside the part of the language that is read.
-const OUTSIDE: [&str; 29] = [
+// Scripts outside the part of the language that is checked.
+const OUTSIDE: [&str; 18] = [
     "channel a\nassert STOP [T= b -> STOP",
     "channel a\nassert STOP [F= a -> STOP",
     "channel a, a",
     "channel a\nchannel b, a",
-    "channel a {- no end",
-    "channel α",
-    "channel a -- é",
-    "channel if",
-    "channel a, STOP",
-    "channel a\nassert STOP [T= a STOP",
-    "channel a\nassert STOP [T= a ->",
-    "channel a\nassert STOP [T= (a) -> STOP",
-    "channel a\nassert STOP [T= STOP -> STOP",
     "channel a\nassert STOP [T= a.1 -> STOP",
+    "channel a\nassert STOP [T= a?x -> STOP",
     "channel a : {0..1}",
-    "channel",
-    "channel a,",
-    "channel , a",
-    "channel a b",
-    "assert STOP",
-    "assert [T= STOP",
-    "assert STOP [T=",
-    "assert STOP [T= STOP [T= STOP",
-    "assert STOP [T= (STOP",
-    "assert STOP [T= STOP)",
-    "assert STOP [T= ()",
+    "nametype N = {0..1}",
+    "datatype D = A | B",
     "assert STOP [T= SKIP",
+    "assert STOP [T= STOP [] STOP",
+    "channel a\nassert a [T= STOP",
+    "channel a\nassert STOP [T= STOP \\ {a}",
+    "channel a\nassert STOP [T= STOP[[a <- a]]",
+    "assert STOP [T= true & STOP",
+    "assert STOP [T= if true then STOP else STOP",
+    "assert STOP [T= STOP ; STOP",
     "P = STOP",
-    "$",
+];
+
+// Texts that are no scripts, with the number and the place of the refusal.
+const NO_SCRIPTS: [(&str, &str); 29] = [
+    (
+        "channel a, b, c\nassert STOP [T= a -> STOP \\ {a}",
+        "refused S04 at 2:27\n",
+    ),
+    (
+        "channel a, b, c\nP = a -> STOP [] STOP |~| STOP",
+        "refused S04 at 2:23\n",
+    ),
+    ("{- x", "refused L02 at 1:1\n"),
+    ("P = a ->", "refused S03 at 1:9\n"),
+    ("assert STOP [T= P(2147483648)", "refused L03 at 1:19\n"),
+    (
+        "assert STOP [T= STOP [] STOP |~| STOP",
+        "refused S04 at 1:30\n",
+    ),
+    ("P = STOP }", "refused S01 at 1:10\n"),
+    ("P = STOP $", "refused L01 at 1:10\n"),
+    ("channel", "refused S03 at 1:8\n"),
+    ("-}", "refused S01 at 1:1\n"),
+    ("channel a {- no end", "refused L02 at 1:11\n"),
+    ("channel if", "refused S01 at 1:9\n"),
+    ("channel a, STOP", "refused S01 at 1:12\n"),
+    ("channel a\nassert STOP [T= a STOP", "refused S01 at 2:19\n"),
+    ("channel a\nassert STOP [T= a ->", "refused S03 at 2:21\n"),
+    (
+        "channel a\nassert STOP [T= (a) -> STOP",
+        "refused S01 at 2:21\n",
+    ),
+    (
+        "channel a\nassert STOP [T= STOP -> STOP",
+        "refused S01 at 2:22\n",
+    ),
+    ("channel a,", "refused S03 at 1:11\n"),
+    ("channel , a", "refused S01 at 1:9\n"),
+    ("channel a b", "refused S03 at 1:12\n"),
+    ("assert STOP", "refused S03 at 1:12\n"),
+    ("assert [T= STOP", "refused S01 at 1:8\n"),
+    ("assert STOP [T=", "refused S03 at 1:16\n"),
+    ("assert STOP [T= STOP [T= STOP", "refused S01 at 1:22\n"),
+    ("assert STOP [T= (STOP", "refused S03 at 1:22\n"),
+    ("assert STOP [T= STOP)", "refused S01 at 1:21\n"),
+    ("assert STOP [T= ()", "refused S01 at 1:18\n"),
+    ("$", "refused L01 at 1:1\n"),
+    ("assert a, assert", "refused S01 at 1:9\n"),
 ];
 
 // What a run answered and gave to its two outputs.
@@ -156,11 +198,22 @@ fn scripts_have_their_reports(rt: HostRuntime) -> Result<(), Fail> {
 }
 
 #[test]
-fn texts_outside_the_part_are_refused(rt: HostRuntime) -> Result<(), Fail> {
+fn scripts_outside_the_part_are_refused(rt: HostRuntime) -> Result<(), Fail> {
     for text in OUTSIDE {
         let told = check(rt.alloc(), text.as_bytes());
         assert!(rt; told.is_refused("refused part\n"), "at {text}");
     }
+    Ok(())
+}
+
+#[test]
+fn texts_that_are_no_scripts_are_refused_at_their_places(rt: HostRuntime) -> Result<(), Fail> {
+    for (text, line) in NO_SCRIPTS {
+        let told = check(rt.alloc(), text.as_bytes());
+        assert!(rt; told.is_refused(line), "at {text}");
+    }
+    let told = check(rt.alloc(), &[0x50, 0xff]);
+    assert!(rt; told.is_refused("refused L04 at 1:2\n"));
     Ok(())
 }
 
@@ -171,7 +224,31 @@ fn a_height_of_100_is_read_and_none_above(rt: HostRuntime) -> Result<(), Fail> {
     assert!(rt; told.is(1, "1 fails trace <> event a\n", ""));
     let higher = chain(rt.alloc(), 101)?;
     let told = check(rt.alloc(), higher.as_bytes());
+    assert!(rt; told.is_refused("refused S02 at 2:519\n"));
+    Ok(())
+}
+
+// `P = STOP` with `STOP` in so many brackets.
+fn bracketed(alloc: Global, brackets: usize) -> Result<String, AllocError> {
+    let mut text = String::from_str(alloc, "P = ")?;
+    for _ in 0..brackets {
+        text.push_str("(")?;
+    }
+    text.push_str("STOP")?;
+    for _ in 0..brackets {
+        text.push_str(")")?;
+    }
+    Ok(text)
+}
+
+#[test]
+fn brackets_may_be_100_deep(rt: HostRuntime) -> Result<(), Fail> {
+    let deepest = bracketed(rt.alloc(), 100)?;
+    let told = check(rt.alloc(), deepest.as_bytes());
     assert!(rt; told.is_refused("refused part\n"));
+    let deeper = bracketed(rt.alloc(), 101)?;
+    let told = check(rt.alloc(), deeper.as_bytes());
+    assert!(rt; told.is_refused("refused S02 at 1:105\n"));
     Ok(())
 }
 
@@ -183,7 +260,7 @@ fn a_text_of_65536_bytes_is_read_and_none_longer(rt: HostRuntime) -> Result<(), 
     }
     assert!(rt; check(rt.alloc(), &text).is(0, "", ""));
     text.push(b' ')?;
-    assert!(rt; check(rt.alloc(), &text).is_refused("refused part\n"));
+    assert!(rt; check(rt.alloc(), &text).is_refused("refused L05 at 1:1\n"));
     Ok(())
 }
 
@@ -268,7 +345,7 @@ fn refused_memory_changes_no_other_answer(rt: HostRuntime) -> Result<(), Fail> {
                 refused = refused.saturating_add(1);
             }
         }
-        let each = refused > 9 && without_answer > 9 && answered > 9;
+        let each = refused > 4 && without_answer > 4 && answered > 4;
         assert!(rt; each, "{refused}, {without_answer} and {answered}");
     }
     Ok(())

@@ -1,8 +1,0 @@
-use Rattle.std.proofs.Common.{length}
-use Rattle.std.specs.List.{All}
-use Rattle.csp_term.specs.Script.{assertion_of}
-use Rattle.refcheck.specs.Reading.{IsWithin}
-use Rattle.refcheck.proofs.reader.assertions.Given as goal
-
-abbrev pub invariant-loop-place : goal.invariant-loop-place
-invariant-loop-place g l = All (λ a. IsWithin (length l.channels) (assertion_of a)) l.assertions.items
