@@ -23,7 +23,8 @@ module _ (script : Script) (a : Assertion) (bounds : Bounds) where
   is_right (Unknown (Fault cause)) refines unstuck fails pairs nodes term fault = fault cause refl
   is_right (Unknown NoMemory) refines unstuck fails pairs nodes term fault = tt
 
-zip_end : {X Y : Type 0} (R : X → Y → Type 0) (xs : List X) (ys : List Y) (x : X) (y : Y) → AllZip R xs ys → R x y → AllZip R (xs ++ x ∷ []) (ys ++ y ∷ [])
+-- one pair more at the end
+pub zip_end : {X Y : Type 0} (R : X → Y → Type 0) (xs : List X) (ys : List Y) (x : X) (y : Y) → AllZip R xs ys → R x y → AllZip R (xs ++ x ∷ []) (ys ++ y ∷ [])
 zip_end R [] [] x y all here = (here, tt)
 zip_end R [] (w ∷ ys) x y all here = absurd all
 zip_end R (v ∷ xs) [] x y all here = absurd all

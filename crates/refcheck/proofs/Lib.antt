@@ -3,3 +3,8 @@ pub mod Ending
 pub mod Answering
 pub mod Reporting
 pub mod Giving
+pub mod Naming
+pub mod Advancing
+pub mod Declaring
+pub mod Asserting
+pub mod Outside

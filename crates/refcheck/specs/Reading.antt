@@ -1,7 +1,13 @@
 -- What the reader hands out.
-use Rattle.std.specs.Prelude.{◌≡◌, ℕ, ◌<◌, List, [], ⊤}
-use Rattle.csp_semantics.specs.Syntax.Process.{Process, Stop, Prefix, Traces, Assertion}
+use Rattle.std.specs.Prelude.{◌≡◌, ℕ, Bool, true, false, List, [], ◌∷◌, ◌++◌, map, Some, slice_get, ⊤}
+use Rattle.std.specs.List.{All, AllZip, filter, flat_map}
+use Rattle.std.specs.Str.{chars}
+use Rattle.std.specs.String.{string_bytes}
+use Rattle.csp_semantics.specs.Syntax.Process.{Process, Stop, Prefix, Traces, Assertion, Script}
+use Rattle.csp_semantics.specs.Text.Raw.{RawProcess, RawStop, RawPrefix, RawDeclaration, RawChannels, RawAssertion, RawScript}
+use Rattle.csp_semantics.specs.Text.Reading.{IsRead}
 use Rattle.csp_semantics.specs.Text.Token.{IsTextRefusal}
+use Rattle.csp_term.specs.declared.script.Channel.{Channel}
 use Rattle.csp_lex.specs.Places.{place_of}
 use Rattle.csp_lex.specs.Refusals.{fault_of}
 use Rattle.csp_lex.specs.declared.refusals.Refused as lexer
@@ -11,15 +17,60 @@ use Rattle.csp_parse.specs.declared.refusals.Refused.TheVariants as parser_fault
 use Rattle.refcheck.specs.declared.reader.ReadFault.{ReadFault}
 use Rattle.refcheck.specs.declared.reader.ReadFault.TheVariants as fault
 
--- `STOP` behind prefixes over plain events, each of one of the first n channels.
-abbrev pub UsesChannelsBelow : ℕ → Process → Type 0
-UsesChannelsBelow n Stop = Unit {0}
-UsesChannelsBelow n (Prefix channel [] body) = (channel < n) × UsesChannelsBelow n body
-UsesChannelsBelow n _ = ⊥
+-- the spellings of the channels that a declaration declares
+abbrev pub declared_channels : RawDeclaration → List (List ℕ)
+declared_channels (RawChannels names domains) = map (λ n. n.spelling) names
+declared_channels _ = []
 
--- a refinement of traces, both sides of which do so
-abbrev pub IsWithin : ℕ → Assertion → Type 0
-IsWithin n a = (a.model ≡ Traces) × UsesChannelsBelow n a.specification × UsesChannelsBelow n a.implementation
+-- those of a tree, in the order of the text
+abbrev pub all_channels : RawScript → List (List ℕ)
+all_channels raw = flat_map declared_channels raw
+
+abbrev pub is_assertion : RawDeclaration → Bool
+is_assertion (RawAssertion place model specification implementation) = true
+is_assertion _ = false
+
+-- What is checked so far: channels without fields, and assertions of traces.
+abbrev pub IsPlain : RawDeclaration → Type 0
+IsPlain (RawChannels names []) = ⊤
+IsPlain (RawAssertion place model specification implementation) = ⊤
+IsPlain _ = ⊥
+
+-- `STOP` behind prefixes over plain events, each of the channel that its name names. Its number is the place of its spelling.
+abbrev pub IsProcessOf : List (List ℕ) → RawProcess → Process → Type 0
+IsProcessOf channels RawStop Stop = ⊤
+IsProcessOf channels (RawPrefix name [] p) (Prefix channel [] q) = (slice_get channels channel ≡ Some name.spelling) × IsProcessOf channels p q
+IsProcessOf channels _ _ = ⊥
+
+-- a refinement of traces between the processes that are written
+abbrev pub IsAssertionOf : List (List ℕ) → RawDeclaration → Assertion → Type 0
+IsAssertionOf channels (RawAssertion place Traces p q) a = (a.model ≡ Traces) × IsProcessOf channels p a.specification × IsProcessOf channels q a.implementation
+IsAssertionOf channels _ a = ⊥
+
+-- no name stands at two places
+abbrev pub StandOnce : List (List ℕ) → Type 0
+StandOnce names = (i j : ℕ) (n : List ℕ) → slice_get names i ≡ Some n → slice_get names j ≡ Some n → i ≡ j
+
+-- the names of channels, in bytes
+abbrev pub names_of : {A : Type 0} → List (Channel A) → List (List ℕ)
+names_of channels = map (λ c. string_bytes c.spelling) channels
+
+-- Channels were declared behind others: these are their spellings, and no name stands twice where none did.
+pub record Declares {A : Type 0} (old new : List (Channel A)) (spellings : List (List ℕ)) : Type 0 where
+  pub behind : map chars (names_of new) ≡ map chars (names_of old) ++ spellings
+  pub once : StandOnce (names_of old) → StandOnce (names_of new)
+
+-- The script that a tree within the part stands for. Its names are kept in bytes.
+pub record IsScriptOf (raw : RawScript) (script : Script) : Type 0 where
+  pub plain : All IsPlain raw
+  pub channels : map chars script.channel_names ≡ all_channels raw
+  pub once : StandOnce script.channel_names
+  pub fields : script.channels ≡ map (λ n. []) script.channel_names
+  pub assertions : AllZip (IsAssertionOf (all_channels raw)) (filter is_assertion raw) script.assertions
+
+-- the script that the text is
+abbrev pub IsScriptOfText : List ℕ → Script → Type 0
+IsScriptOfText bytes script = (raw : RawScript) × IsRead bytes raw × IsScriptOf raw script
 
 -- what is refused where a text has no tokens
 abbrev pub of_lexer : lexer.Refused → ReadFault
@@ -37,7 +88,9 @@ IsOutside fault.Part = ⊤
 IsOutside fault.Memory = ⊤
 IsOutside _ = ⊥
 
--- Where a text is refused for its tokens, it is so by the rules of tokens.
+-- A text without tokens is refused by the rules of tokens, and only a script is refused as outside the part.
 abbrev pub IsRefusalOf : List ℕ → ReadFault → Type 0
 IsRefusalOf bytes (fault.Text f p) = IsTextRefusal bytes (fault_of f) (place_of p)
-IsRefusalOf bytes _ = ⊤
+IsRefusalOf bytes (fault.Grammar f p) = ⊤
+IsRefusalOf bytes fault.Part = (raw : RawScript) × IsRead bytes raw
+IsRefusalOf bytes fault.Memory = ⊤

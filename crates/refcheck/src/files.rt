@@ -1,6 +1,6 @@
 //! Where scripts are read from.
 
-ghost use Rattle.std.specs.Prelude.{◌≡◌, ◌↔◌, IfOk};
+ghost use Rattle.std.specs.Prelude.{◌≡◌, ◌↔◌};
 
 use std::alloc::Allocator;
 use std::io::ErrorKind;
@@ -20,8 +20,19 @@ pub enum Unread {
 
 /// Files by their names.
 pub trait Files<A: Allocator> {
+    ghost use Rattle.std.specs.Prelude.{◌≡◌, List, ℕ, Err, IfOk};
+    ghost use Rattle.refcheck.specs.declared.files.Unread.TheVariants.{File as no_file};
+
+    /// The bytes that the file of a name may hold.
+    ghost may_hold: { Self → List ℕ → List ℕ → Type 0 };
+
+    /// The file of a name may be none that can be read.
+    ghost may_lack: { Self → List ℕ → Type 0 };
+
     /// The bytes of the file of that name.
-    fn read(&mut self, name: &str) -> Result<Vec<u8, A>, Unread>;
+    fn read(&mut self, name: &str) -> Result<Vec<u8, A>, Unread>
+        ensures holds { IfOk result (λ bytes. may_hold self.old name.now bytes.items) }
+        ensures lacks { result ≡ Err no_file → may_lack self.old name.now };
 }
 
 /// The files of the machine.
@@ -40,6 +51,12 @@ impl<'r, R> MachineFiles<'r, R> {
 }
 
 impl<R: rt::Files + Alloc> Files<R::A> for MachineFiles<'_, R> {
+    ghost use Rattle.std.specs.Prelude.{⊤};
+
+    ghost may_hold = { λ _ _ _. ⊤ };
+
+    ghost may_lack = { λ _ _. ⊤ };
+
     fn read(&mut self, name: &str) -> Result<Vec<u8, R::A>, Unread> {
         match fs::read(self.machine, name) {
             Ok(bytes) => Ok(bytes),
@@ -58,8 +75,11 @@ pub struct OneText<'t, A> {
 }
 
 impl<A: Allocator + Copy> Files<A> for OneText<'_, A> {
+    ghost may_hold = { λ file name bytes. (name ≡ file.name.now) × (bytes ≡ file.text.now) };
+
+    ghost may_lack = { λ file name. name ≡ file.name.now → ⊥ };
+
     fn read(&mut self, name: &str) -> Result<Vec<u8, A>, Unread>
-        ensures text { IfOk result (λ bytes. bytes.items ≡ self.old.text.now) }
         ensures name { result ≡ Err Unread.File ↔ (name.now ≡ self.old.name.now → ⊥) }
     {
         if name != self.name {

@@ -2,11 +2,18 @@
 //!
 //! A process is `STOP` or `a -> P`. Channels may be used above their declaration.
 
-ghost use Rattle.std.specs.Prelude.{◌<◌, length, IfOk, IfErr, IfSome};
-ghost use Rattle.std.specs.List.{All};
+ghost use Rattle.std.specs.Prelude.{◌≡◌, ℕ, [], ◌∷◌, map, false, None, Some, Ok, OnOk, IfOk, IfErr, IfSome, slice_get};
+ghost use Rattle.std.specs.List.{All, AllZip, filter};
+ghost use Rattle.std.specs.Str.{chars};
+ghost use Rattle.std.specs.String.{string_bytes};
+ghost use Rattle.csp_semantics.specs.Text.Place.{Place};
+ghost use Rattle.csp_semantics.specs.Text.Raw.{RawAssertion};
+ghost use Rattle.csp_parse.specs.Declarations as raw;
+ghost use Rattle.csp_parse.specs.Names.{name_of};
+ghost use Rattle.csp_parse.specs.Processes as written;
 ghost use Rattle.csp_term.specs.Term.{process_of};
-ghost use Rattle.csp_term.specs.Script.{assertion_of};
-ghost use Rattle.refcheck.specs.Reading.{UsesChannelsBelow, IsWithin, IsOutside};
+ghost use Rattle.csp_term.specs.Script as term;
+ghost use Rattle.refcheck.specs.Reading.{Declares, IsAssertionOf, IsOutside, IsPlain, IsProcessOf, IsScriptOf, StandOnce, all_channels, declared_channels, is_assertion, names_of};
 
 use crate::reader::ReadFault;
 use csp_parse::{Declaration, Name, Process, Raw};
@@ -16,13 +23,13 @@ use std::alloc::Allocator;
 /// The script that a tree stands for, or `Part` where it lies outside the part.
 pub(crate) fn script<A: Allocator + Copy>(
     alloc: A,
-    raw: &Raw<'_, A>,
+    tree: &Raw<'_, A>,
 ) -> Result<Script<A>, ReadFault>
-    ensures within { IfOk result (λ script. All (λ a. IsWithin (length script.channels.items) (assertion_of a)) script.assertions.items) }
+    ensures script { IfOk result (λ script. IsScriptOf (raw.script_of tree.now) (term.script_of script)) }
     ensures refused { IfErr result IsOutside }
 {
-    let channels = channels(alloc, raw)?;
-    let assertions = assertions(alloc, &channels, raw)?;
+    let channels = channels(alloc, &tree.declarations)?;
+    let assertions = assertions(alloc, &channels, &tree.declarations)?;
     Ok(Script {
         types: Types,
         channels,
@@ -31,98 +38,139 @@ pub(crate) fn script<A: Allocator + Copy>(
     })
 }
 
-// The declared channels in the order of the text, no spelling twice. There are no declarations but of channels without
-// fields, and assertions.
+// The declared channels in the order of the text, no name twice.
 fn channels<A: Allocator + Copy>(
     alloc: A,
-    raw: &Raw<'_, A>,
+    declarations: &[Declaration<'_, A>],
 ) -> Result<Vec<Channel<A>, A>, ReadFault>
-    ensures { IfErr result IsOutside }
+    ensures plain { OnOk result (All IsPlain (map raw.declaration_of declarations.now)) }
+    ensures spellings { IfOk result (λ channels. map chars (names_of channels.items) ≡ all_channels (map raw.declaration_of declarations.now)) }
+    ensures once { IfOk result (λ channels. StandOnce (names_of channels.items)) }
+    ensures refused { IfErr result IsOutside }
 {
     let mut channels = Vec::new(alloc);
-    for declaration in &raw.declarations {
-        match declaration {
-            Declaration::Channels { names, domains } if domains.is_empty() => {
-                declare(alloc, names, &mut channels)?;
-            }
-            Declaration::Assertion { .. } => {}
-            _ => return Err(ReadFault::Part),
-        }
+    for declaration in declarations {
+        declare(alloc, declaration, &mut channels)?;
     }
     Ok(channels)
 }
 
+// Declares what a declaration declares, where that is plain channels or nothing.
 fn declare<A: Allocator + Copy>(
+    alloc: A,
+    declaration: &Declaration<'_, A>,
+    channels: &mut Vec<Channel<A>, A>,
+) -> Result<(), ReadFault>
+    ensures plain { OnOk result (IsPlain (raw.declaration_of declaration.now)) }
+    ensures declares { OnOk result (Declares channels.old.items channels.new.items (declared_channels (raw.declaration_of declaration.now))) }
+    ensures refused { IfErr result IsOutside }
+{
+    match declaration {
+        Declaration::Channels { names, domains } if domains.is_empty() => {
+            declare_names(alloc, names, channels)
+        }
+        Declaration::Assertion { .. } => Ok(()),
+        _ => Err(ReadFault::Part),
+    }
+}
+
+fn declare_names<A: Allocator + Copy>(
     alloc: A,
     names: &[Name<'_>],
     channels: &mut Vec<Channel<A>, A>,
 ) -> Result<(), ReadFault>
-    ensures { IfErr result IsOutside }
+    ensures declares { OnOk result (Declares channels.old.items channels.new.items (map (λ n. (name_of n).spelling) names.now)) }
+    ensures refused { IfErr result IsOutside }
 {
     for name in names {
-        channels.push(new_channel(alloc, name, channels)?)?;
+        declare_name(alloc, name, channels)?;
     }
     Ok(())
 }
 
-// The channel that a name declares, which is none of these.
-fn new_channel<A: Allocator + Copy>(
+// Declares a name that is not declared yet.
+fn declare_name<A: Allocator + Copy>(
     alloc: A,
     name: &Name<'_>,
-    channels: &[Channel<A>],
-) -> Result<Channel<A>, ReadFault>
-    ensures { IfErr result IsOutside }
+    channels: &mut Vec<Channel<A>, A>,
+) -> Result<(), ReadFault>
+    ensures declares { OnOk result (Declares channels.old.items channels.new.items ((name_of name.now).spelling ∷ [])) }
+    ensures refused { IfErr result IsOutside }
 {
-    if place_of(channels, name.text).is_some() {
-        return Err(ReadFault::Part);
+    match place_of(channels, name.text) {
+        Some(_) => Err(ReadFault::Part),
+        None => {
+            let spelling = String::from_str(alloc, name.text)?;
+            channels.push(Channel { spelling })?;
+            Ok(())
+        }
     }
-    Ok(Channel {
-        spelling: String::from_str(alloc, name.text)?,
-    })
 }
 
-// The place of the channel that is spelled so.
-fn place_of<A: Allocator>(channels: &[Channel<A>], spelling: &str) -> Option<usize>
-    ensures { IfSome result (λ place. place < length channels.now) }
+// The first place of a channel of that name.
+fn place_of<A: Allocator>(channels: &[Channel<A>], name: &str) -> Option<usize>
+    ensures found { IfSome result (λ place. slice_get (names_of channels.now) place ≡ Some name.now) }
+    ensures none { result ≡ None → (place : ℕ) → slice_get (names_of channels.now) place ≡ Some name.now → ⊥ }
 {
-    channels
-        .iter()
-        .position(|channel| channel.spelling.as_str() == spelling)
+    for (place, channel) in channels.iter().enumerate() {
+        if channel.spelling.as_str() == name {
+            return Some(place);
+        }
+    }
+    None
 }
 
 // The assertions in the order of the text.
 fn assertions<A: Allocator + Copy>(
     alloc: A,
     channels: &[Channel<A>],
-    raw: &Raw<'_, A>,
+    declarations: &[Declaration<'_, A>],
 ) -> Result<Vec<Assertion<A>, A>, ReadFault>
-    ensures within { IfOk result (λ assertions. All (λ a. IsWithin (length channels.now) (assertion_of a)) assertions.items) }
+    ensures assertions { IfOk result (λ assertions. AllZip (IsAssertionOf (map chars (names_of channels.now))) (filter is_assertion (map raw.declaration_of declarations.now)) (map term.assertion_of assertions.items)) }
     ensures refused { IfErr result IsOutside }
 {
     let mut assertions = Vec::new(alloc);
-    for declaration in &raw.declarations {
-        if let Declaration::Assertion {
-            model,
-            specification,
-            implementation,
-            ..
-        } = declaration
-        {
-            let assertion = assertion(alloc, channels, *model, specification, implementation)?;
+    for declaration in declarations {
+        if let Some(assertion) = assertion(alloc, channels, declaration)? {
             assertions.push(assertion)?;
         }
     }
     Ok(assertions)
 }
 
+// The assertion that a declaration is, if it is one.
 fn assertion<A: Allocator + Copy>(
+    alloc: A,
+    channels: &[Channel<A>],
+    declaration: &Declaration<'_, A>,
+) -> Result<Option<Assertion<A>>, ReadFault>
+    ensures some { IfOk result (λ found. IfSome found (λ a. IsAssertionOf (map chars (names_of channels.now)) (raw.declaration_of declaration.now) (term.assertion_of a))) }
+    ensures none { result ≡ Ok None → is_assertion (raw.declaration_of declaration.now) ≡ false }
+    ensures refused { IfErr result IsOutside }
+{
+    match declaration {
+        Declaration::Assertion {
+            model,
+            specification,
+            implementation,
+            ..
+        } => Ok(Some(refinement(alloc, channels, *model, specification, implementation)?)),
+        Declaration::Datatype { .. }
+        | Declaration::Nametype { .. }
+        | Declaration::Channels { .. }
+        | Declaration::Equation { .. } => Ok(None),
+    }
+}
+
+// The assertion between two processes, which is of traces.
+fn refinement<A: Allocator + Copy>(
     alloc: A,
     channels: &[Channel<A>],
     model: csp_parse::Model,
     specification: &Process<'_, A>,
     implementation: &Process<'_, A>,
 ) -> Result<Assertion<A>, ReadFault>
-    ensures within { IfOk result (λ a. IsWithin (length channels.now) (assertion_of a)) }
+    ensures assertion { (place : Place) → IfOk result (λ a. IsAssertionOf (map chars (names_of channels.now)) (RawAssertion place (raw.model_of model) (written.process_of specification.now) (written.process_of implementation.now)) (term.assertion_of a)) }
     ensures refused { IfErr result IsOutside }
 {
     match model {
@@ -138,12 +186,12 @@ fn assertion<A: Allocator + Copy>(
 fn process<A: Allocator + Copy>(
     alloc: A,
     channels: &[Channel<A>],
-    raw: &Process<'_, A>,
+    tree: &Process<'_, A>,
 ) -> Result<Term<A>, ReadFault>
-    ensures within { IfOk result (λ term. UsesChannelsBelow (length channels.now) (process_of term)) }
+    ensures process { IfOk result (λ term. IsProcessOf (map chars (names_of channels.now)) (written.process_of tree.now) (process_of term)) }
     ensures refused { IfErr result IsOutside }
 {
-    match raw {
+    match tree {
         Process::Stop => Ok(Term::Stop),
         Process::Prefix(name, fields, body) if fields.is_empty() => {
             let channel = channel_of(channels, name)?;
@@ -159,7 +207,7 @@ fn channel_of<A: Allocator>(
     channels: &[Channel<A>],
     name: &Name<'_>,
 ) -> Result<ChannelId, ReadFault>
-    ensures within { IfOk result (λ channel. channel.0 < length channels.now) }
+    ensures channel { IfOk result (λ channel. slice_get (map chars (names_of channels.now)) channel.0 ≡ Some (name_of name.now).spelling) }
     ensures refused { IfErr result IsOutside }
 {
     let Some(place) = place_of(channels, name.text) else {

@@ -1,9 +1,8 @@
 //! From a text to the script that it is.
 
-ghost use Rattle.std.specs.Prelude.{◌≡◌, IfOk, IfErr, length};
-ghost use Rattle.std.specs.List.{All};
-ghost use Rattle.csp_term.specs.Script.{assertion_of};
-ghost use Rattle.refcheck.specs.Reading.{IsWithin, IsRefusalOf};
+ghost use Rattle.std.specs.Prelude.{◌≡◌, IfOk, IfErr};
+ghost use Rattle.csp_term.specs.Script.{script_of};
+ghost use Rattle.refcheck.specs.Reading.{IsScriptOfText, IsRefusalOf};
 
 use crate::part;
 use csp_lex::{Place, TextFault, tokens};
@@ -75,14 +74,14 @@ impl<T: Drop> From<AllocFailed<T>> for ReadFault {
     }
 }
 
-/// The script of the text, whose assertions are of traces and use channels of the script alone.
+/// The script that the text is, where it is one within the part.
 ///
 /// The tokens are looked at first, then the grammar, then whether the script is within the part.
 pub(crate) fn read<A: Allocator + Copy>(alloc: A, text: &[u8]) -> Result<Script<A>, ReadFault>
-    ensures within { IfOk result (λ script. All (λ a. IsWithin (length script.channels.items) (assertion_of a)) script.assertions.items) }
+    ensures script { IfOk result (λ script. IsScriptOfText text.now (script_of script)) }
     ensures refused { IfErr result (λ fault. IsRefusalOf text.now fault) }
 {
     let list = tokens(alloc, text)?;
-    let raw = parse(alloc, &list)?;
-    part::script(alloc, &raw)
+    let tree = parse(alloc, &list)?;
+    part::script(alloc, &tree)
 }

@@ -5,7 +5,7 @@ ghost use Rattle.csp_term.specs.Script.{script_of};
 ghost use Rattle.verdict.specs.Outcome.{outcome_of};
 ghost use Rattle.refcheck.specs.Refusal.{refusal_line};
 ghost use Rattle.refcheck.specs.Answering.{AreRight};
-ghost use Rattle.refcheck.specs.Running.{IsReported, IsRefused, IsGiven, Leaves, outcome_status, program_bounds, status_of};
+ghost use Rattle.refcheck.specs.Running.{IsReported, IsRefused, IsCause, IsGiven, Leaves, outcome_status, program_bounds, status_of, texts_of};
 
 use crate::explore::explore;
 use crate::files::Files;
@@ -39,9 +39,9 @@ pub fn run<A: Allocator + Copy, F: Files<A>, O: Sink, E: Sink>(
     requires err { E.has_failed err.old ≡ false }
     ensures status { result ≤ 3 }
     ensures one_word { result < 3 → length words.now ≡ 1 }
-    ensures reported { result < 3 → IsReported (O.taken out.old) (O.taken out.new) (O.has_failed out.new) result }
+    ensures reported { result < 3 → IsReported (F.may_hold files.old) (texts_of words.now) (O.taken out.old) (O.taken out.new) (O.has_failed out.new) result }
     ensures silent { result < 3 → err.new ≡ err.old }
-    ensures refused { result ≡ 3 → IsRefused (length words.now) O.taken O.has_failed out.old out.new (E.taken err.old) (E.taken err.new) (E.has_failed err.new) }
+    ensures refused { result ≡ 3 → IsRefused (F.may_hold files.old) (F.may_lack files.old) (texts_of words.now) O.taken O.has_failed out.old out.new (E.taken err.old) (E.taken err.new) (E.has_failed err.new) }
 {
     match answer(alloc, words, files, out) {
         Ok(status) => status,
@@ -68,9 +68,10 @@ fn answer<A: Allocator + Copy, F: Files<A>, O: Sink>(
 ) -> Result<u8, Refusal>
     requires { O.has_failed out.old ≡ false }
     ensures one_word { OnOk result (length words.now ≡ 1) }
-    ensures reported { IfOk result (λ status. (status ≤ 2) × IsReported (O.taken out.old) (O.taken out.new) (O.has_failed out.new) status) }
+    ensures reported { IfOk result (λ status. (status ≤ 2) × IsReported (F.may_hold files.old) (texts_of words.now) (O.taken out.old) (O.taken out.new) (O.has_failed out.new) status) }
     ensures words { length words.now ≢ 1 → result ≡ Err Refusal.File }
-    ensures refused { IfErr result (λ why. Leaves why O.taken O.has_failed out.old out.new) }
+    ensures cause { IfErr result (IsCause (F.may_hold files.old) (F.may_lack files.old) (texts_of words.now)) }
+    ensures refused { IfErr result (λ why. Leaves (F.may_hold files.old) (texts_of words.now) why O.taken O.has_failed out.old out.new) }
 {
     let [name] = words else {
         return Err(Refusal::File);

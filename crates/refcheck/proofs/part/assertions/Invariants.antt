@@ -1,8 +1,11 @@
-use Rattle.std.proofs.Common.{length}
-use Rattle.std.specs.List.{All}
+use Rattle.std.proofs.Common.{map, take}
+use Rattle.std.specs.List.{AllZip, filter}
+use Rattle.std.specs.Str.{chars}
+use Rattle.csp_parse.specs.Declarations.{declaration_of}
 use Rattle.csp_term.specs.Script.{assertion_of}
-use Rattle.refcheck.specs.Reading.{IsWithin}
+use Rattle.refcheck.specs.Reading.{IsAssertionOf, is_assertion, names_of}
 use Rattle.refcheck.proofs.part.assertions.Given as goal
 
 abbrev pub invariant-loop-declaration : goal.invariant-loop-declaration
-invariant-loop-declaration g l = All (λ a. IsWithin (length l.channels) (assertion_of a)) l.assertions.items
+invariant-loop-declaration g l =
+    AllZip (IsAssertionOf (map chars (names_of l.channels))) (filter is_assertion (map declaration_of (take l.declaration-index l.declarations))) (map assertion_of l.assertions.items)
