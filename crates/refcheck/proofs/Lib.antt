@@ -8,3 +8,4 @@ pub mod Advancing
 pub mod Declaring
 pub mod Asserting
 pub mod Outside
+pub mod Refusing

@@ -8,7 +8,7 @@ use Rattle.report.specs.Sending.{Breaks}
 use Rattle.report.specs.declared.report.WriteFault.{WriteFault}
 use Rattle.report.specs.declared.report.WriteFault.TheVariants.{Device, Memory}
 use Rattle.refcheck.specs.Answering.{AreRight}
-use Rattle.refcheck.specs.Running.{IsCutOff, outcome_status, program_bounds, status_of}
+use Rattle.refcheck.specs.Running.{IsCutOff, IsScriptOfFile, outcome_status, program_bounds, status_of}
 
 outcome_at_most : (o : Outcome) → outcome_status o ≤ 2
 outcome_at_most Holds = omega arith
@@ -21,8 +21,9 @@ status_at_most [] = omega arith
 status_at_most (o ∷ os) = let one = outcome_at_most o in let others = status_at_most os in omega arith
 
 -- A report that was not written left the output as it was, or was cut off.
-pub left_behind : {S : Type 0} (taken : S → Option (List ℕ)) (failed : S → Bool) (old new : S) (script : Script) (outcomes : List Outcome) → AreRight script program_bounds script.assertions outcomes →
+pub left_behind : {S : Type 0} (may_hold : List ℕ → List ℕ → Type 0) (words : List (List ℕ)) (taken : S → Option (List ℕ)) (failed : S → Bool) (old new : S) (script : Script) (outcomes : List Outcome) →
+    IsScriptOfFile may_hold words script → AreRight script program_bounds script.assertions outcomes →
     (written : Result (Unit {0}) WriteFault) (fault : WriteFault) → written ≡ Err fault → (written ≡ Err Device → Breaks (taken old) (taken new) (failed new) (report script outcomes)) →
-    (written ≡ Err Memory → new ≡ old) → (new ≡ old) ⊎ IsCutOff (taken old) (taken new) (failed new)
-left_behind taken failed old new script outcomes right written Device is device memory = inr (record { script = script; outcomes = outcomes; right = right; bytes = device is })
-left_behind taken failed old new script outcomes right written Memory is device memory = inl (memory is)
+    (written ≡ Err Memory → new ≡ old) → (new ≡ old) ⊎ IsCutOff may_hold words (taken old) (taken new) (failed new)
+left_behind may_hold words taken failed old new script outcomes of_file right written Device is device memory = inr (record { script = script; outcomes = outcomes; of_file = of_file; right = right; bytes = device is })
+left_behind may_hold words taken failed old new script outcomes of_file right written Memory is device memory = inl (memory is)

@@ -1,5 +1,6 @@
 -- What a run of the program prints and answers.
-use Rattle.std.specs.Prelude.{◌≡◌, ◌≢◌, ℕ, max, Bool, List, [], ◌∷◌, length, map, Bor, Option, ◌⊎◌, ⊤}
+use Rattle.std.specs.Prelude.{◌≡◌, ◌≢◌, ℕ, max, Bool, List, [], ◌∷◌, length, map, Option, ◌⊎◌, ⊤}
+use Rattle.std.specs.Borrow.{Bor}
 use Rattle.csp_semantics.specs.Syntax.Process.{Script}
 use Rattle.csp_semantics.specs.Answers.Outcome.{Bounds, Outcome, Holds, Fails, Unknown}
 use Rattle.csp_semantics.specs.Answers.Printing.{report}
