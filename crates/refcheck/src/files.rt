@@ -1,6 +1,6 @@
 //! Where scripts are read from.
 
-ghost use Rattle.std.specs.Prelude.{◌≡◌, ◌↔◌};
+ghost use Rattle.std.specs.Prelude.{◌≡◌, ◌↔◌, IfOk};
 
 use std::alloc::Allocator;
 use std::io::ErrorKind;
@@ -80,6 +80,7 @@ impl<A: Allocator + Copy> Files<A> for OneText<'_, A> {
     ghost may_lack = { λ file name. name ≡ file.name.now → ⊥ };
 
     fn read(&mut self, name: &str) -> Result<Vec<u8, A>, Unread>
+        ensures holds { IfOk result (λ bytes. (name.now ≡ self.old.name.now) × (bytes.items ≡ self.old.text.now)) }
         ensures name { result ≡ Err Unread.File ↔ (name.now ≡ self.old.name.now → ⊥) }
     {
         if name != self.name {
