@@ -1,0 +1,16 @@
+pub mod Passing
+pub mod Wording
+pub mod Atoms
+pub mod Operations
+pub mod Listing
+pub mod Trees
+pub mod Separating
+pub mod Eventing
+pub mod Fielding
+pub mod Processing
+pub mod ProcessTrees
+pub mod Declaring
+pub mod Beginning
+pub mod Lowness
+pub mod Counting
+pub mod Rising

@@ -1,0 +1,52 @@
+-- Heights: what a nest's is at least, and how a token raises it.
+use Rattle.std.proofs.Common.{◌≡◌, ◌∙◌, ◌≤◌, ◌+◌, List, [], ◌∷◌, ◌++◌, map, reverse, refl, sym, ap, subst, arith}
+use Rattle.std.proofs.lemmas.List.{map-append, reverse-append}
+use Rattle.csp_semantics.specs.Text.Height.{Group, group_height, one_more, with_group, no_tokens, Nest, Nesting, Opens, Closes, Counts, Plain, closed, nesting, after_token, ended_height, nest_height, greatest_height}
+use Rattle.csp_semantics.specs.Text.Token.{PlacedToken}
+use Rattle.csp_parse.specs.declared.nests.Group as groups
+use Rattle.csp_parse.specs.Nests.{group_of}
+use Rattle.csp_parse.specs.Reading.{IsFirst, CountsFirst}
+
+-- a nest is no lower than the group that is open
+pub no_lower : (g : Group) (gs : List Group) → group_height g ≤ ended_height g gs
+no_lower g [] = omega arith
+no_lower g (h ∷ hs) = let up = no_lower (with_group h g) hs in omega (arith, up)
+
+-- one group is a token higher than another; so are the nests
+higher : (g h : Group) (gs : List Group) → group_height h ≤ group_height g + 1 → ended_height h gs ≤ ended_height g gs + 1
+higher g h [] le = le
+higher g h (a ∷ around) le = higher (with_group a g) (with_group a h) around (omega (arith, le))
+
+closes : (g : Group) (gs : List Group) → nest_height (closed g gs) ≤ ended_height g gs + 1
+closes g [] = omega arith
+closes g (a ∷ around) = omega arith
+
+pub rises : (x : Nesting) (n : Nest) → nest_height (after_token x n) ≤ nest_height n + 1
+rises Opens n = higher n.current (with_group (one_more n.current) no_tokens) n.around (omega arith)
+rises Closes n = closes n.current n.around
+rises Counts n = higher n.current (one_more n.current) n.around (omega arith)
+rises Plain n = omega arith
+
+-- a group that is pushed last is the innermost one
+pub innermost_first : (around all : List groups.Group) (g : groups.Group) → all ≡ around ++ g ∷ [] → reverse (map group_of all) ≡ group_of g ∷ reverse (map group_of around)
+innermost_first around all g e = ap (λ gs. reverse (map group_of gs)) e ∙ ap reverse (map-append group_of around (g ∷ [])) ∙ reverse-append (map group_of around) (group_of g ∷ [])
+
+abbrev nest : Group → List Group → Nest
+nest g gs = record { current = g; around = gs }
+
+nest_is : {g h : Group} {gs hs : List Group} → g ≡ h → gs ≡ hs → nest g gs ≡ nest h hs
+nest_is p q = λ i. record { current = p i; around = q i }
+
+pub opens : (x : Nesting) (old : Nest) {g more : Group} {gs : List Group} → x ≡ Opens → g ≡ no_tokens → more ≡ one_more old.current → gs ≡ more ∷ old.around → nest g gs ≡ after_token x old
+opens x old {g} {more} {gs} is empty top e = subst (λ y. nest g gs ≡ after_token y old) (sym is) (nest_is empty (e ∙ ap (λ m. m ∷ old.around) top))
+
+pub shuts : (x : Nesting) (old : Nest) {g inner : Group} {gs : List Group} → x ≡ Closes → old.around ≡ inner ∷ gs → g ≡ with_group inner old.current → nest g gs ≡ after_token x old
+shuts x old {g} {inner} {gs} is e around = subst (λ y. nest g gs ≡ after_token y old) (sym is) (nest_is around refl ∙ ap (closed old.current) (sym e))
+
+pub adds : (x : Nesting) (old : Nest) {g : Group} → x ≡ Counts → g ≡ one_more old.current → nest g old.around ≡ after_token x old
+adds x old {g} is more = subst (λ y. nest g old.around ≡ after_token y old) (sym is) (nest_is more refl)
+
+-- the next token is counted, within the limit
+pub counts_next : (n m : Nest) (t : PlacedToken) (ts : List PlacedToken) → IsFirst t ts → m ≡ after_token (nesting t.token) n → nest_height m ≤ greatest_height → CountsFirst n ts m
+counts_next n m t [] first e low = elim first [ ]
+counts_next n m t (u ∷ us) first e low = subst (λ v. CountsFirst n (v ∷ us) m) (sym first) (e, low)

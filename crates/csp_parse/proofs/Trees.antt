@@ -1,0 +1,30 @@
+-- The tree of each form of expression.
+use Rattle.std.proofs.Common.{◌≡◌, ◌∙◌, ℕ, Bool, sym, ap}
+use Rattle.csp_semantics.specs.Text.Raw.{RawExpression, RawNumber, RawTruth, RawBooleans, RawUse, RawSequence, RawSet}
+use Rattle.csp_parse.specs.declared.expressions.Expression.TheOpen as layer
+use Rattle.csp_parse.specs.declared.expressions.Expression.TheFolds.{fold-roll-Expression}
+use Rattle.csp_parse.specs.declared.expressions.Expression.TheVariants as views
+use Rattle.csp_parse.specs.declared.expressions.Expression.{Expression}
+use Rattle.csp_parse.specs.declared.names.Name.{Name}
+use Rattle.std.specs.declared.vec.Vec.{Vec}
+use Rattle.csp_parse.specs.Expressions.{expression_step, expression_of, expressions_of}
+use Rattle.csp_parse.specs.Names.{name_of}
+
+module _ (A : Type 0) where
+  pub tree_of_number : (n : ℕ) → expression_of {A = A} (views.Number n) ≡ RawNumber n
+  tree_of_number n = ap (expression_of {A = A}) (sym (views.rolls-Number n)) ∙ fold-roll-Expression A RawExpression expression_step (layer.Number n)
+
+  pub tree_of_truth : (b : Bool) → expression_of {A = A} (views.Truth b) ≡ RawTruth b
+  tree_of_truth b = ap (expression_of {A = A}) (sym (views.rolls-Truth b)) ∙ fold-roll-Expression A RawExpression expression_step (layer.Truth b)
+
+  pub tree_of_booleans : expression_of {A = A} views.Booleans ≡ RawBooleans
+  tree_of_booleans = ap (expression_of {A = A}) (sym views.rolls-Booleans) ∙ fold-roll-Expression A RawExpression expression_step layer.Booleans
+
+  pub tree_of_use : (n : Name) → expression_of {A = A} (views.Use n) ≡ RawUse (name_of n)
+  tree_of_use n = ap (expression_of {A = A}) (sym (views.rolls-Use n)) ∙ fold-roll-Expression A RawExpression expression_step (layer.Use n)
+
+  pub tree_of_sequence : (es : Vec (Expression A) A) → expression_of {A = A} (views.Sequence es) ≡ RawSequence (expressions_of es.items)
+  tree_of_sequence es = ap (expression_of {A = A}) (sym (views.rolls-Sequence es)) ∙ fold-roll-Expression A RawExpression expression_step (layer.Sequence es)
+
+  pub tree_of_set : (es : Vec (Expression A) A) → expression_of {A = A} (views.Set es) ≡ RawSet (expressions_of es.items)
+  tree_of_set es = ap (expression_of {A = A}) (sym (views.rolls-Set es)) ∙ fold-roll-Expression A RawExpression expression_step (layer.Set es)

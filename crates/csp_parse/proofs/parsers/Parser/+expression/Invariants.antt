@@ -1,0 +1,59 @@
+use Rattle.std.proofs.Common.{◌≤◌, length, ◌+◌, ◌*◌}
+use Rattle.csp_parse.specs.Expressions.{expression_of, expressions_of}
+use Rattle.csp_parse.specs.Levels.{IsAt, AreListed, rank}
+use Rattle.csp_parse.specs.Reading.{left_of, standing_of, Extends}
+use Rattle.csp_parse.proofs.parsers.Parser.+expression.Given as goal
+
+abbrev pub decreases-atom : goal.decreases-atom
+decreases-atom g l = 32 * length (left_of l.self.now) + 2
+
+abbrev pub decreases-atom_of_sign : goal.decreases-atom_of_sign
+decreases-atom_of_sign g l = 32 * length (left_of l.self.now) + 1
+
+abbrev pub decreases-atom_of_word : goal.decreases-atom_of_word
+decreases-atom_of_word g l = 32 * length (left_of l.self.now) + 1
+
+abbrev pub decreases-bracketed : goal.decreases-bracketed
+decreases-bracketed g l = 32 * length (left_of l.self.now)
+
+abbrev pub decreases-chained : goal.decreases-chained
+decreases-chained g l = 32 * length (left_of l.self.now) + 31
+
+abbrev pub decreases-compared : goal.decreases-compared
+decreases-compared g l = 32 * length (left_of l.self.now) + 31
+
+abbrev pub decreases-expression : goal.decreases-expression
+decreases-expression g l = 32 * length (left_of l.self.now) + (2 * rank l.level + 3)
+
+abbrev pub decreases-listed : goal.decreases-listed
+decreases-listed g l = 32 * length (left_of l.self.now) + 31
+
+abbrev pub decreases-negation : goal.decreases-negation
+decreases-negation g l = 32 * length (left_of l.self.now) + 10
+
+abbrev pub decreases-sequence : goal.decreases-sequence
+decreases-sequence g l = 32 * length (left_of l.self.now)
+
+abbrev pub decreases-set : goal.decreases-set
+decreases-set g l = 32 * length (left_of l.self.now)
+
+abbrev pub decreases-two_arguments : goal.decreases-two_arguments
+decreases-two_arguments g l = 32 * length (left_of l.self.now)
+
+abbrev pub invariant-chained-loop-kind : goal.invariant-chained-loop-kind
+invariant-chained-loop-kind g l = record {
+  chain : Extends (IsAt l.level) (IsAt l.level) (standing_of l.fn.self) (standing_of l.self) (expression_of l.fn.first) (expression_of l.chain);
+  not_longer : length (left_of l.self) ≤ length (left_of l.fn.self);
+}
+
+abbrev pub decreases-chained-loop-kind : goal.decreases-chained-loop-kind
+decreases-chained-loop-kind g l = length (left_of l.self)
+
+abbrev pub invariant-listed-loop-level : goal.invariant-listed-loop-level
+invariant-listed-loop-level g l = record {
+  list : Extends (IsAt l.level) (AreListed l.level) (standing_of l.fn.self) (standing_of l.self) (expression_of l.fn.first) (expressions_of l.items.items);
+  not_longer : length (left_of l.self) ≤ length (left_of l.fn.self);
+}
+
+abbrev pub decreases-listed-loop-level : goal.decreases-listed-loop-level
+decreases-listed-loop-level g l = length (left_of l.self)

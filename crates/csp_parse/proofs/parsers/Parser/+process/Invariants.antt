@@ -1,0 +1,65 @@
+use Rattle.std.proofs.Common.{◌≤◌, length, ◌+◌, ◌*◌}
+use Rattle.csp_semantics.specs.Text.Grammar.{IsOperand, IsChain}
+use Rattle.csp_parse.specs.Processes.{infix_of, process_of}
+use Rattle.csp_parse.specs.Reading.{left_of, standing_of, Continues}
+use Rattle.csp_parse.proofs.parsers.Parser.+process.Given as goal
+
+abbrev pub decreases-process : goal.decreases-process
+decreases-process g l = 32 * length (left_of l.self.now) + 2
+
+abbrev pub decreases-conditional : goal.decreases-conditional
+decreases-conditional g l = 32 * length (left_of l.self.now) + 0
+
+abbrev pub decreases-replicated : goal.decreases-replicated
+decreases-replicated g l = 32 * length (left_of l.self.now) + 0
+
+abbrev pub decreases-start : goal.decreases-start
+decreases-start g l = 32 * length (left_of l.self.now) + 1
+
+abbrev pub decreases-operand : goal.decreases-operand
+decreases-operand g l = 32 * length (left_of l.self.now) + 2
+
+abbrev pub decreases-inner : goal.decreases-inner
+decreases-inner g l = 32 * length (left_of l.self.now) + 3
+
+abbrev pub decreases-inner_from_name : goal.decreases-inner_from_name
+decreases-inner_from_name g l = 32 * length (left_of l.self.now) + 32
+
+abbrev pub decreases-start_of_name : goal.decreases-start_of_name
+decreases-start_of_name g l = 32 * length (left_of l.self.now) + 0
+
+abbrev pub decreases-start_of_brackets : goal.decreases-start_of_brackets
+decreases-start_of_brackets g l = 32 * length (left_of l.self.now) + 0
+
+abbrev pub decreases-process_from : goal.decreases-process_from
+decreases-process_from g l = 32 * length (left_of l.self.now) + 31
+
+abbrev pub decreases-process_from_base : goal.decreases-process_from_base
+decreases-process_from_base g l = 32 * length (left_of l.self.now) + 30
+
+abbrev pub decreases-process_from_operand : goal.decreases-process_from_operand
+decreases-process_from_operand g l = 32 * length (left_of l.self.now) + 29
+
+abbrev pub decreases-chain : goal.decreases-chain
+decreases-chain g l = 32 * length (left_of l.self.now) + 28
+
+abbrev pub decreases-generalised : goal.decreases-generalised
+decreases-generalised g l = 32 * length (left_of l.self.now) + 28
+
+abbrev pub decreases-alphabetised : goal.decreases-alphabetised
+decreases-alphabetised g l = 32 * length (left_of l.self.now) + 28
+
+abbrev pub decreases-start_from_name : goal.decreases-start_from_name
+decreases-start_from_name g l = 32 * length (left_of l.self.now) + 30
+
+abbrev pub decreases-guarded : goal.decreases-guarded
+decreases-guarded g l = 32 * length (left_of l.self.now) + 29
+
+abbrev pub invariant-chain-loop-operator : goal.invariant-chain-loop-operator
+invariant-chain-loop-operator g l = record {
+  continues : Continues IsOperand (IsChain (infix_of l.operator)) (standing_of l.fn.self) (standing_of l.self) (process_of l.fn.first) (process_of l.chain);
+  not_longer : length (left_of l.self) ≤ length (left_of l.fn.self);
+}
+
+abbrev pub decreases-chain-loop-operator : goal.decreases-chain-loop-operator
+decreases-chain-loop-operator g l = length (left_of l.self)

@@ -1,0 +1,31 @@
+-- Declarations and scripts, as the definitions have them.
+use Rattle.std.specs.Prelude.{map}
+use Rattle.csp_semantics.specs.Syntax.Process as pure
+use Rattle.csp_semantics.specs.Text.Raw.{RawDomain, RawDeclaration, RawDatatype, RawNametype, RawChannels, RawEquation, RawAssertion, RawScript}
+use Rattle.csp_lex.specs.Places.{place_of}
+use Rattle.csp_parse.specs.declared.declarations.Domain.{Domain}
+use Rattle.csp_parse.specs.declared.declarations.Model.{Model}
+use Rattle.csp_parse.specs.declared.declarations.Model.TheVariants as model
+use Rattle.csp_parse.specs.declared.declarations.Declaration.{Declaration}
+use Rattle.csp_parse.specs.declared.declarations.Declaration.TheVariants as declaration
+use Rattle.csp_parse.specs.declared.declarations.Raw.{Raw}
+use Rattle.csp_parse.specs.Expressions.{expression_of}
+use Rattle.csp_parse.specs.Names.{name_of}
+use Rattle.csp_parse.specs.Processes.{process_of}
+
+abbrev pub domain_of : {A : Type 0} → Domain A → RawDomain
+domain_of d = record { place = place_of d.place; set = expression_of d.set }
+
+abbrev pub model_of : Model → pure.Model
+model_of model.Traces = pure.Traces
+model_of model.Failures = pure.Failures
+
+abbrev pub declaration_of : {A : Type 0} → Declaration A → RawDeclaration
+declaration_of (declaration.Datatype n ns) = RawDatatype (name_of n) (map name_of ns.items)
+declaration_of (declaration.Nametype n d) = RawNametype (name_of n) (domain_of d)
+declaration_of (declaration.Channels ns ds) = RawChannels (map name_of ns.items) (map domain_of ds.items)
+declaration_of (declaration.Equation n ns p) = RawEquation (name_of n) (map name_of ns.items) (process_of p)
+declaration_of (declaration.Assertion t m p q) = RawAssertion (place_of t) (model_of m) (process_of p) (process_of q)
+
+abbrev pub script_of : {A : Type 0} → Raw A → RawScript
+script_of s = map declaration_of s.declarations.items

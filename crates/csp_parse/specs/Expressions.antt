@@ -1,0 +1,32 @@
+-- Expressions, as the definitions have them.
+use Rattle.std.specs.Prelude.{List, [], ◌∷◌, map}
+use Rattle.std.specs.Box.{box_value}
+use Rattle.csp_semantics.specs.Text.Raw.{RawExpression, RawNumber, RawTruth, RawBooleans, RawUse, RawApply, RawCombine, RawSequence, RawSet, RawRange, RawExpressions, no_raw_expressions, raw_expression_and}
+use Rattle.csp_parse.specs.declared.expressions.Expression.{Expression}
+use Rattle.csp_parse.specs.declared.expressions.Expression.TheOpen as layer
+use Rattle.csp_parse.specs.declared.expressions.Expression.TheFolds.{fold-Expression}
+use Rattle.csp_parse.specs.Names.{name_of}
+use Rattle.csp_parse.specs.Operators.{unary_of, binary_of}
+
+-- a list of expressions in the definitions' form
+abbrev pub raw_list : List RawExpression → RawExpressions
+raw_list [] = no_raw_expressions
+raw_list (e ∷ es) = raw_expression_and e (raw_list es)
+
+-- one layer, with the trees of the parts in their places
+abbrev pub expression_step : {A : Type 0} → layer.Expression-F A RawExpression → RawExpression
+expression_step (layer.Number n) = RawNumber n
+expression_step (layer.Truth b) = RawTruth b
+expression_step layer.Booleans = RawBooleans
+expression_step (layer.Use n) = RawUse (name_of n)
+expression_step (layer.Apply o e) = RawApply (unary_of o) (box_value e)
+expression_step (layer.Combine o e f) = RawCombine (binary_of o) (box_value e) (box_value f)
+expression_step (layer.Sequence es) = RawSequence (raw_list es.items)
+expression_step (layer.Set es) = RawSet (raw_list es.items)
+expression_step (layer.Range e f) = RawRange (box_value e) (box_value f)
+
+abbrev pub expression_of : {A : Type 0} → Expression A → RawExpression
+expression_of {A} = fold-Expression A RawExpression expression_step
+
+abbrev pub expressions_of : {A : Type 0} → List (Expression A) → RawExpressions
+expressions_of es = raw_list (map expression_of es)

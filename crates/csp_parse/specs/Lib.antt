@@ -1,0 +1,15 @@
+pub mod Refusals
+pub mod Names
+pub mod Operators
+pub mod Expressions
+pub mod Events
+pub mod EventSets
+pub mod Processes
+pub mod Declarations
+pub mod Reading
+pub mod Levels
+pub mod Separated
+pub mod Starts
+pub mod Words
+pub mod Nests
+pub mod Limits

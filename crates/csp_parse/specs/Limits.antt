@@ -1,0 +1,15 @@
+-- Declarations within the limit of heights.
+use Rattle.std.specs.Prelude.{◌≡◌, ◌≤◌, List, [], ◌∷◌, ◌++◌}
+use Rattle.csp_semantics.specs.Text.Token.{PlacedToken}
+use Rattle.csp_semantics.specs.Text.Raw.{RawDeclaration, RawScript}
+use Rattle.csp_semantics.specs.Text.Grammar.{IsDeclaration}
+use Rattle.csp_semantics.specs.Text.Height.{tokens_height, greatest_height}
+
+-- no beginning of the tokens is higher than the limit
+abbrev pub IsLow : List PlacedToken → Type 0
+IsLow ts = (front rest : List PlacedToken) → ts ≡ front ++ rest → tokens_height front ≤ greatest_height
+
+-- a script whose declarations are all within the limit
+pub data IsLowScript : List PlacedToken → RawScript → Type 0 where
+  none : IsLowScript [] []
+  and_one : {a b : List PlacedToken} {d : RawDeclaration} {ds : RawScript} → IsDeclaration a d → IsLow a → IsLowScript b ds → IsLowScript (a ++ b) (d ∷ ds)

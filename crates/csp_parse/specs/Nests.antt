@@ -1,0 +1,23 @@
+-- The groups that are open, as the definitions have them.
+use Rattle.std.specs.Prelude.{[], map, reverse}
+use Rattle.csp_semantics.specs.Text.Height as height
+use Rattle.csp_parse.specs.declared.nests.Group.{Group}
+use Rattle.csp_parse.specs.declared.nests.Nest.{Nest}
+use Rattle.csp_parse.specs.declared.nests.Nesting.{Nesting}
+use Rattle.csp_parse.specs.declared.nests.Nesting.TheVariants as nesting
+
+abbrev pub nesting_is : Nesting → height.Nesting
+nesting_is nesting.Opens = height.Opens
+nesting_is nesting.Closes = height.Closes
+nesting_is nesting.Counts = height.Counts
+nesting_is nesting.Plain = height.Plain
+
+abbrev pub group_of : Group → height.Group
+group_of g = record { direct = g.direct; deepest = g.deepest }
+
+abbrev pub nest_of : {A : Type 0} → Nest A → height.Nest
+nest_of n = record { current = group_of n.current; around = reverse (map group_of n.around.items) }
+
+-- before the first token of a declaration
+abbrev pub start : height.Nest
+start = record { current = height.no_tokens; around = [] }

@@ -1,0 +1,103 @@
+ghost use Rattle.std.specs.Prelude.{◌≡◌, ℕ, List};
+ghost use Rattle.std.specs.Option.{option_map};
+ghost use Rattle.csp_lex.specs.Tokens.{keyword_of, token_of};
+ghost use Rattle.csp_parse.specs.Operators.{unary_of, binary_of};
+ghost use Rattle.csp_parse.specs.Words.{unary_word, binary_word, comparison_of};
+
+use crate::operators::{BinaryOperator, UnaryOperator};
+use csp_lex::{Keyword, Sign, TokenKind};
+
+/// How strongly an expression holds together, the weakest first.
+#[derive(Clone, Copy, Debug, PartialEq, Eq)]
+pub(crate) enum Level {
+    /// a chain of `or`
+    Disjunction,
+    /// a chain of `and`
+    Conjunction,
+    /// `not`
+    Negation,
+    /// one comparison at most
+    Comparison,
+    /// a chain of `+`, `-` and `^`
+    Sum,
+    /// a chain of `*` and `%`
+    Product,
+    Atom,
+}
+
+impl Level {
+    ghost use Rattle.csp_parse.specs.Levels.{stronger};
+    ghost use Rattle.csp_parse.specs.Words.{operator_at};
+
+    /// The level of the operands of this one's operators.
+    pub(crate) fn stronger(self) -> Level
+        ensures { result ≡ stronger self }
+    {
+        match self {
+            Level::Disjunction => Level::Conjunction,
+            Level::Conjunction => Level::Negation,
+            Level::Negation => Level::Comparison,
+            Level::Comparison => Level::Sum,
+            Level::Sum => Level::Product,
+            Level::Product | Level::Atom => Level::Atom,
+        }
+    }
+
+    /// The operator of this level's chains that a token is, if it is one.
+    pub(crate) fn operator(self, kind: TokenKind) -> Option<BinaryOperator>
+        ensures { (cs : List ℕ) → option_map binary_of result ≡ operator_at self (token_of kind cs) }
+    {
+        match (self, kind) {
+            (Level::Disjunction, TokenKind::Keyword(Keyword::Or)) => Some(BinaryOperator::Or),
+            (Level::Conjunction, TokenKind::Keyword(Keyword::And)) => Some(BinaryOperator::And),
+            (Level::Sum, TokenKind::Sign(Sign::Plus)) => Some(BinaryOperator::Add),
+            (Level::Sum, TokenKind::Sign(Sign::Minus)) => Some(BinaryOperator::Subtract),
+            (Level::Sum, TokenKind::Sign(Sign::Caret)) => Some(BinaryOperator::Concatenate),
+            (Level::Product, TokenKind::Sign(Sign::Times)) => Some(BinaryOperator::Multiply),
+            (Level::Product, TokenKind::Sign(Sign::Percent)) => Some(BinaryOperator::Modulus),
+            _ => None,
+        }
+    }
+}
+
+/// The comparison that a token is, if it is one.
+pub(crate) fn comparison(kind: TokenKind) -> Option<BinaryOperator>
+    ensures { (cs : List ℕ) → option_map binary_of result ≡ comparison_of (token_of kind cs) }
+{
+    match kind {
+        TokenKind::Sign(Sign::Same) => Some(BinaryOperator::Equals),
+        TokenKind::Sign(Sign::Differs) => Some(BinaryOperator::Differs),
+        TokenKind::Sign(Sign::Less) => Some(BinaryOperator::LessThan),
+        TokenKind::Sign(Sign::AtMost) => Some(BinaryOperator::AtMost),
+        TokenKind::Sign(Sign::Greater) => Some(BinaryOperator::GreaterThan),
+        TokenKind::Sign(Sign::AtLeast) => Some(BinaryOperator::AtLeast),
+        _ => None,
+    }
+}
+
+/// The function of one argument that a keyword is, if it is one.
+pub(crate) fn unary_function(keyword: Keyword) -> Option<UnaryOperator>
+    ensures { option_map unary_of result ≡ unary_word (keyword_of keyword) }
+{
+    match keyword {
+        Keyword::Head => Some(UnaryOperator::Head),
+        Keyword::Tail => Some(UnaryOperator::Tail),
+        Keyword::Null => Some(UnaryOperator::IsNull),
+        Keyword::Card => Some(UnaryOperator::Card),
+        _ => None,
+    }
+}
+
+/// The function of two arguments that a keyword is, if it is one.
+pub(crate) fn binary_function(keyword: Keyword) -> Option<BinaryOperator>
+    ensures { option_map binary_of result ≡ binary_word (keyword_of keyword) }
+{
+    match keyword {
+        Keyword::Elem => Some(BinaryOperator::IsElement),
+        Keyword::Member => Some(BinaryOperator::IsMember),
+        Keyword::Union => Some(BinaryOperator::Union),
+        Keyword::Inter => Some(BinaryOperator::Intersection),
+        Keyword::Diff => Some(BinaryOperator::Difference),
+        _ => None,
+    }
+}

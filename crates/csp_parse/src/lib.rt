@@ -1,0 +1,57 @@
+//! The tree of a script, from its tokens.
+//!
+//! `parse` reads the tokens once, and each of its choices is made by the next token. By its contract a
+//! tree that it answers is one that the grammar gives these tokens, with each name's spelling and place,
+//! and no token is too high for its declaration. That every such script is read, and which refusal stands
+//! where, is only tested.
+#![tactic(auto)]
+
+mod declarations;
+mod event_sets;
+mod events;
+mod expressions;
+mod levels;
+mod names;
+mod nests;
+mod operators;
+mod parsers;
+mod processes;
+mod read_declarations;
+mod read_events;
+mod read_expressions;
+mod read_processes;
+mod refusals;
+mod starts;
+
+ghost use Rattle.std.specs.Prelude.{IfOk, map};
+ghost use Rattle.csp_semantics.specs.Text.Grammar.{IsScript};
+ghost use Rattle.csp_semantics.specs.Text.Height.{HasNoneTooHigh};
+ghost use Rattle.csp_lex.specs.Tokens.{placed_token};
+ghost use Rattle.csp_parse.specs.Declarations.{script_of};
+
+use csp_lex::TokenList;
+pub use declarations::{Declaration, Domain, Model, Raw};
+pub use event_sets::{EventSet, SetOperator};
+pub use events::{Event, Pair};
+pub use expressions::Expression;
+pub use names::Name;
+pub use nests::GREATEST_HEIGHT;
+pub use operators::{BinaryOperator, UnaryOperator};
+pub use processes::{Field, Infix, Process, Replicator};
+pub use refusals::{GrammarFault, Refused};
+use std::alloc::Allocator;
+
+/// The script that tokens are, or why they are none.
+///
+/// A token is refused with which the tokens so far begin no script, or, before that is asked, with which
+/// its declaration is higher than `GREATEST_HEIGHT`; the end is refused of tokens that only begin a script.
+/// `Refused::Memory` comes where the tree could not grow, and says nothing of the tokens.
+pub fn parse<'a, A: Allocator + Copy, B: Allocator>(
+    alloc: A,
+    list: &TokenList<'a, B>,
+) -> Result<Raw<'a, A>, Refused>
+    ensures tree { IfOk result (λ raw. IsScript (map placed_token list.now.tokens.items) (script_of raw)) }
+    ensures low { IfOk result (λ _. HasNoneTooHigh (map placed_token list.now.tokens.items)) }
+{
+    parsers::Parser::new(alloc, list).script()
+}

@@ -1,0 +1,204 @@
+ghost use Rattle.std.specs.Prelude.{◌≡◌, ◌<◌, ◌≤◌, ℕ, List, [], true, IfOk, IfSome, IfNone, length, map};
+ghost use Rattle.csp_semantics.specs.Text.Token.{SignToken};
+ghost use Rattle.csp_semantics.specs.Text.Height.{token_fault};
+ghost use Rattle.csp_semantics.specs.Text.Grammar.{IsSign, IsWord, IsName};
+ghost use Rattle.csp_lex.specs.Tokens.{keyword_of, sign_of, token_of, placed_token};
+ghost use Rattle.csp_lex.specs.declared.kinds.TokenKind.TheVariants as kinds;
+ghost use Rattle.csp_parse.specs.Names.{name_of};
+ghost use Rattle.csp_parse.specs.Refusals.{fault_of};
+
+use crate::names::Name;
+use crate::nests::{GREATEST_HEIGHT, Nest, nesting_of};
+use crate::refusals::{GrammarFault, Refused};
+use csp_lex::{Keyword, Place, Sign, Token, TokenKind, TokenList};
+use std::alloc::Allocator;
+
+/// A reader of tokens. The next token is never too high: that is looked at when the one before it is passed.
+#[derive(Drop)]
+pub(crate) struct Parser<'t, 'a, A: Allocator> {
+    pub(crate) alloc: A,
+    tokens: &'t [Token<'a>],
+    /// the number of tokens that are passed
+    position: usize,
+    /// the place behind the text
+    end: Place,
+    /// where the token behind the next one stands in the next one's declaration
+    nest: Nest<A>,
+}
+
+impl<'t, 'a, A: Allocator + Copy> Parser<'t, 'a, A> {
+    ghost use Rattle.csp_semantics.specs.Text.Height.{nest_height, greatest_height};
+    ghost use Rattle.csp_parse.specs.Nests.{start, nest_of};
+    ghost use Rattle.csp_parse.specs.Reading.{left_of, standing_of, CountsFirst, IsFirst, IsNext, PassesOne, Passes, Reads};
+
+    /// A reader at the first of the tokens.
+    pub(crate) fn new<B: Allocator>(alloc: A, list: &'t TokenList<'a, B>) -> Parser<'t, 'a, A>
+        ensures { left_of result ≡ map placed_token list.now.tokens.items }
+    {
+        Parser {
+            alloc,
+            tokens: &list.tokens,
+            position: 0,
+            end: list.end,
+            nest: Nest::new(alloc),
+        }
+    }
+
+    /// The next token.
+    pub(crate) fn next(&self) -> Option<Token<'a>>
+        ensures some { IfSome result (λ token. IsFirst (placed_token token) (left_of self.now)) }
+        ensures none { IfNone result (left_of self.now ≡ []) }
+    {
+        self.tokens.get(self.position).copied()
+    }
+
+    /// What the next token is.
+    pub(crate) fn kind(&self) -> Option<TokenKind>
+        ensures some { IfSome result (λ kind. IsNext kind (left_of self.now)) }
+        ensures none { IfNone result (left_of self.now ≡ []) }
+    {
+        let token = self.next()?;
+        Some(token.kind)
+    }
+
+    /// Whether the next token is this sign.
+    pub(crate) fn is_at(&self, sign: Sign) -> bool
+        ensures { result ≡ true → IsNext (kinds.Sign sign) (left_of self.now) }
+    {
+        match self.kind() {
+            Some(TokenKind::Sign(next)) => next == sign,
+            _ => false,
+        }
+    }
+
+    /// Whether the next token is this keyword.
+    pub(crate) fn is_at_word(&self, keyword: Keyword) -> bool
+        ensures { result ≡ true → IsNext (kinds.Keyword keyword) (left_of self.now) }
+    {
+        match self.kind() {
+            Some(TokenKind::Keyword(next)) => next == keyword,
+            _ => false,
+        }
+    }
+
+    /// The refusal of the next token, or of the end.
+    pub(crate) fn refused(&self) -> Refused {
+        match self.next() {
+            Some(token) => Refused::Grammar {
+                fault: fault_at(token.kind),
+                place: token.place,
+            },
+            None => Refused::Grammar {
+                fault: GrammarFault::UnexpectedEnd,
+                place: self.end,
+            },
+        }
+    }
+
+    /// Takes the next token as the first one of a declaration.
+    pub(crate) fn begin_declaration(&mut self) -> Result<(), Refused>
+        ensures same { left_of self.new ≡ left_of self.old }
+        ensures counts { IfOk result (λ _. CountsFirst start (left_of self.new) (nest_of self.new.nest)) }
+    {
+        self.nest.begin();
+        self.count_next()
+    }
+
+    /// Counts the next token in its declaration, and refuses it where it is too high.
+    fn count_next(&mut self) -> Result<(), Refused>
+        ensures same { left_of self.new ≡ left_of self.old }
+        ensures counts { IfOk result (λ _. nest_height (nest_of self.old.nest) ≤ greatest_height → CountsFirst (nest_of self.old.nest) (left_of self.new) (nest_of self.new.nest)) }
+    {
+        let Some(token) = self.next() else {
+            return Ok(());
+        };
+        self.nest.count(nesting_of(token.kind))?;
+        if self.nest.height() > GREATEST_HEIGHT {
+            return Err(Refused::Grammar {
+                fault: GrammarFault::Nested,
+                place: token.place,
+            });
+        }
+        Ok(())
+    }
+
+    /// Passes the next token, and refuses the end.
+    pub(crate) fn pass(&mut self) -> Result<(), Refused>
+        ensures one { IfOk result (λ _. PassesOne (standing_of self.old) (standing_of self.new)) }
+        ensures shorter { IfOk result (λ _. length (left_of self.new) < length (left_of self.old)) }
+    {
+        if self.position >= self.tokens.len() {
+            return Err(self.refused());
+        }
+        self.position += 1;
+        self.count_next()
+    }
+
+    /// Passes this sign, which is to be next.
+    pub(crate) fn sign(&mut self, sign: Sign) -> Result<(), Refused>
+        ensures passes { IfOk result (λ _. Passes (IsSign (sign_of sign)) (standing_of self.old) (standing_of self.new)) }
+        ensures shorter { IfOk result (λ _. length (left_of self.new) < length (left_of self.old)) }
+    {
+        if !self.is_at(sign) {
+            return Err(self.refused());
+        }
+        self.pass()
+    }
+
+    /// Passes this keyword, which is to be next.
+    pub(crate) fn word(&mut self, keyword: Keyword) -> Result<(), Refused>
+        ensures passes { IfOk result (λ _. Passes (IsWord (keyword_of keyword)) (standing_of self.old) (standing_of self.new)) }
+        ensures shorter { IfOk result (λ _. length (left_of self.new) < length (left_of self.old)) }
+    {
+        if !self.is_at_word(keyword) {
+            return Err(self.refused());
+        }
+        self.pass()
+    }
+
+    /// Passes a name, which is to be next.
+    pub(crate) fn name(&mut self) -> Result<Name<'a>, Refused>
+        ensures reads { IfOk result (λ name. Reads IsName (standing_of self.old) (standing_of self.new) (name_of name)) }
+        ensures shorter { IfOk result (λ _. length (left_of self.new) < length (left_of self.old)) }
+    {
+        let Some(token) = self.next() else {
+            return Err(self.refused());
+        };
+        let TokenKind::Name = token.kind else {
+            return Err(self.refused());
+        };
+        self.pass()?;
+        Ok(Name {
+            text: token.text,
+            place: token.place,
+        })
+    }
+}
+
+/// The fault of an unexpected token.
+fn fault_at(kind: TokenKind) -> GrammarFault
+    ensures { (characters : List ℕ) → fault_of result ≡ token_fault (token_of kind characters) }
+{
+    match kind {
+        TokenKind::Sign(sign) => fault_at_sign(sign),
+        _ => GrammarFault::UnexpectedToken,
+    }
+}
+
+/// The fault of an unexpected sign.
+fn fault_at_sign(sign: Sign) -> GrammarFault
+    ensures { fault_of result ≡ token_fault (SignToken (sign_of sign)) }
+{
+    match sign {
+        Sign::Box
+        | Sign::Internal
+        | Sign::Semicolon
+        | Sign::TripleBar
+        | Sign::Interrupt
+        | Sign::OpenSquare
+        | Sign::OpenShared
+        | Sign::OpenRenaming
+        | Sign::Hiding => GrammarFault::MixedOperators,
+        _ => GrammarFault::UnexpectedToken,
+    }
+}

@@ -1,0 +1,195 @@
+ghost use Rattle.std.specs.Prelude.{◌≡◌, ◌<◌, ◌≤◌, IfOk, length, map};
+ghost use Rattle.csp_semantics.specs.Text.Grammar.{IsName, IsExpression, AreDomains, IsModel, IsDeclaration};
+ghost use Rattle.csp_lex.specs.Tokens.{sign_of};
+ghost use Rattle.csp_parse.specs.Declarations.{domain_of, model_of, declaration_of, script_of};
+ghost use Rattle.csp_parse.specs.Levels.{IsDomainAt};
+ghost use Rattle.csp_parse.specs.Limits.{IsLowScript};
+ghost use Rattle.csp_parse.specs.Names.{name_of};
+ghost use Rattle.csp_parse.specs.Separated.{AreSeparated};
+
+use crate::declarations::{Declaration, Domain, Model, Raw};
+use crate::levels::Level;
+use crate::names::Name;
+use crate::parsers::Parser;
+use crate::refusals::Refused;
+use csp_lex::{Keyword, Sign, TokenKind};
+use std::alloc::Allocator;
+
+impl<'t, 'a, A: Allocator + Copy> Parser<'t, 'a, A> {
+    ghost use Rattle.csp_parse.specs.Reading.{left_of, standing_of, Reads};
+
+    /// All declarations that are left.
+    pub(crate) fn script(&mut self) -> Result<Raw<'a, A>, Refused>
+        ensures { IfOk result (λ raw. IsLowScript (left_of self.old) (script_of raw)) }
+    {
+        let mut declarations = Vec::new(self.alloc);
+        'script: loop {
+            let Some(_) = self.kind() else {
+                return Ok(Raw { declarations });
+            };
+            self.begin_declaration()?;
+            let declaration = self.declaration()?;
+            declarations.push(declaration)?;
+        }
+    }
+
+    fn declaration(&mut self) -> Result<Declaration<'a, A>, Refused>
+        ensures reads { IfOk result (λ r. Reads IsDeclaration (standing_of self.old) (standing_of self.new) (declaration_of r)) }
+        ensures shorter { IfOk result (λ _. length (left_of self.new) < length (left_of self.old)) }
+    {
+        match self.kind() {
+            Some(TokenKind::Keyword(Keyword::Datatype)) => self.datatype(),
+            Some(TokenKind::Keyword(Keyword::Nametype)) => self.nametype(),
+            Some(TokenKind::Keyword(Keyword::Channel)) => self.channels(),
+            Some(TokenKind::Keyword(Keyword::Assert)) => self.assertion(),
+            Some(TokenKind::Name) => self.equation(),
+            _ => Err(self.refused()),
+        }
+    }
+
+    /// A datatype, whose keyword is next.
+    fn datatype(&mut self) -> Result<Declaration<'a, A>, Refused>
+        ensures reads { IfOk result (λ r. Reads IsDeclaration (standing_of self.old) (standing_of self.new) (declaration_of r)) }
+        ensures shorter { IfOk result (λ _. length (left_of self.new) < length (left_of self.old)) }
+    {
+        self.word(Keyword::Datatype)?;
+        let name = self.name()?;
+        self.sign(Sign::Equals)?;
+        let constructors = self.names(Sign::Bar)?;
+        Ok(Declaration::Datatype { name, constructors })
+    }
+
+    /// A nametype, whose keyword is next.
+    fn nametype(&mut self) -> Result<Declaration<'a, A>, Refused>
+        ensures reads { IfOk result (λ r. Reads IsDeclaration (standing_of self.old) (standing_of self.new) (declaration_of r)) }
+        ensures shorter { IfOk result (λ _. length (left_of self.new) < length (left_of self.old)) }
+    {
+        self.word(Keyword::Nametype)?;
+        let name = self.name()?;
+        self.sign(Sign::Equals)?;
+        let domain = self.domain(Level::Disjunction)?;
+        Ok(Declaration::Nametype { name, domain })
+    }
+
+    /// Channels, whose keyword is next.
+    fn channels(&mut self) -> Result<Declaration<'a, A>, Refused>
+        ensures reads { IfOk result (λ r. Reads IsDeclaration (standing_of self.old) (standing_of self.new) (declaration_of r)) }
+        ensures shorter { IfOk result (λ _. length (left_of self.new) < length (left_of self.old)) }
+    {
+        self.word(Keyword::Channel)?;
+        let names = self.names(Sign::Comma)?;
+        if !self.is_at(Sign::Colon) {
+            let domains = Vec::new(self.alloc);
+            return Ok(Declaration::Channels { names, domains });
+        }
+        self.sign(Sign::Colon)?;
+        let domains = self.domains()?;
+        Ok(Declaration::Channels { names, domains })
+    }
+
+    /// An equation, whose name is next.
+    fn equation(&mut self) -> Result<Declaration<'a, A>, Refused>
+        ensures reads { IfOk result (λ r. Reads IsDeclaration (standing_of self.old) (standing_of self.new) (declaration_of r)) }
+        ensures shorter { IfOk result (λ _. length (left_of self.new) < length (left_of self.old)) }
+    {
+        let name = self.name()?;
+        if !self.is_at(Sign::OpenRound) {
+            self.sign(Sign::Equals)?;
+            let body = self.process()?;
+            return Ok(Declaration::Equation {
+                name,
+                parameters: Vec::new(self.alloc),
+                body,
+            });
+        }
+        self.sign(Sign::OpenRound)?;
+        let parameters = self.names(Sign::Comma)?;
+        self.sign(Sign::CloseRound)?;
+        self.sign(Sign::Equals)?;
+        let body = self.process()?;
+        Ok(Declaration::Equation {
+            name,
+            parameters,
+            body,
+        })
+    }
+
+    /// An assertion, whose keyword is next.
+    fn assertion(&mut self) -> Result<Declaration<'a, A>, Refused>
+        ensures reads { IfOk result (λ r. Reads IsDeclaration (standing_of self.old) (standing_of self.new) (declaration_of r)) }
+        ensures shorter { IfOk result (λ _. length (left_of self.new) < length (left_of self.old)) }
+    {
+        let Some(first) = self.next() else {
+            return Err(self.refused());
+        };
+        self.word(Keyword::Assert)?;
+        let specification = self.process()?;
+        let model = self.model()?;
+        let implementation = self.process()?;
+        Ok(Declaration::Assertion {
+            place: first.place,
+            model,
+            specification,
+            implementation,
+        })
+    }
+
+    fn model(&mut self) -> Result<Model, Refused>
+        ensures reads { IfOk result (λ r. Reads IsModel (standing_of self.old) (standing_of self.new) (model_of r)) }
+        ensures shorter { IfOk result (λ _. length (left_of self.new) < length (left_of self.old)) }
+    {
+        if self.is_at(Sign::Traces) {
+            self.sign(Sign::Traces)?;
+            return Ok(Model::Traces);
+        }
+        self.sign(Sign::Failures)?;
+        Ok(Model::Failures)
+    }
+
+    /// Names with a sign between.
+    fn names(&mut self, between: Sign) -> Result<Vec<Name<'a>, A>, Refused>
+        ensures reads { IfOk result (λ r. Reads (AreSeparated (sign_of between) IsName) (standing_of self.old) (standing_of self.new) (map name_of r.items)) }
+        ensures shorter { IfOk result (λ _. length (left_of self.new) < length (left_of self.old)) }
+    {
+        let mut names = Vec::new(self.alloc);
+        let first = self.name()?;
+        names.push(first)?;
+        while self.is_at(between) {
+            self.sign(between)?;
+            let name = self.name()?;
+            names.push(name)?;
+        }
+        Ok(names)
+    }
+
+    /// The set that an expression of a level is.
+    fn domain(&mut self, level: Level) -> Result<Domain<'a, A>, Refused>
+        ensures reads { IfOk result (λ r. Reads (IsDomainAt level) (standing_of self.old) (standing_of self.new) (domain_of r)) }
+        ensures shorter { IfOk result (λ _. length (left_of self.new) < length (left_of self.old)) }
+    {
+        let Some(first) = self.next() else {
+            return Err(self.refused());
+        };
+        let set = self.expression(level)?;
+        Ok(Domain {
+            place: first.place,
+            set,
+        })
+    }
+
+    /// The sets of a channel's fields, with a dot between.
+    fn domains(&mut self) -> Result<Vec<Domain<'a, A>, A>, Refused>
+        ensures reads { IfOk result (λ r. Reads AreDomains (standing_of self.old) (standing_of self.new) (map domain_of r.items)) }
+        ensures shorter { IfOk result (λ _. length (left_of self.new) < length (left_of self.old)) }
+    {
+        let mut domains = Vec::new(self.alloc);
+        let first = self.domain(Level::Atom)?;
+        domains.push(first)?;
+        while self.is_at(Sign::Dot) {
+            self.sign(Sign::Dot)?;
+            let domain = self.domain(Level::Atom)?;
+            domains.push(domain)?;
+        }
+        Ok(domains)
+    }
+}

@@ -1,0 +1,171 @@
+ghost use Rattle.std.specs.Prelude.{◌≡◌, ◌<◌, ◌≤◌, IfOk, length, map};
+ghost use Rattle.std.specs.Option.{option_map};
+ghost use Rattle.csp_semantics.specs.Text.Grammar.{AreDotted, IsEvent, AreEvents, ArePairs, IsEventSet};
+ghost use Rattle.csp_semantics.specs.Text.Raw.{RawEnumeration, RawProductions};
+ghost use Rattle.csp_lex.specs.Tokens.{keyword_of};
+ghost use Rattle.csp_parse.specs.Events.{event_of, pair_of};
+ghost use Rattle.csp_parse.specs.EventSets.{event_set_of, operator_of};
+ghost use Rattle.csp_parse.specs.Expressions.{expressions_of};
+ghost use Rattle.csp_parse.specs.Separated.{IsPair};
+ghost use Rattle.csp_parse.specs.Words.{set_word};
+
+use crate::event_sets::{EventSet, SetOperator};
+use crate::events::{Event, Pair};
+use crate::expressions::Expression;
+use crate::levels::Level;
+use crate::parsers::Parser;
+use crate::refusals::Refused;
+use csp_lex::{Keyword, Sign, TokenKind};
+use std::alloc::Allocator;
+
+impl<'t, 'a, A: Allocator + Copy> Parser<'t, 'a, A> {
+    ghost use Rattle.csp_parse.specs.Reading.{left_of, standing_of, Reads};
+
+    /// Atoms with a dot before each.
+    fn dotted(&mut self) -> Result<Vec<Expression<'a, A>, A>, Refused>
+        ensures reads { IfOk result (λ r. Reads AreDotted (standing_of self.old) (standing_of self.new) (expressions_of r.items)) }
+        ensures not_longer { IfOk result (λ _. length (left_of self.new) ≤ length (left_of self.old)) }
+    {
+        let mut fields = Vec::new(self.alloc);
+        while self.is_at(Sign::Dot) {
+            self.sign(Sign::Dot)?;
+            let field = self.expression(Level::Atom)?;
+            fields.push(field)?;
+        }
+        Ok(fields)
+    }
+
+    fn event(&mut self) -> Result<Event<'a, A>, Refused>
+        ensures reads { IfOk result (λ r. Reads IsEvent (standing_of self.old) (standing_of self.new) (event_of r)) }
+        ensures shorter { IfOk result (λ _. length (left_of self.new) < length (left_of self.old)) }
+    {
+        let channel = self.name()?;
+        let fields = self.dotted()?;
+        Ok(Event { channel, fields })
+    }
+
+    /// Events with a comma between.
+    fn events(&mut self) -> Result<Vec<Event<'a, A>, A>, Refused>
+        ensures reads { IfOk result (λ r. Reads AreEvents (standing_of self.old) (standing_of self.new) (map event_of r.items)) }
+        ensures shorter { IfOk result (λ _. length (left_of self.new) < length (left_of self.old)) }
+    {
+        let mut events = Vec::new(self.alloc);
+        let first = self.event()?;
+        events.push(first)?;
+        while self.is_at(Sign::Comma) {
+            self.sign(Sign::Comma)?;
+            let event = self.event()?;
+            events.push(event)?;
+        }
+        Ok(events)
+    }
+
+    fn pair(&mut self) -> Result<Pair<'a, A>, Refused>
+        ensures reads { IfOk result (λ r. Reads IsPair (standing_of self.old) (standing_of self.new) (pair_of r)) }
+        ensures shorter { IfOk result (λ _. length (left_of self.new) < length (left_of self.old)) }
+    {
+        let from = self.event()?;
+        self.sign(Sign::BackArrow)?;
+        let to = self.event()?;
+        Ok(Pair { from, to })
+    }
+
+    /// The pairs of a renaming, with a comma between.
+    pub(crate) fn pairs(&mut self) -> Result<Vec<Pair<'a, A>, A>, Refused>
+        ensures reads { IfOk result (λ r. Reads ArePairs (standing_of self.old) (standing_of self.new) (map pair_of r.items)) }
+        ensures shorter { IfOk result (λ _. length (left_of self.new) < length (left_of self.old)) }
+    {
+        let mut pairs = Vec::new(self.alloc);
+        let first = self.pair()?;
+        pairs.push(first)?;
+        while self.is_at(Sign::Comma) {
+            self.sign(Sign::Comma)?;
+            let pair = self.pair()?;
+            pairs.push(pair)?;
+        }
+        Ok(pairs)
+    }
+
+    /// A set of events.
+    #[cycle(event_set)]
+    pub(crate) fn event_set(&mut self) -> Result<EventSet<'a, A>, Refused>
+        ensures reads { IfOk result (λ r. Reads IsEventSet (standing_of self.old) (standing_of self.new) (event_set_of r)) }
+        ensures shorter { IfOk result (λ _. length (left_of self.new) < length (left_of self.old)) }
+    {
+        match self.kind() {
+            Some(TokenKind::Keyword(keyword)) => self.combined_set(keyword),
+            Some(TokenKind::Sign(Sign::OpenProductions)) => self.productions(),
+            _ => self.enumeration(),
+        }
+    }
+
+    /// `{|`, events and `|}`.
+    fn productions(&mut self) -> Result<EventSet<'a, A>, Refused>
+        ensures reads { IfOk result (λ r. Reads IsEventSet (standing_of self.old) (standing_of self.new) (event_set_of r)) }
+        ensures shorter { IfOk result (λ _. length (left_of self.new) < length (left_of self.old)) }
+    {
+        self.sign(Sign::OpenProductions)?;
+        let events = self.events()?;
+        self.sign(Sign::CloseProductions)?;
+        Ok(EventSet::Productions(events))
+    }
+
+    /// `{`, events and `}`.
+    fn enumeration(&mut self) -> Result<EventSet<'a, A>, Refused>
+        ensures reads { IfOk result (λ r. Reads IsEventSet (standing_of self.old) (standing_of self.new) (event_set_of r)) }
+        ensures shorter { IfOk result (λ _. length (left_of self.new) < length (left_of self.old)) }
+    {
+        self.sign(Sign::OpenBrace)?;
+        if self.is_at(Sign::CloseBrace) {
+            self.sign(Sign::CloseBrace)?;
+            return Ok(EventSet::Enumeration(Vec::new(self.alloc)));
+        }
+        let events = self.events()?;
+        self.sign(Sign::CloseBrace)?;
+        Ok(EventSet::Enumeration(events))
+    }
+
+    /// Two sets of events that this keyword joins.
+    #[cycle(event_set)]
+    fn combined_set(&mut self, keyword: Keyword) -> Result<EventSet<'a, A>, Refused>
+        ensures reads { IfOk result (λ r. Reads IsEventSet (standing_of self.old) (standing_of self.new) (event_set_of r)) }
+        ensures shorter { IfOk result (λ _. length (left_of self.new) < length (left_of self.old)) }
+    {
+        let Some(operator) = set_operator(keyword) else {
+            return Err(self.refused());
+        };
+        self.word(keyword)?;
+        self.sign(Sign::OpenRound)?;
+        let left = self.event_set()?;
+        self.sign(Sign::Comma)?;
+        let right = self.event_set()?;
+        self.sign(Sign::CloseRound)?;
+        joined(self.alloc, operator, left, right)
+    }
+}
+
+/// Two sets of events with an operator between.
+fn joined<'a, A: Allocator + Copy>(
+    alloc: A,
+    operator: SetOperator,
+    left: EventSet<'a, A>,
+    right: EventSet<'a, A>,
+) -> Result<EventSet<'a, A>, Refused>
+    ensures { IfOk result (λ s. event_set_of s ≡ operator_of operator (event_set_of left.entry) (event_set_of right.entry)) }
+{
+    let left = Box::new(alloc, left)?;
+    let right = Box::new(alloc, right)?;
+    Ok(EventSet::Combine(operator, left, right))
+}
+
+/// The operator on sets of events that a keyword is, if it is one.
+fn set_operator(keyword: Keyword) -> Option<SetOperator>
+    ensures { option_map operator_of result ≡ set_word (keyword_of keyword) }
+{
+    match keyword {
+        Keyword::Union => Some(SetOperator::Union),
+        Keyword::Inter => Some(SetOperator::Intersection),
+        Keyword::Diff => Some(SetOperator::Difference),
+        _ => None,
+    }
+}

@@ -1,0 +1,331 @@
+ghost use Rattle.std.specs.Prelude.{◌≡◌, ◌<◌, ◌≤◌, IfOk, length};
+ghost use Rattle.csp_semantics.specs.Text.Grammar.{IsExpression, IsNegation, IsComparison, IsSum, IsAtom};
+ghost use Rattle.csp_semantics.specs.Text.Raw.{RawApply, RawCombine, RawRange};
+ghost use Rattle.csp_parse.specs.Expressions.{expression_of, expressions_of};
+ghost use Rattle.csp_parse.specs.Levels.{IsAt, AreListed, ReadsBracketed, ReadsTwo};
+ghost use Rattle.csp_parse.specs.Operators.{unary_of, binary_of};
+
+use crate::expressions::Expression;
+use crate::levels::{Level, binary_function, comparison, unary_function};
+use crate::operators::{BinaryOperator, UnaryOperator};
+use crate::parsers::Parser;
+use crate::refusals::Refused;
+use csp_lex::{Keyword, Sign, TokenKind};
+use std::alloc::Allocator;
+
+impl<'t, 'a, A: Allocator + Copy> Parser<'t, 'a, A> {
+    ghost use Rattle.csp_parse.specs.Reading.{left_of, standing_of, Reads, Extends};
+
+    /// An expression of a level.
+    #[cycle(expression)]
+    pub(crate) fn expression(&mut self, level: Level) -> Result<Expression<'a, A>, Refused>
+        ensures reads { IfOk result (λ e. Reads (IsAt level) (standing_of self.old) (standing_of self.new) (expression_of e)) }
+        ensures shorter { IfOk result (λ _. length (left_of self.new) < length (left_of self.old)) }
+    {
+        match level {
+            Level::Atom => self.atom(),
+            Level::Negation => self.negation(),
+            Level::Comparison => {
+                let first = self.expression(Level::Sum)?;
+                self.compared(first)
+            }
+            Level::Disjunction => {
+                let first = self.expression(Level::Conjunction)?;
+                self.chained(Level::Disjunction, first)
+            }
+            Level::Conjunction => {
+                let first = self.expression(Level::Negation)?;
+                self.chained(Level::Conjunction, first)
+            }
+            Level::Sum => {
+                let first = self.expression(Level::Product)?;
+                self.chained(Level::Sum, first)
+            }
+            Level::Product => {
+                let first = self.expression(Level::Atom)?;
+                self.chained(Level::Product, first)
+            }
+        }
+    }
+
+    /// The rest of a chain, behind its first operand.
+    #[cycle(expression)]
+    pub(crate) fn chained(
+        &mut self,
+        level: Level,
+        first: Expression<'a, A>,
+    ) -> Result<Expression<'a, A>, Refused>
+        ensures extends { IfOk result (λ e. Extends (IsAt level) (IsAt level) (standing_of self.old) (standing_of self.new) (expression_of first.entry) (expression_of e)) }
+        ensures not_longer { IfOk result (λ _. length (left_of self.new) ≤ length (left_of self.old)) }
+    {
+        let mut chain = first;
+        while let Some(kind) = self.kind() {
+            let Some(operator) = level.operator(kind) else {
+                break;
+            };
+            self.pass()?;
+            let operand = self.expression(level.stronger())?;
+            chain = combined(self.alloc, operator, chain, operand)?;
+        }
+        Ok(chain)
+    }
+
+    /// The rest of a comparison, behind its first operand.
+    #[cycle(expression)]
+    pub(crate) fn compared(
+        &mut self,
+        first: Expression<'a, A>,
+    ) -> Result<Expression<'a, A>, Refused>
+        ensures extends { IfOk result (λ e. Extends IsSum IsComparison (standing_of self.old) (standing_of self.new) (expression_of first.entry) (expression_of e)) }
+        ensures not_longer { IfOk result (λ _. length (left_of self.new) ≤ length (left_of self.old)) }
+    {
+        let Some(kind) = self.kind() else {
+            return Ok(first);
+        };
+        let Some(operator) = comparison(kind) else {
+            return Ok(first);
+        };
+        self.pass()?;
+        let second = self.expression(Level::Sum)?;
+        combined(self.alloc, operator, first, second)
+    }
+
+    /// `not` any number of times, and a comparison.
+    #[cycle(expression)]
+    fn negation(&mut self) -> Result<Expression<'a, A>, Refused>
+        ensures reads { IfOk result (λ e. Reads IsNegation (standing_of self.old) (standing_of self.new) (expression_of e)) }
+        ensures shorter { IfOk result (λ _. length (left_of self.new) < length (left_of self.old)) }
+    {
+        if !self.is_at_word(Keyword::Not) {
+            return self.expression(Level::Comparison);
+        }
+        self.word(Keyword::Not)?;
+        let operand = self.negation()?;
+        applied(self.alloc, UnaryOperator::Not, operand)
+    }
+
+    /// An expression without operators around it.
+    #[cycle(expression)]
+    fn atom(&mut self) -> Result<Expression<'a, A>, Refused>
+        ensures reads { IfOk result (λ e. Reads IsAtom (standing_of self.old) (standing_of self.new) (expression_of e)) }
+        ensures shorter { IfOk result (λ _. length (left_of self.new) < length (left_of self.old)) }
+    {
+        match self.kind() {
+            Some(TokenKind::Number(value)) => {
+                self.pass()?;
+                Ok(Expression::Number(value))
+            }
+            Some(TokenKind::Keyword(keyword)) => self.atom_of_word(keyword),
+            Some(TokenKind::Sign(sign)) => self.atom_of_sign(sign),
+            _ => {
+                let name = self.name()?;
+                Ok(Expression::Use(name))
+            }
+        }
+    }
+
+    /// The atom that begins with this keyword.
+    #[cycle(expression)]
+    fn atom_of_word(&mut self, keyword: Keyword) -> Result<Expression<'a, A>, Refused>
+        ensures reads { IfOk result (λ e. Reads IsAtom (standing_of self.old) (standing_of self.new) (expression_of e)) }
+        ensures shorter { IfOk result (λ _. length (left_of self.new) < length (left_of self.old)) }
+    {
+        if let Some(operator) = unary_function(keyword) {
+            self.word(keyword)?;
+            let operand = self.bracketed()?;
+            return applied(self.alloc, operator, operand);
+        }
+        if let Some(operator) = binary_function(keyword) {
+            self.word(keyword)?;
+            let (first, second) = self.two_arguments()?;
+            return combined(self.alloc, operator, first, second);
+        }
+        self.constant(keyword)
+    }
+
+    /// The constant that this keyword is.
+    fn constant(&mut self, keyword: Keyword) -> Result<Expression<'a, A>, Refused>
+        ensures reads { IfOk result (λ e. Reads IsAtom (standing_of self.old) (standing_of self.new) (expression_of e)) }
+        ensures shorter { IfOk result (λ _. length (left_of self.new) < length (left_of self.old)) }
+    {
+        match keyword {
+            Keyword::True => {
+                self.word(Keyword::True)?;
+                Ok(Expression::Truth(true))
+            }
+            Keyword::False => {
+                self.word(Keyword::False)?;
+                Ok(Expression::Truth(false))
+            }
+            Keyword::Bool => {
+                self.word(Keyword::Bool)?;
+                Ok(Expression::Booleans)
+            }
+            _ => Err(self.refused()),
+        }
+    }
+
+    /// An expression in brackets.
+    #[cycle(expression)]
+    fn bracketed(&mut self) -> Result<Expression<'a, A>, Refused>
+        ensures reads { IfOk result (λ e. ReadsBracketed (standing_of self.old) (standing_of self.new) (expression_of e)) }
+        ensures shorter { IfOk result (λ _. length (left_of self.new) < length (left_of self.old)) }
+    {
+        self.sign(Sign::OpenRound)?;
+        let inner = self.expression(Level::Disjunction)?;
+        self.sign(Sign::CloseRound)?;
+        Ok(inner)
+    }
+
+    /// Two expressions in brackets.
+    #[cycle(expression)]
+    fn two_arguments(&mut self) -> Result<(Expression<'a, A>, Expression<'a, A>), Refused>
+        ensures reads { IfOk result (λ r. ReadsTwo (standing_of self.old) (standing_of self.new) (expression_of r.0) (expression_of r.1)) }
+        ensures shorter { IfOk result (λ _. length (left_of self.new) < length (left_of self.old)) }
+    {
+        self.sign(Sign::OpenRound)?;
+        let first = self.expression(Level::Disjunction)?;
+        self.sign(Sign::Comma)?;
+        let second = self.expression(Level::Disjunction)?;
+        self.sign(Sign::CloseRound)?;
+        Ok((first, second))
+    }
+
+    /// The atom that begins with this sign.
+    #[cycle(expression)]
+    fn atom_of_sign(&mut self, sign: Sign) -> Result<Expression<'a, A>, Refused>
+        ensures reads { IfOk result (λ e. Reads IsAtom (standing_of self.old) (standing_of self.new) (expression_of e)) }
+        ensures shorter { IfOk result (λ _. length (left_of self.new) < length (left_of self.old)) }
+    {
+        match sign {
+            Sign::Minus => {
+                self.sign(Sign::Minus)?;
+                let operand = self.atom()?;
+                applied(self.alloc, UnaryOperator::Negate, operand)
+            }
+            Sign::Hash => {
+                self.sign(Sign::Hash)?;
+                let operand = self.atom()?;
+                applied(self.alloc, UnaryOperator::Length, operand)
+            }
+            Sign::OpenRound => self.bracketed(),
+            Sign::Less => self.sequence(),
+            Sign::OpenBrace => self.set(),
+            _ => Err(self.refused()),
+        }
+    }
+
+    /// A sequence.
+    #[cycle(expression)]
+    fn sequence(&mut self) -> Result<Expression<'a, A>, Refused>
+        ensures reads { IfOk result (λ e. Reads IsAtom (standing_of self.old) (standing_of self.new) (expression_of e)) }
+        ensures shorter { IfOk result (λ _. length (left_of self.new) < length (left_of self.old)) }
+    {
+        self.sign(Sign::Less)?;
+        if self.is_at(Sign::Greater) {
+            self.sign(Sign::Greater)?;
+            return Ok(Expression::Sequence(Vec::new(self.alloc)));
+        }
+        let first = self.expression(Level::Sum)?;
+        let items = self.listed(Level::Sum, first)?;
+        self.sign(Sign::Greater)?;
+        Ok(Expression::Sequence(items))
+    }
+
+    /// A set.
+    #[cycle(expression)]
+    fn set(&mut self) -> Result<Expression<'a, A>, Refused>
+        ensures reads { IfOk result (λ e. Reads IsAtom (standing_of self.old) (standing_of self.new) (expression_of e)) }
+        ensures shorter { IfOk result (λ _. length (left_of self.new) < length (left_of self.old)) }
+    {
+        self.sign(Sign::OpenBrace)?;
+        if self.is_at(Sign::CloseBrace) {
+            self.sign(Sign::CloseBrace)?;
+            return Ok(Expression::Set(Vec::new(self.alloc)));
+        }
+        let first = self.expression(Level::Disjunction)?;
+        if self.is_at(Sign::Range) {
+            self.sign(Sign::Range)?;
+            let last = self.expression(Level::Disjunction)?;
+            self.sign(Sign::CloseBrace)?;
+            return ranged(self.alloc, first, last);
+        }
+        let members = self.listed(Level::Disjunction, first)?;
+        self.sign(Sign::CloseBrace)?;
+        Ok(Expression::Set(members))
+    }
+
+    /// A list of expressions of a level, behind its first one.
+    #[cycle(expression)]
+    pub(crate) fn listed(
+        &mut self,
+        level: Level,
+        first: Expression<'a, A>,
+    ) -> Result<Vec<Expression<'a, A>, A>, Refused>
+        ensures extends { IfOk result (λ all. Extends (IsAt level) (AreListed level) (standing_of self.old) (standing_of self.new) (expression_of first.entry) (expressions_of all.items)) }
+        ensures not_longer { IfOk result (λ _. length (left_of self.new) ≤ length (left_of self.old)) }
+    {
+        let mut items = Vec::new(self.alloc);
+        items.push(first)?;
+        while self.is_at(Sign::Comma) {
+            self.sign(Sign::Comma)?;
+            let item = self.expression(level)?;
+            items.push(item)?;
+        }
+        Ok(items)
+    }
+
+    /// The rest of an expression that begins with an atom.
+    pub(crate) fn expression_from(
+        &mut self,
+        atom: Expression<'a, A>,
+    ) -> Result<Expression<'a, A>, Refused>
+        ensures extends { IfOk result (λ e. Extends IsAtom IsExpression (standing_of self.old) (standing_of self.new) (expression_of atom.entry) (expression_of e)) }
+        ensures not_longer { IfOk result (λ _. length (left_of self.new) ≤ length (left_of self.old)) }
+    {
+        let product = self.chained(Level::Product, atom)?;
+        let sum = self.chained(Level::Sum, product)?;
+        let comparison = self.compared(sum)?;
+        let conjunction = self.chained(Level::Conjunction, comparison)?;
+        self.chained(Level::Disjunction, conjunction)
+    }
+}
+
+/// An operator on an expression.
+fn applied<'a, A: Allocator>(
+    alloc: A,
+    operator: UnaryOperator,
+    operand: Expression<'a, A>,
+) -> Result<Expression<'a, A>, Refused>
+    ensures { IfOk result (λ e. expression_of e ≡ RawApply (unary_of operator) (expression_of operand.entry)) }
+{
+    let operand = Box::new(alloc, operand)?;
+    Ok(Expression::Apply(operator, operand))
+}
+
+/// An operator on two expressions.
+fn combined<'a, A: Allocator + Copy>(
+    alloc: A,
+    operator: BinaryOperator,
+    left: Expression<'a, A>,
+    right: Expression<'a, A>,
+) -> Result<Expression<'a, A>, Refused>
+    ensures { IfOk result (λ e. expression_of e ≡ RawCombine (binary_of operator) (expression_of left.entry) (expression_of right.entry)) }
+{
+    let left = Box::new(alloc, left)?;
+    let right = Box::new(alloc, right)?;
+    Ok(Expression::Combine(operator, left, right))
+}
+
+/// The numbers from one to another.
+fn ranged<'a, A: Allocator + Copy>(
+    alloc: A,
+    from: Expression<'a, A>,
+    to: Expression<'a, A>,
+) -> Result<Expression<'a, A>, Refused>
+    ensures { IfOk result (λ e. expression_of e ≡ RawRange (expression_of from.entry) (expression_of to.entry)) }
+{
+    let from = Box::new(alloc, from)?;
+    let to = Box::new(alloc, to)?;
+    Ok(Expression::Range(from, to))
+}

@@ -1,0 +1,425 @@
+ghost use Rattle.std.specs.Prelude.{◌≡◌, ◌<◌, ◌≤◌, ℕ, List, IfOk, IfSome, length, map};
+ghost use Rattle.csp_semantics.specs.Text.Grammar.{IsExpression, AreLaterFields, AreFields, IsRenamed, IsHidden, IsBase, IsOperand, IsProcess};
+ghost use Rattle.csp_semantics.specs.Text.Token.{PlacedToken};
+ghost use Rattle.csp_parse.specs.EventSets.{event_set_of};
+ghost use Rattle.csp_parse.specs.Expressions.{expression_of, expressions_of};
+ghost use Rattle.csp_parse.specs.Names.{name_of};
+ghost use Rattle.csp_parse.specs.Processes.{field_of, infix_of, replicator_of, process_of};
+ghost use Rattle.csp_parse.specs.Starts.{ReadsName, ReadsStart, ReadsInner, ReadsArguments, IsLaterField, IsRenamedBase, IsHiddenBase};
+
+use crate::event_sets::EventSet;
+use crate::expressions::Expression;
+use crate::levels::{Level, comparison};
+use crate::names::Name;
+use crate::parsers::Parser;
+use crate::processes::{Field, Infix, Process, Replicator};
+use crate::refusals::Refused;
+use crate::starts::{Inner, Start};
+use csp_lex::{Keyword, Sign, TokenKind};
+use std::alloc::Allocator;
+
+impl<'t, 'a, A: Allocator + Copy> Parser<'t, 'a, A> {
+    ghost use Rattle.csp_parse.specs.Reading.{left_of, standing_of, Standing, Reads, Continues};
+
+    /// A process.
+    #[cycle(process)]
+    pub(crate) fn process(&mut self) -> Result<Process<'a, A>, Refused>
+        ensures reads { IfOk result (λ r. Reads IsProcess (standing_of self.old) (standing_of self.new) (process_of r)) }
+        ensures shorter { IfOk result (λ _. length (left_of self.new) < length (left_of self.old)) }
+    {
+        if self.is_at_word(Keyword::If) {
+            return self.conditional();
+        }
+        if let Some(replicator) = self.next_replicator() {
+            return self.replicated(replicator);
+        }
+        let start = self.start()?;
+        self.process_from(start)
+    }
+
+    /// A conditional process, whose `if` is next.
+    #[cycle(process)]
+    fn conditional(&mut self) -> Result<Process<'a, A>, Refused>
+        ensures reads { IfOk result (λ r. Reads IsProcess (standing_of self.old) (standing_of self.new) (process_of r)) }
+        ensures shorter { IfOk result (λ _. length (left_of self.new) < length (left_of self.old)) }
+    {
+        self.word(Keyword::If)?;
+        let condition = self.expression(Level::Disjunction)?;
+        self.word(Keyword::Then)?;
+        let first = self.process()?;
+        self.word(Keyword::Else)?;
+        let second = self.process()?;
+        Process::conditional(self.alloc, condition, first, second)
+    }
+
+    /// A replicated process, whose operator is next.
+    #[cycle(process)]
+    fn replicated(&mut self, replicator: Replicator) -> Result<Process<'a, A>, Refused>
+        ensures reads { IfOk result (λ r. Reads IsProcess (standing_of self.old) (standing_of self.new) (process_of r)) }
+        ensures shorter { IfOk result (λ _. length (left_of self.new) < length (left_of self.old)) }
+    {
+        let written = replicator.sign();
+        self.sign(written)?;
+        let name = self.name()?;
+        self.sign(Sign::Colon)?;
+        let set = self.expression(Level::Atom)?;
+        self.sign(Sign::At)?;
+        let body = self.process()?;
+        Process::replicated(self.alloc, replicator, name, set, body)
+    }
+
+    /// The process that begins so.
+    #[cycle(process)]
+    fn process_from(&mut self, start: Start<'a, A>) -> Result<Process<'a, A>, Refused>
+        ensures continues { IfOk result (λ r. (before : Standing) → ReadsStart before (standing_of self.old) start.entry → Reads IsProcess before (standing_of self.new) (process_of r)) }
+        ensures not_longer { IfOk result (λ _. length (left_of self.new) ≤ length (left_of self.old)) }
+    {
+        match start {
+            Start::Name(name) => {
+                let base = Process::Call(name, Vec::new(self.alloc));
+                self.process_from_base(base)
+            }
+            Start::Expression(_) => Err(self.refused()),
+            Start::Base(base) => self.process_from_base(base),
+            Start::Operand(operand) => self.process_from_operand(operand),
+        }
+    }
+
+    /// The process that begins with a base.
+    #[cycle(process)]
+    fn process_from_base(&mut self, base: Process<'a, A>) -> Result<Process<'a, A>, Refused>
+        ensures continues { IfOk result (λ r. Continues IsBase IsProcess (standing_of self.old) (standing_of self.new) (process_of base.entry) (process_of r)) }
+        ensures not_longer { IfOk result (λ _. length (left_of self.new) ≤ length (left_of self.old)) }
+    {
+        if self.is_at(Sign::OpenRenaming) || self.is_at(Sign::Hiding) {
+            let renamed = self.renamed(base)?;
+            return self.hidden(renamed);
+        }
+        self.process_from_operand(base)
+    }
+
+    /// The renamings of a process.
+    fn renamed(&mut self, base: Process<'a, A>) -> Result<Process<'a, A>, Refused>
+        ensures continues { IfOk result (λ r. Continues IsBase IsRenamedBase (standing_of self.old) (standing_of self.new) (process_of base.entry) (process_of r)) }
+        ensures not_longer { IfOk result (λ _. length (left_of self.new) ≤ length (left_of self.old)) }
+    {
+        let mut process = base;
+        while self.is_at(Sign::OpenRenaming) {
+            self.sign(Sign::OpenRenaming)?;
+            let pairs = self.pairs()?;
+            self.sign(Sign::CloseRenaming)?;
+            process = Process::renaming(self.alloc, process, pairs)?;
+        }
+        Ok(process)
+    }
+
+    /// The hidings of a process.
+    fn hidden(&mut self, renamed: Process<'a, A>) -> Result<Process<'a, A>, Refused>
+        ensures continues { IfOk result (λ r. Continues IsRenamedBase IsHiddenBase (standing_of self.old) (standing_of self.new) (process_of renamed.entry) (process_of r)) }
+        ensures not_longer { IfOk result (λ _. length (left_of self.new) ≤ length (left_of self.old)) }
+    {
+        let mut process = renamed;
+        while self.is_at(Sign::Hiding) {
+            self.sign(Sign::Hiding)?;
+            let set = self.event_set()?;
+            process = Process::hiding(self.alloc, process, set)?;
+        }
+        Ok(process)
+    }
+
+    /// The process that begins with an operand.
+    #[cycle(process)]
+    fn process_from_operand(&mut self, first: Process<'a, A>) -> Result<Process<'a, A>, Refused>
+        ensures continues { IfOk result (λ r. Continues IsOperand IsProcess (standing_of self.old) (standing_of self.new) (process_of first.entry) (process_of r)) }
+        ensures not_longer { IfOk result (λ _. length (left_of self.new) ≤ length (left_of self.old)) }
+    {
+        if let Some(operator) = self.next_infix() {
+            return self.chain(operator, first);
+        }
+        if self.is_at(Sign::OpenShared) {
+            return self.generalised(first);
+        }
+        if self.is_at(Sign::OpenSquare) {
+            return self.alphabetised(first);
+        }
+        Ok(first)
+    }
+
+    /// The rest of a parallel process over shared events, behind its left side.
+    #[cycle(process)]
+    fn generalised(&mut self, left: Process<'a, A>) -> Result<Process<'a, A>, Refused>
+        ensures continues { IfOk result (λ r. Continues IsOperand IsProcess (standing_of self.old) (standing_of self.new) (process_of left.entry) (process_of r)) }
+        ensures not_longer { IfOk result (λ _. length (left_of self.new) ≤ length (left_of self.old)) }
+    {
+        self.sign(Sign::OpenShared)?;
+        let shared = self.event_set()?;
+        self.sign(Sign::CloseShared)?;
+        let right = self.operand()?;
+        Process::generalised(self.alloc, left, shared, right)
+    }
+
+    /// The rest of a parallel process over two alphabets, behind its left side.
+    #[cycle(process)]
+    fn alphabetised(&mut self, left: Process<'a, A>) -> Result<Process<'a, A>, Refused>
+        ensures continues { IfOk result (λ r. Continues IsOperand IsProcess (standing_of self.old) (standing_of self.new) (process_of left.entry) (process_of r)) }
+        ensures not_longer { IfOk result (λ _. length (left_of self.new) ≤ length (left_of self.old)) }
+    {
+        self.sign(Sign::OpenSquare)?;
+        let of_left = self.event_set()?;
+        self.sign(Sign::DoubleBar)?;
+        let of_right = self.event_set()?;
+        self.sign(Sign::CloseSquare)?;
+        let right = self.operand()?;
+        Process::alphabetised(self.alloc, left, of_left, of_right, right)
+    }
+
+    /// A chain of one operator, which is next, behind its first operand.
+    #[cycle(process)]
+    fn chain(&mut self, operator: Infix, first: Process<'a, A>) -> Result<Process<'a, A>, Refused>
+        ensures continues { IfOk result (λ r. Continues IsOperand IsProcess (standing_of self.old) (standing_of self.new) (process_of first.entry) (process_of r)) }
+        ensures not_longer { IfOk result (λ _. length (left_of self.new) ≤ length (left_of self.old)) }
+    {
+        let written = operator.sign();
+        self.sign(written)?;
+        let second = self.operand()?;
+        let mut chain = Process::joined(self.alloc, operator, first, second)?;
+        while self.is_at(written) {
+            self.sign(written)?;
+            let operand = self.operand()?;
+            chain = Process::joined(self.alloc, operator, chain, operand)?;
+        }
+        Ok(chain)
+    }
+
+    /// An operand.
+    #[cycle(process)]
+    fn operand(&mut self) -> Result<Process<'a, A>, Refused>
+        ensures reads { IfOk result (λ r. Reads IsOperand (standing_of self.old) (standing_of self.new) (process_of r)) }
+        ensures shorter { IfOk result (λ _. length (left_of self.new) < length (left_of self.old)) }
+    {
+        match self.start()? {
+            Start::Name(name) => Ok(Process::Call(name, Vec::new(self.alloc))),
+            Start::Expression(_) => Err(self.refused()),
+            Start::Base(process) => Ok(process),
+            Start::Operand(process) => Ok(process),
+        }
+    }
+
+    /// An operand, or an expression without a guard sign behind it.
+    #[cycle(process)]
+    fn start(&mut self) -> Result<Start<'a, A>, Refused>
+        ensures reads { IfOk result (λ r. ReadsStart (standing_of self.old) (standing_of self.new) r) }
+        ensures shorter { IfOk result (λ _. length (left_of self.new) < length (left_of self.old)) }
+    {
+        match self.kind() {
+            Some(TokenKind::Keyword(Keyword::Stop)) => {
+                self.word(Keyword::Stop)?;
+                Ok(Start::Base(Process::Stop))
+            }
+            Some(TokenKind::Keyword(Keyword::Skip)) => {
+                self.word(Keyword::Skip)?;
+                Ok(Start::Base(Process::Skip))
+            }
+            Some(TokenKind::Name) => self.start_of_name(),
+            Some(TokenKind::Sign(Sign::OpenRound)) => self.start_of_brackets(),
+            _ => {
+                let expression = self.expression(Level::Disjunction)?;
+                self.guarded(expression)
+            }
+        }
+    }
+
+    /// What begins with a name, which is next.
+    #[cycle(process)]
+    fn start_of_name(&mut self) -> Result<Start<'a, A>, Refused>
+        ensures reads { IfOk result (λ r. ReadsStart (standing_of self.old) (standing_of self.new) r) }
+        ensures shorter { IfOk result (λ _. length (left_of self.new) < length (left_of self.old)) }
+    {
+        let name = self.name()?;
+        if self.is_at(Sign::OpenRound) {
+            let arguments = self.arguments()?;
+            return Ok(Start::Base(Process::Call(name, arguments)));
+        }
+        if self.is_at_field() || self.is_at(Sign::Arrow) {
+            let fields = self.fields()?;
+            self.sign(Sign::Arrow)?;
+            let body = self.operand()?;
+            let prefix = Process::prefix(self.alloc, name, fields, body)?;
+            return Ok(Start::Operand(prefix));
+        }
+        self.start_from_name(name)
+    }
+
+    /// The arguments of a call, in brackets.
+    fn arguments(&mut self) -> Result<Vec<Expression<'a, A>, A>, Refused>
+        ensures reads { IfOk result (λ r. ReadsArguments (standing_of self.old) (standing_of self.new) (expressions_of r.items)) }
+        ensures shorter { IfOk result (λ _. length (left_of self.new) < length (left_of self.old)) }
+    {
+        self.sign(Sign::OpenRound)?;
+        let first = self.expression(Level::Disjunction)?;
+        let arguments = self.listed(Level::Disjunction, first)?;
+        self.sign(Sign::CloseRound)?;
+        Ok(arguments)
+    }
+
+    /// What begins with a name, perhaps in brackets, that is no call with arguments and no channel.
+    #[cycle(process)]
+    fn start_from_name(&mut self, name: Name<'a>) -> Result<Start<'a, A>, Refused>
+        ensures continues { IfOk result (λ r. (before : Standing) → ReadsName before (standing_of self.old) (name_of name.entry) → ReadsStart before (standing_of self.new) r) }
+        ensures not_longer { IfOk result (λ _. length (left_of self.new) ≤ length (left_of self.old)) }
+    {
+        if !self.is_at_operator() && !self.is_at(Sign::Guard) {
+            return Ok(Start::Name(name));
+        }
+        let expression = self.expression_from(Expression::Use(name))?;
+        self.guarded(expression)
+    }
+
+    /// What begins with an opening bracket, which is next.
+    #[cycle(process)]
+    fn start_of_brackets(&mut self) -> Result<Start<'a, A>, Refused>
+        ensures reads { IfOk result (λ r. ReadsStart (standing_of self.old) (standing_of self.new) r) }
+        ensures shorter { IfOk result (λ _. length (left_of self.new) < length (left_of self.old)) }
+    {
+        self.sign(Sign::OpenRound)?;
+        let inner = self.inner()?;
+        self.sign(Sign::CloseRound)?;
+        match inner {
+            Inner::Name(name) => self.start_from_name(name),
+            Inner::Expression(atom) => {
+                let expression = self.expression_from(atom)?;
+                self.guarded(expression)
+            }
+            Inner::Process(process) => Ok(Start::Base(process)),
+        }
+    }
+
+    /// What stands behind an opening bracket.
+    #[cycle(process)]
+    fn inner(&mut self) -> Result<Inner<'a, A>, Refused>
+        ensures reads { IfOk result (λ r. ReadsInner (standing_of self.old) (standing_of self.new) r) }
+        ensures shorter { IfOk result (λ _. length (left_of self.new) < length (left_of self.old)) }
+    {
+        if self.is_at_word(Keyword::If) || self.next_replicator().is_some() {
+            let process = self.process()?;
+            return Ok(Inner::Process(process));
+        }
+        match self.start()? {
+            Start::Name(name) => self.inner_from_name(name),
+            Start::Expression(expression) => Ok(Inner::Expression(expression)),
+            Start::Base(base) => {
+                let process = self.process_from_base(base)?;
+                Ok(Inner::Process(process))
+            }
+            Start::Operand(operand) => {
+                let process = self.process_from_operand(operand)?;
+                Ok(Inner::Process(process))
+            }
+        }
+    }
+
+    /// What stands behind an opening bracket and begins with a name, perhaps in brackets.
+    #[cycle(process)]
+    fn inner_from_name(&mut self, name: Name<'a>) -> Result<Inner<'a, A>, Refused>
+        ensures continues { IfOk result (λ r. (before : Standing) → ReadsName before (standing_of self.old) (name_of name.entry) → ReadsInner before (standing_of self.new) r) }
+        ensures not_longer { IfOk result (λ _. length (left_of self.new) ≤ length (left_of self.old)) }
+    {
+        if self.is_at(Sign::CloseRound) {
+            return Ok(Inner::Name(name));
+        }
+        let process = self.process_from(Start::Name(name))?;
+        Ok(Inner::Process(process))
+    }
+
+    /// An expression, or with `&` behind it the process that it guards.
+    #[cycle(process)]
+    fn guarded(&mut self, expression: Expression<'a, A>) -> Result<Start<'a, A>, Refused>
+        ensures continues { IfOk result (λ r. (before : Standing) → Reads IsExpression before (standing_of self.old) (expression_of expression.entry) → ReadsStart before (standing_of self.new) r) }
+        ensures not_longer { IfOk result (λ _. length (left_of self.new) ≤ length (left_of self.old)) }
+    {
+        if !self.is_at(Sign::Guard) {
+            return Ok(Start::Expression(expression));
+        }
+        self.sign(Sign::Guard)?;
+        let body = self.operand()?;
+        let guard = Process::guard(self.alloc, expression, body)?;
+        Ok(Start::Operand(guard))
+    }
+
+    /// The fields of a prefix.
+    fn fields(&mut self) -> Result<Vec<Field<'a, A>, A>, Refused>
+        ensures reads { IfOk result (λ r. Reads AreFields (standing_of self.old) (standing_of self.new) (map field_of r.items)) }
+        ensures not_longer { IfOk result (λ _. length (left_of self.new) ≤ length (left_of self.old)) }
+    {
+        let mut fields = Vec::new(self.alloc);
+        while self.is_at(Sign::Dot) {
+            self.sign(Sign::Dot)?;
+            let value = self.expression(Level::Atom)?;
+            fields.push(Field::Given(value))?;
+        }
+        while self.is_at(Sign::Output) || self.is_at(Sign::Input) {
+            let field = self.field()?;
+            fields.push(field)?;
+        }
+        Ok(fields)
+    }
+
+    /// An output or an input.
+    fn field(&mut self) -> Result<Field<'a, A>, Refused>
+        ensures reads { IfOk result (λ r. Reads IsLaterField (standing_of self.old) (standing_of self.new) (field_of r)) }
+        ensures shorter { IfOk result (λ _. length (left_of self.new) < length (left_of self.old)) }
+    {
+        if self.is_at(Sign::Output) {
+            self.sign(Sign::Output)?;
+            let value = self.expression(Level::Atom)?;
+            return Ok(Field::Given(value));
+        }
+        self.sign(Sign::Input)?;
+        let name = self.name()?;
+        if !self.is_at(Sign::Colon) {
+            return Ok(Field::Input(name));
+        }
+        self.sign(Sign::Colon)?;
+        let set = self.expression(Level::Atom)?;
+        Ok(Field::InputFrom(name, set))
+    }
+
+    /// Whether the next token begins a field of a prefix.
+    fn is_at_field(&self) -> bool {
+        self.is_at(Sign::Dot) || self.is_at(Sign::Output) || self.is_at(Sign::Input)
+    }
+
+    /// Whether the next token is an operator between expressions.
+    fn is_at_operator(&self) -> bool {
+        let Some(kind) = self.kind() else {
+            return false;
+        };
+        comparison(kind).is_some()
+            || Level::Product.operator(kind).is_some()
+            || Level::Sum.operator(kind).is_some()
+            || Level::Conjunction.operator(kind).is_some()
+            || Level::Disjunction.operator(kind).is_some()
+    }
+
+    /// The operator between processes that the next token is, if it is one.
+    fn next_infix(&self) -> Option<Infix> {
+        match self.kind()? {
+            TokenKind::Sign(Sign::Box) => Some(Infix::ExternalChoice),
+            TokenKind::Sign(Sign::Internal) => Some(Infix::InternalChoice),
+            TokenKind::Sign(Sign::Semicolon) => Some(Infix::Sequential),
+            TokenKind::Sign(Sign::TripleBar) => Some(Infix::Interleaving),
+            TokenKind::Sign(Sign::Interrupt) => Some(Infix::Interrupt),
+            _ => None,
+        }
+    }
+
+    /// The operator over a set that the next token is, if it is one.
+    fn next_replicator(&self) -> Option<Replicator> {
+        match self.kind()? {
+            TokenKind::Sign(Sign::Box) => Some(Replicator::ExternalChoice),
+            TokenKind::Sign(Sign::Internal) => Some(Replicator::InternalChoice),
+            TokenKind::Sign(Sign::TripleBar) => Some(Replicator::Interleaving),
+            _ => None,
+        }
+    }
+}

@@ -1,0 +1,76 @@
+ghost use Rattle.std.specs.Prelude.{◌≡◌};
+ghost use Rattle.csp_parse.specs.declared.refusals.Refused.TheVariants.{Memory};
+
+use csp_lex::Place;
+use std::alloc::{AllocError, AllocFailed};
+use std::fmt;
+use thiserror::Error;
+
+/// What is wrong with tokens that are no script.
+#[derive(Clone, Copy, Debug, PartialEq, Eq, PartialOrd, Ord, Hash)]
+pub enum GrammarFault {
+    /// a token with which the tokens so far begin no script
+    UnexpectedToken,
+    /// a token with which its declaration is too high
+    Nested,
+    /// the end of tokens that begin a script and are none
+    UnexpectedEnd,
+    /// an unexpected token that is an infix operator of processes, a hiding sign or an opening square bracket
+    MixedOperators,
+}
+
+impl GrammarFault {
+    ghost use Rattle.csp_semantics.specs.Text.Reading.{grammar_fault_spelling};
+    ghost use Rattle.csp_parse.specs.Refusals.{fault_of};
+
+    /// The number of the refusal, as it is printed.
+    pub fn number(self) -> &'static str
+        ensures { result.now ≡ grammar_fault_spelling (fault_of self) }
+    {
+        match self {
+            GrammarFault::UnexpectedToken => "S01",
+            GrammarFault::Nested => "S02",
+            GrammarFault::UnexpectedEnd => "S03",
+            GrammarFault::MixedOperators => "S04",
+        }
+    }
+}
+
+impl fmt::Display for GrammarFault {
+    ghost use Rattle.std.specs.Prelude.{Some};
+    ghost use Rattle.csp_semantics.specs.Text.Reading.{grammar_fault_spelling};
+    ghost use Rattle.csp_parse.specs.Refusals.{fault_of};
+
+    ghost output = { λ fault. Some (grammar_fault_spelling (fault_of fault)) };
+
+    fn fmt<W: fmt::Write>(&self, f: &mut fmt::Formatter<W>) -> fmt::Result {
+        f.write_str(self.number())
+    }
+}
+
+/// Why tokens were not read as a script.
+#[derive(Clone, Copy, Debug, PartialEq, Eq, Drop, Error)]
+pub enum Refused {
+    /// The tokens are no script, by this fault at this place.
+    #[error("{fault} at {place}")]
+    Grammar { fault: GrammarFault, place: Place },
+    /// Memory was refused, and nothing is said of the tokens.
+    #[error("out of memory")]
+    Memory,
+}
+
+impl From<AllocError> for Refused {
+    ghost from_gives = { λ _ refused. refused ≡ Memory };
+
+    fn from(_failed: AllocError) -> Refused {
+        Refused::Memory
+    }
+}
+
+impl<T: Drop> From<AllocFailed<T>> for Refused {
+    ghost from_gives = { λ _ refused. refused ≡ Memory };
+
+    fn from(_failed: AllocFailed<T>) -> Refused {
+        Refused::Memory
+    }
+}

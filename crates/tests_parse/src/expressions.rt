@@ -1,0 +1,64 @@
+use crate::texts::{Surroundings, has_tree};
+use std::test::Fail;
+
+static AROUND_EXPRESSIONS: [Surroundings; 5] = [
+    ("nametype N = ", "", "nametype N@1:10 1:14 ", "; "),
+    ("P = ", " & STOP", "P@1:1 = (", " & STOP); "),
+    ("P = (", ") & STOP", "P@1:1 = (", " & STOP); "),
+    ("P = ((", ")) & STOP", "P@1:1 = (", " & STOP); "),
+    ("P = Q(", ",1)", "P@1:1 = Q(", ",1); "),
+];
+
+static EXPRESSIONS: [(&str, &str); 38] = [
+    ("1", "1"),
+    ("x", "x"),
+    ("true or false", "(true or false)"),
+    ("Bool", "Bool"),
+    ("- 1", "(neg 1)"),
+    ("- - x", "(neg (neg x))"),
+    ("#<>", "(# <>)"),
+    ("(x)", "x"),
+    ("< 1 >", "<1>"),
+    ("<1+1,x>", "<(1 + 1),x>"),
+    ("<(x > y)>", "<(x > y)>"),
+    ("{}", "{}"),
+    ("{x}", "{x}"),
+    ("{x or y,1}", "{(x or y),1}"),
+    ("{x+1..#y}", "{(x + 1) .. (# y)}"),
+    ("head(x)", "(head x)"),
+    ("tail(x)", "(tail x)"),
+    ("null(x)", "(null x)"),
+    ("card(x)", "(card x)"),
+    ("elem(x,y)", "(x elem y)"),
+    ("member(x,y)", "(x member y)"),
+    ("union(x,y)", "(x union y)"),
+    ("inter(x,y)", "(x inter y)"),
+    ("diff(x,y)", "(x diff y)"),
+    ("1+2-3^4", "(((1 + 2) - 3) ^ 4)"),
+    ("1*2%3*4", "(((1 * 2) % 3) * 4)"),
+    ("1+2*3-4*5", "((1 + (2 * 3)) - (4 * 5))"),
+    ("x == 1+1", "(x == (1 + 1))"),
+    ("x != y", "(x != y)"),
+    ("x < y", "(x < y)"),
+    ("x <= y", "(x <= y)"),
+    ("x > y", "(x > y)"),
+    ("x >= y", "(x >= y)"),
+    ("not not x == y", "(not (not (x == y)))"),
+    ("x and y and z", "((x and y) and z)"),
+    ("x or y or z", "((x or y) or z)"),
+    (
+        "x or not y and z == 1 or b",
+        "((x or ((not y) and (z == 1))) or b)",
+    ),
+    ("(x or y) and z", "((x or y) and z)"),
+];
+
+#[test]
+fn expressions_have_these_trees(rt: HostRuntime) -> Result<(), Fail> {
+    for around in &AROUND_EXPRESSIONS {
+        for (part, tree) in &EXPRESSIONS {
+            assert!(rt; has_tree(rt.alloc(), around, part, tree)?, "{part}");
+        }
+    }
+    Ok(())
+}

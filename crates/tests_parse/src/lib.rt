@@ -1,0 +1,22 @@
+//! What the parser is seen to do: the trees of accepted texts by kind of production, the refusals of others
+//! with their places, heights at and over the limit, and refused memory.
+//!
+//! The tests stand in a crate above the parser, since a crate is proved anew for the tests that it has of its own.
+#![tactic(auto)]
+
+#[cfg(test)]
+mod declarations;
+#[cfg(test)]
+mod expressions;
+#[cfg(test)]
+mod heights;
+#[cfg(test)]
+mod memory;
+#[cfg(test)]
+mod processes;
+#[cfg(test)]
+mod refusals;
+#[cfg(test)]
+mod show;
+#[cfg(test)]
+mod texts;

@@ -1,0 +1,86 @@
+use crate::texts::{Surroundings, has_tree};
+use std::test::Fail;
+
+static AROUND_PROCESSES: [Surroundings; 4] = [
+    ("P = ", "", "P@1:1 = ", "; "),
+    ("P = (", ")", "P@1:1 = ", "; "),
+    ("assert ", " [T= Q", "assert 1:1 ", " traces Q(); "),
+    ("assert P [F= ", "", "assert 1:1 P() failures ", "; "),
+];
+
+static PROCESSES: [(&str, &str); 43] = [
+    ("STOP", "STOP"),
+    ("SKIP", "SKIP"),
+    ("Q", "Q()"),
+    ("Q(1)", "Q(1)"),
+    ("Q(x,y or z)", "Q(x,(y or z))"),
+    ("(STOP)", "STOP"),
+    ("((x))", "x()"),
+    ("((x)) & P", "(x & P())"),
+    ("((x)) [] P", "(x() [] P())"),
+    ("((x)) \\ {a}", "(x() hide {a})"),
+    ("((x+1)) & P", "((x + 1) & P())"),
+    ("(x + 1) == y & P", "(((x + 1) == y) & P())"),
+    ("((x) == y) & P", "((x == y) & P())"),
+    ("((x == y) & P)", "((x == y) & P())"),
+    ("(x & P) [] Q", "((x & P()) [] Q())"),
+    ("a -> STOP", "(a -> STOP)"),
+    (
+        "a.1.x!2!(y)?z?w:{0..1}!3 -> STOP",
+        "(a.1.x.2.y?z?w:{0 .. 1}.3 -> STOP)",
+    ),
+    (
+        "a?x:S -> x == 1 & b!x -> Q(x)",
+        "(a?x:S -> ((x == 1) & (b.x -> Q(x))))",
+    ),
+    ("not b & STOP", "((not b) & STOP)"),
+    ("<x> == s & P", "((<x> == s) & P())"),
+    ("#s > 0 & P", "(((# s) > 0) & P())"),
+    ("if x then P else Q", "(if x then P() else Q())"),
+    (
+        "if x then if y then P else Q else R [] S",
+        "(if x then (if y then P() else Q()) else (R() [] S()))",
+    ),
+    ("[] x:{0..1} @ c!x -> P", "([] x:{0 .. 1} @ (c.x -> P()))"),
+    ("|~| x:S @ P [] Q", "(|~| x:S @ (P() [] Q()))"),
+    ("||| x:S @ ||| y:T @ P", "(||| x:S @ (||| y:T @ P()))"),
+    ("P [] Q [] R", "((P() [] Q()) [] R())"),
+    ("P |~| Q |~| R |~| S", "(((P() |~| Q()) |~| R()) |~| S())"),
+    ("P ; Q ; R", "((P() ; Q()) ; R())"),
+    ("P ||| Q ||| R", "((P() ||| Q()) ||| R())"),
+    ("P /\\ Q /\\ R", "((P() /\\ Q()) /\\ R())"),
+    ("P [] (Q |~| R)", "(P() [] (Q() |~| R()))"),
+    ("a -> P [] b -> Q", "((a -> P()) [] (b -> Q()))"),
+    ("P [| {a, b.1} |] Q", "(P() [| {a,b.1} |] Q())"),
+    (
+        "P [| {| a, b.1 |} |] a -> Q",
+        "(P() [| {|a,b.1|} |] (a -> Q()))",
+    ),
+    (
+        "P [union({a},{}) || inter({|b|},diff({c},{d}))] Q",
+        "(P() [({a} union {}) || ({|b|} inter ({c} diff {d}))] Q())",
+    ),
+    ("P \\ {a} \\ {}", "((P() hide {a}) hide {})"),
+    ("P[[a <- b]]", "(P() rename a<-b)"),
+    (
+        "P[[a.1 <- b.2, c <- d]][[b <- a]]",
+        "((P() rename a.1<-b.2,c<-d) rename b<-a)",
+    ),
+    ("P[[a <- b]] \\ {b}", "((P() rename a<-b) hide {b})"),
+    ("(a -> P) \\ {a}", "((a -> P()) hide {a})"),
+    (
+        "(if x then P else Q)[[a <- b]]",
+        "((if x then P() else Q()) rename a<-b)",
+    ),
+    ("([] x:S @ P) ; Q", "(([] x:S @ P()) ; Q())"),
+];
+
+#[test]
+fn processes_have_these_trees(rt: HostRuntime) -> Result<(), Fail> {
+    for around in &AROUND_PROCESSES {
+        for (part, tree) in &PROCESSES {
+            assert!(rt; has_tree(rt.alloc(), around, part, tree)?, "{part}");
+        }
+    }
+    Ok(())
+}

@@ -1,0 +1,411 @@
+//! Trees as text, with brackets round each part. Each function writes its part behind what is shown.
+
+use csp_parse::{
+    BinaryOperator, Declaration, Domain, Event, EventSet, Expression, Field, Infix, Model, Name,
+    Pair, Process, Raw, Replicator, SetOperator, UnaryOperator,
+};
+use std::alloc::{AllocError, Allocator, Global};
+use std::fmt::Write;
+
+fn unary(operator: UnaryOperator) -> &'static str {
+    match operator {
+        UnaryOperator::Negate => "(neg ",
+        UnaryOperator::Not => "(not ",
+        UnaryOperator::Length => "(# ",
+        UnaryOperator::Head => "(head ",
+        UnaryOperator::Tail => "(tail ",
+        UnaryOperator::IsNull => "(null ",
+        UnaryOperator::Card => "(card ",
+    }
+}
+
+fn binary(operator: BinaryOperator) -> &'static str {
+    match operator {
+        BinaryOperator::Add => " + ",
+        BinaryOperator::Subtract => " - ",
+        BinaryOperator::Multiply => " * ",
+        BinaryOperator::Modulus => " % ",
+        BinaryOperator::Concatenate => " ^ ",
+        BinaryOperator::Equals => " == ",
+        BinaryOperator::Differs => " != ",
+        BinaryOperator::LessThan => " < ",
+        BinaryOperator::AtMost => " <= ",
+        BinaryOperator::GreaterThan => " > ",
+        BinaryOperator::AtLeast => " >= ",
+        BinaryOperator::And => " and ",
+        BinaryOperator::Or => " or ",
+        BinaryOperator::IsElement => " elem ",
+        BinaryOperator::IsMember => " member ",
+        BinaryOperator::Union => " union ",
+        BinaryOperator::Intersection => " inter ",
+        BinaryOperator::Difference => " diff ",
+    }
+}
+
+fn joining(operator: SetOperator) -> &'static str {
+    match operator {
+        SetOperator::Union => " union ",
+        SetOperator::Intersection => " inter ",
+        SetOperator::Difference => " diff ",
+    }
+}
+
+fn infix(operator: Infix) -> &'static str {
+    match operator {
+        Infix::ExternalChoice => " [] ",
+        Infix::InternalChoice => " |~| ",
+        Infix::Sequential => " ; ",
+        Infix::Interleaving => " ||| ",
+        Infix::Interrupt => " /\\ ",
+    }
+}
+
+fn replicator(operator: Replicator) -> &'static str {
+    match operator {
+        Replicator::ExternalChoice => "([] ",
+        Replicator::InternalChoice => "(|~| ",
+        Replicator::Interleaving => "(||| ",
+    }
+}
+
+/// A comma, except before the first item.
+fn comma(shown: &mut String, index: usize) -> Result<(), AllocError> {
+    if index > 0 {
+        shown.push_str(",")?;
+    }
+    Ok(())
+}
+
+fn number(shown: &mut String, value: u32) -> Result<(), AllocError> {
+    write!(shown, "{value}")?;
+    Ok(())
+}
+
+fn truth(shown: &mut String, value: bool) -> Result<(), AllocError> {
+    shown.push_str(if value { "true" } else { "false" })
+}
+
+/// Items with commas between.
+#[cycle(expression)]
+fn listed<A: Allocator>(shown: &mut String, items: &[Expression<'_, A>]) -> Result<(), AllocError> {
+    for (index, item) in items.iter().enumerate() {
+        comma(shown, index)?;
+        expression(shown, item)?;
+    }
+    Ok(())
+}
+
+#[cycle(expression)]
+fn expression<A: Allocator>(
+    shown: &mut String,
+    item: &Expression<'_, A>,
+) -> Result<(), AllocError> {
+    match item {
+        Expression::Number(value) => number(shown, *value),
+        Expression::Truth(value) => truth(shown, *value),
+        Expression::Booleans => shown.push_str("Bool"),
+        Expression::Use(name) => shown.push_str(name.text),
+        Expression::Apply(operator, operand) => {
+            shown.push_str(unary(*operator))?;
+            expression(shown, operand)?;
+            shown.push_str(")")
+        }
+        Expression::Combine(operator, left, right) => {
+            shown.push_str("(")?;
+            expression(shown, left)?;
+            shown.push_str(binary(*operator))?;
+            expression(shown, right)?;
+            shown.push_str(")")
+        }
+        Expression::Sequence(items) => {
+            shown.push_str("<")?;
+            listed(shown, items)?;
+            shown.push_str(">")
+        }
+        Expression::Set(items) => {
+            shown.push_str("{")?;
+            listed(shown, items)?;
+            shown.push_str("}")
+        }
+        Expression::Range(from, to) => {
+            shown.push_str("{")?;
+            expression(shown, from)?;
+            shown.push_str(" .. ")?;
+            expression(shown, to)?;
+            shown.push_str("}")
+        }
+    }
+}
+
+fn event<A: Allocator>(shown: &mut String, item: &Event<'_, A>) -> Result<(), AllocError> {
+    shown.push_str(item.channel.text)?;
+    for field in &item.fields {
+        shown.push_str(".")?;
+        expression(shown, field)?;
+    }
+    Ok(())
+}
+
+/// Events with commas between.
+fn events<A: Allocator>(shown: &mut String, items: &[Event<'_, A>]) -> Result<(), AllocError> {
+    for (index, item) in items.iter().enumerate() {
+        comma(shown, index)?;
+        event(shown, item)?;
+    }
+    Ok(())
+}
+
+fn event_set<A: Allocator>(shown: &mut String, set: &EventSet<'_, A>) -> Result<(), AllocError> {
+    match set {
+        EventSet::Enumeration(items) => {
+            shown.push_str("{")?;
+            events(shown, items)?;
+            shown.push_str("}")
+        }
+        EventSet::Productions(items) => {
+            shown.push_str("{|")?;
+            events(shown, items)?;
+            shown.push_str("|}")
+        }
+        EventSet::Combine(operator, left, right) => {
+            shown.push_str("(")?;
+            event_set(shown, left)?;
+            shown.push_str(joining(*operator))?;
+            event_set(shown, right)?;
+            shown.push_str(")")
+        }
+    }
+}
+
+/// `.e` and `!e` are one.
+fn field<A: Allocator>(shown: &mut String, item: &Field<'_, A>) -> Result<(), AllocError> {
+    match item {
+        Field::Given(value) => {
+            shown.push_str(".")?;
+            expression(shown, value)
+        }
+        Field::Input(name) => {
+            shown.push_str("?")?;
+            shown.push_str(name.text)
+        }
+        Field::InputFrom(name, set) => {
+            shown.push_str("?")?;
+            shown.push_str(name.text)?;
+            shown.push_str(":")?;
+            expression(shown, set)
+        }
+    }
+}
+
+fn fields<A: Allocator>(shown: &mut String, items: &[Field<'_, A>]) -> Result<(), AllocError> {
+    for item in items {
+        field(shown, item)?;
+    }
+    Ok(())
+}
+
+fn pairs<A: Allocator>(shown: &mut String, items: &[Pair<'_, A>]) -> Result<(), AllocError> {
+    for (index, item) in items.iter().enumerate() {
+        comma(shown, index)?;
+        event(shown, &item.from)?;
+        shown.push_str("<-")?;
+        event(shown, &item.to)?;
+    }
+    Ok(())
+}
+
+/// Two sets of events, as they stand between processes.
+fn alphabets<A: Allocator>(
+    shown: &mut String,
+    left: &EventSet<'_, A>,
+    right: &EventSet<'_, A>,
+) -> Result<(), AllocError> {
+    shown.push_str(" [")?;
+    event_set(shown, left)?;
+    shown.push_str(" || ")?;
+    event_set(shown, right)?;
+    shown.push_str("] ")
+}
+
+/// `[] x:S @ ` with its opening bracket.
+fn over<A: Allocator>(
+    shown: &mut String,
+    operator: Replicator,
+    name: Name<'_>,
+    set: &Expression<'_, A>,
+) -> Result<(), AllocError> {
+    shown.push_str(replicator(operator))?;
+    shown.push_str(name.text)?;
+    shown.push_str(":")?;
+    expression(shown, set)?;
+    shown.push_str(" @ ")
+}
+
+fn process<A: Allocator>(shown: &mut String, item: &Process<'_, A>) -> Result<(), AllocError> {
+    match item {
+        Process::Stop => return shown.push_str("STOP"),
+        Process::Skip => return shown.push_str("SKIP"),
+        Process::Call(name, arguments) => {
+            shown.push_str(name.text)?;
+            shown.push_str("(")?;
+            listed(shown, arguments)?;
+        }
+        Process::Prefix(channel, items, body) => {
+            shown.push_str("(")?;
+            shown.push_str(channel.text)?;
+            fields(shown, items)?;
+            shown.push_str(" -> ")?;
+            process(shown, body)?;
+        }
+        Process::Guard(condition, body) => {
+            shown.push_str("(")?;
+            expression(shown, condition)?;
+            shown.push_str(" & ")?;
+            process(shown, body)?;
+        }
+        Process::If(condition, left, right) => {
+            shown.push_str("(if ")?;
+            expression(shown, condition)?;
+            shown.push_str(" then ")?;
+            process(shown, left)?;
+            shown.push_str(" else ")?;
+            process(shown, right)?;
+        }
+        Process::Infix(operator, left, right) => {
+            shown.push_str("(")?;
+            process(shown, left)?;
+            shown.push_str(infix(*operator))?;
+            process(shown, right)?;
+        }
+        Process::GeneralisedParallel(left, shared, right) => {
+            shown.push_str("(")?;
+            process(shown, left)?;
+            shown.push_str(" [| ")?;
+            event_set(shown, shared)?;
+            shown.push_str(" |] ")?;
+            process(shown, right)?;
+        }
+        Process::AlphabetisedParallel(left, of_left, of_right, right) => {
+            shown.push_str("(")?;
+            process(shown, left)?;
+            alphabets(shown, of_left, of_right)?;
+            process(shown, right)?;
+        }
+        Process::Hiding(body, hidden) => {
+            shown.push_str("(")?;
+            process(shown, body)?;
+            shown.push_str(" hide ")?;
+            event_set(shown, hidden)?;
+        }
+        Process::Renaming(body, renaming) => {
+            shown.push_str("(")?;
+            process(shown, body)?;
+            shown.push_str(" rename ")?;
+            pairs(shown, renaming)?;
+        }
+        Process::Replicated(operator, name, set, body) => {
+            over(shown, *operator, *name, set)?;
+            process(shown, body)?;
+        }
+    }
+    shown.push_str(")")
+}
+
+/// A name with its place.
+fn name(shown: &mut String, item: Name<'_>) -> Result<(), AllocError> {
+    let (text, place) = (item.text, item.place);
+    write!(shown, "{text}@{place}")?;
+    Ok(())
+}
+
+/// Names with spaces before each.
+fn names(shown: &mut String, items: &[Name<'_>]) -> Result<(), AllocError> {
+    for item in items {
+        shown.push_str(" ")?;
+        name(shown, *item)?;
+    }
+    Ok(())
+}
+
+/// A set with its place, and a space before each.
+fn domain<A: Allocator>(shown: &mut String, item: &Domain<'_, A>) -> Result<(), AllocError> {
+    let place = item.place;
+    write!(shown, " {place} ")?;
+    expression(shown, &item.set)
+}
+
+fn domains<A: Allocator>(shown: &mut String, items: &[Domain<'_, A>]) -> Result<(), AllocError> {
+    if !items.is_empty() {
+        shown.push_str(" :")?;
+    }
+    for item in items {
+        domain(shown, item)?;
+    }
+    Ok(())
+}
+
+fn declaration<A: Allocator>(
+    shown: &mut String,
+    item: &Declaration<'_, A>,
+) -> Result<(), AllocError> {
+    match item {
+        Declaration::Datatype {
+            name: datatype,
+            constructors,
+        } => {
+            shown.push_str("datatype ")?;
+            name(shown, *datatype)?;
+            names(shown, constructors)?;
+        }
+        Declaration::Nametype {
+            name: nametype,
+            domain: set,
+        } => {
+            shown.push_str("nametype ")?;
+            name(shown, *nametype)?;
+            domain(shown, set)?;
+        }
+        Declaration::Channels {
+            names: channels,
+            domains: sets,
+        } => {
+            shown.push_str("channel")?;
+            names(shown, channels)?;
+            domains(shown, sets)?;
+        }
+        Declaration::Equation {
+            name: equation,
+            parameters,
+            body,
+        } => {
+            name(shown, *equation)?;
+            names(shown, parameters)?;
+            shown.push_str(" = ")?;
+            process(shown, body)?;
+        }
+        Declaration::Assertion {
+            place,
+            model,
+            specification,
+            implementation,
+        } => {
+            write!(shown, "assert {place} ")?;
+            process(shown, specification)?;
+            shown.push_str(match model {
+                Model::Traces => " traces ",
+                Model::Failures => " failures ",
+            })?;
+            process(shown, implementation)?;
+        }
+    }
+    shown.push_str("; ")
+}
+
+/// The declarations of a script, each with `; ` behind it.
+pub(crate) fn script<A: Allocator>(alloc: Global, raw: &Raw<'_, A>) -> Result<String, AllocError> {
+    let mut shown = String::new(alloc);
+    for item in &raw.declarations {
+        declaration(&mut shown, item)?;
+    }
+    Ok(shown)
+}
