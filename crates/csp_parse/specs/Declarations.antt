@@ -11,7 +11,7 @@ use Rattle.csp_parse.specs.declared.declarations.Declaration.TheVariants as decl
 use Rattle.csp_parse.specs.declared.declarations.Raw.{Raw}
 use Rattle.csp_parse.specs.Expressions.{expression_of}
 use Rattle.csp_parse.specs.Names.{name_of}
-use Rattle.csp_parse.specs.Processes.{process_of}
+use Rattle.csp_parse.specs.Processes.{process_in}
 
 abbrev pub domain_of : {A : Type 0} → Domain A → RawDomain
 domain_of d = record { place = place_of d.place; set = expression_of d.set }
@@ -24,8 +24,8 @@ abbrev pub declaration_of : {A : Type 0} → Declaration A → RawDeclaration
 declaration_of (declaration.Datatype n ns) = RawDatatype (name_of n) (map name_of ns.items)
 declaration_of (declaration.Nametype n d) = RawNametype (name_of n) (domain_of d)
 declaration_of (declaration.Channels ns ds) = RawChannels (map name_of ns.items) (map domain_of ds.items)
-declaration_of (declaration.Equation n ns p) = RawEquation (name_of n) (map name_of ns.items) (process_of p)
-declaration_of (declaration.Assertion t m p q) = RawAssertion (place_of t) (model_of m) (process_of p) (process_of q)
+declaration_of (declaration.Equation n ns p) = RawEquation (name_of n) (map name_of ns.items) (process_in p)
+declaration_of (declaration.Assertion t m p q) = RawAssertion (place_of t) (model_of m) (process_in p) (process_in q)
 
 abbrev pub script_of : {A : Type 0} → Raw A → RawScript
 script_of s = map declaration_of s.declarations.items

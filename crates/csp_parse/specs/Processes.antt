@@ -1,6 +1,7 @@
 -- Processes, as the definitions have them.
 use Rattle.std.specs.Prelude.{map}
 use Rattle.std.specs.Box.{box_value}
+use Rattle.std.specs.declared.boxed.Box.{Box}
 use Rattle.csp_semantics.specs.Text.Raw as raw
 use Rattle.csp_semantics.specs.Text.Raw.{RawField, RawGiven, RawInput, RawInputFrom, RawProcess, RawStop, RawSkip, RawCall, RawPrefix, RawGuard, RawIf, RawInfix, RawGeneralisedParallel, RawAlphabetisedParallel, RawHiding, RawRenaming, RawReplicated}
 use Rattle.csp_parse.specs.declared.processes.Field.{Field}
@@ -51,3 +52,7 @@ process_step (layer.Replicated o n e p) = RawReplicated (replicator_of o) (name_
 
 abbrev pub process_of : {A : Type 0} → Process A → RawProcess
 process_of {A} = fold-Process A RawProcess process_step
+
+-- the process in a box
+abbrev pub process_in : {A : Type 0} → Box (Process A) A → RawProcess
+process_in p = process_of (box_value p)

@@ -9,7 +9,7 @@ use Rattle.csp_parse.specs.declared.starts.Inner.{Inner}
 use Rattle.csp_parse.specs.declared.starts.Inner.TheVariants as inner
 use Rattle.csp_parse.specs.Expressions.{expression_of}
 use Rattle.csp_parse.specs.Names.{name_of}
-use Rattle.csp_parse.specs.Processes.{process_of}
+use Rattle.csp_parse.specs.Processes.{process_in}
 use Rattle.csp_parse.specs.Reading.{Standing, Passes, Reads}
 
 -- A name is read, perhaps in brackets: it is an atom, and a call without arguments.
@@ -20,13 +20,13 @@ pub record ReadsName (before after : Standing) (n : RawName) : Type 0 where
 abbrev pub ReadsStart : {A : Type 0} → Standing → Standing → Start A → Type 0
 ReadsStart before after (start.Name n) = ReadsName before after (name_of n)
 ReadsStart before after (start.Expression e) = Reads IsExpression before after (expression_of e)
-ReadsStart before after (start.Base p) = Reads IsBase before after (process_of p)
-ReadsStart before after (start.Operand p) = Reads IsOperand before after (process_of p)
+ReadsStart before after (start.Base p) = Reads IsBase before after (process_in p)
+ReadsStart before after (start.Operand p) = Reads IsOperand before after (process_in p)
 
 abbrev pub ReadsInner : {A : Type 0} → Standing → Standing → Inner A → Type 0
 ReadsInner before after (inner.Name n) = ReadsName before after (name_of n)
 ReadsInner before after (inner.Expression e) = Reads IsExpression before after (expression_of e)
-ReadsInner before after (inner.Process p) = Reads IsProcess before after (process_of p)
+ReadsInner before after (inner.Process p) = Reads IsProcess before after (process_in p)
 
 -- base ren*
 pub data IsRenamedBase : List PlacedToken → RawProcess → Type 0 where

@@ -42,14 +42,14 @@ pub enum Declaration<'a, A: Allocator> {
     Equation {
         name: Name<'a>,
         parameters: Vec<Name<'a>, A>,
-        body: Process<'a, A>,
+        body: Box<Process<'a, A>, A>,
     },
     /// `assert P [T= Q`, with the place of its first token
     Assertion {
         place: Place,
         model: Model,
-        specification: Process<'a, A>,
-        implementation: Process<'a, A>,
+        specification: Box<Process<'a, A>, A>,
+        implementation: Box<Process<'a, A>, A>,
     },
 }
 

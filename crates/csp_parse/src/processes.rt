@@ -112,117 +112,144 @@ pub enum Process<'a, A: Allocator> {
 }
 
 impl<'a, A: Allocator + Copy> Process<'a, A> {
-    ghost use Rattle.csp_semantics.specs.Text.Raw.{RawPrefix, RawGuard, RawIf, RawInfix, RawGeneralisedParallel, RawAlphabetisedParallel, RawHiding, RawRenaming, RawReplicated};
+    ghost use Rattle.csp_semantics.specs.Text.Raw.{RawStop, RawSkip, RawCall, RawPrefix, RawGuard, RawIf, RawInfix, RawGeneralisedParallel, RawAlphabetisedParallel, RawHiding, RawRenaming, RawReplicated};
     ghost use Rattle.csp_parse.specs.Events.{pair_of};
     ghost use Rattle.csp_parse.specs.EventSets.{event_set_of};
-    ghost use Rattle.csp_parse.specs.Expressions.{expression_of};
+    ghost use Rattle.csp_parse.specs.Expressions.{expression_of, expressions_of};
     ghost use Rattle.csp_parse.specs.Names.{name_of};
-    ghost use Rattle.csp_parse.specs.Processes.{field_of, infix_of, replicator_of, process_of};
+    ghost use Rattle.csp_parse.specs.Processes.{field_of, infix_of, replicator_of, process_in};
+
+    /// `STOP`
+    pub(crate) fn stop(alloc: A) -> Result<Box<Process<'a, A>, A>, Refused>
+        ensures { IfOk result (λ p. process_in p ≡ RawStop) }
+    {
+        let process = Box::new(alloc, Process::Stop)?;
+        Ok(process)
+    }
+
+    /// `SKIP`
+    pub(crate) fn skip(alloc: A) -> Result<Box<Process<'a, A>, A>, Refused>
+        ensures { IfOk result (λ p. process_in p ≡ RawSkip) }
+    {
+        let process = Box::new(alloc, Process::Skip)?;
+        Ok(process)
+    }
+
+    /// `P(e, ..)`
+    pub(crate) fn call(
+        alloc: A,
+        name: Name<'a>,
+        arguments: Vec<Expression<'a, A>, A>,
+    ) -> Result<Box<Process<'a, A>, A>, Refused>
+        ensures { IfOk result (λ p. process_in p ≡ RawCall (name_of name.entry) (expressions_of arguments.entry.items)) }
+    {
+        let process = Box::new(alloc, Process::Call(name, arguments))?;
+        Ok(process)
+    }
 
     /// `c!e?x -> P`
     pub(crate) fn prefix(
         alloc: A,
         channel: Name<'a>,
         fields: Vec<Field<'a, A>, A>,
-        body: Process<'a, A>,
-    ) -> Result<Process<'a, A>, Refused>
-        ensures { IfOk result (λ p. process_of p ≡ RawPrefix (name_of channel.entry) (map field_of fields.entry.items) (process_of body.entry)) }
+        body: Box<Process<'a, A>, A>,
+    ) -> Result<Box<Process<'a, A>, A>, Refused>
+        ensures { IfOk result (λ p. process_in p ≡ RawPrefix (name_of channel.entry) (map field_of fields.entry.items) (process_in body.entry)) }
     {
-        let body = Box::new(alloc, body)?;
-        Ok(Process::Prefix(channel, fields, body))
+        let process = Box::new(alloc, Process::Prefix(channel, fields, body))?;
+        Ok(process)
     }
 
     /// `e & P`
     pub(crate) fn guard(
         alloc: A,
         condition: Expression<'a, A>,
-        body: Process<'a, A>,
-    ) -> Result<Process<'a, A>, Refused>
-        ensures { IfOk result (λ p. process_of p ≡ RawGuard (expression_of condition.entry) (process_of body.entry)) }
+        body: Box<Process<'a, A>, A>,
+    ) -> Result<Box<Process<'a, A>, A>, Refused>
+        ensures { IfOk result (λ p. process_in p ≡ RawGuard (expression_of condition.entry) (process_in body.entry)) }
     {
-        let body = Box::new(alloc, body)?;
-        Ok(Process::Guard(condition, body))
+        let process = Box::new(alloc, Process::Guard(condition, body))?;
+        Ok(process)
     }
 
     /// `if e then P else Q`
     pub(crate) fn conditional(
         alloc: A,
         condition: Expression<'a, A>,
-        first: Process<'a, A>,
-        second: Process<'a, A>,
-    ) -> Result<Process<'a, A>, Refused>
-        ensures { IfOk result (λ p. process_of p ≡ RawIf (expression_of condition.entry) (process_of first.entry) (process_of second.entry)) }
+        first: Box<Process<'a, A>, A>,
+        second: Box<Process<'a, A>, A>,
+    ) -> Result<Box<Process<'a, A>, A>, Refused>
+        ensures { IfOk result (λ p. process_in p ≡ RawIf (expression_of condition.entry) (process_in first.entry) (process_in second.entry)) }
     {
-        let first = Box::new(alloc, first)?;
-        let second = Box::new(alloc, second)?;
-        Ok(Process::If(condition, first, second))
+        let process = Box::new(alloc, Process::If(condition, first, second))?;
+        Ok(process)
     }
 
     /// An operator between two processes.
     pub(crate) fn joined(
         alloc: A,
         operator: Infix,
-        left: Process<'a, A>,
-        right: Process<'a, A>,
-    ) -> Result<Process<'a, A>, Refused>
-        ensures { IfOk result (λ p. process_of p ≡ RawInfix (infix_of operator) (process_of left.entry) (process_of right.entry)) }
+        left: Box<Process<'a, A>, A>,
+        right: Box<Process<'a, A>, A>,
+    ) -> Result<Box<Process<'a, A>, A>, Refused>
+        ensures { IfOk result (λ p. process_in p ≡ RawInfix (infix_of operator) (process_in left.entry) (process_in right.entry)) }
     {
-        let left = Box::new(alloc, left)?;
-        let right = Box::new(alloc, right)?;
-        Ok(Process::Infix(operator, left, right))
+        let process = Box::new(alloc, Process::Infix(operator, left, right))?;
+        Ok(process)
     }
 
     /// `P [| X |] Q`
     pub(crate) fn generalised(
         alloc: A,
-        left: Process<'a, A>,
+        left: Box<Process<'a, A>, A>,
         shared: EventSet<'a, A>,
-        right: Process<'a, A>,
-    ) -> Result<Process<'a, A>, Refused>
-        ensures { IfOk result (λ p. process_of p ≡ RawGeneralisedParallel (process_of left.entry) (event_set_of shared.entry) (process_of right.entry)) }
+        right: Box<Process<'a, A>, A>,
+    ) -> Result<Box<Process<'a, A>, A>, Refused>
+        ensures { IfOk result (λ p. process_in p ≡ RawGeneralisedParallel (process_in left.entry) (event_set_of shared.entry) (process_in right.entry)) }
     {
-        let left = Box::new(alloc, left)?;
-        let right = Box::new(alloc, right)?;
-        Ok(Process::GeneralisedParallel(left, shared, right))
+        let process = Box::new(alloc, Process::GeneralisedParallel(left, shared, right))?;
+        Ok(process)
     }
 
     /// `P [X || Y] Q`
     pub(crate) fn alphabetised(
         alloc: A,
-        left: Process<'a, A>,
+        left: Box<Process<'a, A>, A>,
         of_left: EventSet<'a, A>,
         of_right: EventSet<'a, A>,
-        right: Process<'a, A>,
-    ) -> Result<Process<'a, A>, Refused>
-        ensures { IfOk result (λ p. process_of p ≡ RawAlphabetisedParallel (process_of left.entry) (event_set_of of_left.entry) (event_set_of of_right.entry) (process_of right.entry)) }
+        right: Box<Process<'a, A>, A>,
+    ) -> Result<Box<Process<'a, A>, A>, Refused>
+        ensures { IfOk result (λ p. process_in p ≡ RawAlphabetisedParallel (process_in left.entry) (event_set_of of_left.entry) (event_set_of of_right.entry) (process_in right.entry)) }
     {
-        let left = Box::new(alloc, left)?;
-        let right = Box::new(alloc, right)?;
-        Ok(Process::AlphabetisedParallel(left, of_left, of_right, right))
+        let process = Box::new(
+            alloc,
+            Process::AlphabetisedParallel(left, of_left, of_right, right),
+        )?;
+        Ok(process)
     }
 
     /// `P \ X`
     pub(crate) fn hiding(
         alloc: A,
-        body: Process<'a, A>,
+        body: Box<Process<'a, A>, A>,
         hidden: EventSet<'a, A>,
-    ) -> Result<Process<'a, A>, Refused>
-        ensures { IfOk result (λ p. process_of p ≡ RawHiding (process_of body.entry) (event_set_of hidden.entry)) }
+    ) -> Result<Box<Process<'a, A>, A>, Refused>
+        ensures { IfOk result (λ p. process_in p ≡ RawHiding (process_in body.entry) (event_set_of hidden.entry)) }
     {
-        let body = Box::new(alloc, body)?;
-        Ok(Process::Hiding(body, hidden))
+        let process = Box::new(alloc, Process::Hiding(body, hidden))?;
+        Ok(process)
     }
 
     /// `P[[c <- d, ..]]`
     pub(crate) fn renaming(
         alloc: A,
-        body: Process<'a, A>,
+        body: Box<Process<'a, A>, A>,
         pairs: Vec<Pair<'a, A>, A>,
-    ) -> Result<Process<'a, A>, Refused>
-        ensures { IfOk result (λ p. process_of p ≡ RawRenaming (process_of body.entry) (map pair_of pairs.entry.items)) }
+    ) -> Result<Box<Process<'a, A>, A>, Refused>
+        ensures { IfOk result (λ p. process_in p ≡ RawRenaming (process_in body.entry) (map pair_of pairs.entry.items)) }
     {
-        let body = Box::new(alloc, body)?;
-        Ok(Process::Renaming(body, pairs))
+        let process = Box::new(alloc, Process::Renaming(body, pairs))?;
+        Ok(process)
     }
 
     /// `[] x:S @ P`
@@ -231,11 +258,11 @@ impl<'a, A: Allocator + Copy> Process<'a, A> {
         operator: Replicator,
         name: Name<'a>,
         set: Expression<'a, A>,
-        body: Process<'a, A>,
-    ) -> Result<Process<'a, A>, Refused>
-        ensures { IfOk result (λ p. process_of p ≡ RawReplicated (replicator_of operator) (name_of name.entry) (expression_of set.entry) (process_of body.entry)) }
+        body: Box<Process<'a, A>, A>,
+    ) -> Result<Box<Process<'a, A>, A>, Refused>
+        ensures { IfOk result (λ p. process_in p ≡ RawReplicated (replicator_of operator) (name_of name.entry) (expression_of set.entry) (process_in body.entry)) }
     {
-        let body = Box::new(alloc, body)?;
-        Ok(Process::Replicated(operator, name, set, body))
+        let process = Box::new(alloc, Process::Replicated(operator, name, set, body))?;
+        Ok(process)
     }
 }

@@ -4,7 +4,7 @@ ghost use Rattle.csp_semantics.specs.Text.Token.{PlacedToken};
 ghost use Rattle.csp_parse.specs.EventSets.{event_set_of};
 ghost use Rattle.csp_parse.specs.Expressions.{expression_of, expressions_of};
 ghost use Rattle.csp_parse.specs.Names.{name_of};
-ghost use Rattle.csp_parse.specs.Processes.{field_of, infix_of, replicator_of, process_of};
+ghost use Rattle.csp_parse.specs.Processes.{field_of, infix_of, replicator_of, process_in};
 ghost use Rattle.csp_parse.specs.Starts.{ReadsName, ReadsStart, ReadsInner, ReadsArguments, IsLaterField, IsRenamedBase, IsHiddenBase};
 
 use crate::event_sets::EventSet;
@@ -23,8 +23,8 @@ impl<'t, 'a, A: Allocator + Copy> Parser<'t, 'a, A> {
 
     /// A process.
     #[cycle(process)]
-    pub(crate) fn process(&mut self) -> Result<Process<'a, A>, Refused>
-        ensures reads { IfOk result (λ r. Reads IsProcess (standing_of self.old) (standing_of self.new) (process_of r)) }
+    pub(crate) fn process(&mut self) -> Result<Box<Process<'a, A>, A>, Refused>
+        ensures reads { IfOk result (λ r. Reads IsProcess (standing_of self.old) (standing_of self.new) (process_in r)) }
         ensures shorter { IfOk result (λ _. length (left_of self.new) < length (left_of self.old)) }
     {
         if self.is_at_word(Keyword::If) {
@@ -39,8 +39,8 @@ impl<'t, 'a, A: Allocator + Copy> Parser<'t, 'a, A> {
 
     /// A conditional process, whose `if` is next.
     #[cycle(process)]
-    fn conditional(&mut self) -> Result<Process<'a, A>, Refused>
-        ensures reads { IfOk result (λ r. Reads IsProcess (standing_of self.old) (standing_of self.new) (process_of r)) }
+    fn conditional(&mut self) -> Result<Box<Process<'a, A>, A>, Refused>
+        ensures reads { IfOk result (λ r. Reads IsProcess (standing_of self.old) (standing_of self.new) (process_in r)) }
         ensures shorter { IfOk result (λ _. length (left_of self.new) < length (left_of self.old)) }
     {
         self.word(Keyword::If)?;
@@ -54,8 +54,8 @@ impl<'t, 'a, A: Allocator + Copy> Parser<'t, 'a, A> {
 
     /// A replicated process, whose operator is next.
     #[cycle(process)]
-    fn replicated(&mut self, replicator: Replicator) -> Result<Process<'a, A>, Refused>
-        ensures reads { IfOk result (λ r. Reads IsProcess (standing_of self.old) (standing_of self.new) (process_of r)) }
+    fn replicated(&mut self, replicator: Replicator) -> Result<Box<Process<'a, A>, A>, Refused>
+        ensures reads { IfOk result (λ r. Reads IsProcess (standing_of self.old) (standing_of self.new) (process_in r)) }
         ensures shorter { IfOk result (λ _. length (left_of self.new) < length (left_of self.old)) }
     {
         let written = replicator.sign();
@@ -70,13 +70,13 @@ impl<'t, 'a, A: Allocator + Copy> Parser<'t, 'a, A> {
 
     /// The process that begins so.
     #[cycle(process)]
-    fn process_from(&mut self, start: Start<'a, A>) -> Result<Process<'a, A>, Refused>
-        ensures continues { IfOk result (λ r. (before : Standing) → ReadsStart before (standing_of self.old) start.entry → Reads IsProcess before (standing_of self.new) (process_of r)) }
+    fn process_from(&mut self, start: Start<'a, A>) -> Result<Box<Process<'a, A>, A>, Refused>
+        ensures continues { IfOk result (λ r. (before : Standing) → ReadsStart before (standing_of self.old) start.entry → Reads IsProcess before (standing_of self.new) (process_in r)) }
         ensures not_longer { IfOk result (λ _. length (left_of self.new) ≤ length (left_of self.old)) }
     {
         match start {
             Start::Name(name) => {
-                let base = Process::Call(name, Vec::new(self.alloc));
+                let base = Process::call(self.alloc, name, Vec::new(self.alloc))?;
                 self.process_from_base(base)
             }
             Start::Expression(_) => Err(self.refused()),
@@ -87,8 +87,11 @@ impl<'t, 'a, A: Allocator + Copy> Parser<'t, 'a, A> {
 
     /// The process that begins with a base.
     #[cycle(process)]
-    fn process_from_base(&mut self, base: Process<'a, A>) -> Result<Process<'a, A>, Refused>
-        ensures continues { IfOk result (λ r. Continues IsBase IsProcess (standing_of self.old) (standing_of self.new) (process_of base.entry) (process_of r)) }
+    fn process_from_base(
+        &mut self,
+        base: Box<Process<'a, A>, A>,
+    ) -> Result<Box<Process<'a, A>, A>, Refused>
+        ensures continues { IfOk result (λ r. Continues IsBase IsProcess (standing_of self.old) (standing_of self.new) (process_in base.entry) (process_in r)) }
         ensures not_longer { IfOk result (λ _. length (left_of self.new) ≤ length (left_of self.old)) }
     {
         if self.is_at(Sign::OpenRenaming) || self.is_at(Sign::Hiding) {
@@ -99,8 +102,8 @@ impl<'t, 'a, A: Allocator + Copy> Parser<'t, 'a, A> {
     }
 
     /// The renamings of a process.
-    fn renamed(&mut self, base: Process<'a, A>) -> Result<Process<'a, A>, Refused>
-        ensures continues { IfOk result (λ r. Continues IsBase IsRenamedBase (standing_of self.old) (standing_of self.new) (process_of base.entry) (process_of r)) }
+    fn renamed(&mut self, base: Box<Process<'a, A>, A>) -> Result<Box<Process<'a, A>, A>, Refused>
+        ensures continues { IfOk result (λ r. Continues IsBase IsRenamedBase (standing_of self.old) (standing_of self.new) (process_in base.entry) (process_in r)) }
         ensures not_longer { IfOk result (λ _. length (left_of self.new) ≤ length (left_of self.old)) }
     {
         let mut process = base;
@@ -114,8 +117,8 @@ impl<'t, 'a, A: Allocator + Copy> Parser<'t, 'a, A> {
     }
 
     /// The hidings of a process.
-    fn hidden(&mut self, renamed: Process<'a, A>) -> Result<Process<'a, A>, Refused>
-        ensures continues { IfOk result (λ r. Continues IsRenamedBase IsHiddenBase (standing_of self.old) (standing_of self.new) (process_of renamed.entry) (process_of r)) }
+    fn hidden(&mut self, renamed: Box<Process<'a, A>, A>) -> Result<Box<Process<'a, A>, A>, Refused>
+        ensures continues { IfOk result (λ r. Continues IsRenamedBase IsHiddenBase (standing_of self.old) (standing_of self.new) (process_in renamed.entry) (process_in r)) }
         ensures not_longer { IfOk result (λ _. length (left_of self.new) ≤ length (left_of self.old)) }
     {
         let mut process = renamed;
@@ -129,8 +132,11 @@ impl<'t, 'a, A: Allocator + Copy> Parser<'t, 'a, A> {
 
     /// The process that begins with an operand.
     #[cycle(process)]
-    fn process_from_operand(&mut self, first: Process<'a, A>) -> Result<Process<'a, A>, Refused>
-        ensures continues { IfOk result (λ r. Continues IsOperand IsProcess (standing_of self.old) (standing_of self.new) (process_of first.entry) (process_of r)) }
+    fn process_from_operand(
+        &mut self,
+        first: Box<Process<'a, A>, A>,
+    ) -> Result<Box<Process<'a, A>, A>, Refused>
+        ensures continues { IfOk result (λ r. Continues IsOperand IsProcess (standing_of self.old) (standing_of self.new) (process_in first.entry) (process_in r)) }
         ensures not_longer { IfOk result (λ _. length (left_of self.new) ≤ length (left_of self.old)) }
     {
         if let Some(operator) = self.next_infix() {
@@ -147,8 +153,11 @@ impl<'t, 'a, A: Allocator + Copy> Parser<'t, 'a, A> {
 
     /// The rest of a parallel process over shared events, behind its left side.
     #[cycle(process)]
-    fn generalised(&mut self, left: Process<'a, A>) -> Result<Process<'a, A>, Refused>
-        ensures continues { IfOk result (λ r. Continues IsOperand IsProcess (standing_of self.old) (standing_of self.new) (process_of left.entry) (process_of r)) }
+    fn generalised(
+        &mut self,
+        left: Box<Process<'a, A>, A>,
+    ) -> Result<Box<Process<'a, A>, A>, Refused>
+        ensures continues { IfOk result (λ r. Continues IsOperand IsProcess (standing_of self.old) (standing_of self.new) (process_in left.entry) (process_in r)) }
         ensures not_longer { IfOk result (λ _. length (left_of self.new) ≤ length (left_of self.old)) }
     {
         self.sign(Sign::OpenShared)?;
@@ -160,8 +169,11 @@ impl<'t, 'a, A: Allocator + Copy> Parser<'t, 'a, A> {
 
     /// The rest of a parallel process over two alphabets, behind its left side.
     #[cycle(process)]
-    fn alphabetised(&mut self, left: Process<'a, A>) -> Result<Process<'a, A>, Refused>
-        ensures continues { IfOk result (λ r. Continues IsOperand IsProcess (standing_of self.old) (standing_of self.new) (process_of left.entry) (process_of r)) }
+    fn alphabetised(
+        &mut self,
+        left: Box<Process<'a, A>, A>,
+    ) -> Result<Box<Process<'a, A>, A>, Refused>
+        ensures continues { IfOk result (λ r. Continues IsOperand IsProcess (standing_of self.old) (standing_of self.new) (process_in left.entry) (process_in r)) }
         ensures not_longer { IfOk result (λ _. length (left_of self.new) ≤ length (left_of self.old)) }
     {
         self.sign(Sign::OpenSquare)?;
@@ -175,8 +187,12 @@ impl<'t, 'a, A: Allocator + Copy> Parser<'t, 'a, A> {
 
     /// A chain of one operator, which is next, behind its first operand.
     #[cycle(process)]
-    fn chain(&mut self, operator: Infix, first: Process<'a, A>) -> Result<Process<'a, A>, Refused>
-        ensures continues { IfOk result (λ r. Continues IsOperand IsProcess (standing_of self.old) (standing_of self.new) (process_of first.entry) (process_of r)) }
+    fn chain(
+        &mut self,
+        operator: Infix,
+        first: Box<Process<'a, A>, A>,
+    ) -> Result<Box<Process<'a, A>, A>, Refused>
+        ensures continues { IfOk result (λ r. Continues IsOperand IsProcess (standing_of self.old) (standing_of self.new) (process_in first.entry) (process_in r)) }
         ensures not_longer { IfOk result (λ _. length (left_of self.new) ≤ length (left_of self.old)) }
     {
         let written = operator.sign();
@@ -193,12 +209,12 @@ impl<'t, 'a, A: Allocator + Copy> Parser<'t, 'a, A> {
 
     /// An operand.
     #[cycle(process)]
-    fn operand(&mut self) -> Result<Process<'a, A>, Refused>
-        ensures reads { IfOk result (λ r. Reads IsOperand (standing_of self.old) (standing_of self.new) (process_of r)) }
+    fn operand(&mut self) -> Result<Box<Process<'a, A>, A>, Refused>
+        ensures reads { IfOk result (λ r. Reads IsOperand (standing_of self.old) (standing_of self.new) (process_in r)) }
         ensures shorter { IfOk result (λ _. length (left_of self.new) < length (left_of self.old)) }
     {
         match self.start()? {
-            Start::Name(name) => Ok(Process::Call(name, Vec::new(self.alloc))),
+            Start::Name(name) => Process::call(self.alloc, name, Vec::new(self.alloc)),
             Start::Expression(_) => Err(self.refused()),
             Start::Base(process) => Ok(process),
             Start::Operand(process) => Ok(process),
@@ -214,11 +230,13 @@ impl<'t, 'a, A: Allocator + Copy> Parser<'t, 'a, A> {
         match self.kind() {
             Some(TokenKind::Keyword(Keyword::Stop)) => {
                 self.word(Keyword::Stop)?;
-                Ok(Start::Base(Process::Stop))
+                let stop = Process::stop(self.alloc)?;
+                Ok(Start::Base(stop))
             }
             Some(TokenKind::Keyword(Keyword::Skip)) => {
                 self.word(Keyword::Skip)?;
-                Ok(Start::Base(Process::Skip))
+                let skip = Process::skip(self.alloc)?;
+                Ok(Start::Base(skip))
             }
             Some(TokenKind::Name) => self.start_of_name(),
             Some(TokenKind::Sign(Sign::OpenRound)) => self.start_of_brackets(),
@@ -238,7 +256,8 @@ impl<'t, 'a, A: Allocator + Copy> Parser<'t, 'a, A> {
         let name = self.name()?;
         if self.is_at(Sign::OpenRound) {
             let arguments = self.arguments()?;
-            return Ok(Start::Base(Process::Call(name, arguments)));
+            let call = Process::call(self.alloc, name, arguments)?;
+            return Ok(Start::Base(call));
         }
         if self.is_at_field() || self.is_at(Sign::Arrow) {
             let fields = self.fields()?;

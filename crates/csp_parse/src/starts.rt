@@ -11,9 +11,9 @@ pub(crate) enum Start<'a, A: Allocator> {
     /// an expression that is no name, and no guard
     Expression(Expression<'a, A>),
     /// a process that renamings and hidings may follow
-    Base(Process<'a, A>),
+    Base(Box<Process<'a, A>, A>),
     /// a prefix, or a process with a guard
-    Operand(Process<'a, A>),
+    Operand(Box<Process<'a, A>, A>),
 }
 
 /// What stands in brackets where an operand or an expression begins.
@@ -23,5 +23,5 @@ pub(crate) enum Inner<'a, A: Allocator> {
     Name(Name<'a>),
     /// an expression that is no name
     Expression(Expression<'a, A>),
-    Process(Process<'a, A>),
+    Process(Box<Process<'a, A>, A>),
 }

@@ -13,7 +13,6 @@ use Rattle.csp_parse.proofs.Operations.{extended}
 use Rattle.csp_parse.proofs.Trees.{tree_of_use}
 use Rattle.csp_parse.proofs.Passing.{renamed}
 use Rattle.csp_parse.proofs.Processing.{read_as, hidden_process, stop_read, skip_read, name_read, call_read, prefix_read, guard_read, expression_in_brackets, process_in_brackets, name_in_brackets, conditional_read, replicated_read, generalised_read, alphabetised_read, two_read, longer_read}
-use Rattle.csp_parse.proofs.ProcessTrees.{tree_of_stop, tree_of_skip, tree_of_call}
 use Rattle.csp_parse.proofs.parsers.Parser.+process.Goals as goal
 
 pub process-returns-clause-reads : goal.process-returns-clause-reads
@@ -35,7 +34,7 @@ replicated-returns-clause-reads g t c =
 
 pub process_from-returns-in-Name-clause-continues : goal.process_from-returns-in-Name-clause-continues
 process_from-returns-in-Name-clause-continues g t c =
-    let told = tree_of_call g.row.A.Denot c.in-Name.name c.new.result ∙ ap (λ es. RawCall (name_of c.in-Name.name) (expressions_of es)) c.new.ensures.items in
+    let told = c.in_ok-base-in-Name.ensures ∙ ap (λ es. RawCall (name_of c.in-Name.name) (expressions_of es)) c.new.ensures.items in
     IfOk-weaker c.process_from_base.result _ _ (λ p k before r. let read = subst (ReadsStart before (standing_of c.args.self.now)) c.in-Name.is r in k before (renamed _ _ told read.call)) c.process_from_base.ensures.continues
 
 pub process_from-returns-in-Base-clause-continues : goal.process_from-returns-in-Base-clause-continues
@@ -84,21 +83,21 @@ chain-loop-operator-preserved g t c =
 pub operand-returns-in-Name-clause-reads : goal.operand-returns-in-Name-clause-reads
 operand-returns-in-Name-clause-reads g t c =
     let read = subst (ReadsStart (standing_of c.args.self.now) (standing_of c.start.new.self)) c.in-Name.is c.in_ok-name.ensures.reads in
-    let told = tree_of_call g.row.A.Denot c.in-Name.name c.new.result ∙ ap (λ es. RawCall (name_of c.in-Name.name) (expressions_of es)) c.new.ensures.items in
-    renamed _ _ told (read_as (λ ts h. grammar.base h) read.call)
+    let bare = ap (λ es. RawCall (name_of c.in-Name.name) (expressions_of es)) c.new.ensures.items in
+    IfOk-weaker c.call.result _ _ (λ p told. renamed _ _ (told ∙ bare) (read_as (λ ts h. grammar.base h) read.call)) c.call.ensures
 
 pub operand-returns-in-Base-clause-reads : goal.operand-returns-in-Base-clause-reads
 operand-returns-in-Base-clause-reads g t c =
     let read = subst (ReadsStart (standing_of c.args.self.now) (standing_of c.start.new.self)) c.in-Base.is c.in_ok-name.ensures.reads in
     read_as (λ ts h. grammar.base h) read
 
-pub start-returns-in_ok-word-in-Some-Keyword-Stop-clause-reads : goal.start-returns-in_ok-word-in-Some-Keyword-Stop-clause-reads
-start-returns-in_ok-word-in-Some-Keyword-Stop-clause-reads g t c =
-    renamed _ _ (tree_of_stop g.row.A.Denot) (stop_read c.in_ok-word-in-Some-Keyword-Stop.ensures.passes)
+pub start-returns-in_ok-stop-in-Some-Keyword-Stop-clause-reads : goal.start-returns-in_ok-stop-in-Some-Keyword-Stop-clause-reads
+start-returns-in_ok-stop-in-Some-Keyword-Stop-clause-reads g t c =
+    renamed _ _ c.in_ok-stop-in-Some-Keyword-Stop.ensures (stop_read c.in_ok-word-in-Some-Keyword-Stop.ensures.passes)
 
-pub start-returns-in_ok-word-in-Some-Keyword-Skip-clause-reads : goal.start-returns-in_ok-word-in-Some-Keyword-Skip-clause-reads
-start-returns-in_ok-word-in-Some-Keyword-Skip-clause-reads g t c =
-    renamed _ _ (tree_of_skip g.row.A.Denot) (skip_read c.in_ok-word-in-Some-Keyword-Skip.ensures.passes)
+pub start-returns-in_ok-skip-in-Some-Keyword-Skip-clause-reads : goal.start-returns-in_ok-skip-in-Some-Keyword-Skip-clause-reads
+start-returns-in_ok-skip-in-Some-Keyword-Skip-clause-reads g t c =
+    renamed _ _ c.in_ok-skip-in-Some-Keyword-Skip.ensures (skip_read c.in_ok-word-in-Some-Keyword-Skip.ensures.passes)
 
 pub start-returns-in_ok-expression-in_default-clause-reads : goal.start-returns-in_ok-expression-in_default-clause-reads
 start-returns-in_ok-expression-in_default-clause-reads g t c =
@@ -106,7 +105,7 @@ start-returns-in_ok-expression-in_default-clause-reads g t c =
 
 pub start_of_name-returns-then-is_at-clause-reads : goal.start_of_name-returns-then-is_at-clause-reads
 start_of_name-returns-then-is_at-clause-reads g t c =
-    renamed _ _ (tree_of_call g.row.A.Denot c.in_ok-name.name c.in_ok-arguments.arguments) (call_read c.in_ok-name.ensures.reads c.in_ok-arguments.ensures.reads)
+    renamed _ _ c.in_ok-call.ensures (call_read c.in_ok-name.ensures.reads c.in_ok-arguments.ensures.reads)
 
 pub start_of_name-returns-then-is_at_field-clause-reads : goal.start_of_name-returns-then-is_at_field-clause-reads
 start_of_name-returns-then-is_at_field-clause-reads g t c =

@@ -1,6 +1,6 @@
 use Rattle.std.proofs.Common.{◌≤◌, length, ◌+◌, ◌*◌}
 use Rattle.csp_semantics.specs.Text.Grammar.{IsOperand, IsChain}
-use Rattle.csp_parse.specs.Processes.{infix_of, process_of}
+use Rattle.csp_parse.specs.Processes.{infix_of, process_in}
 use Rattle.csp_parse.specs.Reading.{left_of, standing_of, Continues}
 use Rattle.csp_parse.proofs.parsers.Parser.+process.Given as goal
 
@@ -57,7 +57,7 @@ decreases-guarded g l = 32 * length (left_of l.self.now) + 29
 
 abbrev pub invariant-chain-loop-operator : goal.invariant-chain-loop-operator
 invariant-chain-loop-operator g l = record {
-  continues : Continues IsOperand (IsChain (infix_of l.operator)) (standing_of l.fn.self) (standing_of l.self) (process_of l.fn.first) (process_of l.chain);
+  continues : Continues IsOperand (IsChain (infix_of l.operator)) (standing_of l.fn.self) (standing_of l.self) (process_in l.fn.first) (process_in l.chain);
   not_longer : length (left_of l.self) ≤ length (left_of l.fn.self);
 }
 

@@ -1,9 +1,7 @@
-use Rattle.std.proofs.Common.{◌∙◌, ap, map}
-use Rattle.csp_semantics.specs.Text.Raw.{RawPrefix}
-use Rattle.csp_parse.specs.Names.{name_of}
-use Rattle.csp_parse.specs.Processes.{field_of, process_of}
+use Rattle.std.proofs.Common.{◌∙◌, ap}
+use Rattle.csp_parse.specs.Processes.{process_of}
 use Rattle.csp_parse.proofs.ProcessTrees.{tree_of_prefix}
 use Rattle.csp_parse.proofs.processes.Process.prefix.Goals as goal
 
 pub returns : goal.returns
-returns g c = tree_of_prefix g.row.A.Denot c.args.channel c.args.fields c.in_ok-body.body ∙ ap (λ p. RawPrefix (name_of c.args.channel) (map field_of c.args.fields.items) (process_of p)) c.in_ok-body.ensures.ok
+returns g c = ap process_of c.in_ok-process.ensures.ok ∙ tree_of_prefix g.row.A.Denot c.args.channel c.args.fields c.args.body
