@@ -8,6 +8,7 @@
 mod pushing;
 mod report;
 mod sink;
+mod values;
 
 pub use pushing::push_all;
 pub use report::{WriteFault, write};
