@@ -4,7 +4,7 @@ use Rattle.std.specs.declared.boxed.Box.{Box}
 use Rattle.csp_semantics.specs.Syntax.Process as pure
 use Rattle.csp_semantics.specs.Meaning.Expansions.{Form, Fired, IsFormOf}
 use Rattle.csp_semantics.proofs.Firing.{stop_fired}
-use Rattle.csp_term.specs.declared.name.ChannelId.{ChannelId}
+use Rattle.csp_value.specs.declared.name.ChannelId.{ChannelId}
 use Rattle.csp_term.specs.declared.term.Term.{Term}
 use Rattle.csp_term.specs.declared.term.Term.TheVariants as views
 use Rattle.csp_term.specs.Term.{process_of}

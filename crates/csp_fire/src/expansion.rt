@@ -7,19 +7,18 @@ ghost use Rattle.csp_term.specs.Script.{script_of};
 ghost use Rattle.csp_fire.specs.Form.{form_of};
 
 use crate::form::Form;
-use csp_term::{Script, Term};
-use std::alloc::Allocator;
+use csp_term::{AllocHandle, Script, Term};
 use std::marker::Model;
 
 /// A term of a script with its form, which is exactly what the rules say of the term. It lends the script.
 #[derive(Drop)]
-pub struct Expansion<'s, A: Allocator> {
+pub struct Expansion<'s, A: AllocHandle> {
     pub(crate) script: &'s Script<A>,
     pub(crate) term: Term<A>,
     pub(crate) form: Form<A>,
 }
 
-impl<'s, A: Allocator> Model for Expansion<'s, A> {
+impl<'s, A: AllocHandle> Model for Expansion<'s, A> {
     ghost use Rattle.csp_semantics.specs.Meaning.Expansions as meaning;
     ghost use Rattle.csp_semantics.specs.Codes.Coding.{coded};
     ghost use Rattle.csp_semantics.specs.Codes.Expansions.{coding_expansion};
@@ -36,7 +35,7 @@ impl<'s, A: Allocator> Model for Expansion<'s, A> {
     ghost invariant = { λ e. IsExpansion (expansion_of e) };
 }
 
-impl<'s, A: Allocator> Expansion<'s, A> {
+impl<'s, A: AllocHandle> Expansion<'s, A> {
     /// The script that the term is of.
     pub fn script(&self) -> &'s Script<A>
         ensures { script_of result.now ≡ self.now.script }

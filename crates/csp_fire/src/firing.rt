@@ -9,11 +9,10 @@ ghost use Rattle.csp_fire.specs.Form.{form_of};
 use crate::expansion::Expansion;
 use crate::form::Form;
 use crate::rules::{prefix, stop};
-use csp_term::{Memory, Script, Term};
-use std::alloc::Allocator;
+use csp_term::{AllocHandle, Memory, Script, Term};
 
 /// Fires a closed term of the script. The expansion names the script and the term that were handed in.
-pub fn fire<'s, A: Allocator + Copy>(
+pub fn fire<'s, A: AllocHandle>(
     alloc: A,
     script: &'s Script<A>,
     term: &Term<A>,
@@ -27,7 +26,7 @@ pub fn fire<'s, A: Allocator + Copy>(
     Ok(Expansion { script, term, form })
 }
 
-fn form_of_term<A: Allocator + Copy>(
+fn form_of_term<A: AllocHandle>(
     alloc: A,
     script: &Script<A>,
     term: &Term<A>,

@@ -1,20 +1,19 @@
 //! The form of a term: what it can do and offer, or why it is stuck.
 
-use csp_term::{Action, Fault, Term};
-use std::alloc::Allocator;
+use csp_term::{Action, AllocHandle, Fault, Term};
 
 /// A step of a term: the action, and the term that it leads to.
 #[derive(Drop)]
-pub struct Step<A: Allocator> {
-    pub action: Action,
+pub struct Step<A: AllocHandle> {
+    pub action: Action<A>,
     pub target: Term<A>,
 }
 
 /// What one firing shows of a term.
 #[derive(Drop)]
-pub enum Form<A: Allocator> {
+pub enum Form<A: AllocHandle> {
     /// All steps, by action and then by target, each once; and the acceptances as rising lists of actions, sorted, each once.
-    Steps(Vec<Step<A>, A>, Vec<Vec<Action, A>, A>),
+    Steps(Vec<Step<A>, A>, Vec<Vec<Action<A>, A>, A>),
     /// A rule for the term needs a value that does not exist. This is the first cause.
     Faulty(Fault),
     /// The term is past the limits, or some step leads past them.

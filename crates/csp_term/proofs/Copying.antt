@@ -1,7 +1,7 @@
 -- Lists of copies, an item at a time.
 use Rattle.std.proofs.Common.{◌≡◌, ℕ, ◌+◌, ◌<◌, List, [], ◌∷◌, ◌++◌, length, take, map, get_or, refl, ap₂}
 use Rattle.std.proofs.lemmas.List.{take_more, map-append}
-use Rattle.csp_term.specs.Copies.{AreCopies}
+use Rattle.csp_value.specs.Copies.{AreCopies}
 
 module _ {X : Type 0} (same : X → X → Type 0) where
   pub one_more : (xs ys : List X) (x y : X) → AreCopies same xs ys → same x y → AreCopies same (xs ++ x ∷ []) (ys ++ y ∷ [])

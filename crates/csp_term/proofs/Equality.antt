@@ -11,8 +11,6 @@ use Rattle.csp_semantics.specs.Syntax.Order.{process_cmp}
 use Rattle.csp_semantics.proofs.Equalities.{is_eq-Equal}
 use Rattle.csp_semantics.proofs.ProcessOrder.{process_same, process_refl}
 use Rattle.csp_term.specs.declared.name.Name.{Name}
-use Rattle.csp_term.specs.declared.action.Action.{Action}
-use Rattle.csp_term.specs.declared.action.Action.TheVariants as variant
 use Rattle.csp_term.specs.declared.assertion.Model.{Model}
 use Rattle.csp_term.specs.declared.assertion.Model.TheVariants as model
 use Rattle.csp_term.specs.declared.assertion.Assertion.{Assertion}
@@ -20,7 +18,6 @@ use Rattle.csp_term.specs.declared.script.Channel.{Channel}
 use Rattle.csp_term.specs.declared.script.Equation.{Equation}
 use Rattle.csp_term.specs.declared.script.Script.{Script}
 use Rattle.csp_term.specs.declared.term.Term.{Term}
-use Rattle.csp_term.specs.contracts.action.ActionPartialEq.TheImpl as action_impl
 use Rattle.csp_term.specs.contracts.assertion.ModelPartialEq.TheImpl as model_impl
 use Rattle.csp_term.specs.contracts.assertion.AssertionPartialEq.TheImpl as assertion_impl
 use Rattle.csp_term.specs.contracts.script.ChannelPartialEq.TheImpl as channel_impl
@@ -28,43 +25,10 @@ use Rattle.csp_term.specs.contracts.script.EquationPartialEq.TheImpl as equation
 use Rattle.csp_term.specs.contracts.script.ScriptPartialEq.TheImpl as script_impl
 use Rattle.csp_term.specs.contracts.term.TermPartialEq.TheImpl as term_impl
 use Rattle.csp_term.specs.contracts.term.TermOrd.TheImpl.Laws as term_laws
-use Rattle.csp_term.specs.Action.{action_of}
 use Rattle.csp_term.specs.Term.{process_of}
 use Rattle.csp_term.specs.Script.{model_of, assertion_of, equation_of, types_of, script_of}
 use Rattle.csp_term.proofs.TermOrder.{cmp, ordered}
 use Rattle.csp_term.proofs.Sameness.{Tells, and_first, and_second, both, nat_tells, text_tells, lists_tell}
-
-abbrev pub action_eq : Action → Action → Bool
-action_eq = action_impl.ghosts.eq
-
-action_sound : (x y : Action) → action_eq x y ≡ true → action_of x ≡ action_of y
-action_sound variant.Tau variant.Tau e = refl
-action_sound variant.Tick variant.Tick e = refl
-action_sound (variant.Event a) (variant.Event b) e = ap (λ n. pure.Ev (record { channel = n; fields = [] })) (nat_tells.sound a.channel.0 b.channel.0 e)
-action_sound variant.Tau variant.Tick e = absurd (cc e)
-action_sound variant.Tau (variant.Event b) e = absurd (cc e)
-action_sound variant.Tick variant.Tau e = absurd (cc e)
-action_sound variant.Tick (variant.Event b) e = absurd (cc e)
-action_sound (variant.Event a) variant.Tau e = absurd (cc e)
-action_sound (variant.Event a) variant.Tick e = absurd (cc e)
-
-abbrev event_of_action : pure.Action → pure.Event
-event_of_action (pure.Ev e) = e
-event_of_action _ = record { channel = 0; fields = [] }
-
-action_complete : (x y : Action) → action_of x ≡ action_of y → action_eq x y ≡ true
-action_complete variant.Tau variant.Tau e = refl
-action_complete variant.Tick variant.Tick e = refl
-action_complete (variant.Event a) (variant.Event b) e = nat_tells.complete a.channel.0 b.channel.0 (ap (λ x. (event_of_action x).channel) e)
-action_complete variant.Tau variant.Tick e = absurd (cc e)
-action_complete variant.Tau (variant.Event b) e = absurd (cc e)
-action_complete variant.Tick variant.Tau e = absurd (cc e)
-action_complete variant.Tick (variant.Event b) e = absurd (cc e)
-action_complete (variant.Event a) variant.Tau e = absurd (cc e)
-action_complete (variant.Event a) variant.Tick e = absurd (cc e)
-
-pub action_tells : Tells action_eq action_of
-action_tells = record { sound = action_sound; complete = action_complete }
 
 abbrev pub model_eq : Model → Model → Bool
 model_eq = model_impl.ghosts.eq

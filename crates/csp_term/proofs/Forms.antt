@@ -2,7 +2,7 @@
 use Rattle.std.proofs.Common.{◌≡◌, sym, ◌∙◌, ap, []}
 use Rattle.std.specs.declared.boxed.Box.{Box}
 use Rattle.csp_semantics.specs.Syntax.Process as pure
-use Rattle.csp_term.specs.declared.name.ChannelId.{ChannelId}
+use Rattle.csp_value.specs.declared.name.ChannelId.{ChannelId}
 use Rattle.csp_term.specs.declared.term.Term.{Term, fold-roll-Term}
 use Rattle.csp_term.specs.declared.term.Term.TheVariants as views
 use Rattle.csp_term.specs.declared.term.Term.TheOpen as layer

@@ -9,7 +9,7 @@ use Rattle.std.specs.declared.boxed.Box.{Box}
 use Rattle.std.specs.declared.cmp.Ordering.{Ordering}
 use Rattle.std.specs.Ordering.{nat_cmp, ordering_then}
 use Rattle.csp_semantics.specs.Syntax.Order.{process_cmp}
-use Rattle.csp_term.specs.declared.name.ChannelId.{ChannelId}
+use Rattle.csp_value.specs.declared.name.ChannelId.{ChannelId}
 use Rattle.csp_term.specs.declared.term.Term.{Term, roll-Term, map-Term, ind-Term}
 use Rattle.csp_term.specs.declared.term.Term.TheVariants as views
 use Rattle.csp_term.specs.declared.term.Term.TheOpen as layer

@@ -1,6 +1,4 @@
-pub mod Action
 pub mod Bindings
-pub mod Copies
 pub mod Evaluation
 pub mod Expression
 pub mod Fault

@@ -2,9 +2,8 @@
 
 ghost use Rattle.std.specs.Prelude.{◌≡◌};
 
-use crate::copy::TryCopy;
-use crate::memory::Memory;
 use crate::term::Term;
+use csp_value::{Memory, TryCopy};
 use std::alloc::Allocator;
 
 /// What a refinement compares (FDR manual).

@@ -1,29 +1,19 @@
-//! What the comparisons mean: two terms, actions, assertions or scripts are equal exactly where those that they stand
-//! for are, whichever allocator holds them, the order of two terms or actions is that of the definitions, and terms that
-//! stand for one process have one hash.
+//! What the comparisons mean: two terms, assertions or scripts are equal exactly where those that they stand for are,
+//! whichever allocator holds them, the order of two terms is that of the definitions, and terms that stand for one
+//! process have one hash.
 
 ghost use Rattle.std.specs.Prelude.{◌≡◌, ◌↔◌, IsTrue};
 ghost use Rattle.std.specs.List.{fold};
-ghost use Rattle.csp_semantics.specs.Syntax.Value.{action_cmp};
 ghost use Rattle.csp_semantics.specs.Syntax.Order.{process_cmp};
-ghost use Rattle.csp_term.specs.Action.{action_of};
 ghost use Rattle.csp_term.specs.Term.{process_of};
 ghost use Rattle.csp_term.specs.Script.{assertion_of, script_of};
 
-use crate::action::Action;
 use crate::assertion::Assertion;
 use crate::script::Script;
 use crate::term::Term;
 use std::alloc::Allocator;
 use std::cmp::Ordering;
 use std::hash::{Hash, Hasher};
-
-/// Whether two actions are the same.
-pub fn equal_actions(left: &Action, right: &Action) -> bool
-    ensures { IsTrue result ↔ (action_of left.now ≡ action_of right.now) }
-{
-    left == right
-}
 
 /// Whether two terms stand for the same process.
 pub fn equal_terms<A: Allocator>(left: &Term<A>, right: &Term<A>) -> bool
@@ -44,13 +34,6 @@ pub fn equal_scripts<A: Allocator>(left: &Script<A>, right: &Script<A>) -> bool
     ensures { IsTrue result ↔ (script_of left.now ≡ script_of right.now) }
 {
     left == right
-}
-
-/// The order of two actions: tau, tick, then events by their channels.
-pub fn compare_actions(left: &Action, right: &Action) -> Ordering
-    ensures { result ≡ action_cmp (action_of left.now) (action_of right.now) }
-{
-    left.cmp(right)
 }
 
 /// The order of two terms is that of their processes.

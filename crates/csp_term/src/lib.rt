@@ -7,25 +7,20 @@
 //! Expressions stand by themselves in `expression`, with their evaluation; the terms do not have them yet.
 #![tactic(auto)]
 
-mod action;
 mod assertion;
-mod copy;
 pub mod expression;
 mod fault;
 pub mod laws;
 mod limits;
-mod memory;
 mod name;
 mod script;
 mod substitution;
 mod term;
 
-pub use action::{Action, Event};
 pub use assertion::{Assertion, Model};
-pub use copy::{TryCopy, copy_all};
+pub use csp_value::{Action, AllocHandle, ChannelId, Event, Memory, TryCopy, copy_all};
 pub use fault::Fault;
-pub use memory::Memory;
-pub use name::{ChannelId, DatatypeId, Name, NametypeId};
+pub use name::{DatatypeId, Name, NametypeId};
 pub use script::{Channel, Equation, Script, Types};
 pub use substitution::TermFault;
 pub use term::Term;

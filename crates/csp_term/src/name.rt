@@ -1,9 +1,5 @@
 //! Names are numbers, of a type of their own for each class of name.
 
-/// A channel, by its place among the script's channels, from 0.
-#[derive(Clone, Copy, Debug, PartialEq, Eq, PartialOrd, Ord, Hash)]
-pub struct ChannelId(pub u32);
-
 /// A bound name, by the place of its spelling among the script's names, from 0.
 #[derive(Clone, Copy, Debug, PartialEq, Eq, PartialOrd, Ord, Hash)]
 pub struct Name(pub u32);

@@ -4,10 +4,9 @@ ghost use Rattle.std.specs.Prelude.{◌≡◌};
 ghost use Rattle.std.specs.String.{string_bytes};
 
 use crate::assertion::Assertion;
-use crate::copy::{TryCopy, copy_all};
-use crate::memory::Memory;
 use crate::name::Name;
 use crate::term::Term;
+use csp_value::{Memory, TryCopy, copy_all};
 use std::alloc::Allocator;
 
 /// The datatypes and nametypes of a script. There are none yet.

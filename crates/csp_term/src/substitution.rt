@@ -5,8 +5,8 @@ ghost use Rattle.csp_semantics.specs.Meaning.Substitution.{put};
 ghost use Rattle.csp_semantics.specs.Meaning.Limits.{fits};
 ghost use Rattle.csp_term.specs.Term.{process_of};
 
-use crate::memory::Memory;
 use crate::term::Term;
+use csp_value::Memory;
 use std::alloc::Allocator;
 use thiserror::Error;
 

@@ -3,8 +3,7 @@
 ghost use Rattle.std.specs.Prelude.{◌≡◌, IfOk};
 ghost use Rattle.csp_term.specs.Term.{process_of};
 
-use crate::memory::Memory;
-use crate::name::ChannelId;
+use csp_value::{ChannelId, Memory};
 use std::alloc::Allocator;
 
 /// A process as it is written. The order is that of the forms, then of the parts in turn.

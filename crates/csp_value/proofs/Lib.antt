@@ -9,3 +9,5 @@ pub mod Sameness
 pub mod Sets
 pub mod Sorting
 pub mod ValueOrder
+pub mod Walking
+pub mod Measures

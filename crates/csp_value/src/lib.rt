@@ -9,6 +9,7 @@ mod action;
 mod copy;
 mod handle;
 pub mod laws;
+mod limits;
 mod memory;
 mod name;
 mod set;

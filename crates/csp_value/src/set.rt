@@ -1,9 +1,12 @@
 //! Sets of values.
 
-ghost use Rattle.std.specs.Prelude.{◌≡◌, IfOk, OnOk, filter, not};
+ghost use Rattle.std.specs.Prelude.{◌≡◌, ◌≤◌, ◌-◌, ◌↔◌, IfOk, IsTrue, OnOk, filter, not};
+ghost use Rattle.std.specs.Option.{SomeIff};
 ghost use Rattle.csp_semantics.specs.Syntax.Value.{has_value, insert_value, insert_values, sorted_values, to_values, values_list};
+ghost use Rattle.csp_semantics.specs.Meaning.Limits.{values_depth, values_size};
 ghost use Rattle.csp_value.specs.Value.{IsRisingSet, members_of, value_of, values_of};
 
+use crate::limits::{are_within_depth, room_left_by};
 use crate::memory::Memory;
 use crate::value::{Value, copy_values};
 use std::alloc::Allocator;
@@ -29,6 +32,22 @@ impl<A: Allocator + Copy> SetOf<A> {
 }
 
 impl<A: Allocator> SetOf<A> {
+    /// What the members together leave of the room for nodes, `None` where they have more of them.
+    #[cycle(room)]
+    pub(crate) fn room_left(&self, room: u32) -> Option<u32>
+        ensures { SomeIff result (values_size (members_of self.now) ≤ room) (room - values_size (members_of self.now)) }
+    {
+        room_left_by(&self.members, room)
+    }
+
+    /// Whether each member is at most so deep.
+    #[cycle(depth)]
+    pub(crate) fn is_within_depth(&self, most: u32) -> bool
+        ensures { IsTrue result ↔ (values_depth (members_of self.now) ≤ most) }
+    {
+        are_within_depth(&self.members, most)
+    }
+
     /// The set of the values, in whatever order and however often they are given. It moves them where they lie, so it
     /// needs no memory.
     pub fn from_values(mut values: Vec<Value<A>, A>) -> SetOf<A>

@@ -11,10 +11,10 @@ use crate::explore::explore;
 use crate::files::Files;
 use crate::reader::read;
 use crate::refusal::{Refusal, push_line};
-use csp_term::Script;
+use csp_term::{AllocHandle, Script};
 use pair_store::limits::Limits;
 use report::{Sink, write};
-use std::alloc::{AllocError, Allocator};
+use std::alloc::AllocError;
 use verdict::Outcome;
 
 // The most pairs and the most nodes of a search.
@@ -28,7 +28,7 @@ const MAX_NODES: usize = 10_000;
 /// Answers the status: 3 where anything was refused, else 2 where an assertion has no answer within 100,000 pairs and
 /// 10,000 nodes, else 1 where one fails, else 0. The words are looked at first, then the file, the script and the output.
 /// A failure of `err` changes nothing.
-pub fn run<A: Allocator + Copy, F: Files<A>, O: Sink, E: Sink>(
+pub fn run<A: AllocHandle, F: Files<A>, O: Sink, E: Sink>(
     alloc: A,
     words: &[&str],
     files: &mut F,
@@ -60,7 +60,7 @@ pub fn refuse<E: Sink>(why: Refusal, err: &mut E) -> u8
 }
 
 // Reads, checks and reports. The status is at most 2.
-fn answer<A: Allocator + Copy, F: Files<A>, O: Sink>(
+fn answer<A: AllocHandle, F: Files<A>, O: Sink>(
     alloc: A,
     words: &[&str],
     files: &mut F,
@@ -86,10 +86,7 @@ fn answer<A: Allocator + Copy, F: Files<A>, O: Sink>(
 }
 
 // A right outcome for each assertion, in order.
-fn outcomes<A: Allocator + Copy>(
-    alloc: A,
-    script: &Script<A>,
-) -> Result<Vec<Outcome<A>, A>, AllocError>
+fn outcomes<A: AllocHandle>(alloc: A, script: &Script<A>) -> Result<Vec<Outcome<A>, A>, AllocError>
     ensures { IfOk result (λ outcomes. AreRight (script_of script.now) program_bounds (script_of script.now).assertions (map outcome_of outcomes.items)) }
 {
     let limits = Limits::new(MAX_PAIRS, MAX_NODES);
@@ -101,7 +98,7 @@ fn outcomes<A: Allocator + Copy>(
 }
 
 // The greatest status of an outcome.
-fn status<A: Allocator>(outcomes: &[Outcome<A>]) -> u8
+fn status<A: AllocHandle>(outcomes: &[Outcome<A>]) -> u8
     ensures { result ≡ status_of (map outcome_of outcomes.now) }
 {
     let mut status = 0;
@@ -111,7 +108,7 @@ fn status<A: Allocator>(outcomes: &[Outcome<A>]) -> u8
     status
 }
 
-fn status_of_one<A: Allocator>(outcome: &Outcome<A>) -> u8
+fn status_of_one<A: AllocHandle>(outcome: &Outcome<A>) -> u8
     ensures { result ≡ outcome_status (outcome_of outcome.now) }
 {
     match outcome {

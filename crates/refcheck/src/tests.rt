@@ -2,9 +2,10 @@
 
 use crate::files::{Files, OneText, Unread};
 use crate::run::run;
+use csp_term::AllocHandle;
 use linked_list_allocator::LocalHeap;
 use report::{Buffer, Out};
-use std::alloc::{AllocError, Allocator, Global};
+use std::alloc::{AllocError, Global};
 use std::test::Fail;
 
 const BEYOND_STOP: &str = "channel a, b, c\nassert STOP [T= a -> STOP\n";
@@ -148,7 +149,7 @@ impl Files<Global> for NoMemory {
 }
 
 // A run whose memory is the allocator's, and whose outputs have room.
-fn run_in<A: Allocator + Copy, F: Files<A>>(
+fn run_in<A: AllocHandle, F: Files<A>>(
     room: Global,
     alloc: A,
     words: &[&str],

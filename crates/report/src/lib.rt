@@ -8,6 +8,7 @@
 mod pushing;
 mod report;
 mod sink;
+mod values;
 
 pub use pushing::{push_all, push_each};
 pub use report::{WriteFault, write};

@@ -1,26 +1,27 @@
 //! Copies of outcomes and the traces of their violations.
 
-use csp_term::{Action, ChannelId, Event, Fault, Memory};
-use std::alloc::Allocator;
+use crate::scripts::event;
+use csp_term::{Action, Fault, Memory};
+use std::alloc::Global;
 use std::test::Fail;
 use verdict::{Evidence, Outcome, Shown, Why};
 
-fn event(channel: u32) -> Action {
-    Action::Event(Event {
-        channel: ChannelId(channel),
-    })
-}
-
-fn shown<A: Allocator + Copy>(alloc: A, evidence: Evidence<A>) -> Result<Shown<A>, Memory> {
+fn shown(alloc: Global, evidence: Evidence<Global>) -> Result<Shown<Global>, Memory> {
     let mut path = Vec::new(alloc);
-    for action in [Action::Tau, event(0), Action::Tau, event(1), Action::Tau] {
+    for action in [
+        Action::Tau,
+        event(alloc, 0),
+        Action::Tau,
+        event(alloc, 1),
+        Action::Tau,
+    ] {
         path.push(action)?;
     }
     Ok(Shown { path, evidence })
 }
 
 // Whether the path and the evidence are the same, action by action.
-fn is_same<A: Allocator>(left: &Shown<A>, right: &Shown<A>) -> bool {
+fn is_same(left: &Shown<Global>, right: &Shown<Global>) -> bool {
     left.path == right.path
         && match (&left.evidence, &right.evidence) {
             (Evidence::Event(one), Evidence::Event(other)) => one == other,
@@ -29,7 +30,7 @@ fn is_same<A: Allocator>(left: &Shown<A>, right: &Shown<A>) -> bool {
         }
 }
 
-fn is_copied<A: Allocator + Copy>(alloc: A, shown: &Shown<A>) -> Result<bool, Memory> {
+fn is_copied(alloc: Global, shown: &Shown<Global>) -> Result<bool, Memory> {
     Ok(is_same(&shown.try_copy(alloc)?, shown))
 }
 
@@ -37,8 +38,8 @@ fn is_copied<A: Allocator + Copy>(alloc: A, shown: &Shown<A>) -> Result<bool, Me
 fn a_trace_is_the_path_without_taus(rt: HostRuntime) -> Result<(), Fail> {
     let shown = shown(rt.alloc(), Evidence::Event(Action::Tick))?;
     let mut trace = shown.trace();
-    assert!(rt; trace.next() == Some(event(0)));
-    assert!(rt; trace.next() == Some(event(1)));
+    assert!(rt; trace.next() == Some(&event(rt.alloc(), 0)));
+    assert!(rt; trace.next() == Some(&event(rt.alloc(), 1)));
     assert!(rt; trace.next() == None);
     Ok(())
 }
@@ -47,9 +48,9 @@ fn a_trace_is_the_path_without_taus(rt: HostRuntime) -> Result<(), Fail> {
 fn copies_show_the_same(rt: HostRuntime) -> Result<(), Fail> {
     let alloc = rt.alloc();
     let mut offers = Vec::new(alloc);
-    offers.push(event(2))?;
+    offers.push(event(alloc, 2))?;
     offers.push(Action::Tick)?;
-    assert!(rt; is_copied(alloc, &shown(alloc, Evidence::Event(event(2)))?)?);
+    assert!(rt; is_copied(alloc, &shown(alloc, Evidence::Event(event(alloc, 2)))?)?);
     assert!(rt; is_copied(alloc, &shown(alloc, Evidence::Offers(offers))?)?);
     Ok(())
 }
@@ -65,7 +66,7 @@ fn copies_of_outcomes_answer_the_same(rt: HostRuntime) -> Result<(), Fail> {
             Outcome::Unknown(Why::Fault(Fault::Choice))
         )
     );
-    let fails = Outcome::Fails(shown(alloc, Evidence::Event(event(2)))?);
+    let fails = Outcome::Fails(shown(alloc, Evidence::Event(event(alloc, 2)))?);
     match (&fails, fails.try_copy(alloc)?) {
         (Outcome::Fails(one), Outcome::Fails(other)) => assert!(rt; is_same(one, &other)),
         _ => assert!(rt; false),

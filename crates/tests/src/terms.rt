@@ -1,14 +1,11 @@
 //! Terms at the edge of the limits, their copies and their order, and equal terms in two allocators.
 
-use crate::scripts::{repeated, script};
-use csp_term::laws::{
-    compare_actions, compare_terms, equal_actions, equal_assertions, equal_scripts, equal_terms,
-    hash_term,
-};
+use crate::scripts::{event, repeated, script};
+use csp_term::laws::{compare_terms, equal_assertions, equal_scripts, equal_terms, hash_term};
 use csp_term::{
-    Action, Assertion, ChannelId, Equation, Event, Fault, Memory, Model, Name, Script, Term,
-    TermFault, TryCopy, copy_all,
+    Action, Assertion, Equation, Fault, Memory, Model, Name, Script, Term, TermFault, TryCopy, copy_all,
 };
+use csp_value::laws::{compare_actions, equal_actions};
 use std::alloc::{Allocator, Global};
 use std::hash::{DefaultHasher, Hasher};
 use std::process::Abort;
@@ -87,7 +84,7 @@ fn order_is_by_form_then_by_parts(rt: HostRuntime) -> Result<(), Fail> {
             assert_eq!(rt; equal_terms(left, right), i == j, "at {i} and {j}");
         }
     }
-    let actions = [Action::Tau, Action::Tick, event(0), event(1)];
+    let actions = [Action::Tau, Action::Tick, event(alloc, 0), event(alloc, 1)];
     for (i, left) in actions.iter().enumerate() {
         for (j, right) in actions.iter().enumerate() {
             assert_eq!(rt; compare_actions(left, right), i.cmp(&j), "at {i} and {j}");
@@ -95,12 +92,6 @@ fn order_is_by_form_then_by_parts(rt: HostRuntime) -> Result<(), Fail> {
         }
     }
     Ok(())
-}
-
-fn event(channel: u32) -> Action {
-    Action::Event(Event {
-        channel: ChannelId(channel),
-    })
 }
 
 #[test]

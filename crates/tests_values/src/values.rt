@@ -112,6 +112,16 @@ fn nested<A: Allocator + Copy>(alloc: A) -> Result<Value<A>, Memory> {
 }
 
 #[test]
+fn values_have_sizes_and_depths(rt: HostRuntime) -> Result<(), Fail> {
+    let value = nested(rt.alloc())?;
+    assert_eq!(rt; value.room_left(15), None);
+    assert_eq!(rt; value.room_left(16), Some(0));
+    assert_eq!(rt; value.room_left(20), Some(4));
+    assert!(rt; value.is_within_depth(3) && !value.is_within_depth(2));
+    Ok(())
+}
+
+#[test]
 fn copies_that_find_no_room_say_so(rt: HostRuntime) -> Result<(), Fail> {
     let mut copied = false;
     let mut refused = false;

@@ -3,8 +3,7 @@
 ghost use Rattle.std.specs.Prelude.{◌≡◌, IfOk};
 
 use crate::shown::Shown;
-use csp_term::{Fault, Memory};
-use std::alloc::Allocator;
+use csp_term::{AllocHandle, Fault, Memory};
 
 /// Why there is no answer.
 #[derive(Clone, Copy, Debug, PartialEq, Eq)]
@@ -23,7 +22,7 @@ pub enum Why {
 
 /// The answer to an assertion.
 #[derive(Drop)]
-pub enum Outcome<A: Allocator> {
+pub enum Outcome<A: AllocHandle> {
     /// The implementation refines the specification.
     Holds,
     /// It does not: this is a violation.
@@ -32,7 +31,7 @@ pub enum Outcome<A: Allocator> {
     Unknown(Why),
 }
 
-impl<A: Allocator + Copy> Outcome<A> {
+impl<A: AllocHandle> Outcome<A> {
     ghost use Rattle.verdict.specs.Outcome.{outcome_of};
 
     /// An equal outcome in the given allocator.

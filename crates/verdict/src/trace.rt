@@ -1,29 +1,31 @@
 //! The trace of a path.
 
-use csp_term::Action;
+use csp_term::{Action, AllocHandle};
 
 /// The actions of a path without its taus, in order.
 #[derive(Clone, Copy, Drop)]
-pub struct Trace<'a> {
-    pub(crate) path: &'a [Action],
+pub struct Trace<'a, A: AllocHandle> {
+    pub(crate) path: &'a [Action<A>],
 }
 
-impl<'a> Iterator for Trace<'a> {
+impl<'a, A: AllocHandle> Iterator for Trace<'a, A> {
     ghost use Rattle.std.specs.Iterator.{YieldsFirstBy, item_count};
-    ghost use Rattle.csp_term.specs.Action.{action_of};
+    ghost use Rattle.csp_value.specs.Action.{action_of};
     ghost use Rattle.verdict.specs.Outcome.{trace_left};
 
-    type Item = Action;
+    type Item = &'a Action<A>;
 
-    ghost next_gives = { YieldsFirstBy action_of trace_left };
+    ghost next_gives = { YieldsFirstBy (λ x. action_of x.now) trace_left };
 
     ghost remaining = { item_count trace_left };
 
-    fn next(&mut self) -> Option<Action> {
+    fn next(&mut self) -> Option<&'a Action<A>> {
         while let Some((action, path)) = self.path.split_first() {
             self.path = path;
-            if *action != Action::Tau {
-                return Some(*action);
+            match action {
+                Action::Tau => {}
+                Action::Tick => return Some(action),
+                Action::Event(_) => return Some(action),
             }
         }
         None

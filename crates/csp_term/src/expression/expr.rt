@@ -3,11 +3,9 @@
 ghost use Rattle.std.specs.Prelude.{◌≡◌, IfOk};
 ghost use Rattle.csp_term.specs.Expression.{expression_of, expressions_of};
 
-use crate::copy::TryCopy;
 use crate::expression::operator::{BinaryOperator, UnaryOperator};
-use crate::memory::Memory;
 use crate::name::{DatatypeId, Name, NametypeId};
-use csp_value::Value;
+use csp_value::{Memory, TryCopy, Value};
 use std::alloc::Allocator;
 
 /// An expression as it is written. The order is that of the forms, then of the parts in turn.

@@ -3,7 +3,7 @@
 ghost use Rattle.std.specs.Prelude.{◌≡◌};
 
 use crate::fault::Fault;
-use crate::memory::Memory;
+use csp_value::Memory;
 use std::alloc::AllocFailed;
 use thiserror::Error;
 
@@ -23,16 +23,6 @@ impl From<Memory> for EvalFault {
     ghost from_gives = { λ _ e. e ≡ no_memory };
 
     fn from(_refused: Memory) -> EvalFault {
-        EvalFault::Memory
-    }
-}
-
-impl From<csp_value::Memory> for EvalFault {
-    ghost use Rattle.csp_term.specs.declared.expression.fault.EvalFault.TheVariants.{Memory as no_memory};
-
-    ghost from_gives = { λ _ e. e ≡ no_memory };
-
-    fn from(_refused: csp_value::Memory) -> EvalFault {
         EvalFault::Memory
     }
 }

@@ -4,8 +4,7 @@ ghost use Rattle.std.specs.Prelude.{◌≡◌, IfOk};
 ghost use Rattle.csp_value.specs.Value.{value_of};
 ghost use Rattle.csp_term.specs.Evaluation.{seen_value};
 
-use crate::memory::Memory;
-use csp_value::Value;
+use csp_value::{Memory, Value};
 use std::alloc::Allocator;
 
 /// A value that lies in the expression, or one that was made.

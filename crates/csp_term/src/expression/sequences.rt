@@ -10,8 +10,7 @@ ghost use Rattle.csp_term.specs.Evaluation.{Answers, IsAnswer, IsSeen, seen_valu
 use crate::expression::fault::EvalFault;
 use crate::expression::seen::Seen;
 use crate::fault::Fault;
-use crate::memory::Memory;
-use csp_value::Value;
+use csp_value::{Memory, Value};
 use std::alloc::Allocator;
 
 /// The most items of a sequence, and the most members of a set.

@@ -6,9 +6,8 @@ ghost use Rattle.csp_term.specs.Expression.{expression_of, expressions_of};
 ghost use Rattle.csp_term.specs.Bindings.{bindings_of, found_of, puts};
 
 use crate::expression::expr::Expr;
-use crate::memory::Memory;
 use crate::name::Name;
-use csp_value::Value;
+use csp_value::{Memory, Value};
 use std::alloc::Allocator;
 
 /// A name with the value that it stands for.

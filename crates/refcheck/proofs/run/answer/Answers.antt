@@ -1,4 +1,4 @@
-use Rattle.std.proofs.Common.{◌≡◌, ℕ, List, [], length, get_or, map, sym, ap, subst, ◌∙◌, arith}
+use Rattle.std.proofs.Common.{◌≡◌, ℕ, List, [], length, get_or, map, sym, ap, subst, ◌∙◌, arith, inl, inr, lit<, lit≤}
 use Rattle.std.proofs.lemmas.Result.{err_from_is_err_and}
 use Rattle.csp_term.specs.Script.{script_of}
 use Rattle.verdict.specs.declared.outcome.Outcome.{Outcome}
@@ -66,3 +66,44 @@ returns-clause-refused g c =
     } in
     left_behind (g.F.Files.may_hold c.args.files.now) (texts_of words) g.O.Sink.taken g.O.Sink.has_failed c.args.out.now c.write.new.sink script (map outcome_of c.deref-2.result.now) of_file (subst P (sym c.deref-2.ensures.value) c.in_ok-outcomes.ensures)
     c.write.result c.in-Err.field-0 c.in-Err.is c.write.ensures.device c.write.ensures.memory
+
+pub outcomes-requires : goal.outcomes-requires
+outcomes-requires g c =
+    elim g.met.A.AllocHandle.small [
+      | inl e ↦ rw (e.0, e.1) (lit< tt)
+      | inr e ↦ rw (e.0, e.1) (lit< tt)
+    ]
+
+pub status-requires : goal.status-requires
+status-requires g c =
+    elim g.met.A.AllocHandle.small [
+      | inl e ↦ rw (e.0, e.1) (lit< tt)
+      | inr e ↦ rw (e.0, e.1) (lit< tt)
+    ]
+
+pub drop-outcomes-requires-room-T-Destruct : goal.drop-outcomes-requires-room-T-Destruct
+drop-outcomes-requires-room-T-Destruct g c κs within =
+    elim g.met.A.AllocHandle.small [
+      | inl e ↦ rw (e.0, e.1) (lit< tt)
+      | inr e ↦ rw (e.0, e.1) (lit< tt)
+    ]
+
+pub drop-outcomes-requires-2-room-T-Destruct : goal.drop-outcomes-requires-2-room-T-Destruct
+drop-outcomes-requires-2-room-T-Destruct g c κs within =
+    elim g.met.A.AllocHandle.small [
+      | inl e ↦ rw (e.0, e.1) (lit< tt)
+      | inr e ↦ rw (e.0, e.1) (lit< tt)
+    ]
+
+pub write-requires : goal.write-requires
+write-requires g c =
+    elim g.met.A.AllocHandle.small [
+      | inl e ↦ rw (e.0, e.1) (lit≤ tt, c.requires)
+      | inr e ↦ rw (e.0, e.1) (lit≤ tt, c.requires)
+    ]
+
+pub returns-in-Ok-clause-words : goal.returns-in-Ok-clause-words
+returns-in-Ok-clause-words g c = λ other. absurd (other (omega (arith, c.in-len1.len_at_least, c.in-len1.len_below)))
+
+pub returns-clause-words : goal.returns-clause-words
+returns-clause-words g c = λ other. absurd (other (omega (arith, c.in-len1.len_at_least, c.in-len1.len_below)))

@@ -1,9 +1,11 @@
-use Rattle.std.proofs.Common.{◌≡◌, ℕ, suc, ◌+◌, List, ◌∷◌, ◌++◌, map, drop, ap, ◌∙◌, sym, append_assoc, add-one, drop-cons}
+use Rattle.std.proofs.Common.{◌≡◌, ℕ, suc, ◌+◌, List, ◌∷◌, ◌++◌, map, drop, ap, ◌∙◌, sym, append_assoc, add-one, drop-cons, append-nil}
+use Rattle.std.proofs.lemmas.List.{drop_all}
 use Rattle.std.specs.String.{string_bytes}
 use Rattle.csp_semantics.specs.Syntax.Process.{Script}
 use Rattle.csp_semantics.specs.Answers.Outcome as pure
 use Rattle.csp_semantics.specs.Answers.Printing.{line, lines_from, report}
 use Rattle.csp_term.specs.Script.{script_of}
+use Rattle.verdict.specs.declared.outcome.Outcome.{Outcome}
 use Rattle.verdict.specs.Outcome.{outcome_of}
 use Rattle.report.proofs.report.lines.Goals as goal
 
@@ -23,3 +25,11 @@ loop-place-preserved g c =
     next_line (script_of c.args.script.now) (string_bytes c.loop-place.text) (string_bytes c.push_line.new.text) place (outcome_of c.index-outcomes-place.result)
     (map outcome_of (drop place outcomes)) (map outcome_of (drop (place + 1) outcomes)) (report (script_of c.args.script.now) (map outcome_of outcomes))
     c.loop-place.invariant (ap (map outcome_of) first) c.in_ok-push_line.ensures
+
+pub returns : goal.returns
+returns g c =
+    let script = script_of c.args.script.now in
+    let text = string_bytes c.loop-place.text in
+    let none = drop_all c.loop-place.place c.args.outcomes.now c.loop-place-test.false in
+    sym (append-nil text) ∙ ap (λ (os : List (Outcome g.row.A.Denot)). text ++ lines_from script (suc c.loop-place.place) (map outcome_of os)) (sym none) ∙ c.loop-place.invariant
+

@@ -1,7 +1,7 @@
 use Rattle.std.proofs.Common.{◌≡◌, map, drop, ◌++◌}
 use Rattle.std.specs.String.{string_bytes}
 use Rattle.csp_semantics.specs.Answers.Printing.{action_text}
-use Rattle.csp_term.specs.Action.{action_of}
+use Rattle.csp_value.specs.Action.{action_of}
 use Rattle.csp_term.specs.Script.{script_of}
 use Rattle.report.proofs.Joining.{following}
 use Rattle.report.proofs.report.push_offers.Given as goal

@@ -5,7 +5,7 @@ use Rattle.csp_semantics.specs.Syntax.Value.{Value}
 use Rattle.csp_term.specs.declared.script.Channel.{Channel}
 use Rattle.csp_term.specs.declared.script.Equation.{Equation}
 use Rattle.csp_term.specs.declared.assertion.Assertion.{Assertion}
-use Rattle.csp_term.specs.Copies.{AreCopies}
+use Rattle.csp_value.specs.Copies.{AreCopies}
 use Rattle.csp_term.specs.Script.{assertion_of, equation_of, types_of}
 use Rattle.csp_term.proofs.Copying.{copies_same, copies_alike}
 use Rattle.csp_term.proofs.script.ScriptTryCopy.try_copy.Goals as goal

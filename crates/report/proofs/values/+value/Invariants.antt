@@ -1,0 +1,20 @@
+use Rattle.std.proofs.Common.{◌≡◌, map, drop, ◌++◌, ◌+◌, ◌*◌}
+use Rattle.std.specs.String.{string_bytes}
+use Rattle.csp_semantics.specs.Syntax.Value.{to_values}
+use Rattle.csp_semantics.specs.Meaning.Limits.{value_size, values_size}
+use Rattle.csp_semantics.specs.Answers.Printing.{value_text}
+use Rattle.csp_value.specs.Value.{value_of, values_of}
+use Rattle.csp_term.specs.Script.{script_of}
+use Rattle.report.proofs.Joining.{following}
+use Rattle.report.proofs.values.+value.Given as goal
+
+abbrev pub decreases-push_value : goal.decreases-push_value
+decreases-push_value g l = 2 * value_size (value_of l.value.now)
+
+abbrev pub decreases-push_values : goal.decreases-push_values
+decreases-push_values g l = 2 * values_size (to_values (values_of l.values.now)) + 1
+
+abbrev pub invariant-push_values-loop-value : goal.invariant-push_values-loop-value
+invariant-push_values-loop-value g l =
+    string_bytes l.text ++ following (map (value_text (script_of l.script).constructor_names) (values_of (drop l.value-index l.others)))
+    ≡ string_bytes l.initial.text ++ following (map (value_text (script_of l.script).constructor_names) (values_of l.others))
