@@ -143,6 +143,10 @@ impl Told {
 struct NoMemory;
 
 impl Files<Global> for NoMemory {
+    ghost may_hold = { λ _ _ _. ⊥ };
+
+    ghost may_lack = { λ _ _. ⊥ };
+
     fn read(&mut self, _name: &str) -> Result<Vec<u8>, Unread> {
         Err(Unread::Memory)
     }

@@ -48,7 +48,7 @@ returns-in_err-script-clause-cause g c =
     let is = subst (λ bytes. IsRefusalOf bytes c.in_err-script.field-0.0) c.deref.ensures.value c.in_err-script.ensures.refused in
     rw (p.1, p.2)
     (cause_of_text (g.F.Files.may_hold c.args.files.now) (g.F.Files.may_lack c.args.files.now) (texts_of words) _ c.in_ok-text.text.items c.in_err-script.field-0.0
-      (one_word words (record { ref_ptr = (0, 0); now = [] }) (omega arith)) c.in_ok-text.ensures.holds is)
+    (one_word words (record { ref_ptr = (0, 0); now = [] }) (omega arith)) c.in_ok-text.ensures.holds is)
 
 pub returns-clause-refused : goal.returns-clause-refused
 returns-clause-refused g c =
