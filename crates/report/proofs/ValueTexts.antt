@@ -1,5 +1,5 @@
 -- The texts and the sizes of values.
-use Rattle.std.proofs.Common.{◌≡◌, ℕ, zero, suc, ◌+◌, ◌<◌, ◌≤◌, List, [], ◌∷◌, ◌++◌, length, get_or, map, refl, sym, ◌∙◌, ap, codes, append_assoc, arith}
+use Rattle.std.proofs.Common.{◌≡◌, ℕ, zero, suc, ◌<◌, ◌≤◌, List, [], ◌∷◌, ◌++◌, length, get_or, map, refl, sym, ◌∙◌, ap, append_assoc, arith}
 use Rattle.std.specs.List.{join_with_byte}
 use Rattle.std.specs.declared.vec.Vec.{Vec}
 use Rattle.csp_semantics.specs.Syntax.Value as pure

@@ -3,7 +3,8 @@
 use crate::scripts::{event, repeated, script};
 use csp_term::laws::{compare_terms, equal_assertions, equal_scripts, equal_terms, hash_term};
 use csp_term::{
-    Action, Assertion, Equation, Fault, Memory, Model, Name, Script, Term, TermFault, TryCopy, copy_all,
+    Action, Assertion, Equation, Fault, Memory, Model, Name, Script, Term, TermFault, TryCopy,
+    copy_all,
 };
 use csp_value::laws::{compare_actions, equal_actions};
 use std::alloc::{Allocator, Global};

@@ -32,4 +32,3 @@ returns g c =
     let text = string_bytes c.loop-place.text in
     let none = drop_all c.loop-place.place c.args.outcomes.now c.loop-place-test.false in
     sym (append-nil text) ∙ ap (λ (os : List (Outcome g.row.A.Denot)). text ++ lines_from script (suc c.loop-place.place) (map outcome_of os)) (sym none) ∙ c.loop-place.invariant
-
