@@ -1,5 +1,5 @@
 -- What the reader hands out.
-use Rattle.std.specs.Prelude.{◌≡◌, ℕ, Bool, true, false, List, [], ◌∷◌, ◌++◌, map, Some, slice_get, ⊤}
+use Rattle.std.specs.Prelude.{◌≡◌, ℕ, Bool, true, false, List, [], ◌++◌, map, Some, slice_get, ⊤}
 use Rattle.std.specs.List.{All, AllZip, filter, flat_map}
 use Rattle.std.specs.Str.{chars}
 use Rattle.std.specs.String.{string_bytes}
