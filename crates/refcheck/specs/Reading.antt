@@ -67,6 +67,9 @@ pub record IsScriptOf (raw : RawScript) (script : Script) : Type 0 where
   pub once : StandOnce script.channel_names
   pub fields : script.channels ≡ map (λ n. []) script.channel_names
   pub assertions : AllZip (IsAssertionOf (all_channels raw)) (filter is_assertion raw) script.assertions
+  pub types : script.types ≡ record { datatypes = []; nametypes = [] }
+  pub equations : script.equations ≡ []
+  pub constructors : script.constructor_names ≡ []
 
 -- the script that the text is
 abbrev pub IsScriptOfText : List ℕ → Script → Type 0

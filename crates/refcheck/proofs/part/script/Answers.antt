@@ -1,4 +1,4 @@
-use Rattle.std.proofs.Common.{List, [], map, sym, ap, ◌∙◌, subst}
+use Rattle.std.proofs.Common.{List, [], map, refl, sym, ap, ◌∙◌, subst}
 use Rattle.std.proofs.lemmas.Simd.{map-map}
 use Rattle.std.specs.List.{All, AllZip, filter}
 use Rattle.std.specs.Str.{chars}
@@ -6,7 +6,7 @@ use Rattle.std.specs.String.{string_bytes}
 use Rattle.csp_parse.specs.declared.declarations.Declaration.{Declaration}
 use Rattle.csp_parse.specs.Declarations.{declaration_of}
 use Rattle.csp_term.specs.declared.script.Channel.{Channel}
-use Rattle.csp_term.specs.Script.{assertion_of}
+use Rattle.csp_term.specs.Script.{assertion_of, equation_of}
 use Rattle.refcheck.specs.Reading.{IsAssertionOf, IsPlain, all_channels, is_assertion, names_of}
 use Rattle.refcheck.proofs.part.script.Goals as goal
 
@@ -26,4 +26,7 @@ returns-clause-script g c =
       assertions =
           subst (λ names. AllZip (IsAssertionOf names) (filter is_assertion (raw c.args.tree.now.declarations.items)) assertions) spelled
           (subst Q c.deref-3.ensures.value (subst P c.deref-2.ensures.value c.in_ok-assertions.ensures.assertions));
+      types = refl;
+      equations = ap (map equation_of) c.new.ensures.items;
+      constructors = refl;
     }
