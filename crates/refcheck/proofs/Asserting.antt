@@ -5,7 +5,7 @@ use Rattle.std.proofs.lemmas.List.Elements.{filter-append}
 use Rattle.std.specs.List.{AllZip, filter}
 use Rattle.csp_semantics.specs.Syntax.Process.{Assertion}
 use Rattle.csp_semantics.specs.Text.Raw.{RawDeclaration, RawDatatype, RawNametype, RawChannels, RawEquation, RawAssertion}
-use Rattle.refcheck.specs.Reading.{IsAssertionOf, is_assertion}
+use Rattle.csp_semantics.specs.Text.Part.{IsAssertionOf, is_assertion}
 use Rattle.refcheck.proofs.Advancing.{one_further}
 use Rattle.refcheck.proofs.Answering.{zip_end}
 

@@ -8,7 +8,8 @@ use Rattle.std.specs.Str.{chars}
 use Rattle.std.specs.String.{string_bytes}
 use Rattle.csp_term.specs.declared.script.Channel.{Channel}
 use Rattle.csp_semantics.specs.Text.Raw.{RawDeclaration}
-use Rattle.refcheck.specs.Reading.{Declares, IsPlain, StandOnce, all_channels, declared_channels, names_of}
+use Rattle.csp_semantics.specs.Text.Part.{IsPlain, StandOnce, all_channels, declared_channels}
+use Rattle.refcheck.specs.Reading.{Declares, names_of}
 use Rattle.refcheck.proofs.Advancing.{one_further}
 use Rattle.refcheck.proofs.Naming.{once_more}
 

@@ -3,7 +3,7 @@ use Rattle.std.proofs.Common.{◌≡◌, ℕ, ◌+◌, ◌<◌, List, [], ◌∷
 use Rattle.std.proofs.lemmas.Bool.{cases_lt}
 use Rattle.std.proofs.lemmas.Option.{slice_get-get_or, slice_get-map}
 use Rattle.csp_semantics.proofs.Places.{get_cases}
-use Rattle.refcheck.specs.Reading.{StandOnce}
+use Rattle.csp_semantics.specs.Text.Part.{StandOnce}
 
 module _ {T : Type 0} (f : T → List ℕ) where
   -- what stands at a place within the list

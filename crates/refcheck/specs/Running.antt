@@ -6,7 +6,8 @@ use Rattle.csp_semantics.specs.Answers.Outcome.{Bounds, Outcome, Holds, Fails, U
 use Rattle.csp_semantics.specs.Answers.Printing.{report}
 use Rattle.report.specs.Sending.{Sends, Breaks}
 use Rattle.refcheck.specs.Answering.{AreRight}
-use Rattle.refcheck.specs.Reading.{IsScriptOfText, IsRefusalOf}
+use Rattle.csp_semantics.specs.Text.Part.{IsScriptOfText}
+use Rattle.refcheck.specs.Reading.{IsRefusalOf}
 use Rattle.refcheck.specs.Refusal.{refusal_line}
 use Rattle.refcheck.specs.declared.reader.ReadFault.{ReadFault}
 use Rattle.refcheck.specs.declared.reader.ReadFault.TheVariants as fault

@@ -13,7 +13,8 @@ ghost use Rattle.csp_parse.specs.Names.{name_of};
 ghost use Rattle.csp_parse.specs.Processes as written;
 ghost use Rattle.csp_term.specs.Term.{process_of};
 ghost use Rattle.csp_term.specs.Script as term;
-ghost use Rattle.refcheck.specs.Reading.{Declares, IsAssertionOf, IsOutside, IsPlain, IsProcessOf, IsScriptOf, StandOnce, all_channels, declared_channels, is_assertion, names_of};
+ghost use Rattle.csp_semantics.specs.Text.Part.{IsAssertionOf, IsPlain, IsProcessOf, IsScriptOf, StandOnce, all_channels, declared_channels, is_assertion};
+ghost use Rattle.refcheck.specs.Reading.{Declares, IsOutside, names_of};
 
 use crate::reader::ReadFault;
 use csp_parse::{Declaration, Name, Process, Raw};

@@ -2,7 +2,8 @@
 
 ghost use Rattle.std.specs.Prelude.{◌≡◌, IfOk, IfErr};
 ghost use Rattle.csp_term.specs.Script.{script_of};
-ghost use Rattle.refcheck.specs.Reading.{IsScriptOfText, IsRefusalOf};
+ghost use Rattle.csp_semantics.specs.Text.Part.{IsScriptOfText};
+ghost use Rattle.refcheck.specs.Reading.{IsRefusalOf};
 
 use crate::part;
 use csp_lex::{Place, TextFault, tokens};

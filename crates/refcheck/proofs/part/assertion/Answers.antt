@@ -7,7 +7,8 @@ use Rattle.csp_parse.specs.declared.processes.Process.{Process}
 use Rattle.csp_parse.specs.Declarations.{declaration_of, model_of}
 use Rattle.csp_parse.specs.Processes.{process_of}
 use Rattle.csp_term.specs.Script.{assertion_of}
-use Rattle.refcheck.specs.Reading.{IsAssertionOf, names_of}
+use Rattle.csp_semantics.specs.Text.Part.{IsAssertionOf}
+use Rattle.refcheck.specs.Reading.{names_of}
 use Rattle.refcheck.proofs.part.assertion.Goals as goal
 
 pub returns-in_ok-refinement-in-Assertion-clause-some : goal.returns-in_ok-refinement-in-Assertion-clause-some

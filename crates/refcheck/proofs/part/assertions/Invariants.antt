@@ -3,7 +3,8 @@ use Rattle.std.specs.List.{AllZip, filter}
 use Rattle.std.specs.Str.{chars}
 use Rattle.csp_parse.specs.Declarations.{declaration_of}
 use Rattle.csp_term.specs.Script.{assertion_of}
-use Rattle.refcheck.specs.Reading.{IsAssertionOf, is_assertion, names_of}
+use Rattle.csp_semantics.specs.Text.Part.{IsAssertionOf, is_assertion}
+use Rattle.refcheck.specs.Reading.{names_of}
 use Rattle.refcheck.proofs.part.assertions.Given as goal
 
 abbrev pub invariant-loop-declaration : goal.invariant-loop-declaration

@@ -5,7 +5,8 @@ use Rattle.csp_lex.specs.Places.{place_of}
 use Rattle.csp_lex.specs.Tokens.{placed_token}
 use Rattle.csp_parse.specs.Declarations as raw
 use Rattle.csp_term.specs.Script.{script_of}
-use Rattle.refcheck.specs.Reading.{IsOutside, IsRefusalOf, IsScriptOf, IsScriptOfText}
+use Rattle.csp_semantics.specs.Text.Part.{IsScriptOf, IsScriptOfText}
+use Rattle.refcheck.specs.Reading.{IsOutside, IsRefusalOf}
 use Rattle.refcheck.proofs.Outside.{outside}
 use Rattle.refcheck.proofs.reader.read.Goals as goal
 

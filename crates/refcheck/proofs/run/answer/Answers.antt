@@ -4,7 +4,8 @@ use Rattle.csp_term.specs.Script.{script_of}
 use Rattle.verdict.specs.declared.outcome.Outcome.{Outcome}
 use Rattle.verdict.specs.Outcome.{outcome_of}
 use Rattle.refcheck.specs.Answering.{AreRight}
-use Rattle.refcheck.specs.Reading.{IsScriptOfText, IsRefusalOf}
+use Rattle.csp_semantics.specs.Text.Part.{IsScriptOfText}
+use Rattle.refcheck.specs.Reading.{IsRefusalOf}
 use Rattle.refcheck.specs.Running.{IsScriptOfFile, program_bounds, status_of, texts_of}
 use Rattle.refcheck.proofs.Refusing.{cause_of_text, one_word}
 use Rattle.refcheck.proofs.Reporting.{left_behind, status_at_most}
