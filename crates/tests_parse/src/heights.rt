@@ -33,9 +33,16 @@ fn are_refused(
 const NOTHING: Repeated = ("", "", 0, "");
 
 /// Groups beside one another do not add up, and each declaration begins anew.
-static LOW: [(Repeated, Repeated); 6] = [
+static LOW: [(Repeated, Repeated); 13] = [
     (("P = ", "(", 99, "STOP"), ("", ")", 99, "")),
     (("P = ", "(", 100, "STOP"), ("", ")", 100, "")),
+    (("P = ", "(", 98, "a -> STOP"), ("", ")", 98, "")),
+    (("P = ", "(", 99, "a -> STOP"), ("", ")", 99, "")),
+    (("P = ", "(", 98, "a -> b -> STOP"), ("", ")", 98, "")),
+    (("P = ", "(", 100, "x"), ("", ")", 100, "")),
+    (("P = ", "(", 99, "x"), ("", ")", 99, " & STOP")),
+    (("P = ", "not ", 99, "x & STOP"), NOTHING),
+    (("P = Q", "[[a <- b]]", 100, ""), NOTHING),
     (("P = ", "a ->", 99, "STOP"), NOTHING),
     (("P = ", "a ->", 100, "STOP"), NOTHING),
     (("", "P = Q((1+1)*(1+1),(1+1)*(1+1)) ", 50, ""), NOTHING),
@@ -43,11 +50,34 @@ static LOW: [(Repeated, Repeated); 6] = [
 ];
 
 /// A refused token that is too high is refused for its height.
-static HIGH: [(Repeated, Repeated, &str); 7] = [
+static HIGH: [(Repeated, Repeated, &str); 14] = [
     (
         ("P = ", "(", 101, "STOP"),
         ("", ")", 101, ""),
         "S02 at 1:105",
+    ),
+    (
+        ("P = ", "(", 100, "a -> STOP"),
+        ("", ")", 100, ""),
+        "S02 at 1:107",
+    ),
+    (
+        ("P = ", "(", 99, "a -> b -> STOP"),
+        ("", ")", 99, ""),
+        "S02 at 1:111",
+    ),
+    (("P = ", "(", 101, "x"), ("", ")", 101, ""), "S02 at 1:105"),
+    (
+        ("P = ", "(", 100, "x"),
+        ("", ")", 100, " & a -> STOP"),
+        "S02 at 1:207",
+    ),
+    (("P = ", "not ", 100, "x & STOP"), NOTHING, "S02 at 1:407"),
+    (("P = Q", "[[a <- b]]", 101, ""), NOTHING, "S02 at 1:1006"),
+    (
+        ("nametype N = ", "(", 101, "1"),
+        ("", ")", 101, ""),
+        "S02 at 1:114",
     ),
     (("P = ", "a ->", 101, "STOP"), NOTHING, "S02 at 1:407"),
     (("P = ", "(", 100, "STOP("), NOTHING, "S02 at 1:109"),

@@ -5,13 +5,25 @@
 #![tactic(auto)]
 
 #[cfg(test)]
+mod declaration_beginnings;
+#[cfg(test)]
 mod declarations;
 #[cfg(test)]
+mod expression_beginnings;
+#[cfg(test)]
 mod expressions;
+#[cfg(test)]
+mod follows;
 #[cfg(test)]
 mod heights;
 #[cfg(test)]
 mod memory;
+#[cfg(test)]
+mod mixed;
+#[cfg(test)]
+mod operand_beginnings;
+#[cfg(test)]
+mod process_beginnings;
 #[cfg(test)]
 mod processes;
 #[cfg(test)]
@@ -20,3 +32,5 @@ mod refusals;
 mod show;
 #[cfg(test)]
 mod texts;
+#[cfg(test)]
+mod worked;

@@ -1,3 +1,4 @@
+use crate::worked::WORKED;
 use csp_lex::{TokenList, tokens};
 use csp_parse::{Refused, parse};
 use linked_list_allocator::LocalHeap;
@@ -20,15 +21,13 @@ fn count_within(
 /// In heaps of more and more bytes, each request for memory is refused in turn, and then none.
 #[test]
 fn refused_memory_is_told(rt: HostRuntime) -> Result<(), Fail> {
-    let text = "channel c : {0..1}.<1,2> P(x) = c!x?y:{1+1}!2 -> (P(x)[[c <- d]] \\ {|c|})
-        assert if x then [] y:S @ P(1) else P [| {} |] Q [F= x & SKIP";
-    let list = tokens(rt.alloc(), text.as_bytes())?;
+    let list = tokens(rt.alloc(), WORKED.as_bytes())?;
     let mut refusals = 0u32;
     let mut successes = 0u32;
-    for size in 1..64 {
-        match count_within(rt.alloc(), &list, 256 * size)? {
+    for size in 1..512 {
+        match count_within(rt.alloc(), &list, 64 * size)? {
             Ok(count) => {
-                assert_eq!(rt; count, 3);
+                assert_eq!(rt; count, 15);
                 successes = successes.saturating_add(1);
             }
             Err(refused) => {

@@ -8,7 +8,7 @@ static AROUND_PROCESSES: [Surroundings; 4] = [
     ("assert P [F= ", "", "assert 1:1 P() failures ", "; "),
 ];
 
-static PROCESSES: [(&str, &str); 43] = [
+static PROCESSES: [(&str, &str); 54] = [
     ("STOP", "STOP"),
     ("SKIP", "SKIP"),
     ("Q", "Q()"),
@@ -16,7 +16,16 @@ static PROCESSES: [(&str, &str); 43] = [
     ("Q(x,y or z)", "Q(x,(y or z))"),
     ("(STOP)", "STOP"),
     ("((x))", "x()"),
+    ("(((x)))", "x()"),
+    ("(P) & Q", "(P & Q())"),
     ("((x)) & P", "(x & P())"),
+    ("((x))[[a <- b]]", "(x() rename a<-b)"),
+    ("((x)) [| {} |] P", "(x() [| {} |] P())"),
+    ("((x)) + 1 == y & P", "(((x + 1) == y) & P())"),
+    ("((x+1)) * 2 == y & P", "((((x + 1) * 2) == y) & P())"),
+    ("((x) [] P)", "(x() [] P())"),
+    ("a -> ((x)) & P", "(a -> (x & P()))"),
+    ("P [] ((x)) & Q", "(P() [] (x & Q()))"),
     ("((x)) [] P", "(x() [] P())"),
     ("((x)) \\ {a}", "(x() hide {a})"),
     ("((x+1)) & P", "((x + 1) & P())"),
@@ -60,6 +69,11 @@ static PROCESSES: [(&str, &str); 43] = [
         "P [union({a},{}) || inter({|b|},diff({c},{d}))] Q",
         "(P() [({a} union {}) || ({|b|} inter ({c} diff {d}))] Q())",
     ),
+    (
+        "if x then P else Q \\ {a}",
+        "(if x then P() else (Q() hide {a}))",
+    ),
+    ("[] x:S @ P[[a <- b]]", "([] x:S @ (P() rename a<-b))"),
     ("P \\ {a} \\ {}", "((P() hide {a}) hide {})"),
     ("P[[a <- b]]", "(P() rename a<-b)"),
     (
