@@ -50,7 +50,7 @@ static LOW: [(Repeated, Repeated); 13] = [
 ];
 
 /// A refused token that is too high is refused for its height.
-static HIGH: [(Repeated, Repeated, &str); 14] = [
+static HIGH: [(Repeated, Repeated, &str); 15] = [
     (
         ("P = ", "(", 101, "STOP"),
         ("", ")", 101, ""),
@@ -60,6 +60,11 @@ static HIGH: [(Repeated, Repeated, &str); 14] = [
         ("P = ", "(", 100, "a -> STOP"),
         ("", ")", 100, ""),
         "S02 at 1:107",
+    ),
+    (
+        ("P = ", "(", 101, "a -> STOP"),
+        ("", ")", 101, ""),
+        "S02 at 1:105",
     ),
     (
         ("P = ", "(", 99, "a -> b -> STOP"),

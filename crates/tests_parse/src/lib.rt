@@ -1,5 +1,6 @@
 //! What the parser is seen to do: the trees of accepted texts by kind of production, the refusals of others
-//! with their places, heights at and over the limit, and refused memory.
+//! with their places, which tokens may stand behind each beginning, heights at and over the limit, a longer
+//! script cut behind each token, and refused memory.
 //!
 //! The tests stand in a crate above the parser, since a crate is proved anew for the tests that it has of its own.
 #![tactic(auto)]

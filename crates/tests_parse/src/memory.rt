@@ -24,8 +24,8 @@ fn refused_memory_is_told(rt: HostRuntime) -> Result<(), Fail> {
     let list = tokens(rt.alloc(), WORKED.as_bytes())?;
     let mut refusals = 0u32;
     let mut successes = 0u32;
-    for size in 1..512 {
-        match count_within(rt.alloc(), &list, 64 * size)? {
+    for size in 1..2048 {
+        match count_within(rt.alloc(), &list, 16 * size)? {
             Ok(count) => {
                 assert_eq!(rt; count, 15);
                 successes = successes.saturating_add(1);
@@ -36,6 +36,9 @@ fn refused_memory_is_told(rt: HostRuntime) -> Result<(), Fail> {
             }
         }
     }
-    assert!(rt; refusals > 3 && successes > 3, "{refusals} and {successes}");
+    assert!(rt;
+        refusals > 300 && successes > 300,
+        "{refusals} and {successes}"
+    );
     Ok(())
 }
