@@ -11,7 +11,7 @@ use Rattle.csp_semantics.specs.Text.Raw.{RawDeclaration}
 use Rattle.csp_semantics.specs.Text.Part.{IsPlain, StandOnce, all_channels, declared_channels}
 use Rattle.refcheck.specs.Reading.{Declares, names_of}
 use Rattle.refcheck.proofs.Advancing.{one_further}
-use Rattle.refcheck.proofs.Naming.{once_more}
+use Rattle.refcheck.proofs.Naming.{none_spelled, once_more}
 
 pub declares_none : {A : Type 0} (channels : List (Channel A)) → Declares channels channels []
 declares_none channels = record { behind = sym (append-nil (map chars (names_of channels))); once = λ once. once }
@@ -21,9 +21,11 @@ pub declares_one : {A : Type 0} (old new : List (Channel A)) (channel : Channel 
     ((k : ℕ) → slice_get (names_of old) k ≡ Some name → ⊥) → Declares old new (chars name ∷ [])
 declares_one old new channel name is spelled none =
     let names : names_of new ≡ names_of old ++ name ∷ [] = ap names_of is ∙ map-append (λ c. string_bytes c.spelling) old (channel ∷ []) ∙ ap (λ n. names_of old ++ n ∷ []) spelled in
+    let spellings : map chars (names_of new) ≡ map chars (names_of old) ++ chars name ∷ [] = ap (map chars) names ∙ map-append chars (names_of old) (name ∷ []) in
+    let other : (k : ℕ) → slice_get (map chars (names_of old)) k ≡ Some (chars name) → ⊥ = none_spelled old channel name spelled none in
     record {
-      behind = ap (map chars) names ∙ map-append chars (names_of old) (name ∷ []);
-      once = λ once. subst StandOnce (sym names) (once_more (names_of old) name once none);
+      behind = spellings;
+      once = λ once. subst StandOnce (sym spellings) (once_more (map chars (names_of old)) (chars name) once other);
     }
 
 -- first some, and then others

@@ -2,8 +2,14 @@
 use Rattle.std.proofs.Common.{◌≡◌, ℕ, ◌+◌, ◌<◌, List, [], ◌∷◌, ◌++◌, length, get_or, map, refl, sym, ◌∙◌, ap, subst, arith, inl, inr, ◌⊎◌, Some, slice_get, option_map}
 use Rattle.std.proofs.lemmas.Bool.{cases_lt}
 use Rattle.std.proofs.lemmas.Option.{slice_get-get_or, slice_get-map}
-use Rattle.csp_semantics.proofs.Places.{get_cases}
+use Rattle.std.proofs.lemmas.Str.{encodes-chars, IsUtf8-string_bytes}
+use lib.Utf8.{encodes}
+use Rattle.std.specs.Str.{chars}
+use Rattle.std.specs.String.{string_bytes}
+use Rattle.csp_term.specs.declared.script.Channel.{Channel}
+use Rattle.csp_semantics.proofs.Places.{get_cases, get_map}
 use Rattle.csp_semantics.specs.Text.Part.{StandOnce}
+use Rattle.refcheck.specs.Reading.{names_of}
 
 module _ {T : Type 0} (f : T → List ℕ) where
   -- what stands at a place within the list
@@ -35,3 +41,16 @@ once_more names name once none i j n e f = join (get_cases names name i n e) (ge
 -- no names at all
 pub none_once : StandOnce []
 none_once i j n e f = absurd (cc e)
+
+-- names with the same characters are the same
+same_names : {A : Type 0} (c d : Channel A) → chars (string_bytes c.spelling) ≡ chars (string_bytes d.spelling) → string_bytes c.spelling ≡ string_bytes d.spelling
+same_names c d same = sym (encodes-chars (string_bytes c.spelling) (IsUtf8-string_bytes c.spelling)) ∙ ap encodes same ∙ encodes-chars (string_bytes d.spelling) (IsUtf8-string_bytes d.spelling)
+
+-- a name that no channel has is spelled as none
+pub none_spelled : {A : Type 0} (channels : List (Channel A)) (channel : Channel A) (name : List ℕ) → string_bytes channel.spelling ≡ name →
+    ((k : ℕ) → slice_get (names_of channels) k ≡ Some name → ⊥) → (k : ℕ) → slice_get (map chars (names_of channels)) k ≡ Some (chars name) → ⊥
+none_spelled channels channel name spelled none k is =
+    let n = get_map chars (names_of channels) k (chars name) is in
+    let c = get_map (λ c. string_bytes c.spelling) channels k n.0 n.1 in
+    let same = same_names c.0 channel (ap chars c.2 ∙ n.2 ∙ ap chars (sym spelled)) in
+    none k (n.1 ∙ ap Some (sym c.2 ∙ same ∙ spelled))

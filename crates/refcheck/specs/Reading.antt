@@ -20,10 +20,10 @@ use Rattle.refcheck.specs.declared.reader.ReadFault.TheVariants as fault
 abbrev pub names_of : {A : Type 0} → List (Channel A) → List (List ℕ)
 names_of channels = map (λ c. string_bytes c.spelling) channels
 
--- Channels were declared behind others: these are their spellings, and no name stands twice where none did.
+-- Channels were declared behind others: these are their spellings, and none stands twice where none did.
 pub record Declares {A : Type 0} (old new : List (Channel A)) (spellings : List (List ℕ)) : Type 0 where
   pub behind : map chars (names_of new) ≡ map chars (names_of old) ++ spellings
-  pub once : StandOnce (names_of old) → StandOnce (names_of new)
+  pub once : StandOnce (map chars (names_of old)) → StandOnce (map chars (names_of new))
 
 -- what is refused where a text has no tokens
 abbrev pub of_lexer : lexer.Refused → ReadFault

@@ -46,7 +46,7 @@ fn channels<A: Allocator + Copy>(
 ) -> Result<Vec<Channel<A>, A>, ReadFault>
     ensures plain { OnOk result (All IsPlain (map raw.declaration_of declarations.now)) }
     ensures spellings { IfOk result (λ channels. map chars (names_of channels.items) ≡ all_channels (map raw.declaration_of declarations.now)) }
-    ensures once { IfOk result (λ channels. StandOnce (names_of channels.items)) }
+    ensures once { IfOk result (λ channels. StandOnce (map chars (names_of channels.items))) }
     ensures refused { IfErr result IsOutside }
 {
     let mut channels = Vec::new(alloc);

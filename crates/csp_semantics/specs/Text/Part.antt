@@ -36,15 +36,15 @@ abbrev pub IsAssertionOf : List (List ℕ) → RawDeclaration → Assertion → 
 IsAssertionOf channels (RawAssertion place Traces p q) a = (a.model ≡ Traces) × IsProcessOf channels p a.specification × IsProcessOf channels q a.implementation
 IsAssertionOf channels _ a = ⊥
 
--- no name stands at two places
+-- no spelling stands at two places
 abbrev pub StandOnce : List (List ℕ) → Type 0
-StandOnce names = (i j : ℕ) (n : List ℕ) → slice_get names i ≡ Some n → slice_get names j ≡ Some n → i ≡ j
+StandOnce spellings = (i j : ℕ) (s : List ℕ) → slice_get spellings i ≡ Some s → slice_get spellings j ≡ Some s → i ≡ j
 
 -- The script that a tree within the part stands for. Its names are kept in bytes.
 pub record IsScriptOf (raw : RawScript) (script : Script) : Type 0 where
   pub plain : All IsPlain raw
   pub channels : map chars script.channel_names ≡ all_channels raw
-  pub once : StandOnce script.channel_names
+  pub once : StandOnce (all_channels raw)
   pub fields : script.channels ≡ map (λ n. []) script.channel_names
   pub assertions : AllZip (IsAssertionOf (all_channels raw)) (filter is_assertion raw) script.assertions
   pub types : script.types ≡ record { datatypes = []; nametypes = [] }

@@ -7,7 +7,7 @@ use Rattle.csp_parse.specs.declared.declarations.Declaration.{Declaration}
 use Rattle.csp_parse.specs.Declarations.{declaration_of}
 use Rattle.csp_term.specs.declared.script.Channel.{Channel}
 use Rattle.csp_term.specs.Script.{assertion_of, equation_of}
-use Rattle.csp_semantics.specs.Text.Part.{IsAssertionOf, IsPlain, all_channels, is_assertion}
+use Rattle.csp_semantics.specs.Text.Part.{StandOnce, IsAssertionOf, IsPlain, all_channels, is_assertion}
 use Rattle.refcheck.specs.Reading.{names_of}
 use Rattle.refcheck.proofs.part.script.Goals as goal
 
@@ -22,7 +22,7 @@ returns-clause-script g c =
     record {
       plain = subst (λ ds. All IsPlain (raw ds)) c.deref.ensures.value c.in_ok-channels.ensures.plain;
       channels = spelled;
-      once = c.in_ok-channels.ensures.once;
+      once = subst StandOnce spelled c.in_ok-channels.ensures.once;
       fields = sym (map-map (λ _. []) (λ channel. string_bytes channel.spelling) channels);
       assertions =
           subst (λ names. AllZip (IsAssertionOf names) (filter is_assertion (raw c.args.tree.now.declarations.items)) assertions) spelled
