@@ -6,7 +6,6 @@ ghost use Rattle.csp_semantics.specs.Syntax.Value.{has_value, insert_value, inse
 ghost use Rattle.csp_semantics.specs.Meaning.Limits.{values_depth, values_size};
 ghost use Rattle.csp_value.specs.Value.{IsRisingSet, members_of, value_of, values_of};
 
-use crate::copy::TryCopy;
 use crate::limits::{are_within_depth, room_left_by};
 use crate::memory::Memory;
 use crate::value::{Value, copy_values};
@@ -29,16 +28,6 @@ impl<A: Allocator + Copy> SetOf<A> {
     {
         let members = copy_values(&self.members, alloc)?;
         Ok(SetOf { members })
-    }
-}
-
-impl<A: Allocator + Copy> TryCopy<A> for SetOf<A> {
-    ghost use Rattle.csp_value.specs.Value.{members_of};
-
-    ghost is_copy = { λ set copy. members_of copy ≡ members_of set };
-
-    fn try_copy(&self, alloc: A) -> Result<SetOf<A>, Memory> {
-        SetOf::try_copy(self, alloc)
     }
 }
 
