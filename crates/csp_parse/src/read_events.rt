@@ -14,7 +14,7 @@ use crate::events::{Event, Pair};
 use crate::expressions::Expression;
 use crate::levels::Level;
 use crate::parsers::Parser;
-use crate::stops::Stopped;
+use crate::refusals::Refused;
 use csp_lex::{Keyword, Sign, TokenKind};
 use std::alloc::Allocator;
 
@@ -22,7 +22,7 @@ impl<'t, 'a, A: Allocator + Copy> Parser<'t, 'a, A> {
     ghost use Rattle.csp_parse.specs.Reading.{left_of, standing_of, Reads};
 
     /// Atoms with a dot before each.
-    fn dotted(&mut self) -> Result<Vec<Expression<'a, A>, A>, Stopped>
+    fn dotted(&mut self) -> Result<Vec<Expression<'a, A>, A>, Refused>
         ensures reads { IfOk result (λ r. Reads AreDotted (standing_of self.old) (standing_of self.new) (expressions_of r.items)) }
         ensures not_longer { IfOk result (λ _. length (left_of self.new) ≤ length (left_of self.old)) }
     {
@@ -35,7 +35,7 @@ impl<'t, 'a, A: Allocator + Copy> Parser<'t, 'a, A> {
         Ok(fields)
     }
 
-    fn event(&mut self) -> Result<Event<'a, A>, Stopped>
+    fn event(&mut self) -> Result<Event<'a, A>, Refused>
         ensures reads { IfOk result (λ r. Reads IsEvent (standing_of self.old) (standing_of self.new) (event_of r)) }
         ensures shorter { IfOk result (λ _. length (left_of self.new) < length (left_of self.old)) }
     {
@@ -45,7 +45,7 @@ impl<'t, 'a, A: Allocator + Copy> Parser<'t, 'a, A> {
     }
 
     /// Events with a comma between.
-    fn events(&mut self) -> Result<Vec<Event<'a, A>, A>, Stopped>
+    fn events(&mut self) -> Result<Vec<Event<'a, A>, A>, Refused>
         ensures reads { IfOk result (λ r. Reads AreEvents (standing_of self.old) (standing_of self.new) (map event_of r.items)) }
         ensures shorter { IfOk result (λ _. length (left_of self.new) < length (left_of self.old)) }
     {
@@ -60,7 +60,7 @@ impl<'t, 'a, A: Allocator + Copy> Parser<'t, 'a, A> {
         Ok(events)
     }
 
-    fn pair(&mut self) -> Result<Pair<'a, A>, Stopped>
+    fn pair(&mut self) -> Result<Pair<'a, A>, Refused>
         ensures reads { IfOk result (λ r. Reads IsPair (standing_of self.old) (standing_of self.new) (pair_of r)) }
         ensures shorter { IfOk result (λ _. length (left_of self.new) < length (left_of self.old)) }
     {
@@ -71,7 +71,7 @@ impl<'t, 'a, A: Allocator + Copy> Parser<'t, 'a, A> {
     }
 
     /// The pairs of a renaming, with a comma between.
-    pub(crate) fn pairs(&mut self) -> Result<Vec<Pair<'a, A>, A>, Stopped>
+    pub(crate) fn pairs(&mut self) -> Result<Vec<Pair<'a, A>, A>, Refused>
         ensures reads { IfOk result (λ r. Reads ArePairs (standing_of self.old) (standing_of self.new) (map pair_of r.items)) }
         ensures shorter { IfOk result (λ _. length (left_of self.new) < length (left_of self.old)) }
     {
@@ -88,7 +88,7 @@ impl<'t, 'a, A: Allocator + Copy> Parser<'t, 'a, A> {
 
     /// A set of events.
     #[cycle(event_set)]
-    pub(crate) fn event_set(&mut self) -> Result<EventSet<'a, A>, Stopped>
+    pub(crate) fn event_set(&mut self) -> Result<EventSet<'a, A>, Refused>
         ensures reads { IfOk result (λ r. Reads IsEventSet (standing_of self.old) (standing_of self.new) (event_set_of r)) }
         ensures shorter { IfOk result (λ _. length (left_of self.new) < length (left_of self.old)) }
     {
@@ -100,7 +100,7 @@ impl<'t, 'a, A: Allocator + Copy> Parser<'t, 'a, A> {
     }
 
     /// `{|`, events and `|}`.
-    fn productions(&mut self) -> Result<EventSet<'a, A>, Stopped>
+    fn productions(&mut self) -> Result<EventSet<'a, A>, Refused>
         ensures reads { IfOk result (λ r. Reads IsEventSet (standing_of self.old) (standing_of self.new) (event_set_of r)) }
         ensures shorter { IfOk result (λ _. length (left_of self.new) < length (left_of self.old)) }
     {
@@ -111,7 +111,7 @@ impl<'t, 'a, A: Allocator + Copy> Parser<'t, 'a, A> {
     }
 
     /// `{`, events and `}`.
-    fn enumeration(&mut self) -> Result<EventSet<'a, A>, Stopped>
+    fn enumeration(&mut self) -> Result<EventSet<'a, A>, Refused>
         ensures reads { IfOk result (λ r. Reads IsEventSet (standing_of self.old) (standing_of self.new) (event_set_of r)) }
         ensures shorter { IfOk result (λ _. length (left_of self.new) < length (left_of self.old)) }
     {
@@ -127,12 +127,12 @@ impl<'t, 'a, A: Allocator + Copy> Parser<'t, 'a, A> {
 
     /// Two sets of events that this keyword joins.
     #[cycle(event_set)]
-    fn combined_set(&mut self, keyword: Keyword) -> Result<EventSet<'a, A>, Stopped>
+    fn combined_set(&mut self, keyword: Keyword) -> Result<EventSet<'a, A>, Refused>
         ensures reads { IfOk result (λ r. Reads IsEventSet (standing_of self.old) (standing_of self.new) (event_set_of r)) }
         ensures shorter { IfOk result (λ _. length (left_of self.new) < length (left_of self.old)) }
     {
         let Some(operator) = set_operator(keyword) else {
-            return Err(Stopped::Here);
+            return Err(self.refused());
         };
         self.word(keyword)?;
         self.sign(Sign::OpenRound)?;
@@ -150,7 +150,7 @@ fn joined<'a, A: Allocator + Copy>(
     operator: SetOperator,
     left: EventSet<'a, A>,
     right: EventSet<'a, A>,
-) -> Result<EventSet<'a, A>, Stopped>
+) -> Result<EventSet<'a, A>, Refused>
     ensures { IfOk result (λ s. event_set_of s ≡ operator_of operator (event_set_of left.entry) (event_set_of right.entry)) }
 {
     let left = Box::new(alloc, left)?;

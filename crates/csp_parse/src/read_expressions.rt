@@ -9,7 +9,7 @@ use crate::expressions::Expression;
 use crate::levels::{Level, binary_function, comparison, unary_function};
 use crate::operators::{BinaryOperator, UnaryOperator};
 use crate::parsers::Parser;
-use crate::stops::Stopped;
+use crate::refusals::Refused;
 use csp_lex::{Keyword, Sign, TokenKind};
 use std::alloc::Allocator;
 
@@ -18,7 +18,7 @@ impl<'t, 'a, A: Allocator + Copy> Parser<'t, 'a, A> {
 
     /// An expression of a level.
     #[cycle(expression)]
-    pub(crate) fn expression(&mut self, level: Level) -> Result<Expression<'a, A>, Stopped>
+    pub(crate) fn expression(&mut self, level: Level) -> Result<Expression<'a, A>, Refused>
         ensures reads { IfOk result (λ e. Reads (IsAt level) (standing_of self.old) (standing_of self.new) (expression_of e)) }
         ensures shorter { IfOk result (λ _. length (left_of self.new) < length (left_of self.old)) }
     {
@@ -54,7 +54,7 @@ impl<'t, 'a, A: Allocator + Copy> Parser<'t, 'a, A> {
         &mut self,
         level: Level,
         first: Expression<'a, A>,
-    ) -> Result<Expression<'a, A>, Stopped>
+    ) -> Result<Expression<'a, A>, Refused>
         ensures extends { IfOk result (λ e. Extends (IsAt level) (IsAt level) (standing_of self.old) (standing_of self.new) (expression_of first.entry) (expression_of e)) }
         ensures not_longer { IfOk result (λ _. length (left_of self.new) ≤ length (left_of self.old)) }
     {
@@ -75,7 +75,7 @@ impl<'t, 'a, A: Allocator + Copy> Parser<'t, 'a, A> {
     pub(crate) fn compared(
         &mut self,
         first: Expression<'a, A>,
-    ) -> Result<Expression<'a, A>, Stopped>
+    ) -> Result<Expression<'a, A>, Refused>
         ensures extends { IfOk result (λ e. Extends IsSum IsComparison (standing_of self.old) (standing_of self.new) (expression_of first.entry) (expression_of e)) }
         ensures not_longer { IfOk result (λ _. length (left_of self.new) ≤ length (left_of self.old)) }
     {
@@ -92,7 +92,7 @@ impl<'t, 'a, A: Allocator + Copy> Parser<'t, 'a, A> {
 
     /// `not` any number of times, and a comparison.
     #[cycle(expression)]
-    fn negation(&mut self) -> Result<Expression<'a, A>, Stopped>
+    fn negation(&mut self) -> Result<Expression<'a, A>, Refused>
         ensures reads { IfOk result (λ e. Reads IsNegation (standing_of self.old) (standing_of self.new) (expression_of e)) }
         ensures shorter { IfOk result (λ _. length (left_of self.new) < length (left_of self.old)) }
     {
@@ -106,7 +106,7 @@ impl<'t, 'a, A: Allocator + Copy> Parser<'t, 'a, A> {
 
     /// An expression without operators around it.
     #[cycle(expression)]
-    fn atom(&mut self) -> Result<Expression<'a, A>, Stopped>
+    fn atom(&mut self) -> Result<Expression<'a, A>, Refused>
         ensures reads { IfOk result (λ e. Reads IsAtom (standing_of self.old) (standing_of self.new) (expression_of e)) }
         ensures shorter { IfOk result (λ _. length (left_of self.new) < length (left_of self.old)) }
     {
@@ -126,7 +126,7 @@ impl<'t, 'a, A: Allocator + Copy> Parser<'t, 'a, A> {
 
     /// The atom that begins with this keyword.
     #[cycle(expression)]
-    fn atom_of_word(&mut self, keyword: Keyword) -> Result<Expression<'a, A>, Stopped>
+    fn atom_of_word(&mut self, keyword: Keyword) -> Result<Expression<'a, A>, Refused>
         ensures reads { IfOk result (λ e. Reads IsAtom (standing_of self.old) (standing_of self.new) (expression_of e)) }
         ensures shorter { IfOk result (λ _. length (left_of self.new) < length (left_of self.old)) }
     {
@@ -144,7 +144,7 @@ impl<'t, 'a, A: Allocator + Copy> Parser<'t, 'a, A> {
     }
 
     /// The constant that this keyword is.
-    fn constant(&mut self, keyword: Keyword) -> Result<Expression<'a, A>, Stopped>
+    fn constant(&mut self, keyword: Keyword) -> Result<Expression<'a, A>, Refused>
         ensures reads { IfOk result (λ e. Reads IsAtom (standing_of self.old) (standing_of self.new) (expression_of e)) }
         ensures shorter { IfOk result (λ _. length (left_of self.new) < length (left_of self.old)) }
     {
@@ -161,13 +161,13 @@ impl<'t, 'a, A: Allocator + Copy> Parser<'t, 'a, A> {
                 self.word(Keyword::Bool)?;
                 Ok(Expression::Booleans)
             }
-            _ => Err(Stopped::Here),
+            _ => Err(self.refused()),
         }
     }
 
     /// An expression in brackets.
     #[cycle(expression)]
-    fn bracketed(&mut self) -> Result<Expression<'a, A>, Stopped>
+    fn bracketed(&mut self) -> Result<Expression<'a, A>, Refused>
         ensures reads { IfOk result (λ e. ReadsBracketed (standing_of self.old) (standing_of self.new) (expression_of e)) }
         ensures shorter { IfOk result (λ _. length (left_of self.new) < length (left_of self.old)) }
     {
@@ -179,7 +179,7 @@ impl<'t, 'a, A: Allocator + Copy> Parser<'t, 'a, A> {
 
     /// Two expressions in brackets.
     #[cycle(expression)]
-    fn two_arguments(&mut self) -> Result<(Expression<'a, A>, Expression<'a, A>), Stopped>
+    fn two_arguments(&mut self) -> Result<(Expression<'a, A>, Expression<'a, A>), Refused>
         ensures reads { IfOk result (λ r. ReadsTwo (standing_of self.old) (standing_of self.new) (expression_of r.0) (expression_of r.1)) }
         ensures shorter { IfOk result (λ _. length (left_of self.new) < length (left_of self.old)) }
     {
@@ -193,7 +193,7 @@ impl<'t, 'a, A: Allocator + Copy> Parser<'t, 'a, A> {
 
     /// The atom that begins with this sign.
     #[cycle(expression)]
-    fn atom_of_sign(&mut self, sign: Sign) -> Result<Expression<'a, A>, Stopped>
+    fn atom_of_sign(&mut self, sign: Sign) -> Result<Expression<'a, A>, Refused>
         ensures reads { IfOk result (λ e. Reads IsAtom (standing_of self.old) (standing_of self.new) (expression_of e)) }
         ensures shorter { IfOk result (λ _. length (left_of self.new) < length (left_of self.old)) }
     {
@@ -211,13 +211,13 @@ impl<'t, 'a, A: Allocator + Copy> Parser<'t, 'a, A> {
             Sign::OpenRound => self.bracketed(),
             Sign::Less => self.sequence(),
             Sign::OpenBrace => self.set(),
-            _ => Err(Stopped::Here),
+            _ => Err(self.refused()),
         }
     }
 
     /// A sequence.
     #[cycle(expression)]
-    fn sequence(&mut self) -> Result<Expression<'a, A>, Stopped>
+    fn sequence(&mut self) -> Result<Expression<'a, A>, Refused>
         ensures reads { IfOk result (λ e. Reads IsAtom (standing_of self.old) (standing_of self.new) (expression_of e)) }
         ensures shorter { IfOk result (λ _. length (left_of self.new) < length (left_of self.old)) }
     {
@@ -234,7 +234,7 @@ impl<'t, 'a, A: Allocator + Copy> Parser<'t, 'a, A> {
 
     /// A set.
     #[cycle(expression)]
-    fn set(&mut self) -> Result<Expression<'a, A>, Stopped>
+    fn set(&mut self) -> Result<Expression<'a, A>, Refused>
         ensures reads { IfOk result (λ e. Reads IsAtom (standing_of self.old) (standing_of self.new) (expression_of e)) }
         ensures shorter { IfOk result (λ _. length (left_of self.new) < length (left_of self.old)) }
     {
@@ -261,7 +261,7 @@ impl<'t, 'a, A: Allocator + Copy> Parser<'t, 'a, A> {
         &mut self,
         level: Level,
         first: Expression<'a, A>,
-    ) -> Result<Vec<Expression<'a, A>, A>, Stopped>
+    ) -> Result<Vec<Expression<'a, A>, A>, Refused>
         ensures extends { IfOk result (λ all. Extends (IsAt level) (AreListed level) (standing_of self.old) (standing_of self.new) (expression_of first.entry) (expressions_of all.items)) }
         ensures not_longer { IfOk result (λ _. length (left_of self.new) ≤ length (left_of self.old)) }
     {
@@ -279,7 +279,7 @@ impl<'t, 'a, A: Allocator + Copy> Parser<'t, 'a, A> {
     pub(crate) fn expression_from(
         &mut self,
         atom: Expression<'a, A>,
-    ) -> Result<Expression<'a, A>, Stopped>
+    ) -> Result<Expression<'a, A>, Refused>
         ensures extends { IfOk result (λ e. Extends IsAtom IsExpression (standing_of self.old) (standing_of self.new) (expression_of atom.entry) (expression_of e)) }
         ensures not_longer { IfOk result (λ _. length (left_of self.new) ≤ length (left_of self.old)) }
     {
@@ -296,7 +296,7 @@ fn applied<'a, A: Allocator>(
     alloc: A,
     operator: UnaryOperator,
     operand: Expression<'a, A>,
-) -> Result<Expression<'a, A>, Stopped>
+) -> Result<Expression<'a, A>, Refused>
     ensures { IfOk result (λ e. expression_of e ≡ RawApply (unary_of operator) (expression_of operand.entry)) }
 {
     let operand = Box::new(alloc, operand)?;
@@ -309,7 +309,7 @@ fn combined<'a, A: Allocator + Copy>(
     operator: BinaryOperator,
     left: Expression<'a, A>,
     right: Expression<'a, A>,
-) -> Result<Expression<'a, A>, Stopped>
+) -> Result<Expression<'a, A>, Refused>
     ensures { IfOk result (λ e. expression_of e ≡ RawCombine (binary_of operator) (expression_of left.entry) (expression_of right.entry)) }
 {
     let left = Box::new(alloc, left)?;
@@ -322,7 +322,7 @@ fn ranged<'a, A: Allocator + Copy>(
     alloc: A,
     from: Expression<'a, A>,
     to: Expression<'a, A>,
-) -> Result<Expression<'a, A>, Stopped>
+) -> Result<Expression<'a, A>, Refused>
     ensures { IfOk result (λ e. expression_of e ≡ RawRange (expression_of from.entry) (expression_of to.entry)) }
 {
     let from = Box::new(alloc, from)?;
