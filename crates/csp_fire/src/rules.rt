@@ -17,7 +17,7 @@ mod skip;
 
 use crate::form::Step;
 use crate::stuck::Stuck;
-use csp_term::{AllocHandle, Script, Term, TermForm};
+use csp_term::{AllocHandle, Script, Term};
 
 /// The rule steps of the term.
 #[cycle(steps)]
@@ -28,16 +28,14 @@ pub(crate) fn steps<A: AllocHandle>(
 ) -> Result<Vec<Step<A>, A>, Stuck>
     ensures { Answers (script_of script.now) (process_of term.now) result }
 {
-    match term.form() {
-        TermForm::Stop => Ok(Vec::new(alloc)),
-        TermForm::Omega => Ok(Vec::new(alloc)),
-        TermForm::Skip => skip::steps(alloc, script),
-        TermForm::Prefix(channel, fields, body) => {
-            prefix::steps(alloc, script, *channel, fields, body)
-        }
-        TermForm::Call(equation, arguments) => call::steps(alloc, script, *equation, arguments),
-        TermForm::Guard(condition, body) => guard::steps(alloc, script, condition, body),
-        TermForm::If(condition, first, second) => {
+    match term {
+        Term::Stop => Ok(Vec::new(alloc)),
+        Term::Omega => Ok(Vec::new(alloc)),
+        Term::Skip => skip::steps(alloc, script),
+        Term::Prefix(channel, fields, body) => prefix::steps(alloc, script, *channel, fields, body),
+        Term::Call(equation, arguments) => call::steps(alloc, script, *equation, arguments),
+        Term::Guard(condition, body) => guard::steps(alloc, script, condition, body),
+        Term::If(condition, first, second) => {
             conditional::steps(alloc, script, condition, first, second)
         }
     }

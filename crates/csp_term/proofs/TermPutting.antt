@@ -1,23 +1,23 @@
 -- Values are put into the fields of a prefix in turn, and what the parts of a term make up.
 use Rattle.std.proofs.Common.{◌≡◌, ℕ, ◌+◌, ◌<◌, List, [], ◌∷◌, ◌++◌, length, map, drop, get_or, refl, sym, ◌∙◌, ap, ap₂}
 use Rattle.std.proofs.lemmas.List.{map-append, append_assoc, drop_more}
+use Rattle.std.specs.declared.boxed.Box.{Box}
 use Rattle.std.specs.declared.vec.Vec.{Vec}
 use Rattle.csp_semantics.specs.Syntax.Expression.{to_expressions}
 use Rattle.csp_semantics.specs.Syntax.Process as pure
-use Rattle.csp_semantics.specs.Meaning.Substitution.{Bindings, behind, put, put_expression, put_fields}
+use Rattle.csp_semantics.specs.Meaning.Substitution.{Bindings, behind, put, put_fields}
 use Rattle.csp_value.specs.declared.name.ChannelId.{ChannelId}
 use Rattle.csp_term.specs.declared.name.EquationId.{EquationId}
 use Rattle.csp_term.specs.declared.expression.expr.Expr.{Expr}
 use Rattle.csp_term.specs.declared.field.Field.{Field}
 use Rattle.csp_term.specs.declared.term.Term.{Term}
-use Rattle.csp_term.specs.declared.term.TermForm.{TermForm}
-use Rattle.csp_term.specs.declared.term.TermForm.TheVariants as views
+use Rattle.csp_term.specs.declared.term.Term.TheVariants as views
 use Rattle.csp_term.specs.Bindings.{puts}
-use Rattle.csp_term.specs.Expression.{expression_of, expressions_of}
+use Rattle.csp_term.specs.Expression.{expressions_of}
 use Rattle.csp_term.specs.Field.{field_of, fields_of}
-use Rattle.csp_term.specs.Term.{process_of, process_of_form}
+use Rattle.csp_term.specs.Term.{process_of}
 use Rattle.csp_term.proofs.ExpressionPutting.{put_list}
-use Rattle.csp_term.proofs.Forms.{of_call, of_prefix, of_guard, of_conditional}
+use Rattle.csp_term.proofs.Forms.{of_call, of_prefix}
 
 -- ---- fields, one and then the others
 
@@ -62,22 +62,13 @@ module _ {A : Type 0} (bs : Bindings) (fs : List (Field A)) where
 
 -- ---- terms
 
-pub put_call : {A : Type 0} (bs : Bindings) (self : TermForm A) (n : EquationId) (es all : Vec (Expr A) A) (read : List (Expr A)) → self ≡ views.Call n es → read ≡ es.items → expressions_of all.items ≡ puts bs read →
-    process_of_form {A = A} (views.Call n all) ≡ put bs (process_of_form self)
+pub put_call : {A : Type 0} (bs : Bindings) (self : Term A) (n : EquationId) (es all : Vec (Expr A) A) (read : List (Expr A)) → self ≡ views.Call n es → read ≡ es.items → expressions_of all.items ≡ puts bs read →
+    process_of {A = A} (views.Call n all) ≡ put bs (process_of self)
 put_call {A} bs self n es all read is same done =
-    of_call A n all ∙ ap (λ fs. pure.Call n.0 (to_expressions fs)) (done ∙ ap (puts bs) same) ∙ ap (pure.Call n.0) (put_list bs es.items) ∙ ap (put bs) (sym (ap process_of_form is ∙ of_call A n es))
+    of_call A n all ∙ ap (λ fs. pure.Call n.0 (to_expressions fs)) (done ∙ ap (puts bs) same) ∙ ap (pure.Call n.0) (put_list bs es.items) ∙ ap (put bs) (sym (ap process_of is ∙ of_call A n es))
 
-pub put_prefix : {A : Type 0} (bs left : Bindings) (self : TermForm A) (c : ChannelId) (fs all : Vec (Field A) A) (p body : Term A) (read : List (Field A)) → self ≡ views.Prefix c fs p → read ≡ fs.items →
-    fields_of all.items ≡ put_fields bs (fields_of read) → left ≡ behind bs (fields_of read) → process_of body ≡ put left (process_of p) → process_of_form {A = A} (views.Prefix c all body) ≡ put bs (process_of_form self)
+pub put_prefix : {A : Type 0} (bs left : Bindings) (self : Term A) (c : ChannelId) (fs all : Vec (Field A) A) (p body : Box (Term A) A) (read : List (Field A)) → self ≡ views.Prefix c fs p → read ≡ fs.items →
+    fields_of all.items ≡ put_fields bs (fields_of read) → left ≡ behind bs (fields_of read) → process_of body.value ≡ put left (process_of p.value) → process_of {A = A} (views.Prefix c all body) ≡ put bs (process_of self)
 put_prefix {A} bs left self c fs all p body read is same done rest put_body =
-    of_prefix A c all body ∙ ap₂ (pure.Prefix c.0) (done ∙ ap (λ gs. put_fields bs (fields_of gs)) same) (put_body ∙ ap (λ cs. put cs (process_of p)) (rest ∙ ap (λ gs. behind bs (fields_of gs)) same))
-    ∙ ap (put bs) (sym (ap process_of_form is ∙ of_prefix A c fs p))
-
-pub put_guard : {A : Type 0} (bs : Bindings) (self : TermForm A) (e condition : Expr A) (p body : Term A) → self ≡ views.Guard e p → expression_of condition ≡ put_expression bs (expression_of e) → process_of body ≡ put bs (process_of p) →
-    process_of_form {A = A} (views.Guard condition body) ≡ put bs (process_of_form self)
-put_guard {A} bs self e condition p body is done put_body = of_guard A condition body ∙ ap₂ pure.Guard done put_body ∙ ap (put bs) (sym (ap process_of_form is ∙ of_guard A e p))
-
-pub put_conditional : {A : Type 0} (bs : Bindings) (self : TermForm A) (e condition : Expr A) (p first q second : Term A) → self ≡ views.If e p q → expression_of condition ≡ put_expression bs (expression_of e) →
-    process_of first ≡ put bs (process_of p) → process_of second ≡ put bs (process_of q) → process_of_form {A = A} (views.If condition first second) ≡ put bs (process_of_form self)
-put_conditional {A} bs self e condition p first q second is done put_first_branch put_second =
-    of_conditional A condition first second ∙ (λ i. pure.If (done i) (put_first_branch i) (put_second i)) ∙ ap (put bs) (sym (ap process_of_form is ∙ of_conditional A e p q))
+    of_prefix A c all body ∙ ap₂ (pure.Prefix c.0) (done ∙ ap (λ gs. put_fields bs (fields_of gs)) same) (put_body ∙ ap (λ cs. put cs (process_of p.value)) (rest ∙ ap (λ gs. behind bs (fields_of gs)) same))
+    ∙ ap (put bs) (sym (ap process_of is ∙ of_prefix A c fs p))

@@ -25,4 +25,4 @@ pub use field::Field;
 pub use name::{DatatypeId, EquationId, Name, NametypeId};
 pub use script::{Channel, Constructor, Equation, Script};
 pub use substitution::{TermFault, bind};
-pub use term::{Term, TermForm};
+pub use term::Term;

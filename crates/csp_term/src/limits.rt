@@ -8,7 +8,7 @@ ghost use Rattle.csp_term.specs.Term.{process_of};
 
 use crate::expression::{are_within_depth, room_left_by};
 use crate::field::Field;
-use crate::term::{Term, TermForm};
+use crate::term::Term;
 use std::alloc::Allocator;
 
 /// The most nodes of a term within the limits.
@@ -31,12 +31,12 @@ impl<A: Allocator + Copy> Term<A> {
         ensures { SomeIff result (size (process_of self.now) ≤ room) (room - size (process_of self.now)) }
     {
         let rest = room.checked_sub(1)?;
-        match &*self.form {
-            TermForm::Stop | TermForm::Skip | TermForm::Omega => Some(rest),
-            TermForm::Call(_, arguments) => room_left_by(arguments, rest),
-            TermForm::Prefix(_, fields, body) => body.room_left(room_left_by_fields(fields, rest)?),
-            TermForm::Guard(condition, body) => body.room_left(condition.room_left(rest)?),
-            TermForm::If(condition, first, second) => {
+        match self {
+            Term::Stop | Term::Skip | Term::Omega => Some(rest),
+            Term::Call(_, arguments) => room_left_by(arguments, rest),
+            Term::Prefix(_, fields, body) => body.room_left(room_left_by_fields(fields, rest)?),
+            Term::Guard(condition, body) => body.room_left(condition.room_left(rest)?),
+            Term::If(condition, first, second) => {
                 let rest = condition.room_left(rest)?;
                 second.room_left(first.room_left(rest)?)
             }
@@ -51,16 +51,16 @@ impl<A: Allocator + Copy> Term<A> {
             return false;
         }
         let most = most - 1;
-        match &*self.form {
-            TermForm::Stop | TermForm::Skip | TermForm::Omega => true,
-            TermForm::Call(_, arguments) => are_within_depth(arguments, most),
-            TermForm::Prefix(_, fields, body) => {
+        match self {
+            Term::Stop | Term::Skip | Term::Omega => true,
+            Term::Call(_, arguments) => are_within_depth(arguments, most),
+            Term::Prefix(_, fields, body) => {
                 are_fields_within_depth(fields, most) && body.is_within_depth(most)
             }
-            TermForm::Guard(condition, body) => {
+            Term::Guard(condition, body) => {
                 condition.is_within_depth(most) && body.is_within_depth(most)
             }
-            TermForm::If(condition, first, second) => {
+            Term::If(condition, first, second) => {
                 condition.is_within_depth(most)
                     && first.is_within_depth(most)
                     && second.is_within_depth(most)

@@ -11,7 +11,7 @@ ghost use Rattle.csp_term.specs.Term.{process_of};
 use crate::expression::{Binding, put_in_all};
 use crate::field::Field;
 use crate::name::Name;
-use crate::term::{Term, TermForm};
+use crate::term::Term;
 use csp_value::{Memory, Value};
 use std::alloc::Allocator;
 use thiserror::Error;
@@ -107,29 +107,28 @@ impl<A: Allocator + Copy> Term<A> {
     pub fn put_in(&self, bindings: &[Binding<'_, A>], alloc: A) -> Result<Term<A>, Memory>
         ensures { IfOk result (λ t. process_of t ≡ put (bindings_of bindings.now) (process_of self.now)) }
     {
-        match &*self.form {
-            TermForm::Stop => Term::new(alloc, TermForm::Stop),
-            TermForm::Skip => Term::new(alloc, TermForm::Skip),
-            TermForm::Omega => Term::new(alloc, TermForm::Omega),
-            TermForm::Call(equation, arguments) => {
-                let arguments = put_in_all(arguments, bindings, alloc)?;
-                Term::new(alloc, TermForm::Call(*equation, arguments))
+        match self {
+            Term::Stop => Ok(Term::Stop),
+            Term::Skip => Ok(Term::Skip),
+            Term::Omega => Ok(Term::Omega),
+            Term::Call(equation, arguments) => {
+                Ok(Term::Call(*equation, put_in_all(arguments, bindings, alloc)?))
             }
-            TermForm::Prefix(channel, fields, body) => {
+            Term::Prefix(channel, fields, body) => {
                 let (fields, left) = put_in_fields(fields, bindings, alloc)?;
-                let body = body.put_in(&left, alloc)?;
-                Term::new(alloc, TermForm::Prefix(*channel, fields, body))
+                let body = Box::new(alloc, body.put_in(&left, alloc)?)?;
+                Ok(Term::Prefix(*channel, fields, body))
             }
-            TermForm::Guard(condition, body) => {
+            Term::Guard(condition, body) => {
                 let condition = condition.put_in(bindings, alloc)?;
-                let body = body.put_in(bindings, alloc)?;
-                Term::new(alloc, TermForm::Guard(condition, body))
+                let body = Box::new(alloc, body.put_in(bindings, alloc)?)?;
+                Ok(Term::Guard(condition, body))
             }
-            TermForm::If(condition, first, second) => {
+            Term::If(condition, first, second) => {
                 let condition = condition.put_in(bindings, alloc)?;
-                let first = first.put_in(bindings, alloc)?;
-                let second = second.put_in(bindings, alloc)?;
-                Term::new(alloc, TermForm::If(condition, first, second))
+                let first = Box::new(alloc, first.put_in(bindings, alloc)?)?;
+                let second = Box::new(alloc, second.put_in(bindings, alloc)?)?;
+                Ok(Term::If(condition, first, second))
             }
         }
     }

@@ -19,7 +19,7 @@ ghost use Rattle.refcheck.specs.Reading.{AreBare, Declares, IsOutside, names_of}
 use crate::reader::ReadFault;
 use csp_parse::{Declaration, Name, Process, Raw};
 use csp_term::expression::TypeTable;
-use csp_term::{Assertion, Channel, ChannelId, Model, Script, Term, TermForm};
+use csp_term::{Assertion, Channel, ChannelId, Model, Script, Term};
 use std::alloc::Allocator;
 
 /// The script that a tree stands for, or `Part` where it lies outside the part.
@@ -200,12 +200,12 @@ fn process<A: Allocator + Copy>(
     ensures refused { IfErr result IsOutside }
 {
     match tree {
-        Process::Stop => Ok(Term::new(alloc, TermForm::Stop)?),
+        Process::Stop => Ok(Term::Stop),
         Process::Prefix(name, fields, body) if fields.is_empty() => {
             let channel = channel_of(channels, name)?;
             let fields = Vec::new(alloc);
-            let body = process(alloc, channels, body)?;
-            Ok(Term::new(alloc, TermForm::Prefix(channel, fields, body))?)
+            let body = Box::new(alloc, process(alloc, channels, body)?)?;
+            Ok(Term::Prefix(channel, fields, body))
         }
         _ => Err(ReadFault::Part),
     }

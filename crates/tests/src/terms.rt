@@ -1,10 +1,10 @@
 //! Terms at the edge of the limits, their copies and their order, and equal terms in two allocators.
 
-use crate::scripts::{event, repeated, script, stop};
+use crate::scripts::{event, repeated, script};
 use csp_term::laws::{compare_terms, equal_assertions, equal_scripts, equal_terms, hash_term};
 use csp_term::{
     Action, Assertion, Constructor, Equation, EquationId, Fault, Memory, Model, Name, Script, Term,
-    TermFault, TermForm, TryCopy, copy_all,
+    TermFault, TryCopy, copy_all,
 };
 use csp_value::laws::{compare_actions, equal_actions};
 use std::alloc::{Allocator, Global};
@@ -24,7 +24,7 @@ fn whole_script(alloc: Global) -> Result<Script<Global>, Fail> {
     script.assertions.push(Assertion {
         model: Model::Failures,
         specification: repeated(alloc, 1, 1)?,
-        implementation: stop(alloc)?,
+        implementation: Term::Stop,
     })?;
     Ok(script)
 }
@@ -88,14 +88,10 @@ fn copies(rt: HostRuntime) -> Result<(), Fail> {
 fn order_is_by_form_then_by_parts(rt: HostRuntime) -> Result<(), Fail> {
     let alloc = rt.alloc();
     let mut rising = Vec::new(alloc);
-    for form in [
-        TermForm::Stop,
-        TermForm::Skip,
-        TermForm::Omega,
-        TermForm::Call(EquationId(7), Vec::new(alloc)),
-    ] {
-        rising.push(Term::new(alloc, form)?)?;
-    }
+    rising.push(Term::Stop)?;
+    rising.push(Term::Skip)?;
+    rising.push(Term::Omega)?;
+    rising.push(Term::Call(EquationId(7), Vec::new(alloc)))?;
     for (channel, prefixes) in [(0, 1), (0, 2), (0, 255), (1, 1), (1, 2), (2, 1)] {
         rising.push(repeated(alloc, channel, prefixes)?)?;
     }

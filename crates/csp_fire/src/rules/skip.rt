@@ -6,15 +6,16 @@ ghost use Rattle.csp_fire.specs.Answering.{Answers};
 
 use crate::form::Step;
 use crate::stuck::Stuck;
-use csp_term::{Action, AllocHandle, Script, Term, TermForm};
+use csp_term::{Action, AllocHandle, Script, Term};
 
 pub(crate) fn steps<A: AllocHandle>(alloc: A, script: &Script<A>) -> Result<Vec<Step<A>, A>, Stuck>
     ensures { Answers (script_of script.now) Skip result }
 {
     let _script = script;
     let mut steps = Vec::new(alloc);
-    let action = Action::Tick;
-    let target = Term::new(alloc, TermForm::Omega)?;
-    steps.push(Step { action, target })?;
+    steps.push(Step {
+        action: Action::Tick,
+        target: Term::Omega,
+    })?;
     Ok(steps)
 }

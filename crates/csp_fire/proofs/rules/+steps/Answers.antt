@@ -12,7 +12,7 @@ use Rattle.csp_semantics.specs.Meaning.Faults.{cause_in}
 use Rattle.csp_semantics.specs.Laws.Statements.{StepsAre}
 use Rattle.csp_fire.specs.Form.{step_of}
 use Rattle.csp_term.specs.Script.{script_of}
-use Rattle.csp_term.specs.Term.{process_of, process_of_form}
+use Rattle.csp_term.specs.Term.{process_of}
 use Rattle.csp_fire.specs.declared.form.Step.{Step}
 use Rattle.csp_fire.specs.declared.stuck.Stuck.{Stuck}
 use Rattle.csp_fire.specs.Answering.{AllFit, Answers}
@@ -65,18 +65,18 @@ guard::steps-returns-then-branch g t c =
 
 pub steps-steps-requires-in-Guard : goal.steps-steps-requires-in-Guard
 steps-steps-requires-in-Guard g t c κs within =
-    let less = guard_height g.row.A.Denot c.args.term.now c.form.result.now c.in-Guard.condition c.in-Guard.body c.form.ensures c.in-Guard.is in
-    (below (height_of c.in-Guard.body) (height_of c.args.term.now) t less c.decreases, (within, elim g.met.A.AllocHandle.small [ inl e ↦ rw (e.0, e.1) (lit< tt) | inr e ↦ rw (e.0, e.1) (lit< tt) ]))
+    let less = guard_height g.row.A.Denot c.args.term.now c.deref-in-Guard.result.now c.in-Guard.condition c.in-Guard.body c.in-Guard.is c.deref-in-Guard.ensures in
+    (below (height_of c.deref-in-Guard.result.now) (height_of c.args.term.now) t less c.decreases, (within, elim g.met.A.AllocHandle.small [ inl e ↦ rw (e.0, e.1) (lit< tt) | inr e ↦ rw (e.0, e.1) (lit< tt) ]))
 
 pub steps-steps-requires-in-If : goal.steps-steps-requires-in-If
 steps-steps-requires-in-If g t c κs within =
-    let less = branch_height g.row.A.Denot c.args.term.now c.form.result.now c.in-If.condition c.in-If.first c.in-If.second c.form.ensures c.in-If.is in
-    (below (max (height_of c.in-If.first) (height_of c.in-If.second)) (height_of c.args.term.now) t less c.decreases, (within, elim g.met.A.AllocHandle.small [ inl e ↦ rw (e.0, e.1) (lit< tt) | inr e ↦ rw (e.0, e.1) (lit< tt) ]))
+    let less = branch_height g.row.A.Denot c.args.term.now c.deref-in-If.result.now c.deref-in-If-2.result.now c.in-If.condition c.in-If.first c.in-If.second c.in-If.is c.deref-in-If.ensures c.deref-in-If-2.ensures in
+    (below (max (height_of c.deref-in-If.result.now) (height_of c.deref-in-If-2.result.now)) (height_of c.args.term.now) t less c.decreases, (within, elim g.met.A.AllocHandle.small [ inl e ↦ rw (e.0, e.1) (lit< tt) | inr e ↦ rw (e.0, e.1) (lit< tt) ]))
 
 pub steps-returns-in-Stop : goal.steps-returns-in-Stop
 steps-returns-in-Stop g t c =
     let script = script_of c.args.script.now in
-    let is : process_of c.args.term.now ≡ pure.Stop = sym c.form.ensures ∙ ap process_of_form c.in-Stop.is ∙ of_stop g.row.A.Denot in
+    let is : process_of c.args.term.now ≡ pure.Stop = ap process_of c.in-Stop.is ∙ of_stop g.row.A.Denot in
     let P : pure.Process → Type 0 = λ p. (cause_in script p ≡ None) × StepsAre script p [] × AllFit [] in
     let Q : List (Step g.row.A.Denot) → Type 0 = λ ss. (cause_in script (process_of c.args.term.now) ≡ None) × StepsAre script (process_of c.args.term.now) (map step_of ss) × AllFit (map step_of ss) in
     subst Q (sym c.new.ensures.items) (subst P (sym is) (stopped script))
@@ -84,39 +84,40 @@ steps-returns-in-Stop g t c =
 pub steps-returns-in-Omega : goal.steps-returns-in-Omega
 steps-returns-in-Omega g t c =
     let script = script_of c.args.script.now in
-    let is : process_of c.args.term.now ≡ pure.Omega = sym c.form.ensures ∙ ap process_of_form c.in-Omega.is ∙ of_omega_term g.row.A.Denot in
+    let is : process_of c.args.term.now ≡ pure.Omega = ap process_of c.in-Omega.is ∙ of_omega_term g.row.A.Denot in
     let P : pure.Process → Type 0 = λ p. (cause_in script p ≡ None) × StepsAre script p [] × AllFit [] in
     let Q : List (Step g.row.A.Denot) → Type 0 = λ ss. (cause_in script (process_of c.args.term.now) ≡ None) × StepsAre script (process_of c.args.term.now) (map step_of ss) × AllFit (map step_of ss) in
     subst Q (sym c.new-in-Omega.ensures.items) (subst P (sym is) (ended script))
 
 pub steps-returns-in-Skip : goal.steps-returns-in-Skip
 steps-returns-in-Skip g t c =
-    let is : process_of c.args.term.now ≡ pure.Skip = sym c.form.ensures ∙ ap process_of_form c.in-Skip.is ∙ of_skip g.row.A.Denot in
+    let is : process_of c.args.term.now ≡ pure.Skip = ap process_of c.in-Skip.is ∙ of_skip g.row.A.Denot in
     let P : pure.Process → Type 0 = λ p. Answers (script_of c.args.script.now) p c.steps.result in subst P (sym is) c.steps.ensures
 
 pub steps-returns-in-Prefix : goal.steps-returns-in-Prefix
 steps-returns-in-Prefix g t c =
-    let is : process_of c.args.term.now ≡ pure.Prefix c.in-Prefix.channel.0 (fields_of c.deref.result.now) (process_of c.in-Prefix.body) =
-    sym c.form.ensures ∙ ap process_of_form c.in-Prefix.is ∙ of_prefix g.row.A.Denot c.in-Prefix.channel c.in-Prefix.fields c.in-Prefix.body
-    ∙ ap (λ fs. pure.Prefix c.in-Prefix.channel.0 (fields_of fs) (process_of c.in-Prefix.body)) (sym c.deref.ensures.value)
+    let is : process_of c.args.term.now ≡ pure.Prefix c.in-Prefix.channel.0 (fields_of c.deref.result.now) (process_of c.deref-in-Prefix.result.now) =
+    ap process_of c.in-Prefix.is ∙ of_prefix g.row.A.Denot c.in-Prefix.channel c.in-Prefix.fields c.in-Prefix.body
+    ∙ ap₂ (pure.Prefix c.in-Prefix.channel.0) (ap fields_of (sym c.deref.ensures.value)) (ap process_of (sym c.deref-in-Prefix.ensures))
     in let P : pure.Process → Type 0 = λ p. Answers (script_of c.args.script.now) p c.steps-in-Prefix.result in subst P (sym is) c.steps-in-Prefix.ensures
 
 pub steps-returns-in-Call : goal.steps-returns-in-Call
 steps-returns-in-Call g t c =
     let is : process_of c.args.term.now ≡ pure.Call c.in-Call.equation.0 (to_expressions (expressions_of c.deref-in-Call.result.now)) =
-    sym c.form.ensures ∙ ap process_of_form c.in-Call.is ∙ of_call g.row.A.Denot c.in-Call.equation c.in-Call.arguments ∙ ap (λ es. pure.Call c.in-Call.equation.0 (to_expressions (expressions_of es))) (sym c.deref-in-Call.ensures.value)
+    ap process_of c.in-Call.is ∙ of_call g.row.A.Denot c.in-Call.equation c.in-Call.arguments ∙ ap (λ es. pure.Call c.in-Call.equation.0 (to_expressions (expressions_of es))) (sym c.deref-in-Call.ensures.value)
     in let P : pure.Process → Type 0 = λ p. Answers (script_of c.args.script.now) p c.steps-in-Call.result in subst P (sym is) c.steps-in-Call.ensures
 
 pub steps-returns-in-Guard : goal.steps-returns-in-Guard
 steps-returns-in-Guard g t c =
-    let is : process_of c.args.term.now ≡ pure.Guard (expression_of c.in-Guard.condition) (process_of c.in-Guard.body) =
-    sym c.form.ensures ∙ ap process_of_form c.in-Guard.is ∙ of_guard g.row.A.Denot c.in-Guard.condition c.in-Guard.body
+    let is : process_of c.args.term.now ≡ pure.Guard (expression_of c.in-Guard.condition) (process_of c.deref-in-Guard.result.now) =
+    ap process_of c.in-Guard.is ∙ of_guard g.row.A.Denot c.in-Guard.condition c.in-Guard.body ∙ ap (λ b. pure.Guard (expression_of c.in-Guard.condition) (process_of b)) (sym c.deref-in-Guard.ensures)
     in let P : pure.Process → Type 0 = λ p. Answers (script_of c.args.script.now) p c.steps-in-Guard.result in subst P (sym is) c.steps-in-Guard.ensures
 
 pub steps-returns-in-If : goal.steps-returns-in-If
 steps-returns-in-If g t c =
-    let is : process_of c.args.term.now ≡ pure.If (expression_of c.in-If.condition) (process_of c.in-If.first) (process_of c.in-If.second) =
-    sym c.form.ensures ∙ ap process_of_form c.in-If.is ∙ of_conditional g.row.A.Denot c.in-If.condition c.in-If.first c.in-If.second
+    let is : process_of c.args.term.now ≡ pure.If (expression_of c.in-If.condition) (process_of c.deref-in-If.result.now) (process_of c.deref-in-If-2.result.now) =
+    ap process_of c.in-If.is ∙ of_conditional g.row.A.Denot c.in-If.condition c.in-If.first c.in-If.second
+    ∙ ap₂ (λ p q. pure.If (expression_of c.in-If.condition) (process_of p) (process_of q)) (sym c.deref-in-If.ensures) (sym c.deref-in-If-2.ensures)
     in let P : pure.Process → Type 0 = λ p. Answers (script_of c.args.script.now) p c.steps-in-If.result in subst P (sym is) c.steps-in-If.ensures
 
 pub guard::steps-returns-else-branch : goal.guard::steps-returns-else-branch
