@@ -1,7 +1,7 @@
 ghost use Rattle.std.specs.Prelude.{IfOk};
 ghost use Rattle.csp_value.specs.Value.{IsRisingSet};
 
-use csp_value::{Action, ChannelId, ConId, Event, FieldSet, Memory, SetOf, TryCopy, Value};
+use csp_value::{Action, ChannelId, ConId, Event, Memory, SetOf, Value};
 use linked_list_allocator::LocalHeap;
 use smallvec::SmallVec;
 use std::alloc::{Allocator, Global};
@@ -76,18 +76,6 @@ fn sets_have_each_member_once(rt: HostRuntime) -> Result<(), Fail> {
             );
         }
     }
-    Ok(())
-}
-
-#[test]
-fn a_field_has_the_values_of_its_set(rt: HostRuntime) -> Result<(), Fail> {
-    let alloc = rt.alloc();
-    let set = FieldSet::from_values(numbers(alloc, &[3, 1, 3, 7])?);
-    assert!(rt; set.members() == numbers(alloc, &[1, 3, 7])?.as_slice());
-    for (number, is_there) in [(0, false), (1, true), (2, false), (7, true), (8, false)] {
-        assert_eq!(rt; set.contains(&Value::Int(number)), is_there, "{number}");
-    }
-    assert!(rt; set.try_copy(alloc)? == set);
     Ok(())
 }
 

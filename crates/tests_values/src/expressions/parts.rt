@@ -158,7 +158,7 @@ fn types<A: Allocator + Copy>(alloc: A) -> Result<TypeTable<A>, Memory> {
     let mut datatypes = Vec::new(alloc);
     datatypes.push(Constructors {
         first: ConId(2),
-        following: 2,
+        behind: ConId(5),
     })?;
     let mut nametypes = Vec::new(alloc);
     nametypes.push(SetOf::from_values(values(alloc, &[7, 5])?))?;
