@@ -7,15 +7,7 @@ pub mod EventSets
 pub mod Processes
 pub mod Declarations
 pub mod Reading
-pub mod Forms
-pub mod Deciding
 pub mod Levels
-pub mod Continuing
-pub mod AtomForms
-pub mod EventForms
-pub mod ProcessForms
-pub mod DeclarationForms
-pub mod Stopping
 pub mod Separated
 pub mod Starts
 pub mod Words

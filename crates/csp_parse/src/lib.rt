@@ -22,7 +22,6 @@ mod read_expressions;
 mod read_processes;
 mod refusals;
 mod starts;
-mod stops;
 
 ghost use Rattle.std.specs.Prelude.{IfOk, map};
 ghost use Rattle.csp_semantics.specs.Text.Grammar.{IsScript};
@@ -54,9 +53,5 @@ pub fn parse<'a, A: Allocator + Copy, B: Allocator>(
     ensures tree { IfOk result (λ raw. IsScript (map placed_token list.now.tokens.items) (script_of raw)) }
     ensures low { IfOk result (λ _. HasNoneTooHigh (map placed_token list.now.tokens.items)) }
 {
-    let mut parser = parsers::Parser::new(alloc, list);
-    match parser.script() {
-        Ok(raw) => Ok(raw),
-        Err(stopped) => Err(parser.refusal(stopped)),
-    }
+    parsers::Parser::new(alloc, list).script()
 }

@@ -1,11 +1,11 @@
-ghost use Rattle.std.specs.Prelude.{◌≡◌, IfOk, IfErr, map};
+ghost use Rattle.std.specs.Prelude.{◌≡◌, IfOk, map};
 ghost use Rattle.csp_lex.specs.Tokens.{sign_of};
 
 use crate::event_sets::EventSet;
 use crate::events::Pair;
 use crate::expressions::Expression;
 use crate::names::Name;
-use crate::stops::Stopped;
+use crate::refusals::Refused;
 use csp_lex::Sign;
 use std::alloc::Allocator;
 
@@ -113,7 +113,6 @@ pub enum Process<'a, A: Allocator> {
 
 impl<'a, A: Allocator + Copy> Process<'a, A> {
     ghost use Rattle.csp_semantics.specs.Text.Raw.{RawStop, RawSkip, RawCall, RawPrefix, RawGuard, RawIf, RawInfix, RawGeneralisedParallel, RawAlphabetisedParallel, RawHiding, RawRenaming, RawReplicated};
-    ghost use Rattle.csp_parse.specs.declared.stops.Stopped.TheVariants.{Memory};
     ghost use Rattle.csp_parse.specs.Events.{pair_of};
     ghost use Rattle.csp_parse.specs.EventSets.{event_set_of};
     ghost use Rattle.csp_parse.specs.Expressions.{expression_of, expressions_of};
@@ -121,7 +120,7 @@ impl<'a, A: Allocator + Copy> Process<'a, A> {
     ghost use Rattle.csp_parse.specs.Processes.{field_of, infix_of, replicator_of, process_in};
 
     /// `STOP`
-    pub(crate) fn stop(alloc: A) -> Result<Box<Process<'a, A>, A>, Stopped>
+    pub(crate) fn stop(alloc: A) -> Result<Box<Process<'a, A>, A>, Refused>
         ensures { IfOk result (λ p. process_in p ≡ RawStop) }
     {
         let process = Box::new(alloc, Process::Stop)?;
@@ -129,7 +128,7 @@ impl<'a, A: Allocator + Copy> Process<'a, A> {
     }
 
     /// `SKIP`
-    pub(crate) fn skip(alloc: A) -> Result<Box<Process<'a, A>, A>, Stopped>
+    pub(crate) fn skip(alloc: A) -> Result<Box<Process<'a, A>, A>, Refused>
         ensures { IfOk result (λ p. process_in p ≡ RawSkip) }
     {
         let process = Box::new(alloc, Process::Skip)?;
@@ -141,7 +140,7 @@ impl<'a, A: Allocator + Copy> Process<'a, A> {
         alloc: A,
         name: Name<'a>,
         arguments: Vec<Expression<'a, A>, A>,
-    ) -> Result<Box<Process<'a, A>, A>, Stopped>
+    ) -> Result<Box<Process<'a, A>, A>, Refused>
         ensures { IfOk result (λ p. process_in p ≡ RawCall (name_of name.entry) (expressions_of arguments.entry.items)) }
     {
         let process = Box::new(alloc, Process::Call(name, arguments))?;
@@ -154,7 +153,7 @@ impl<'a, A: Allocator + Copy> Process<'a, A> {
         channel: Name<'a>,
         fields: Vec<Field<'a, A>, A>,
         body: Box<Process<'a, A>, A>,
-    ) -> Result<Box<Process<'a, A>, A>, Stopped>
+    ) -> Result<Box<Process<'a, A>, A>, Refused>
         ensures { IfOk result (λ p. process_in p ≡ RawPrefix (name_of channel.entry) (map field_of fields.entry.items) (process_in body.entry)) }
     {
         let process = Box::new(alloc, Process::Prefix(channel, fields, body))?;
@@ -166,7 +165,7 @@ impl<'a, A: Allocator + Copy> Process<'a, A> {
         alloc: A,
         condition: Expression<'a, A>,
         body: Box<Process<'a, A>, A>,
-    ) -> Result<Box<Process<'a, A>, A>, Stopped>
+    ) -> Result<Box<Process<'a, A>, A>, Refused>
         ensures { IfOk result (λ p. process_in p ≡ RawGuard (expression_of condition.entry) (process_in body.entry)) }
     {
         let process = Box::new(alloc, Process::Guard(condition, body))?;
@@ -179,7 +178,7 @@ impl<'a, A: Allocator + Copy> Process<'a, A> {
         condition: Expression<'a, A>,
         first: Box<Process<'a, A>, A>,
         second: Box<Process<'a, A>, A>,
-    ) -> Result<Box<Process<'a, A>, A>, Stopped>
+    ) -> Result<Box<Process<'a, A>, A>, Refused>
         ensures { IfOk result (λ p. process_in p ≡ RawIf (expression_of condition.entry) (process_in first.entry) (process_in second.entry)) }
     {
         let process = Box::new(alloc, Process::If(condition, first, second))?;
@@ -192,7 +191,7 @@ impl<'a, A: Allocator + Copy> Process<'a, A> {
         operator: Infix,
         left: Box<Process<'a, A>, A>,
         right: Box<Process<'a, A>, A>,
-    ) -> Result<Box<Process<'a, A>, A>, Stopped>
+    ) -> Result<Box<Process<'a, A>, A>, Refused>
         ensures { IfOk result (λ p. process_in p ≡ RawInfix (infix_of operator) (process_in left.entry) (process_in right.entry)) }
     {
         let process = Box::new(alloc, Process::Infix(operator, left, right))?;
@@ -205,7 +204,7 @@ impl<'a, A: Allocator + Copy> Process<'a, A> {
         left: Box<Process<'a, A>, A>,
         shared: EventSet<'a, A>,
         right: Box<Process<'a, A>, A>,
-    ) -> Result<Box<Process<'a, A>, A>, Stopped>
+    ) -> Result<Box<Process<'a, A>, A>, Refused>
         ensures { IfOk result (λ p. process_in p ≡ RawGeneralisedParallel (process_in left.entry) (event_set_of shared.entry) (process_in right.entry)) }
     {
         let process = Box::new(alloc, Process::GeneralisedParallel(left, shared, right))?;
@@ -219,7 +218,7 @@ impl<'a, A: Allocator + Copy> Process<'a, A> {
         of_left: EventSet<'a, A>,
         of_right: EventSet<'a, A>,
         right: Box<Process<'a, A>, A>,
-    ) -> Result<Box<Process<'a, A>, A>, Stopped>
+    ) -> Result<Box<Process<'a, A>, A>, Refused>
         ensures { IfOk result (λ p. process_in p ≡ RawAlphabetisedParallel (process_in left.entry) (event_set_of of_left.entry) (event_set_of of_right.entry) (process_in right.entry)) }
     {
         let process = Box::new(
@@ -234,9 +233,8 @@ impl<'a, A: Allocator + Copy> Process<'a, A> {
         alloc: A,
         body: Box<Process<'a, A>, A>,
         hidden: EventSet<'a, A>,
-    ) -> Result<Box<Process<'a, A>, A>, Stopped>
-        ensures makes { IfOk result (λ p. process_in p ≡ RawHiding (process_in body.entry) (event_set_of hidden.entry)) }
-        ensures stops { IfErr result (λ stopped. stopped ≡ Memory) }
+    ) -> Result<Box<Process<'a, A>, A>, Refused>
+        ensures { IfOk result (λ p. process_in p ≡ RawHiding (process_in body.entry) (event_set_of hidden.entry)) }
     {
         let process = Box::new(alloc, Process::Hiding(body, hidden))?;
         Ok(process)
@@ -247,9 +245,8 @@ impl<'a, A: Allocator + Copy> Process<'a, A> {
         alloc: A,
         body: Box<Process<'a, A>, A>,
         pairs: Vec<Pair<'a, A>, A>,
-    ) -> Result<Box<Process<'a, A>, A>, Stopped>
-        ensures makes { IfOk result (λ p. process_in p ≡ RawRenaming (process_in body.entry) (map pair_of pairs.entry.items)) }
-        ensures stops { IfErr result (λ stopped. stopped ≡ Memory) }
+    ) -> Result<Box<Process<'a, A>, A>, Refused>
+        ensures { IfOk result (λ p. process_in p ≡ RawRenaming (process_in body.entry) (map pair_of pairs.entry.items)) }
     {
         let process = Box::new(alloc, Process::Renaming(body, pairs))?;
         Ok(process)
@@ -262,7 +259,7 @@ impl<'a, A: Allocator + Copy> Process<'a, A> {
         name: Name<'a>,
         set: Expression<'a, A>,
         body: Box<Process<'a, A>, A>,
-    ) -> Result<Box<Process<'a, A>, A>, Stopped>
+    ) -> Result<Box<Process<'a, A>, A>, Refused>
         ensures { IfOk result (λ p. process_in p ≡ RawReplicated (replicator_of operator) (name_of name.entry) (expression_of set.entry) (process_in body.entry)) }
     {
         let process = Box::new(alloc, Process::Replicated(operator, name, set, body))?;

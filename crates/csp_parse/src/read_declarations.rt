@@ -1,6 +1,5 @@
-ghost use Rattle.std.specs.Prelude.{◌≡◌, ◌<◌, ◌≤◌, IfOk, IfErr, length, map};
+ghost use Rattle.std.specs.Prelude.{◌≡◌, ◌<◌, ◌≤◌, IfOk, length, map};
 ghost use Rattle.csp_semantics.specs.Text.Grammar.{IsName, IsExpression, AreDomains, IsModel, IsDeclaration};
-ghost use Rattle.csp_semantics.specs.Text.Token.{BarSign, DotSign};
 ghost use Rattle.csp_lex.specs.Tokens.{sign_of};
 ghost use Rattle.csp_parse.specs.Declarations.{domain_of, model_of, declaration_of, script_of};
 ghost use Rattle.csp_parse.specs.Levels.{IsDomainAt};
@@ -12,20 +11,15 @@ use crate::declarations::{Declaration, Domain, Model, Raw};
 use crate::levels::Level;
 use crate::names::Name;
 use crate::parsers::Parser;
-use crate::stops::Stopped;
+use crate::refusals::Refused;
 use csp_lex::{Keyword, Sign, TokenKind};
 use std::alloc::Allocator;
 
 impl<'t, 'a, A: Allocator + Copy> Parser<'t, 'a, A> {
-    ghost use Rattle.csp_parse.specs.Continuing.{continues};
-    ghost use Rattle.csp_parse.specs.Deciding.{nothing, only, Ends, Done, IsStop};
-    ghost use Rattle.csp_parse.specs.DeclarationForms.{IsDatatype, IsNametype, IsChannels, channels_go_on};
-    ghost use Rattle.csp_parse.specs.Forms.{HasTree};
     ghost use Rattle.csp_parse.specs.Reading.{left_of, standing_of, Reads};
-    ghost use Rattle.csp_parse.specs.declared.levels.Level.TheVariants.{Disjunction};
 
     /// All declarations that are left.
-    pub(crate) fn script(&mut self) -> Result<Raw<'a, A>, Stopped>
+    pub(crate) fn script(&mut self) -> Result<Raw<'a, A>, Refused>
         ensures { IfOk result (λ raw. IsLowScript (left_of self.old) (script_of raw)) }
     {
         let mut declarations = Vec::new(self.alloc);
@@ -39,7 +33,7 @@ impl<'t, 'a, A: Allocator + Copy> Parser<'t, 'a, A> {
         }
     }
 
-    fn declaration(&mut self) -> Result<Declaration<'a, A>, Stopped>
+    fn declaration(&mut self) -> Result<Declaration<'a, A>, Refused>
         ensures reads { IfOk result (λ r. Reads IsDeclaration (standing_of self.old) (standing_of self.new) (declaration_of r)) }
         ensures shorter { IfOk result (λ _. length (left_of self.new) < length (left_of self.old)) }
     {
@@ -49,15 +43,13 @@ impl<'t, 'a, A: Allocator + Copy> Parser<'t, 'a, A> {
             Some(TokenKind::Keyword(Keyword::Channel)) => self.channels(),
             Some(TokenKind::Keyword(Keyword::Assert)) => self.assertion(),
             Some(TokenKind::Name) => self.equation(),
-            _ => Err(Stopped::Here),
+            _ => Err(self.refused()),
         }
     }
 
     /// A datatype, whose keyword is next.
-    fn datatype(&mut self) -> Result<Declaration<'a, A>, Stopped>
+    fn datatype(&mut self) -> Result<Declaration<'a, A>, Refused>
         ensures reads { IfOk result (λ r. Reads IsDeclaration (standing_of self.old) (standing_of self.new) (declaration_of r)) }
-        ensures ends { IfOk result (λ _. Ends IsDatatype (only BarSign) (standing_of self.old) (standing_of self.new)) }
-        ensures stops { IfErr result (λ stopped. IsStop IsDatatype (only BarSign) (standing_of self.old) (standing_of self.new) stopped) }
         ensures shorter { IfOk result (λ _. length (left_of self.new) < length (left_of self.old)) }
     {
         self.word(Keyword::Datatype)?;
@@ -68,10 +60,8 @@ impl<'t, 'a, A: Allocator + Copy> Parser<'t, 'a, A> {
     }
 
     /// A nametype, whose keyword is next.
-    fn nametype(&mut self) -> Result<Declaration<'a, A>, Stopped>
+    fn nametype(&mut self) -> Result<Declaration<'a, A>, Refused>
         ensures reads { IfOk result (λ r. Reads IsDeclaration (standing_of self.old) (standing_of self.new) (declaration_of r)) }
-        ensures done { IfOk result (λ _. Done IsNametype (continues Disjunction) (standing_of self.old) (standing_of self.new)) }
-        ensures stops { IfErr result (λ stopped. IsStop IsNametype (continues Disjunction) (standing_of self.old) (standing_of self.new) stopped) }
         ensures shorter { IfOk result (λ _. length (left_of self.new) < length (left_of self.old)) }
     {
         self.word(Keyword::Nametype)?;
@@ -82,10 +72,8 @@ impl<'t, 'a, A: Allocator + Copy> Parser<'t, 'a, A> {
     }
 
     /// Channels, whose keyword is next.
-    fn channels(&mut self) -> Result<Declaration<'a, A>, Stopped>
+    fn channels(&mut self) -> Result<Declaration<'a, A>, Refused>
         ensures reads { IfOk result (λ r. Reads IsDeclaration (standing_of self.old) (standing_of self.new) (declaration_of r)) }
-        ensures done { IfOk result (λ _. Done IsChannels channels_go_on (standing_of self.old) (standing_of self.new)) }
-        ensures stops { IfErr result (λ stopped. IsStop IsChannels channels_go_on (standing_of self.old) (standing_of self.new) stopped) }
         ensures shorter { IfOk result (λ _. length (left_of self.new) < length (left_of self.old)) }
     {
         self.word(Keyword::Channel)?;
@@ -100,7 +88,7 @@ impl<'t, 'a, A: Allocator + Copy> Parser<'t, 'a, A> {
     }
 
     /// An equation, whose name is next.
-    fn equation(&mut self) -> Result<Declaration<'a, A>, Stopped>
+    fn equation(&mut self) -> Result<Declaration<'a, A>, Refused>
         ensures reads { IfOk result (λ r. Reads IsDeclaration (standing_of self.old) (standing_of self.new) (declaration_of r)) }
         ensures shorter { IfOk result (λ _. length (left_of self.new) < length (left_of self.old)) }
     {
@@ -127,12 +115,12 @@ impl<'t, 'a, A: Allocator + Copy> Parser<'t, 'a, A> {
     }
 
     /// An assertion, whose keyword is next.
-    fn assertion(&mut self) -> Result<Declaration<'a, A>, Stopped>
+    fn assertion(&mut self) -> Result<Declaration<'a, A>, Refused>
         ensures reads { IfOk result (λ r. Reads IsDeclaration (standing_of self.old) (standing_of self.new) (declaration_of r)) }
         ensures shorter { IfOk result (λ _. length (left_of self.new) < length (left_of self.old)) }
     {
         let Some(first) = self.next() else {
-            return Err(Stopped::Here);
+            return Err(self.refused());
         };
         self.word(Keyword::Assert)?;
         let specification = self.process()?;
@@ -146,10 +134,8 @@ impl<'t, 'a, A: Allocator + Copy> Parser<'t, 'a, A> {
         })
     }
 
-    fn model(&mut self) -> Result<Model, Stopped>
+    fn model(&mut self) -> Result<Model, Refused>
         ensures reads { IfOk result (λ r. Reads IsModel (standing_of self.old) (standing_of self.new) (model_of r)) }
-        ensures ends { IfOk result (λ _. Ends (HasTree IsModel) nothing (standing_of self.old) (standing_of self.new)) }
-        ensures stops { IfErr result (λ stopped. IsStop (HasTree IsModel) nothing (standing_of self.old) (standing_of self.new) stopped) }
         ensures shorter { IfOk result (λ _. length (left_of self.new) < length (left_of self.old)) }
     {
         if self.is_at(Sign::Traces) {
@@ -161,10 +147,8 @@ impl<'t, 'a, A: Allocator + Copy> Parser<'t, 'a, A> {
     }
 
     /// Names with a sign between.
-    fn names(&mut self, between: Sign) -> Result<Vec<Name<'a>, A>, Stopped>
+    fn names(&mut self, between: Sign) -> Result<Vec<Name<'a>, A>, Refused>
         ensures reads { IfOk result (λ r. Reads (AreSeparated (sign_of between) IsName) (standing_of self.old) (standing_of self.new) (map name_of r.items)) }
-        ensures ends { IfOk result (λ _. Ends (HasTree (AreSeparated (sign_of between) IsName)) (only (sign_of between)) (standing_of self.old) (standing_of self.new)) }
-        ensures stops { IfErr result (λ stopped. IsStop (HasTree (AreSeparated (sign_of between) IsName)) (only (sign_of between)) (standing_of self.old) (standing_of self.new) stopped) }
         ensures shorter { IfOk result (λ _. length (left_of self.new) < length (left_of self.old)) }
     {
         let mut names = Vec::new(self.alloc);
@@ -179,14 +163,12 @@ impl<'t, 'a, A: Allocator + Copy> Parser<'t, 'a, A> {
     }
 
     /// The set that an expression of a level is.
-    fn domain(&mut self, level: Level) -> Result<Domain<'a, A>, Stopped>
+    fn domain(&mut self, level: Level) -> Result<Domain<'a, A>, Refused>
         ensures reads { IfOk result (λ r. Reads (IsDomainAt level) (standing_of self.old) (standing_of self.new) (domain_of r)) }
-        ensures done { IfOk result (λ _. Done (HasTree (IsDomainAt level)) (continues level) (standing_of self.old) (standing_of self.new)) }
-        ensures stops { IfErr result (λ stopped. IsStop (HasTree (IsDomainAt level)) (continues level) (standing_of self.old) (standing_of self.new) stopped) }
         ensures shorter { IfOk result (λ _. length (left_of self.new) < length (left_of self.old)) }
     {
         let Some(first) = self.next() else {
-            return Err(Stopped::Here);
+            return Err(self.refused());
         };
         let set = self.expression(level)?;
         Ok(Domain {
@@ -196,10 +178,8 @@ impl<'t, 'a, A: Allocator + Copy> Parser<'t, 'a, A> {
     }
 
     /// The sets of a channel's fields, with a dot between.
-    fn domains(&mut self) -> Result<Vec<Domain<'a, A>, A>, Stopped>
+    fn domains(&mut self) -> Result<Vec<Domain<'a, A>, A>, Refused>
         ensures reads { IfOk result (λ r. Reads AreDomains (standing_of self.old) (standing_of self.new) (map domain_of r.items)) }
-        ensures done { IfOk result (λ _. Done (HasTree AreDomains) (only DotSign) (standing_of self.old) (standing_of self.new)) }
-        ensures stops { IfErr result (λ stopped. IsStop (HasTree AreDomains) (only DotSign) (standing_of self.old) (standing_of self.new) stopped) }
         ensures shorter { IfOk result (λ _. length (left_of self.new) < length (left_of self.old)) }
     {
         let mut domains = Vec::new(self.alloc);

@@ -1,10 +1,6 @@
-ghost use Rattle.std.specs.Prelude.{◌≡◌, ◌<◌, ◌≤◌, None, IfOk, IfErr, length};
-ghost use Rattle.csp_semantics.specs.Text.Token.{LessSign, OpenBraceSign};
-ghost use Rattle.csp_semantics.specs.Text.Grammar.{IsSign, IsExpression, IsNegation, IsComparison, IsSum, IsAtom};
+ghost use Rattle.std.specs.Prelude.{◌≡◌, ◌<◌, ◌≤◌, IfOk, length};
+ghost use Rattle.csp_semantics.specs.Text.Grammar.{IsExpression, IsNegation, IsComparison, IsSum, IsAtom};
 ghost use Rattle.csp_semantics.specs.Text.Raw.{RawApply, RawCombine, RawRange};
-ghost use Rattle.csp_lex.specs.Tokens.{keyword_of};
-ghost use Rattle.csp_parse.specs.declared.stops.Stopped.TheVariants.{Memory};
-ghost use Rattle.csp_lex.specs.declared.kinds.TokenKind.TheVariants as kinds;
 ghost use Rattle.csp_parse.specs.Expressions.{expression_of, expressions_of};
 ghost use Rattle.csp_parse.specs.Levels.{IsAt, AreListed, ReadsBracketed, ReadsTwo};
 ghost use Rattle.csp_parse.specs.Operators.{unary_of, binary_of};
@@ -13,25 +9,17 @@ use crate::expressions::Expression;
 use crate::levels::{Level, binary_function, comparison, unary_function};
 use crate::operators::{BinaryOperator, UnaryOperator};
 use crate::parsers::Parser;
-use crate::stops::Stopped;
+use crate::refusals::Refused;
 use csp_lex::{Keyword, Sign, TokenKind};
 use std::alloc::Allocator;
 
 impl<'t, 'a, A: Allocator + Copy> Parser<'t, 'a, A> {
-    ghost use Rattle.csp_parse.specs.AtomForms.{Bracketed, TwoBracketed, Items, Inside};
-    ghost use Rattle.csp_parse.specs.Continuing.{continues, lists, IsRest, IsItem, IsAgainst, BehindAtom};
-    ghost use Rattle.csp_parse.specs.Deciding.{nothing, Done, IsStop};
-    ghost use Rattle.csp_parse.specs.Forms.{HasTree, Then, Repeated, Perhaps};
-    ghost use Rattle.csp_parse.specs.Reading.{left_of, standing_of, IsNext, Reads, Extends};
-    ghost use Rattle.csp_parse.specs.Words.{unary_word, binary_word};
-    ghost use Rattle.csp_parse.specs.declared.levels.Level.TheVariants.{Disjunction, Negation, Comparison};
+    ghost use Rattle.csp_parse.specs.Reading.{left_of, standing_of, Reads, Extends};
 
     /// An expression of a level.
     #[cycle(expression)]
-    pub(crate) fn expression(&mut self, level: Level) -> Result<Expression<'a, A>, Stopped>
+    pub(crate) fn expression(&mut self, level: Level) -> Result<Expression<'a, A>, Refused>
         ensures reads { IfOk result (λ e. Reads (IsAt level) (standing_of self.old) (standing_of self.new) (expression_of e)) }
-        ensures done { IfOk result (λ _. Done (HasTree (IsAt level)) (continues level) (standing_of self.old) (standing_of self.new)) }
-        ensures stops { IfErr result (λ stopped. IsStop (HasTree (IsAt level)) (continues level) (standing_of self.old) (standing_of self.new) stopped) }
         ensures shorter { IfOk result (λ _. length (left_of self.new) < length (left_of self.old)) }
     {
         match level {
@@ -66,10 +54,8 @@ impl<'t, 'a, A: Allocator + Copy> Parser<'t, 'a, A> {
         &mut self,
         level: Level,
         first: Expression<'a, A>,
-    ) -> Result<Expression<'a, A>, Stopped>
+    ) -> Result<Expression<'a, A>, Refused>
         ensures extends { IfOk result (λ e. Extends (IsAt level) (IsAt level) (standing_of self.old) (standing_of self.new) (expression_of first.entry) (expression_of e)) }
-        ensures done { IfOk result (λ _. Done (IsRest level) (continues level) (standing_of self.old) (standing_of self.new)) }
-        ensures stops { IfErr result (λ stopped. IsStop (IsRest level) (continues level) (standing_of self.old) (standing_of self.new) stopped) }
         ensures not_longer { IfOk result (λ _. length (left_of self.new) ≤ length (left_of self.old)) }
     {
         let mut chain = first;
@@ -89,10 +75,8 @@ impl<'t, 'a, A: Allocator + Copy> Parser<'t, 'a, A> {
     pub(crate) fn compared(
         &mut self,
         first: Expression<'a, A>,
-    ) -> Result<Expression<'a, A>, Stopped>
+    ) -> Result<Expression<'a, A>, Refused>
         ensures extends { IfOk result (λ e. Extends IsSum IsComparison (standing_of self.old) (standing_of self.new) (expression_of first.entry) (expression_of e)) }
-        ensures done { IfOk result (λ _. Done (Perhaps IsAgainst) (continues Comparison) (standing_of self.old) (standing_of self.new)) }
-        ensures stops { IfErr result (λ stopped. IsStop (Perhaps IsAgainst) (continues Comparison) (standing_of self.old) (standing_of self.new) stopped) }
         ensures not_longer { IfOk result (λ _. length (left_of self.new) ≤ length (left_of self.old)) }
     {
         let Some(kind) = self.kind() else {
@@ -108,10 +92,8 @@ impl<'t, 'a, A: Allocator + Copy> Parser<'t, 'a, A> {
 
     /// `not` any number of times, and a comparison.
     #[cycle(expression)]
-    fn negation(&mut self) -> Result<Expression<'a, A>, Stopped>
+    fn negation(&mut self) -> Result<Expression<'a, A>, Refused>
         ensures reads { IfOk result (λ e. Reads IsNegation (standing_of self.old) (standing_of self.new) (expression_of e)) }
-        ensures done { IfOk result (λ _. Done (HasTree IsNegation) (continues Negation) (standing_of self.old) (standing_of self.new)) }
-        ensures stops { IfErr result (λ stopped. IsStop (HasTree IsNegation) (continues Negation) (standing_of self.old) (standing_of self.new) stopped) }
         ensures shorter { IfOk result (λ _. length (left_of self.new) < length (left_of self.old)) }
     {
         if !self.is_at_word(Keyword::Not) {
@@ -124,23 +106,18 @@ impl<'t, 'a, A: Allocator + Copy> Parser<'t, 'a, A> {
 
     /// An expression without operators around it.
     #[cycle(expression)]
-    fn atom(&mut self) -> Result<Expression<'a, A>, Stopped>
+    fn atom(&mut self) -> Result<Expression<'a, A>, Refused>
         ensures reads { IfOk result (λ e. Reads IsAtom (standing_of self.old) (standing_of self.new) (expression_of e)) }
-        ensures done { IfOk result (λ _. Done (HasTree IsAtom) nothing (standing_of self.old) (standing_of self.new)) }
-        ensures stops { IfErr result (λ stopped. IsStop (HasTree IsAtom) nothing (standing_of self.old) (standing_of self.new) stopped) }
         ensures shorter { IfOk result (λ _. length (left_of self.new) < length (left_of self.old)) }
     {
-        let Some(kind) = self.kind() else {
-            return Err(Stopped::Here);
-        };
-        match kind {
-            TokenKind::Number(value) => {
+        match self.kind() {
+            Some(TokenKind::Number(value)) => {
                 self.pass()?;
                 Ok(Expression::Number(value))
             }
-            TokenKind::Keyword(keyword) => self.atom_of_word(keyword),
-            TokenKind::Sign(sign) => self.atom_of_sign(sign),
-            TokenKind::Name => {
+            Some(TokenKind::Keyword(keyword)) => self.atom_of_word(keyword),
+            Some(TokenKind::Sign(sign)) => self.atom_of_sign(sign),
+            _ => {
                 let name = self.name()?;
                 Ok(Expression::Use(name))
             }
@@ -149,10 +126,8 @@ impl<'t, 'a, A: Allocator + Copy> Parser<'t, 'a, A> {
 
     /// The atom that begins with this keyword.
     #[cycle(expression)]
-    fn atom_of_word(&mut self, keyword: Keyword) -> Result<Expression<'a, A>, Stopped>
+    fn atom_of_word(&mut self, keyword: Keyword) -> Result<Expression<'a, A>, Refused>
         ensures reads { IfOk result (λ e. Reads IsAtom (standing_of self.old) (standing_of self.new) (expression_of e)) }
-        ensures done { IfOk result (λ _. IsNext (kinds.Keyword keyword) (left_of self.old) → Done (HasTree IsAtom) nothing (standing_of self.old) (standing_of self.new)) }
-        ensures stops { IfErr result (λ stopped. IsNext (kinds.Keyword keyword) (left_of self.old) → IsStop (HasTree IsAtom) nothing (standing_of self.old) (standing_of self.new) stopped) }
         ensures shorter { IfOk result (λ _. length (left_of self.new) < length (left_of self.old)) }
     {
         if let Some(operator) = unary_function(keyword) {
@@ -169,10 +144,8 @@ impl<'t, 'a, A: Allocator + Copy> Parser<'t, 'a, A> {
     }
 
     /// The constant that this keyword is.
-    fn constant(&mut self, keyword: Keyword) -> Result<Expression<'a, A>, Stopped>
+    fn constant(&mut self, keyword: Keyword) -> Result<Expression<'a, A>, Refused>
         ensures reads { IfOk result (λ e. Reads IsAtom (standing_of self.old) (standing_of self.new) (expression_of e)) }
-        ensures done { IfOk result (λ _. IsNext (kinds.Keyword keyword) (left_of self.old) → unary_word (keyword_of keyword) ≡ None → binary_word (keyword_of keyword) ≡ None → Done (HasTree IsAtom) nothing (standing_of self.old) (standing_of self.new)) }
-        ensures stops { IfErr result (λ stopped. IsNext (kinds.Keyword keyword) (left_of self.old) → unary_word (keyword_of keyword) ≡ None → binary_word (keyword_of keyword) ≡ None → IsStop (HasTree IsAtom) nothing (standing_of self.old) (standing_of self.new) stopped) }
         ensures shorter { IfOk result (λ _. length (left_of self.new) < length (left_of self.old)) }
     {
         match keyword {
@@ -188,16 +161,14 @@ impl<'t, 'a, A: Allocator + Copy> Parser<'t, 'a, A> {
                 self.word(Keyword::Bool)?;
                 Ok(Expression::Booleans)
             }
-            _ => Err(Stopped::Here),
+            _ => Err(self.refused()),
         }
     }
 
     /// An expression in brackets.
     #[cycle(expression)]
-    fn bracketed(&mut self) -> Result<Expression<'a, A>, Stopped>
+    fn bracketed(&mut self) -> Result<Expression<'a, A>, Refused>
         ensures reads { IfOk result (λ e. ReadsBracketed (standing_of self.old) (standing_of self.new) (expression_of e)) }
-        ensures done { IfOk result (λ _. Done Bracketed nothing (standing_of self.old) (standing_of self.new)) }
-        ensures stops { IfErr result (λ stopped. IsStop Bracketed nothing (standing_of self.old) (standing_of self.new) stopped) }
         ensures shorter { IfOk result (λ _. length (left_of self.new) < length (left_of self.old)) }
     {
         self.sign(Sign::OpenRound)?;
@@ -208,10 +179,8 @@ impl<'t, 'a, A: Allocator + Copy> Parser<'t, 'a, A> {
 
     /// Two expressions in brackets.
     #[cycle(expression)]
-    fn two_arguments(&mut self) -> Result<(Expression<'a, A>, Expression<'a, A>), Stopped>
+    fn two_arguments(&mut self) -> Result<(Expression<'a, A>, Expression<'a, A>), Refused>
         ensures reads { IfOk result (λ r. ReadsTwo (standing_of self.old) (standing_of self.new) (expression_of r.0) (expression_of r.1)) }
-        ensures done { IfOk result (λ _. Done TwoBracketed nothing (standing_of self.old) (standing_of self.new)) }
-        ensures stops { IfErr result (λ stopped. IsStop TwoBracketed nothing (standing_of self.old) (standing_of self.new) stopped) }
         ensures shorter { IfOk result (λ _. length (left_of self.new) < length (left_of self.old)) }
     {
         self.sign(Sign::OpenRound)?;
@@ -224,10 +193,8 @@ impl<'t, 'a, A: Allocator + Copy> Parser<'t, 'a, A> {
 
     /// The atom that begins with this sign.
     #[cycle(expression)]
-    fn atom_of_sign(&mut self, sign: Sign) -> Result<Expression<'a, A>, Stopped>
+    fn atom_of_sign(&mut self, sign: Sign) -> Result<Expression<'a, A>, Refused>
         ensures reads { IfOk result (λ e. Reads IsAtom (standing_of self.old) (standing_of self.new) (expression_of e)) }
-        ensures done { IfOk result (λ _. IsNext (kinds.Sign sign) (left_of self.old) → Done (HasTree IsAtom) nothing (standing_of self.old) (standing_of self.new)) }
-        ensures stops { IfErr result (λ stopped. IsNext (kinds.Sign sign) (left_of self.old) → IsStop (HasTree IsAtom) nothing (standing_of self.old) (standing_of self.new) stopped) }
         ensures shorter { IfOk result (λ _. length (left_of self.new) < length (left_of self.old)) }
     {
         match sign {
@@ -244,16 +211,14 @@ impl<'t, 'a, A: Allocator + Copy> Parser<'t, 'a, A> {
             Sign::OpenRound => self.bracketed(),
             Sign::Less => self.sequence(),
             Sign::OpenBrace => self.set(),
-            _ => Err(Stopped::Here),
+            _ => Err(self.refused()),
         }
     }
 
     /// A sequence.
     #[cycle(expression)]
-    fn sequence(&mut self) -> Result<Expression<'a, A>, Stopped>
+    fn sequence(&mut self) -> Result<Expression<'a, A>, Refused>
         ensures reads { IfOk result (λ e. Reads IsAtom (standing_of self.old) (standing_of self.new) (expression_of e)) }
-        ensures done { IfOk result (λ _. Done (Then (IsSign LessSign) Items) nothing (standing_of self.old) (standing_of self.new)) }
-        ensures stops { IfErr result (λ stopped. IsStop (Then (IsSign LessSign) Items) nothing (standing_of self.old) (standing_of self.new) stopped) }
         ensures shorter { IfOk result (λ _. length (left_of self.new) < length (left_of self.old)) }
     {
         self.sign(Sign::Less)?;
@@ -269,10 +234,8 @@ impl<'t, 'a, A: Allocator + Copy> Parser<'t, 'a, A> {
 
     /// A set.
     #[cycle(expression)]
-    fn set(&mut self) -> Result<Expression<'a, A>, Stopped>
+    fn set(&mut self) -> Result<Expression<'a, A>, Refused>
         ensures reads { IfOk result (λ e. Reads IsAtom (standing_of self.old) (standing_of self.new) (expression_of e)) }
-        ensures done { IfOk result (λ _. Done (Then (IsSign OpenBraceSign) Inside) nothing (standing_of self.old) (standing_of self.new)) }
-        ensures stops { IfErr result (λ stopped. IsStop (Then (IsSign OpenBraceSign) Inside) nothing (standing_of self.old) (standing_of self.new) stopped) }
         ensures shorter { IfOk result (λ _. length (left_of self.new) < length (left_of self.old)) }
     {
         self.sign(Sign::OpenBrace)?;
@@ -298,10 +261,8 @@ impl<'t, 'a, A: Allocator + Copy> Parser<'t, 'a, A> {
         &mut self,
         level: Level,
         first: Expression<'a, A>,
-    ) -> Result<Vec<Expression<'a, A>, A>, Stopped>
+    ) -> Result<Vec<Expression<'a, A>, A>, Refused>
         ensures extends { IfOk result (λ all. Extends (IsAt level) (AreListed level) (standing_of self.old) (standing_of self.new) (expression_of first.entry) (expressions_of all.items)) }
-        ensures done { IfOk result (λ _. Done (Repeated (IsItem level)) (lists level) (standing_of self.old) (standing_of self.new)) }
-        ensures stops { IfErr result (λ stopped. IsStop (Repeated (IsItem level)) (lists level) (standing_of self.old) (standing_of self.new) stopped) }
         ensures not_longer { IfOk result (λ _. length (left_of self.new) ≤ length (left_of self.old)) }
     {
         let mut items = Vec::new(self.alloc);
@@ -318,10 +279,8 @@ impl<'t, 'a, A: Allocator + Copy> Parser<'t, 'a, A> {
     pub(crate) fn expression_from(
         &mut self,
         atom: Expression<'a, A>,
-    ) -> Result<Expression<'a, A>, Stopped>
+    ) -> Result<Expression<'a, A>, Refused>
         ensures extends { IfOk result (λ e. Extends IsAtom IsExpression (standing_of self.old) (standing_of self.new) (expression_of atom.entry) (expression_of e)) }
-        ensures done { IfOk result (λ _. Done BehindAtom (continues Disjunction) (standing_of self.old) (standing_of self.new)) }
-        ensures stops { IfErr result (λ stopped. IsStop BehindAtom (continues Disjunction) (standing_of self.old) (standing_of self.new) stopped) }
         ensures not_longer { IfOk result (λ _. length (left_of self.new) ≤ length (left_of self.old)) }
     {
         let product = self.chained(Level::Product, atom)?;
@@ -337,9 +296,8 @@ fn applied<'a, A: Allocator>(
     alloc: A,
     operator: UnaryOperator,
     operand: Expression<'a, A>,
-) -> Result<Expression<'a, A>, Stopped>
-    ensures makes { IfOk result (λ e. expression_of e ≡ RawApply (unary_of operator) (expression_of operand.entry)) }
-    ensures stops { IfErr result (λ stopped. stopped ≡ Memory) }
+) -> Result<Expression<'a, A>, Refused>
+    ensures { IfOk result (λ e. expression_of e ≡ RawApply (unary_of operator) (expression_of operand.entry)) }
 {
     let operand = Box::new(alloc, operand)?;
     Ok(Expression::Apply(operator, operand))
@@ -351,9 +309,8 @@ fn combined<'a, A: Allocator + Copy>(
     operator: BinaryOperator,
     left: Expression<'a, A>,
     right: Expression<'a, A>,
-) -> Result<Expression<'a, A>, Stopped>
-    ensures makes { IfOk result (λ e. expression_of e ≡ RawCombine (binary_of operator) (expression_of left.entry) (expression_of right.entry)) }
-    ensures stops { IfErr result (λ stopped. stopped ≡ Memory) }
+) -> Result<Expression<'a, A>, Refused>
+    ensures { IfOk result (λ e. expression_of e ≡ RawCombine (binary_of operator) (expression_of left.entry) (expression_of right.entry)) }
 {
     let left = Box::new(alloc, left)?;
     let right = Box::new(alloc, right)?;
@@ -365,9 +322,8 @@ fn ranged<'a, A: Allocator + Copy>(
     alloc: A,
     from: Expression<'a, A>,
     to: Expression<'a, A>,
-) -> Result<Expression<'a, A>, Stopped>
-    ensures makes { IfOk result (λ e. expression_of e ≡ RawRange (expression_of from.entry) (expression_of to.entry)) }
-    ensures stops { IfErr result (λ stopped. stopped ≡ Memory) }
+) -> Result<Expression<'a, A>, Refused>
+    ensures { IfOk result (λ e. expression_of e ≡ RawRange (expression_of from.entry) (expression_of to.entry)) }
 {
     let from = Box::new(alloc, from)?;
     let to = Box::new(alloc, to)?;

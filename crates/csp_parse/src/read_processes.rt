@@ -1,6 +1,6 @@
-ghost use Rattle.std.specs.Prelude.{◌≡◌, ◌<◌, ◌≤◌, ℕ, List, IfOk, IfErr, IfSome, length, map};
-ghost use Rattle.csp_semantics.specs.Text.Grammar.{IsExpression, AreLaterFields, AreFields, IsRenamingPart, IsHidingPart, IsRenamed, IsHidden, IsBase, IsOperand, IsProcess};
-ghost use Rattle.csp_semantics.specs.Text.Token.{PlacedToken, ColonSign, OpenRenamingSign, HidingSign};
+ghost use Rattle.std.specs.Prelude.{◌≡◌, ◌<◌, ◌≤◌, ℕ, List, IfOk, IfSome, length, map};
+ghost use Rattle.csp_semantics.specs.Text.Grammar.{IsExpression, AreLaterFields, AreFields, IsRenamed, IsHidden, IsBase, IsOperand, IsProcess};
+ghost use Rattle.csp_semantics.specs.Text.Token.{PlacedToken};
 ghost use Rattle.csp_parse.specs.EventSets.{event_set_of};
 ghost use Rattle.csp_parse.specs.Expressions.{expression_of, expressions_of};
 ghost use Rattle.csp_parse.specs.Names.{name_of};
@@ -13,20 +13,17 @@ use crate::levels::{Level, comparison};
 use crate::names::Name;
 use crate::parsers::Parser;
 use crate::processes::{Field, Infix, Process, Replicator};
+use crate::refusals::Refused;
 use crate::starts::{Inner, Start};
-use crate::stops::Stopped;
 use csp_lex::{Keyword, Sign, TokenKind};
 use std::alloc::Allocator;
 
 impl<'t, 'a, A: Allocator + Copy> Parser<'t, 'a, A> {
-    ghost use Rattle.csp_parse.specs.Deciding.{nothing, only, Done, IsStop};
-    ghost use Rattle.csp_parse.specs.Forms.{HasTree, Repeated};
-    ghost use Rattle.csp_parse.specs.ProcessForms.{Arguments, fields_go_on};
     ghost use Rattle.csp_parse.specs.Reading.{left_of, standing_of, Standing, Reads, Continues};
 
     /// A process.
     #[cycle(process)]
-    pub(crate) fn process(&mut self) -> Result<Box<Process<'a, A>, A>, Stopped>
+    pub(crate) fn process(&mut self) -> Result<Box<Process<'a, A>, A>, Refused>
         ensures reads { IfOk result (λ r. Reads IsProcess (standing_of self.old) (standing_of self.new) (process_in r)) }
         ensures shorter { IfOk result (λ _. length (left_of self.new) < length (left_of self.old)) }
     {
@@ -42,7 +39,7 @@ impl<'t, 'a, A: Allocator + Copy> Parser<'t, 'a, A> {
 
     /// A conditional process, whose `if` is next.
     #[cycle(process)]
-    fn conditional(&mut self) -> Result<Box<Process<'a, A>, A>, Stopped>
+    fn conditional(&mut self) -> Result<Box<Process<'a, A>, A>, Refused>
         ensures reads { IfOk result (λ r. Reads IsProcess (standing_of self.old) (standing_of self.new) (process_in r)) }
         ensures shorter { IfOk result (λ _. length (left_of self.new) < length (left_of self.old)) }
     {
@@ -57,7 +54,7 @@ impl<'t, 'a, A: Allocator + Copy> Parser<'t, 'a, A> {
 
     /// A replicated process, whose operator is next.
     #[cycle(process)]
-    fn replicated(&mut self, replicator: Replicator) -> Result<Box<Process<'a, A>, A>, Stopped>
+    fn replicated(&mut self, replicator: Replicator) -> Result<Box<Process<'a, A>, A>, Refused>
         ensures reads { IfOk result (λ r. Reads IsProcess (standing_of self.old) (standing_of self.new) (process_in r)) }
         ensures shorter { IfOk result (λ _. length (left_of self.new) < length (left_of self.old)) }
     {
@@ -73,7 +70,7 @@ impl<'t, 'a, A: Allocator + Copy> Parser<'t, 'a, A> {
 
     /// The process that begins so.
     #[cycle(process)]
-    fn process_from(&mut self, start: Start<'a, A>) -> Result<Box<Process<'a, A>, A>, Stopped>
+    fn process_from(&mut self, start: Start<'a, A>) -> Result<Box<Process<'a, A>, A>, Refused>
         ensures continues { IfOk result (λ r. (before : Standing) → ReadsStart before (standing_of self.old) start.entry → Reads IsProcess before (standing_of self.new) (process_in r)) }
         ensures not_longer { IfOk result (λ _. length (left_of self.new) ≤ length (left_of self.old)) }
     {
@@ -82,7 +79,7 @@ impl<'t, 'a, A: Allocator + Copy> Parser<'t, 'a, A> {
                 let base = Process::call(self.alloc, name, Vec::new(self.alloc))?;
                 self.process_from_base(base)
             }
-            Start::Expression(_) => Err(Stopped::Here),
+            Start::Expression(_) => Err(self.refused()),
             Start::Base(base) => self.process_from_base(base),
             Start::Operand(operand) => self.process_from_operand(operand),
         }
@@ -93,7 +90,7 @@ impl<'t, 'a, A: Allocator + Copy> Parser<'t, 'a, A> {
     fn process_from_base(
         &mut self,
         base: Box<Process<'a, A>, A>,
-    ) -> Result<Box<Process<'a, A>, A>, Stopped>
+    ) -> Result<Box<Process<'a, A>, A>, Refused>
         ensures continues { IfOk result (λ r. Continues IsBase IsProcess (standing_of self.old) (standing_of self.new) (process_in base.entry) (process_in r)) }
         ensures not_longer { IfOk result (λ _. length (left_of self.new) ≤ length (left_of self.old)) }
     {
@@ -105,10 +102,8 @@ impl<'t, 'a, A: Allocator + Copy> Parser<'t, 'a, A> {
     }
 
     /// The renamings of a process.
-    fn renamed(&mut self, base: Box<Process<'a, A>, A>) -> Result<Box<Process<'a, A>, A>, Stopped>
+    fn renamed(&mut self, base: Box<Process<'a, A>, A>) -> Result<Box<Process<'a, A>, A>, Refused>
         ensures continues { IfOk result (λ r. Continues IsBase IsRenamedBase (standing_of self.old) (standing_of self.new) (process_in base.entry) (process_in r)) }
-        ensures done { IfOk result (λ _. Done (Repeated (HasTree IsRenamingPart)) (only OpenRenamingSign) (standing_of self.old) (standing_of self.new)) }
-        ensures stops { IfErr result (λ stopped. IsStop (Repeated (HasTree IsRenamingPart)) (only OpenRenamingSign) (standing_of self.old) (standing_of self.new) stopped) }
         ensures not_longer { IfOk result (λ _. length (left_of self.new) ≤ length (left_of self.old)) }
     {
         let mut process = base;
@@ -122,10 +117,8 @@ impl<'t, 'a, A: Allocator + Copy> Parser<'t, 'a, A> {
     }
 
     /// The hidings of a process.
-    fn hidden(&mut self, renamed: Box<Process<'a, A>, A>) -> Result<Box<Process<'a, A>, A>, Stopped>
+    fn hidden(&mut self, renamed: Box<Process<'a, A>, A>) -> Result<Box<Process<'a, A>, A>, Refused>
         ensures continues { IfOk result (λ r. Continues IsRenamedBase IsHiddenBase (standing_of self.old) (standing_of self.new) (process_in renamed.entry) (process_in r)) }
-        ensures done { IfOk result (λ _. Done (Repeated (HasTree IsHidingPart)) (only HidingSign) (standing_of self.old) (standing_of self.new)) }
-        ensures stops { IfErr result (λ stopped. IsStop (Repeated (HasTree IsHidingPart)) (only HidingSign) (standing_of self.old) (standing_of self.new) stopped) }
         ensures not_longer { IfOk result (λ _. length (left_of self.new) ≤ length (left_of self.old)) }
     {
         let mut process = renamed;
@@ -142,7 +135,7 @@ impl<'t, 'a, A: Allocator + Copy> Parser<'t, 'a, A> {
     fn process_from_operand(
         &mut self,
         first: Box<Process<'a, A>, A>,
-    ) -> Result<Box<Process<'a, A>, A>, Stopped>
+    ) -> Result<Box<Process<'a, A>, A>, Refused>
         ensures continues { IfOk result (λ r. Continues IsOperand IsProcess (standing_of self.old) (standing_of self.new) (process_in first.entry) (process_in r)) }
         ensures not_longer { IfOk result (λ _. length (left_of self.new) ≤ length (left_of self.old)) }
     {
@@ -163,7 +156,7 @@ impl<'t, 'a, A: Allocator + Copy> Parser<'t, 'a, A> {
     fn generalised(
         &mut self,
         left: Box<Process<'a, A>, A>,
-    ) -> Result<Box<Process<'a, A>, A>, Stopped>
+    ) -> Result<Box<Process<'a, A>, A>, Refused>
         ensures continues { IfOk result (λ r. Continues IsOperand IsProcess (standing_of self.old) (standing_of self.new) (process_in left.entry) (process_in r)) }
         ensures not_longer { IfOk result (λ _. length (left_of self.new) ≤ length (left_of self.old)) }
     {
@@ -179,7 +172,7 @@ impl<'t, 'a, A: Allocator + Copy> Parser<'t, 'a, A> {
     fn alphabetised(
         &mut self,
         left: Box<Process<'a, A>, A>,
-    ) -> Result<Box<Process<'a, A>, A>, Stopped>
+    ) -> Result<Box<Process<'a, A>, A>, Refused>
         ensures continues { IfOk result (λ r. Continues IsOperand IsProcess (standing_of self.old) (standing_of self.new) (process_in left.entry) (process_in r)) }
         ensures not_longer { IfOk result (λ _. length (left_of self.new) ≤ length (left_of self.old)) }
     {
@@ -198,7 +191,7 @@ impl<'t, 'a, A: Allocator + Copy> Parser<'t, 'a, A> {
         &mut self,
         operator: Infix,
         first: Box<Process<'a, A>, A>,
-    ) -> Result<Box<Process<'a, A>, A>, Stopped>
+    ) -> Result<Box<Process<'a, A>, A>, Refused>
         ensures continues { IfOk result (λ r. Continues IsOperand IsProcess (standing_of self.old) (standing_of self.new) (process_in first.entry) (process_in r)) }
         ensures not_longer { IfOk result (λ _. length (left_of self.new) ≤ length (left_of self.old)) }
     {
@@ -216,13 +209,13 @@ impl<'t, 'a, A: Allocator + Copy> Parser<'t, 'a, A> {
 
     /// An operand.
     #[cycle(process)]
-    fn operand(&mut self) -> Result<Box<Process<'a, A>, A>, Stopped>
+    fn operand(&mut self) -> Result<Box<Process<'a, A>, A>, Refused>
         ensures reads { IfOk result (λ r. Reads IsOperand (standing_of self.old) (standing_of self.new) (process_in r)) }
         ensures shorter { IfOk result (λ _. length (left_of self.new) < length (left_of self.old)) }
     {
         match self.start()? {
             Start::Name(name) => Process::call(self.alloc, name, Vec::new(self.alloc)),
-            Start::Expression(_) => Err(Stopped::Here),
+            Start::Expression(_) => Err(self.refused()),
             Start::Base(process) => Ok(process),
             Start::Operand(process) => Ok(process),
         }
@@ -230,7 +223,7 @@ impl<'t, 'a, A: Allocator + Copy> Parser<'t, 'a, A> {
 
     /// An operand, or an expression without a guard sign behind it.
     #[cycle(process)]
-    fn start(&mut self) -> Result<Start<'a, A>, Stopped>
+    fn start(&mut self) -> Result<Start<'a, A>, Refused>
         ensures reads { IfOk result (λ r. ReadsStart (standing_of self.old) (standing_of self.new) r) }
         ensures shorter { IfOk result (λ _. length (left_of self.new) < length (left_of self.old)) }
     {
@@ -256,7 +249,7 @@ impl<'t, 'a, A: Allocator + Copy> Parser<'t, 'a, A> {
 
     /// What begins with a name, which is next.
     #[cycle(process)]
-    fn start_of_name(&mut self) -> Result<Start<'a, A>, Stopped>
+    fn start_of_name(&mut self) -> Result<Start<'a, A>, Refused>
         ensures reads { IfOk result (λ r. ReadsStart (standing_of self.old) (standing_of self.new) r) }
         ensures shorter { IfOk result (λ _. length (left_of self.new) < length (left_of self.old)) }
     {
@@ -277,10 +270,8 @@ impl<'t, 'a, A: Allocator + Copy> Parser<'t, 'a, A> {
     }
 
     /// The arguments of a call, in brackets.
-    fn arguments(&mut self) -> Result<Vec<Expression<'a, A>, A>, Stopped>
+    fn arguments(&mut self) -> Result<Vec<Expression<'a, A>, A>, Refused>
         ensures reads { IfOk result (λ r. ReadsArguments (standing_of self.old) (standing_of self.new) (expressions_of r.items)) }
-        ensures done { IfOk result (λ _. Done Arguments nothing (standing_of self.old) (standing_of self.new)) }
-        ensures stops { IfErr result (λ stopped. IsStop Arguments nothing (standing_of self.old) (standing_of self.new) stopped) }
         ensures shorter { IfOk result (λ _. length (left_of self.new) < length (left_of self.old)) }
     {
         self.sign(Sign::OpenRound)?;
@@ -292,7 +283,7 @@ impl<'t, 'a, A: Allocator + Copy> Parser<'t, 'a, A> {
 
     /// What begins with a name, perhaps in brackets, that is no call with arguments and no channel.
     #[cycle(process)]
-    fn start_from_name(&mut self, name: Name<'a>) -> Result<Start<'a, A>, Stopped>
+    fn start_from_name(&mut self, name: Name<'a>) -> Result<Start<'a, A>, Refused>
         ensures continues { IfOk result (λ r. (before : Standing) → ReadsName before (standing_of self.old) (name_of name.entry) → ReadsStart before (standing_of self.new) r) }
         ensures not_longer { IfOk result (λ _. length (left_of self.new) ≤ length (left_of self.old)) }
     {
@@ -305,7 +296,7 @@ impl<'t, 'a, A: Allocator + Copy> Parser<'t, 'a, A> {
 
     /// What begins with an opening bracket, which is next.
     #[cycle(process)]
-    fn start_of_brackets(&mut self) -> Result<Start<'a, A>, Stopped>
+    fn start_of_brackets(&mut self) -> Result<Start<'a, A>, Refused>
         ensures reads { IfOk result (λ r. ReadsStart (standing_of self.old) (standing_of self.new) r) }
         ensures shorter { IfOk result (λ _. length (left_of self.new) < length (left_of self.old)) }
     {
@@ -324,7 +315,7 @@ impl<'t, 'a, A: Allocator + Copy> Parser<'t, 'a, A> {
 
     /// What stands behind an opening bracket.
     #[cycle(process)]
-    fn inner(&mut self) -> Result<Inner<'a, A>, Stopped>
+    fn inner(&mut self) -> Result<Inner<'a, A>, Refused>
         ensures reads { IfOk result (λ r. ReadsInner (standing_of self.old) (standing_of self.new) r) }
         ensures shorter { IfOk result (λ _. length (left_of self.new) < length (left_of self.old)) }
     {
@@ -348,7 +339,7 @@ impl<'t, 'a, A: Allocator + Copy> Parser<'t, 'a, A> {
 
     /// What stands behind an opening bracket and begins with a name, perhaps in brackets.
     #[cycle(process)]
-    fn inner_from_name(&mut self, name: Name<'a>) -> Result<Inner<'a, A>, Stopped>
+    fn inner_from_name(&mut self, name: Name<'a>) -> Result<Inner<'a, A>, Refused>
         ensures continues { IfOk result (λ r. (before : Standing) → ReadsName before (standing_of self.old) (name_of name.entry) → ReadsInner before (standing_of self.new) r) }
         ensures not_longer { IfOk result (λ _. length (left_of self.new) ≤ length (left_of self.old)) }
     {
@@ -361,7 +352,7 @@ impl<'t, 'a, A: Allocator + Copy> Parser<'t, 'a, A> {
 
     /// An expression, or with `&` behind it the process that it guards.
     #[cycle(process)]
-    fn guarded(&mut self, expression: Expression<'a, A>) -> Result<Start<'a, A>, Stopped>
+    fn guarded(&mut self, expression: Expression<'a, A>) -> Result<Start<'a, A>, Refused>
         ensures continues { IfOk result (λ r. (before : Standing) → Reads IsExpression before (standing_of self.old) (expression_of expression.entry) → ReadsStart before (standing_of self.new) r) }
         ensures not_longer { IfOk result (λ _. length (left_of self.new) ≤ length (left_of self.old)) }
     {
@@ -375,10 +366,8 @@ impl<'t, 'a, A: Allocator + Copy> Parser<'t, 'a, A> {
     }
 
     /// The fields of a prefix.
-    fn fields(&mut self) -> Result<Vec<Field<'a, A>, A>, Stopped>
+    fn fields(&mut self) -> Result<Vec<Field<'a, A>, A>, Refused>
         ensures reads { IfOk result (λ r. Reads AreFields (standing_of self.old) (standing_of self.new) (map field_of r.items)) }
-        ensures done { IfOk result (λ _. Done (HasTree AreFields) fields_go_on (standing_of self.old) (standing_of self.new)) }
-        ensures stops { IfErr result (λ stopped. IsStop (HasTree AreFields) fields_go_on (standing_of self.old) (standing_of self.new) stopped) }
         ensures not_longer { IfOk result (λ _. length (left_of self.new) ≤ length (left_of self.old)) }
     {
         let mut fields = Vec::new(self.alloc);
@@ -395,10 +384,8 @@ impl<'t, 'a, A: Allocator + Copy> Parser<'t, 'a, A> {
     }
 
     /// An output or an input.
-    fn field(&mut self) -> Result<Field<'a, A>, Stopped>
+    fn field(&mut self) -> Result<Field<'a, A>, Refused>
         ensures reads { IfOk result (λ r. Reads IsLaterField (standing_of self.old) (standing_of self.new) (field_of r)) }
-        ensures done { IfOk result (λ _. Done (HasTree IsLaterField) (only ColonSign) (standing_of self.old) (standing_of self.new)) }
-        ensures stops { IfErr result (λ stopped. IsStop (HasTree IsLaterField) (only ColonSign) (standing_of self.old) (standing_of self.new) stopped) }
         ensures shorter { IfOk result (λ _. length (left_of self.new) < length (left_of self.old)) }
     {
         if self.is_at(Sign::Output) {

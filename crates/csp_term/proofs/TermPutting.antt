@@ -1,0 +1,121 @@
+-- Values are put into the fields of a prefix in turn, and what the parts of a term make up.
+use Rattle.std.proofs.Common.{◌≡◌, ℕ, ◌+◌, ◌<◌, List, [], ◌∷◌, ◌++◌, length, drop, get_or, refl, sym, ◌∙◌, ap, ap₂}
+use Rattle.std.proofs.lemmas.List.{map-append, append_assoc, drop_more}
+use Rattle.std.specs.declared.vec.Vec.{Vec}
+use Rattle.csp_semantics.specs.Syntax.Expression.{to_expressions}
+use Rattle.csp_semantics.specs.Syntax.Process as pure
+use Rattle.csp_semantics.specs.Meaning.Substitution.{Bindings, behind, put, put_event_set, put_expression, put_fields, put_pairs, without}
+use Rattle.csp_value.specs.declared.name.ChannelId.{ChannelId}
+use Rattle.csp_term.specs.declared.name.EquationId.{EquationId}
+use Rattle.csp_term.specs.declared.name.Name.{Name}
+use Rattle.csp_term.specs.declared.operator.ProcessOperator.{ProcessOperator}
+use Rattle.csp_term.specs.declared.operator.ReplicatedOperator.{ReplicatedOperator}
+use Rattle.csp_term.specs.declared.events.event_set.EventSet.{EventSet}
+use Rattle.csp_term.specs.declared.events.renaming_pair.RenamingPair.{RenamingPair}
+use Rattle.csp_term.specs.declared.expression.expr.Expr.{Expr}
+use Rattle.csp_term.specs.declared.field.Field.{Field}
+use Rattle.csp_term.specs.declared.term.Term.{Term}
+use Rattle.csp_term.specs.declared.term.TermForm.{TermForm}
+use Rattle.csp_term.specs.declared.term.TermForm.TheVariants as views
+use Rattle.csp_term.specs.Bindings.{puts}
+use Rattle.csp_term.specs.Expression.{expression_of, expressions_of}
+use Rattle.csp_term.specs.Events.{event_set_of, renaming_pairs_of}
+use Rattle.csp_term.specs.Field.{field_of, fields_of}
+use Rattle.csp_term.specs.Term.{binary_process, process_of, process_of_form, replicated_process}
+use Rattle.csp_term.proofs.ExpressionPutting.{put_list}
+use Rattle.csp_term.proofs.Forms.{of_call, of_prefix, of_guard, of_conditional, of_binary, of_generalised, of_alphabetised, of_hiding, of_renaming, of_replicated}
+use Rattle.csp_term.proofs.OperatorForms.{binary_put, replicated_put}
+
+-- ---- fields, one and then the others
+
+put_first : (bs : Bindings) (f : pure.Field) (fs : List pure.Field) → put_fields bs (f ∷ fs) ≡ put_fields bs (f ∷ []) ++ put_fields (behind bs (f ∷ [])) fs
+put_first bs (pure.Given e) fs = refl
+put_first bs (pure.Input n) fs = refl
+put_first bs (pure.InputFrom n e) fs = refl
+
+behind_first : (bs : Bindings) (f : pure.Field) (fs : List pure.Field) → behind bs (f ∷ fs) ≡ behind (behind bs (f ∷ [])) fs
+behind_first bs (pure.Given e) fs = refl
+behind_first bs (pure.Input n) fs = refl
+behind_first bs (pure.InputFrom n e) fs = refl
+
+-- a field and those behind it
+cut : {X : Type 0} (xs : List X) (i : ℕ) (x : X) → i < length xs → x ≡ get_or xs i x → x ∷ drop (i + 1) xs ≡ drop i xs
+cut xs i x within read = ap (λ z. z ∷ drop (i + 1) xs) read ∙ sym (drop_more xs i x within)
+
+module _ {A : Type 0} (bs : Bindings) (fs : List (Field A)) where
+  -- what is put in so far, and then into what is left, is put into all of them
+  abbrev pub Fills : List (Field A) → Bindings → ℕ → Type 0
+  Fills all left i = fields_of all ++ put_fields left (fields_of (drop i fs)) ≡ put_fields bs (fields_of fs)
+
+  -- what is left of the bindings behind all of them
+  abbrev pub Leaves : Bindings → ℕ → Type 0
+  Leaves left i = behind left (fields_of (drop i fs)) ≡ behind bs (fields_of fs)
+
+  pub filled : (all more : List (Field A)) (left less : Bindings) (i : ℕ) (f new : Field A) → i < length fs → f ≡ get_or fs i f → field_of new ∷ [] ≡ put_fields left (field_of f ∷ []) → less ≡ behind left (field_of f ∷ []) → more ≡ all ++ new ∷ [] →
+      Fills all left i → Fills more less (i + 1)
+  filled all more left less i f new within read one is pushed fills =
+      let rest = fields_of (drop (i + 1) fs) in
+      let opened : put_fields left (fields_of (drop i fs)) ≡ (field_of new ∷ []) ++ put_fields less rest =
+      ap (λ gs. put_fields left (fields_of gs)) (sym (cut fs i f within read)) ∙ put_first left (field_of f) rest ∙ ap₂ (λ gs cs. gs ++ put_fields cs rest) (sym one) (sym is)
+      in
+      let joined : fields_of more ++ put_fields less rest ≡ fields_of all ++ ((field_of new ∷ []) ++ put_fields less rest) =
+      ap (λ gs. fields_of gs ++ put_fields less rest) pushed ∙ ap (λ gs. gs ++ put_fields less rest) (map-append field_of all (new ∷ [])) ∙ append_assoc (fields_of all) (field_of new ∷ []) (put_fields less rest)
+      in joined ∙ ap (λ gs. fields_of all ++ gs) (sym opened) ∙ fills
+
+  pub left_behind : (left less : Bindings) (i : ℕ) (f : Field A) → i < length fs → f ≡ get_or fs i f → less ≡ behind left (field_of f ∷ []) → Leaves left i → Leaves less (i + 1)
+  left_behind left less i f within read is leaves =
+      let rest = fields_of (drop (i + 1) fs) in
+      ap (λ cs. behind cs rest) is ∙ sym (behind_first left (field_of f) rest) ∙ ap (λ gs. behind left (fields_of gs)) (cut fs i f within read) ∙ leaves
+
+-- ---- terms
+
+pub put_call : {A : Type 0} (bs : Bindings) (self : TermForm A) (n : EquationId) (es all : Vec (Expr A) A) (read : List (Expr A)) → self ≡ views.Call n es → read ≡ es.items → expressions_of all.items ≡ puts bs read →
+    process_of_form {A = A} (views.Call n all) ≡ put bs (process_of_form self)
+put_call {A} bs self n es all read is same done =
+    of_call A n all ∙ ap (λ fs. pure.Call n.0 (to_expressions fs)) (done ∙ ap (puts bs) same) ∙ ap (pure.Call n.0) (put_list bs es.items) ∙ ap (put bs) (sym (ap process_of_form is ∙ of_call A n es))
+
+pub put_prefix : {A : Type 0} (bs left : Bindings) (self : TermForm A) (c : ChannelId) (fs all : Vec (Field A) A) (p body : Term A) (read : List (Field A)) → self ≡ views.Prefix c fs p → read ≡ fs.items →
+    fields_of all.items ≡ put_fields bs (fields_of read) → left ≡ behind bs (fields_of read) → process_of body ≡ put left (process_of p) → process_of_form {A = A} (views.Prefix c all body) ≡ put bs (process_of_form self)
+put_prefix {A} bs left self c fs all p body read is same done rest put_body =
+    of_prefix A c all body ∙ ap₂ (pure.Prefix c.0) (done ∙ ap (λ gs. put_fields bs (fields_of gs)) same) (put_body ∙ ap (λ cs. put cs (process_of p)) (rest ∙ ap (λ gs. behind bs (fields_of gs)) same))
+    ∙ ap (put bs) (sym (ap process_of_form is ∙ of_prefix A c fs p))
+
+pub put_guard : {A : Type 0} (bs : Bindings) (self : TermForm A) (e condition : Expr A) (p body : Term A) → self ≡ views.Guard e p → expression_of condition ≡ put_expression bs (expression_of e) → process_of body ≡ put bs (process_of p) →
+    process_of_form {A = A} (views.Guard condition body) ≡ put bs (process_of_form self)
+put_guard {A} bs self e condition p body is done put_body = of_guard A condition body ∙ ap₂ pure.Guard done put_body ∙ ap (put bs) (sym (ap process_of_form is ∙ of_guard A e p))
+
+pub put_conditional : {A : Type 0} (bs : Bindings) (self : TermForm A) (e condition : Expr A) (p first q second : Term A) → self ≡ views.If e p q → expression_of condition ≡ put_expression bs (expression_of e) →
+    process_of first ≡ put bs (process_of p) → process_of second ≡ put bs (process_of q) → process_of_form {A = A} (views.If condition first second) ≡ put bs (process_of_form self)
+put_conditional {A} bs self e condition p first q second is done put_first_branch put_second =
+    of_conditional A condition first second ∙ (λ i. pure.If (done i) (put_first_branch i) (put_second i)) ∙ ap (put bs) (sym (ap process_of_form is ∙ of_conditional A e p q))
+
+pub put_binary : {A : Type 0} (bs : Bindings) (self : TermForm A) (op : ProcessOperator) (p left q right : Term A) → self ≡ views.Binary op p q → process_of left ≡ put bs (process_of p) → process_of right ≡ put bs (process_of q) →
+    process_of_form {A = A} (views.Binary op left right) ≡ put bs (process_of_form self)
+put_binary {A} bs self op p left q right is put_left put_right =
+    of_binary A op left right ∙ ap₂ (binary_process op) put_left put_right ∙ sym (binary_put bs op (process_of p) (process_of q)) ∙ ap (put bs) (sym (ap process_of_form is ∙ of_binary A op p q))
+
+pub put_generalised : {A : Type 0} (bs : Bindings) (self : TermForm A) (p left : Term A) (a shared : EventSet A) (q right : Term A) → self ≡ views.GeneralisedParallel p a q →
+    process_of left ≡ put bs (process_of p) → event_set_of shared ≡ put_event_set bs (event_set_of a) → process_of right ≡ put bs (process_of q) → process_of_form {A = A} (views.GeneralisedParallel left shared right) ≡ put bs (process_of_form self)
+put_generalised {A} bs self p left a shared q right is put_left put_shared put_right =
+    of_generalised A left shared right ∙ (λ i. pure.GeneralisedParallel (put_left i) (put_shared i) (put_right i)) ∙ ap (put bs) (sym (ap process_of_form is ∙ of_generalised A p a q))
+
+pub put_alphabetised : {A : Type 0} (bs : Bindings) (self : TermForm A) (p left : Term A) (a own b other : EventSet A) (q right : Term A) → self ≡ views.AlphabetisedParallel p a b q →
+    process_of left ≡ put bs (process_of p) → event_set_of own ≡ put_event_set bs (event_set_of a) → event_set_of other ≡ put_event_set bs (event_set_of b) → process_of right ≡ put bs (process_of q) →
+    process_of_form {A = A} (views.AlphabetisedParallel left own other right) ≡ put bs (process_of_form self)
+put_alphabetised {A} bs self p left a own b other q right is put_left put_own put_other put_right =
+    of_alphabetised A left own other right ∙ (λ i. pure.AlphabetisedParallel (put_left i) (put_own i) (put_other i) (put_right i)) ∙ ap (put bs) (sym (ap process_of_form is ∙ of_alphabetised A p a b q))
+
+pub put_hiding : {A : Type 0} (bs : Bindings) (self : TermForm A) (p body : Term A) (a hidden : EventSet A) → self ≡ views.Hiding p a → process_of body ≡ put bs (process_of p) → event_set_of hidden ≡ put_event_set bs (event_set_of a) →
+    process_of_form {A = A} (views.Hiding body hidden) ≡ put bs (process_of_form self)
+put_hiding {A} bs self p body a hidden is put_body put_hidden = of_hiding A body hidden ∙ ap₂ pure.Hiding put_body put_hidden ∙ ap (put bs) (sym (ap process_of_form is ∙ of_hiding A p a))
+
+pub put_renaming : {A : Type 0} (bs : Bindings) (self : TermForm A) (p body : Term A) (rs pairs : Vec (RenamingPair A) A) (read : List (RenamingPair A)) → self ≡ views.Renaming p rs → read ≡ rs.items → process_of body ≡ put bs (process_of p) →
+    renaming_pairs_of pairs.items ≡ put_pairs bs (renaming_pairs_of read) → process_of_form {A = A} (views.Renaming body pairs) ≡ put bs (process_of_form self)
+put_renaming {A} bs self p body rs pairs read is same put_body done =
+    of_renaming A body pairs ∙ ap₂ pure.Renaming put_body (done ∙ ap (λ ss. put_pairs bs (renaming_pairs_of ss)) same) ∙ ap (put bs) (sym (ap process_of_form is ∙ of_renaming A p rs))
+
+pub put_replicated : {A : Type 0} (bs left : Bindings) (self : TermForm A) (op : ReplicatedOperator) (n : Name) (e set : Expr A) (p body : Term A) → self ≡ views.Replicated op n e p → expression_of set ≡ put_expression bs (expression_of e) →
+    left ≡ without n.0 bs → process_of body ≡ put left (process_of p) → process_of_form {A = A} (views.Replicated op n set body) ≡ put bs (process_of_form self)
+put_replicated {A} bs left self op n e set p body is done rest put_body =
+    of_replicated A op n set body ∙ ap₂ (replicated_process op n.0) done (put_body ∙ ap (λ cs. put cs (process_of p)) rest)
+    ∙ sym (replicated_put bs op n.0 (expression_of e) (process_of p)) ∙ ap (put bs) (sym (ap process_of_form is ∙ of_replicated A op n e p))
