@@ -4,18 +4,16 @@
 //! a copy stands for the same process, values are put in as the definitions say, the limits are decided exactly, and
 //! `==`, the order and the hash of two terms are those of their processes, whichever allocator holds them.
 //!
-//! Expressions stand in `expression`, with their evaluation, and sets of events and renamings in `events`.
+//! Expressions stand in `expression`, with their evaluation.
 #![tactic(auto)]
 
 mod assertion;
-pub mod events;
 pub mod expression;
 mod fault;
 mod field;
 pub mod laws;
 mod limits;
 mod name;
-mod operator;
 mod script;
 mod substitution;
 mod term;
@@ -25,7 +23,6 @@ pub use csp_value::{Action, AllocHandle, ChannelId, Event, Memory, TryCopy, copy
 pub use fault::Fault;
 pub use field::Field;
 pub use name::{DatatypeId, EquationId, Name, NametypeId};
-pub use operator::{ProcessOperator, ReplicatedOperator};
 pub use script::{Channel, Constructor, Equation, Script};
 pub use substitution::{TermFault, bind};
 pub use term::{Term, TermForm};

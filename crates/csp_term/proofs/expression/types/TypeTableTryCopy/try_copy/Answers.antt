@@ -1,5 +1,5 @@
 -- The datatypes are the same, and each set is copied.
-use Rattle.std.proofs.Common.{◌≡◌, List, map, ◌∙◌, ap, subst}
+use Rattle.std.proofs.Common.{rules, ◌≡◌, List, map, ◌∙◌, ap, subst}
 use Rattle.csp_semantics.specs.Syntax.Value.{values_list}
 use Rattle.csp_value.specs.declared.set.SetOf.{SetOf}
 use Rattle.csp_value.specs.Copies.{AreCopies}
