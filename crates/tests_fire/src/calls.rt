@@ -1,11 +1,12 @@
-//! Ends and calls.
+//! Ends, calls and what an expansion names.
 
 use crate::expressions::{HEAD_OF_NOTHING, Part, REMAINDER_BY_NOTHING};
-use crate::made::{D, P, Place, Q, R, call, does, given, prefix, script, stuck_by};
+use crate::made::{D, P, Place, Q, R, call, chain, does, given, prefix, script, stuck_by};
 use csp_fire::{Form, Step, fire};
 use csp_term::expression::BinaryOperator;
 use csp_term::{Action, EquationId, Fault, Memory, Script, Term, TermForm};
 use std::alloc::Global;
+use std::process::Abort;
 use std::test::Fail;
 
 #[test]
@@ -112,4 +113,20 @@ fn calls_that_are_stuck(rt: HostRuntime) -> Result<(), Fail> {
         assert_eq!(rt; stuck_by(alloc, &script, &term)?, Ok(fault), "{row}");
     }
     Ok(())
+}
+
+fn names_what_was_fired(rt: &impl Abort, alloc: &Global) -> Result<(), Fail> {
+    let script = script(alloc)?;
+    for prefixes in [0, 1, 255, 256] {
+        let term = chain(alloc, prefixes)?;
+        let expansion = fire(alloc, &script, &term)?;
+        assert!(rt; *expansion.script() == script, "{prefixes} prefixes");
+        assert!(rt; *expansion.term() == term, "{prefixes} prefixes");
+    }
+    Ok(())
+}
+
+#[test]
+fn an_expansion_names_its_script_and_term(rt: HostRuntime) -> Result<(), Fail> {
+    names_what_was_fired(&rt, &rt.alloc())
 }

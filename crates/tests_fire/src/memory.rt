@@ -219,7 +219,7 @@ fn made<'h>(
     }
 }
 
-/// Whether the heap has room for what is made, which then is as expected.
+/// Whether the heap has room for what is made, which then is as expected. Else the heap is empty again.
 fn is_made<'h>(
     rt: &impl Abort,
     heap: &'h LocalHeap,
@@ -233,7 +233,7 @@ fn is_made<'h>(
             true
         }
         Err(fault) => {
-            assert!(rt; fault == TermFault::Memory);
+            assert!(rt; fault == TermFault::Memory && heap.used() == 0);
             false
         }
     }

@@ -2,6 +2,5 @@
 
 mod forms;
 mod limits;
-mod memory;
 mod pieces;
 mod substitution;

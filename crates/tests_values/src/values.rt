@@ -180,40 +180,50 @@ fn event(alloc: Global, channel: u32, fields: &[i32]) -> Result<Event<Global>, M
     })
 }
 
+/// The channels and fields of events, in rising order.
+const EVENTS: [(u32, &[i32]); 4] = [(0, &[]), (0, &[4, 5, 6]), (0, &[4, 6]), (1, &[0])];
+
+fn rising_events(alloc: Global) -> Result<Vec<Event<Global>, Global>, Memory> {
+    let mut events = Vec::new(alloc);
+    for (channel, fields) in EVENTS {
+        events.push(event(alloc, channel, fields)?)?;
+    }
+    Ok(events)
+}
+
 #[test]
 fn events_rise_by_channel_and_then_by_fields(rt: HostRuntime) -> Result<(), Fail> {
-    let alloc = rt.alloc();
-    let events = [
-        event(alloc, 0, &[])?,
-        event(alloc, 0, &[4, 5, 6])?,
-        event(alloc, 0, &[4, 6])?,
-        event(alloc, 1, &[0])?,
-    ];
+    let events = rising_events(rt.alloc())?;
     for (i, left) in events.iter().enumerate() {
         for (j, right) in events.iter().enumerate() {
             assert_eq!(rt; compare_events(left, right), i.cmp(&j), "{i} and {j}");
             assert_eq!(rt; equal_events(left, right), i == j, "{i} and {j}");
         }
-        assert!(rt; equal_events(&left.try_copy(alloc)?, left), "{i}");
+        assert!(rt; equal_events(&left.try_copy(rt.alloc())?, left), "{i}");
     }
     Ok(())
 }
 
+/// Tau, tick and the events.
+fn rising_actions(alloc: Global) -> Result<Vec<Action<Global>, Global>, Memory> {
+    let mut actions = Vec::new(alloc);
+    actions.push(Action::Tau)?;
+    actions.push(Action::Tick)?;
+    for (channel, fields) in EVENTS {
+        actions.push(Action::Event(event(alloc, channel, fields)?))?;
+    }
+    Ok(actions)
+}
+
 #[test]
 fn actions_rise_from_tau_over_tick_to_events(rt: HostRuntime) -> Result<(), Fail> {
-    let alloc = rt.alloc();
-    let actions = [
-        Action::Tau,
-        Action::Tick,
-        Action::Event(event(alloc, 0, &[])?),
-        Action::Event(event(alloc, 1, &[4, 5, 6])?),
-    ];
+    let actions = rising_actions(rt.alloc())?;
     for (i, left) in actions.iter().enumerate() {
         for (j, right) in actions.iter().enumerate() {
             assert_eq!(rt; compare_actions(left, right), i.cmp(&j), "{i} and {j}");
             assert_eq!(rt; equal_actions(left, right), i == j, "{i} and {j}");
         }
-        assert!(rt; equal_actions(&left.try_copy(alloc)?, left), "{i}");
+        assert!(rt; equal_actions(&left.try_copy(rt.alloc())?, left), "{i}");
     }
     Ok(())
 }

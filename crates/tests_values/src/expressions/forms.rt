@@ -9,7 +9,7 @@ use std::hash::{DefaultHasher, Hasher};
 use std::test::Fail;
 
 /// Expressions of each form, in rising order.
-pub(crate) const RISING: [&[Part<'static>]; 36] = [
+const RISING: [&[Part<'static>]; 36] = [
     &[Part::Number(i32::MIN)],
     &[Part::Number(-1)],
     &[Part::Number(0)],
@@ -68,7 +68,8 @@ pub(crate) const RISING: [&[Part<'static>]; 36] = [
     &[Part::Nametype(1)],
 ];
 
-fn rising(alloc: Global) -> Result<Vec<Expr<Global>, Global>, Memory> {
+/// Expressions of each form, in rising order.
+pub(crate) fn rising(alloc: Global) -> Result<Vec<Expr<Global>, Global>, Memory> {
     let mut all = Vec::new(alloc);
     for parts in RISING {
         all.push(expression(alloc, parts)?)?;

@@ -5,7 +5,7 @@
 
 use crate::expressions::forms::hash_of;
 use crate::expressions::parts::{Answer, Part, expression, is_answer, types, values};
-use csp_term::expression::{BinaryOperator, Binding, EvalFault, UnaryOperator};
+use csp_term::expression::{BinaryOperator, Binding, EvalFault, Expr, TypeTable, UnaryOperator};
 use csp_term::{Memory, Name, TryCopy};
 use csp_value::Value;
 use linked_list_allocator::LocalHeap;
@@ -55,22 +55,29 @@ fn copies_are_equal_across_allocators(rt: HostRuntime) -> Result<(), Fail> {
     Ok(())
 }
 
-/// Whether a heap of this size has room for a copy, which is then equal.
+/// Whether the heap has room for a copy, which is then equal. Else it is empty again.
+fn copies<'h>(rt: &impl Abort, heap: &'h LocalHeap, original: &Expr<&'h LocalHeap>) -> bool {
+    match TryCopy::try_copy(original, heap) {
+        Ok(copy) => {
+            assert!(rt; copy == *original);
+            true
+        }
+        Err(Memory) => {
+            assert!(rt; heap.used() == 0);
+            false
+        }
+    }
+}
+
+/// Copies the expression into a heap of this size, for which there may be no room. It is as it was.
 fn is_copied(rt: &impl Abort, alloc: Global, size: usize) -> Result<bool, Fail> {
     let here = LocalHeap::new(alloc, 4096)?;
     let there = LocalHeap::new(alloc, size)?;
     let original = expression(&here, &OPEN)?;
     let same = expression(&here, &OPEN)?;
-    match TryCopy::try_copy(&original, &there) {
-        Ok(copy) => {
-            assert!(rt; copy == same && original == same, "{size}");
-            Ok(true)
-        }
-        Err(Memory) => {
-            assert!(rt; original == same && there.used() == 0, "{size}");
-            Ok(false)
-        }
-    }
+    let is_copied = copies(rt, &there, &original);
+    assert!(rt; original == same, "{size}");
+    Ok(is_copied)
 }
 
 #[test]
@@ -87,30 +94,41 @@ fn copies_that_find_no_room_say_so(rt: HostRuntime) -> Result<(), Fail> {
     Ok(())
 }
 
-/// Whether a heap of this size has room for the expression with a value put in, which is then the closed one.
-fn is_put_in(rt: &impl Abort, alloc: Global, size: usize) -> Result<bool, Fail> {
-    let here = LocalHeap::new(alloc, 4096)?;
-    let there = LocalHeap::new(alloc, size)?;
-    let value = Value::Seq(values(&here, &[7, 8])?);
+/// Whether the heap has room for the expression with the value put in for `x`, which is then as expected. Else it is empty again.
+fn puts_in<'h>(
+    rt: &impl Abort,
+    heap: &'h LocalHeap,
+    original: &Expr<&'h LocalHeap>,
+    value: &Value<&'h LocalHeap>,
+    expected: &Expr<&'h LocalHeap>,
+) -> bool {
     let bindings = [Binding {
         name: Name(0),
-        value: &value,
+        value,
     }];
-    let original = expression(&here, &OPEN)?;
-    let same = expression(&here, &OPEN)?;
-    match original.put_in(bindings.as_slice(), &there) {
+    match original.put_in(bindings.as_slice(), heap) {
         Ok(put) => {
-            assert!(rt;
-                put == expression(&here, &CLOSED)? && original == same,
-                "{size}"
-            );
-            Ok(true)
+            assert!(rt; put == *expected);
+            true
         }
         Err(Memory) => {
-            assert!(rt; original == same && there.used() == 0, "{size}");
-            Ok(false)
+            assert!(rt; heap.used() == 0);
+            false
         }
     }
+}
+
+/// Puts the value in, in a heap of this size, for which there may be no room. The expression is as it was.
+fn is_put_in(rt: &impl Abort, alloc: Global, size: usize) -> Result<bool, Fail> {
+    let here = LocalHeap::new(alloc, 8192)?;
+    let there = LocalHeap::new(alloc, size)?;
+    let value = Value::Seq(values(&here, &[7, 8])?);
+    let original = expression(&here, &OPEN)?;
+    let same = expression(&here, &OPEN)?;
+    let closed = expression(&here, &CLOSED)?;
+    let is_put_in = puts_in(rt, &there, &original, &value, &closed);
+    assert!(rt; original == same, "{size}");
+    Ok(is_put_in)
 }
 
 #[test]
@@ -173,32 +191,41 @@ const EVALUATED: [(&[Part<'static>], Answer<'static>); 9] = [
     (&[Part::Nametype(0)], Answer::Set(&[5, 7])),
 ];
 
-/// Whether a heap of this size has room for the value, which is then the answer.
+/// Whether the heap has room for the value, which is then the answer. Else it is empty again.
+fn evaluates<'h>(
+    rt: &impl Abort,
+    heap: &'h LocalHeap,
+    original: &Expr<&'h LocalHeap>,
+    table: &TypeTable<&'h LocalHeap>,
+    answer: Answer<'_>,
+) -> bool {
+    match original.eval(table, heap) {
+        Err(EvalFault::Memory) => {
+            assert!(rt; heap.used() == 0);
+            false
+        }
+        found => {
+            assert!(rt; is_answer(&found, answer));
+            true
+        }
+    }
+}
+
+/// Evaluates the expression in a heap of this size, for which there may be no room. It is as it was, and so are the types.
 fn is_evaluated(
     rt: &impl Abort,
     alloc: Global,
     (parts, answer): (&[Part<'_>], Answer<'_>),
     size: usize,
 ) -> Result<bool, Fail> {
-    let here = LocalHeap::new(alloc, 4096)?;
+    let here = LocalHeap::new(alloc, 8192)?;
     let there = LocalHeap::new(alloc, size)?;
     let table = types(&here)?;
     let original = expression(&here, parts)?;
-    let found = original.eval(&table, &there);
-    assert!(rt;
-        original == expression(&here, parts)? && table == types(&here)?,
-        "{size}"
-    );
-    match found {
-        Err(EvalFault::Memory) => {
-            assert_eq!(rt; there.used(), 0, "{size}");
-            Ok(false)
-        }
-        found => {
-            assert!(rt; is_answer(&found, answer), "{size}");
-            Ok(true)
-        }
-    }
+    let is_evaluated = evaluates(rt, &there, &original, &table, answer);
+    let is_same = original == expression(&here, parts)? && table == types(&here)?;
+    assert!(rt; is_same, "{size}");
+    Ok(is_evaluated)
 }
 
 #[test]

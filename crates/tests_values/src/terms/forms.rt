@@ -5,9 +5,10 @@ use crate::terms::pieces::{Piece, Slot, term};
 use csp_term::laws::{compare_terms, equal_terms, hash_term};
 use csp_term::{Memory, Term};
 use linked_list_allocator::LocalHeap;
-use std::alloc::{Allocator, Global};
+use std::alloc::Allocator;
 use std::cmp::Ordering;
 use std::hash::{DefaultHasher, Hasher};
+use std::process::Abort;
 use std::test::Fail;
 
 const ZERO: Part<'static> = Part::Number(0);
@@ -15,7 +16,7 @@ const ZERO: Part<'static> = Part::Number(0);
 const ONE: Part<'static> = Part::Number(1);
 
 /// Terms of each form, in rising order.
-pub(super) const RISING: [&[Piece<'static>]; 29] = [
+const RISING: [&[Piece<'static>]; 29] = [
     &[Piece::Stop],
     &[Piece::Skip],
     &[Piece::Omega],
@@ -59,7 +60,7 @@ pub(super) const RISING: [&[Piece<'static>]; 29] = [
     &[Piece::If(&[Part::Name(0)]), Piece::Stop, Piece::Stop],
 ];
 
-fn rising(alloc: Global) -> Result<Vec<Term<Global>, Global>, Memory> {
+fn rising<A: Allocator + Copy>(alloc: A) -> Result<Vec<Term<A>, A>, Memory> {
     let mut all = Vec::new(alloc);
     for pieces in RISING {
         all.push(term(alloc, pieces)?)?;
@@ -86,16 +87,24 @@ fn hash_of<A: Allocator>(term: &Term<A>) -> u64 {
     hasher.finish()
 }
 
-#[test]
-fn copies_are_equal_across_allocators(rt: HostRuntime) -> Result<(), Fail> {
-    for (row, pieces) in RISING.into_iter().enumerate() {
-        let here = LocalHeap::new(rt.alloc(), 4096)?;
-        let there = LocalHeap::new(rt.alloc(), 4096)?;
-        let original = term(&here, pieces)?;
-        let copy = original.try_copy(&there)?;
-        assert!(rt; equal_terms(&copy, &original), "{row}");
-        assert_eq!(rt; compare_terms(&copy, &original), Ordering::Equal, "{row}");
-        assert_eq!(rt; hash_of(&copy), hash_of(&original), "{row}");
+/// Copies a term of each form from one heap into the other.
+fn copies_are_equal<'h>(
+    rt: &impl Abort,
+    here: &'h LocalHeap,
+    there: &'h LocalHeap,
+) -> Result<(), Fail> {
+    for (row, original) in rising(here)?.iter().enumerate() {
+        let copy = original.try_copy(there)?;
+        assert!(rt; equal_terms(&copy, original), "{row}");
+        assert_eq!(rt; compare_terms(&copy, original), Ordering::Equal, "{row}");
+        assert_eq!(rt; hash_of(&copy), hash_of(original), "{row}");
     }
     Ok(())
+}
+
+#[test]
+fn copies_are_equal_across_allocators(rt: HostRuntime) -> Result<(), Fail> {
+    let here = LocalHeap::new(rt.alloc(), 65_536)?;
+    let there = LocalHeap::new(rt.alloc(), 65_536)?;
+    copies_are_equal(&rt, &here, &there)
 }

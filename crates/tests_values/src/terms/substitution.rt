@@ -3,7 +3,7 @@
 use crate::expressions::parts::{Part, value};
 use crate::terms::pieces::{Piece, Slot, chain, term, wide};
 use csp_term::expression::{BinaryOperator, Binding};
-use csp_term::{Name, Term, TermFault, bind};
+use csp_term::{Memory, Name, Term, TermFault, bind};
 use csp_value::Value;
 use std::alloc::Global;
 use std::test::Fail;
@@ -83,25 +83,30 @@ const PUT: [(&[Piece<'static>], &[Piece<'static>]); 6] = [
     ),
 ];
 
-#[test]
-fn inputs_hide_outer_names(rt: HostRuntime) -> Result<(), Fail> {
-    let alloc = rt.alloc();
+/// Whether the one term is the other with 1 put in for `x`, and stays as it is with nothing put in.
+fn becomes(
+    alloc: Global,
+    before: &[Piece<'static>],
+    behind: &[Piece<'static>],
+) -> Result<bool, Fail> {
     let one = Value::Int(1);
     let bindings = [Binding {
         name: Name(0),
         value: &one,
     }];
+    let before = term(alloc, before)?;
+    let behind = term(alloc, behind)?;
+    Ok(
+        before.put_in(bindings.as_slice(), alloc)? == behind
+            && before.subst(bindings.as_slice(), alloc)? == behind
+            && before.put_in(&[], alloc)? == before,
+    )
+}
+
+#[test]
+fn inputs_hide_outer_names(rt: HostRuntime) -> Result<(), Fail> {
     for (row, (before, behind)) in PUT.into_iter().enumerate() {
-        let (before, behind) = (term(alloc, before)?, term(alloc, behind)?);
-        assert!(rt;
-            before.put_in(bindings.as_slice(), alloc)? == behind,
-            "{row}"
-        );
-        assert!(rt;
-            before.subst(bindings.as_slice(), alloc)? == behind,
-            "{row}"
-        );
-        assert!(rt; before.put_in(&[], alloc)? == before, "{row}");
+        assert!(rt; becomes(rt.alloc(), before, behind)?, "{row}");
     }
     Ok(())
 }
@@ -136,22 +141,27 @@ fn terms_past_the_limits_are_not_answered(rt: HostRuntime) -> Result<(), Fail> {
     Ok(())
 }
 
+/// Whether `P(x, y)` with the values put in is `P` of these arguments.
+fn makes(
+    alloc: Global,
+    bindings: &[Binding<'_, Global>],
+    arguments: [Part<'static>; 2],
+) -> Result<bool, Memory> {
+    let before = term(alloc, &[Piece::Call(0, &[X, Y])])?;
+    let behind = term(alloc, &[Piece::Call(0, arguments.as_slice())])?;
+    Ok(before.put_in(bindings, alloc)? == behind)
+}
+
 #[test]
 fn a_name_is_bound_anew(rt: HostRuntime) -> Result<(), Fail> {
     let alloc = rt.alloc();
     let (one, two) = (Value::Int(1), Value::Int(2));
     let none: [Binding<'_, Global>; 0] = [];
     let first = bind(Name(0), &one, none.as_slice(), alloc)?;
+    assert!(rt; makes(alloc, first.as_slice(), [ONE, Y])?);
     let both = bind(Name(1), &one, first.as_slice(), alloc)?;
+    assert!(rt; makes(alloc, both.as_slice(), [ONE, ONE])?);
     let anew = bind(Name(0), &two, both.as_slice(), alloc)?;
-    let before = term(alloc, &[Piece::Call(0, &[X, Y])])?;
-    let table = [(first, [ONE, Y]), (both, [ONE, ONE]), (anew, [TWO, ONE])];
-    for (row, (bindings, values)) in table.iter().enumerate() {
-        let behind = term(alloc, &[Piece::Call(0, values.as_slice())])?;
-        assert!(rt;
-            before.put_in(bindings.as_slice(), alloc)? == behind,
-            "{row}"
-        );
-    }
+    assert!(rt; makes(alloc, anew.as_slice(), [TWO, ONE])?);
     Ok(())
 }
