@@ -1,12 +1,7 @@
 pub mod Answering
 pub mod Forms
-pub mod FieldOrder
 pub mod TermOrder
-pub mod ExpressionPutting
-pub mod TermCopying
-pub mod TermPutting
 pub mod Sameness
-pub mod Channels
 pub mod Equality
 pub mod Copying
 pub mod ExpressionForms
@@ -18,7 +13,3 @@ pub mod Evaluating
 pub mod Named
 pub mod Looking
 pub mod Forming
-pub mod Measures
-pub mod Hiding
-pub mod Growing
-pub mod Nothing

@@ -9,7 +9,7 @@ use std::hash::{DefaultHasher, Hasher};
 use std::test::Fail;
 
 /// Expressions of each form, in rising order.
-const RISING: [&[Part<'static>]; 36] = [
+pub(super) const RISING: [&[Part<'static>]; 36] = [
     &[Part::Number(i32::MIN)],
     &[Part::Number(-1)],
     &[Part::Number(0)],
@@ -68,8 +68,7 @@ const RISING: [&[Part<'static>]; 36] = [
     &[Part::Nametype(1)],
 ];
 
-/// Expressions of each form, in rising order.
-pub(crate) fn rising(alloc: Global) -> Result<Vec<Expr<Global>, Global>, Memory> {
+fn rising(alloc: Global) -> Result<Vec<Expr<Global>, Global>, Memory> {
     let mut all = Vec::new(alloc);
     for parts in RISING {
         all.push(expression(alloc, parts)?)?;
@@ -92,7 +91,7 @@ fn expressions_rise_by_form_and_then_by_their_parts(rt: HostRuntime) -> Result<(
 }
 
 /// What the law of hashing says of the expression.
-pub(crate) fn hash_of<A: Allocator>(expression: &Expr<A>) -> u64 {
+pub(super) fn hash_of<A: Allocator>(expression: &Expr<A>) -> u64 {
     let mut hasher = DefaultHasher::new();
     hash_expression(expression, &mut hasher);
     hasher.finish()
