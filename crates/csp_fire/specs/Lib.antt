@@ -1,4 +1,2 @@
 pub mod Form
-pub mod Answering
-pub mod Offering
 pub mod Expansion

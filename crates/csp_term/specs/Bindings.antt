@@ -3,8 +3,7 @@ use Rattle.std.specs.Prelude.{List, map, Option, Some, None}
 use denote.Ref.{Bor}
 use Rattle.csp_semantics.specs.Syntax.Value as pure
 use Rattle.csp_semantics.specs.Syntax.Expression.{Expression}
-use Rattle.csp_semantics.specs.Syntax.Process.{RenamingPair}
-use Rattle.csp_semantics.specs.Meaning.Substitution.{Bindings, put_event, put_expression}
+use Rattle.csp_semantics.specs.Meaning.Substitution.{Bindings, put_expression}
 use Rattle.csp_value.specs.declared.value.Value.{Value}
 use Rattle.csp_value.specs.Value.{value_of}
 use Rattle.csp_term.specs.declared.expression.expr.Expr.{Expr}
@@ -22,7 +21,3 @@ found_of None = None
 -- what the expressions stand for with the values put in
 abbrev pub puts : {A : Type 0} → Bindings → List (Expr A) → List Expression
 puts bs es = map (λ e. put_expression bs (expression_of e)) es
-
--- a renaming pair with the values put in
-abbrev pub put_pair : Bindings → RenamingPair → RenamingPair
-put_pair bs r = record { from = put_event bs r.from; to = put_event bs r.to }

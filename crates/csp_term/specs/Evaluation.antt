@@ -1,5 +1,5 @@
 -- What an answer of an evaluation says, and what the types of the code stand for.
-use Rattle.std.specs.Prelude.{◌≡◌, ⊤, ℕ, zero, suc, List, [], ◌∷◌, map, Result, Ok, Err}
+use Rattle.std.specs.Prelude.{◌≡◌, ⊤, ℕ, zero, suc, ◌-◌, List, [], ◌∷◌, map, Result, Ok, Err}
 use Rattle.std.specs.declared.vec.Vec.{Vec}
 use Rattle.csp_semantics.specs.Syntax.Value as pure
 use Rattle.csp_semantics.specs.Meaning.Evaluation.{Cause, Types}
@@ -53,7 +53,7 @@ numbers_up first zero = []
 numbers_up first (suc n) = first ∷ numbers_up (suc first) n
 
 abbrev pub constructors_of : Constructors → List ℕ
-constructors_of c = numbers_up c.first.0 (suc c.following)
+constructors_of c = numbers_up c.first.0 (c.behind.0 - c.first.0)
 
 abbrev pub members_listed : {A : Type 0} → SetOf A → List pure.Value
 members_listed s = pure.values_list (members_of s)

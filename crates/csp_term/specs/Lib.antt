@@ -2,7 +2,5 @@ pub mod Bindings
 pub mod Evaluation
 pub mod Expression
 pub mod Fault
-pub mod Field
-pub mod Events
 pub mod Term
 pub mod Script

@@ -4,14 +4,12 @@
 //! a copy stands for the same process, values are put in as the definitions say, the limits are decided exactly, and
 //! `==`, the order and the hash of two terms are those of their processes, whichever allocator holds them.
 //!
-//! Expressions stand in `expression`, with their evaluation.
+//! Expressions stand by themselves in `expression`, with their evaluation; the terms do not have them yet.
 #![tactic(auto)]
 
 mod assertion;
-pub mod events;
 pub mod expression;
 mod fault;
-mod field;
 pub mod laws;
 mod limits;
 mod name;
@@ -22,8 +20,7 @@ mod term;
 pub use assertion::{Assertion, Model};
 pub use csp_value::{Action, AllocHandle, ChannelId, Event, Memory, TryCopy, copy_all};
 pub use fault::Fault;
-pub use field::Field;
-pub use name::{DatatypeId, EquationId, Name, NametypeId};
-pub use script::{Channel, Constructor, Equation, Script};
-pub use substitution::{TermFault, bind};
-pub use term::{Term, TermForm};
+pub use name::{DatatypeId, Name, NametypeId};
+pub use script::{Channel, Equation, Script, Types};
+pub use substitution::TermFault;
+pub use term::Term;

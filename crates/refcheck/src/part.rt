@@ -14,12 +14,11 @@ ghost use Rattle.csp_parse.specs.Processes as written;
 ghost use Rattle.csp_term.specs.Term.{process_of};
 ghost use Rattle.csp_term.specs.Script as term;
 ghost use Rattle.csp_semantics.specs.Text.Part.{IsAssertionOf, IsPlain, IsProcessOf, IsScriptOf, StandOnce, all_channels, declared_channels, is_assertion};
-ghost use Rattle.refcheck.specs.Reading.{AreBare, Declares, IsOutside, names_of};
+ghost use Rattle.refcheck.specs.Reading.{Declares, IsOutside, names_of};
 
 use crate::reader::ReadFault;
 use csp_parse::{Declaration, Name, Process, Raw};
-use csp_term::expression::TypeTable;
-use csp_term::{Assertion, Channel, ChannelId, Model, Script, Term, TermForm};
+use csp_term::{Assertion, Channel, ChannelId, Model, Script, Term, Types};
 use std::alloc::Allocator;
 
 /// The script that a tree stands for, or `Part` where it lies outside the part.
@@ -33,11 +32,7 @@ pub(crate) fn script<A: Allocator + Copy>(
     let channels = channels(alloc, &tree.declarations)?;
     let assertions = assertions(alloc, &channels, &tree.declarations)?;
     Ok(Script {
-        types: TypeTable {
-            datatypes: Vec::new(alloc),
-            nametypes: Vec::new(alloc),
-        },
-        constructors: Vec::new(alloc),
+        types: Types,
         channels,
         equations: Vec::new(alloc),
         assertions,
@@ -52,7 +47,6 @@ fn channels<A: Allocator + Copy>(
     ensures plain { OnOk result (All IsPlain (map raw.declaration_of declarations.now)) }
     ensures spellings { IfOk result (λ channels. map chars (names_of channels.items) ≡ all_channels (map raw.declaration_of declarations.now)) }
     ensures once { IfOk result (λ channels. StandOnce (map chars (names_of channels.items))) }
-    ensures bare { IfOk result (λ channels. AreBare channels.items) }
     ensures refused { IfErr result IsOutside }
 {
     let mut channels = Vec::new(alloc);
@@ -108,8 +102,7 @@ fn declare_name<A: Allocator + Copy>(
         Some(_) => Err(ReadFault::Part),
         None => {
             let spelling = String::from_str(alloc, name.text)?;
-            let fields = Vec::new(alloc);
-            channels.push(Channel { spelling, fields })?;
+            channels.push(Channel { spelling })?;
             Ok(())
         }
     }
@@ -200,12 +193,11 @@ fn process<A: Allocator + Copy>(
     ensures refused { IfErr result IsOutside }
 {
     match tree {
-        Process::Stop => Ok(Term::new(alloc, TermForm::Stop)?),
+        Process::Stop => Ok(Term::Stop),
         Process::Prefix(name, fields, body) if fields.is_empty() => {
             let channel = channel_of(channels, name)?;
-            let fields = Vec::new(alloc);
             let body = process(alloc, channels, body)?;
-            Ok(Term::new(alloc, TermForm::Prefix(channel, fields, body))?)
+            Ok(Term::Prefix(channel, Box::new(alloc, body)?))
         }
         _ => Err(ReadFault::Part),
     }

@@ -331,8 +331,8 @@ fn an_error_output_that_fails_changes_no_status(rt: HostRuntime) -> Result<(), F
 fn refused_memory_changes_no_other_answer(rt: HostRuntime) -> Result<(), Fail> {
     for (text, report, status) in [REPORTS[1], REPORTS[2]] {
         let (mut refused, mut without_answer, mut answered) = (0u32, 0u32, 0u32);
-        for size in 1..256 {
-            let heap = LocalHeap::new(rt.alloc(), 128 * size)?;
+        for size in 1..128 {
+            let heap = LocalHeap::new(rt.alloc(), 64 * size)?;
             let mut files = OneText {
                 name: "script",
                 text: text.as_bytes(),

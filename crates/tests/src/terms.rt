@@ -1,10 +1,10 @@
 //! Terms at the edge of the limits, their copies and their order, and equal terms in two allocators.
 
-use crate::scripts::{event, repeated, script, stop};
+use crate::scripts::{event, repeated, script};
 use csp_term::laws::{compare_terms, equal_assertions, equal_scripts, equal_terms, hash_term};
 use csp_term::{
-    Action, Assertion, Constructor, Equation, EquationId, Fault, Memory, Model, Name, Script, Term,
-    TermFault, TermForm, TryCopy, copy_all,
+    Action, Assertion, Equation, Fault, Memory, Model, Name, Script, Term, TermFault, TryCopy,
+    copy_all,
 };
 use csp_value::laws::{compare_actions, equal_actions};
 use std::alloc::{Allocator, Global};
@@ -12,11 +12,9 @@ use std::hash::{DefaultHasher, Hasher};
 use std::process::Abort;
 use std::test::Fail;
 
-// `datatype D = A`, `channel a, b`, `P(x) = a -> a -> STOP`, `assert b -> STOP [F= STOP`
+// `channel a, b`, `P(x) = a -> a -> STOP`, `assert b -> STOP [F= STOP`
 fn whole_script(alloc: Global) -> Result<Script<Global>, Fail> {
     let mut script = script(alloc, &["a", "b"])?;
-    let spelling = String::from_str(alloc, "A")?;
-    script.constructors.push(Constructor { spelling })?;
     script.equations.push(Equation {
         parameters: Vec::from_slice(alloc, &[Name(0)])?,
         body: repeated(alloc, 0, 2)?,
@@ -24,7 +22,7 @@ fn whole_script(alloc: Global) -> Result<Script<Global>, Fail> {
     script.assertions.push(Assertion {
         model: Model::Failures,
         specification: repeated(alloc, 1, 1)?,
-        implementation: stop(alloc)?,
+        implementation: Term::Stop,
     })?;
     Ok(script)
 }
@@ -41,20 +39,11 @@ fn limits(rt: HostRuntime) -> Result<(), Fail> {
     ] {
         let term = repeated(alloc, 0, prefixes)?;
         assert_eq!(rt; term.fits(), within, "{prefixes} prefixes");
-        match term.subst(&[], alloc) {
+        assert!(rt; term.put_in(alloc)? == term, "{prefixes} prefixes");
+        match term.subst(alloc) {
             Err(TermFault::TooLarge) => assert!(rt; !within, "{prefixes} prefixes"),
             put => assert!(rt; within && put? == term, "{prefixes} prefixes"),
         }
-    }
-    Ok(())
-}
-
-#[test]
-fn no_values_put_in_change_nothing(rt: HostRuntime) -> Result<(), Fail> {
-    let alloc = rt.alloc();
-    for prefixes in [0, 1, 255, 256] {
-        let term = repeated(alloc, 0, prefixes)?;
-        assert!(rt; term.put_in(&[], alloc)? == term, "{prefixes} prefixes");
     }
     Ok(())
 }
@@ -67,9 +56,6 @@ fn copies(rt: HostRuntime) -> Result<(), Fail> {
     assert!(rt; copy == script && equal_scripts(&copy, &script));
     for channel in &script.channels {
         assert!(rt; channel.try_copy(alloc)? == *channel);
-    }
-    for constructor in &script.constructors {
-        assert!(rt; constructor.try_copy(alloc)? == *constructor);
     }
     for equation in &script.equations {
         assert!(rt; equation.try_copy(alloc)? == *equation);
@@ -88,15 +74,7 @@ fn copies(rt: HostRuntime) -> Result<(), Fail> {
 fn order_is_by_form_then_by_parts(rt: HostRuntime) -> Result<(), Fail> {
     let alloc = rt.alloc();
     let mut rising = Vec::new(alloc);
-    for form in [
-        TermForm::Stop,
-        TermForm::Skip,
-        TermForm::Omega,
-        TermForm::Call(EquationId(7), Vec::new(alloc)),
-    ] {
-        rising.push(Term::new(alloc, form)?)?;
-    }
-    for (channel, prefixes) in [(0, 1), (0, 2), (0, 255), (1, 1), (1, 2), (2, 1)] {
+    for (channel, prefixes) in [(0, 0), (0, 1), (0, 2), (0, 255), (1, 1), (1, 2), (2, 1)] {
         rising.push(repeated(alloc, channel, prefixes)?)?;
     }
     for (i, left) in rising.iter().enumerate() {

@@ -1,16 +1,11 @@
 ghost use Rattle.std.specs.Prelude.{IfOk};
 ghost use Rattle.csp_value.specs.Value.{IsRisingSet};
 
-use csp_value::laws::{
-    compare_actions, compare_events, compare_sets, compare_values, equal_actions, equal_events,
-    equal_sets, equal_values,
-};
-use csp_value::{Action, ChannelId, ConId, Event, FieldSet, Memory, SetOf, TryCopy, Value};
+use csp_value::{Action, ChannelId, ConId, Event, Memory, SetOf, Value};
 use linked_list_allocator::LocalHeap;
 use smallvec::SmallVec;
 use std::alloc::{Allocator, Global};
 use std::cmp::Ordering;
-use std::hash::{DefaultHasher, Hash, Hasher};
 use std::test::Fail;
 
 /// The numbers as values.
@@ -54,8 +49,8 @@ fn values_rise_by_form_and_then_by_their_parts(rt: HostRuntime) -> Result<(), Fa
     let values = rising(rt.alloc())?;
     for (i, left) in values.iter().enumerate() {
         for (j, right) in values.iter().enumerate() {
-            assert_eq!(rt; compare_values(left, right), i.cmp(&j), "{i} and {j}");
-            assert_eq!(rt; equal_values(left, right), i == j, "{i} and {j}");
+            assert_eq!(rt; left.cmp(right), i.cmp(&j), "{i} and {j}");
+            assert_eq!(rt; left == right, i == j, "{i} and {j}");
         }
     }
     Ok(())
@@ -85,27 +80,13 @@ fn sets_have_each_member_once(rt: HostRuntime) -> Result<(), Fail> {
 }
 
 #[test]
-fn a_field_has_the_values_of_its_set(rt: HostRuntime) -> Result<(), Fail> {
-    let alloc = rt.alloc();
-    let set = FieldSet::from_values(numbers(alloc, &[3, 1, 3, 7])?);
-    assert!(rt; set.members() == numbers(alloc, &[1, 3, 7])?.as_slice());
-    for (number, is_there) in [(0, false), (1, true), (2, false), (7, true), (8, false)] {
-        assert_eq!(rt; set.contains(&Value::Int(number)), is_there, "{number}");
-    }
-    assert!(rt; set.try_copy(alloc)? == set);
-    Ok(())
-}
-
-#[test]
 fn sets_are_joined_and_cut(rt: HostRuntime) -> Result<(), Fail> {
     let alloc = rt.alloc();
     let right = set_of(alloc, &[2, 3, 5])?;
     let both = set_of(alloc, &[1, 2, 3])?.intersection(&right);
-    assert!(rt; equal_sets(&both, &set_of(alloc, &[2, 3])?));
+    assert!(rt; both == set_of(alloc, &[2, 3])?);
     let left_alone = set_of(alloc, &[1, 2, 3])?.difference(&right);
     assert!(rt; left_alone == set_of(alloc, &[1])?);
-    assert!(rt; !equal_sets(&left_alone, &both));
-    assert_eq!(rt; compare_sets(&left_alone, &both), Ordering::Less);
     let either = set_of(alloc, &[1, 2, 3])?.union(right)?;
     assert!(rt; either == set_of(alloc, &[1, 2, 3, 5])?);
     Ok(())
@@ -119,14 +100,7 @@ fn copies_are_equal_across_allocators(rt: HostRuntime) -> Result<(), Fail> {
     let copy = value.try_copy(&there)?;
     assert!(rt; copy == value);
     assert_eq!(rt; copy.cmp(&value), Ordering::Equal);
-    assert_eq!(rt; hash_of(&copy), hash_of(&value));
     Ok(())
-}
-
-fn hash_of<A: Allocator>(value: &Value<A>) -> u64 {
-    let mut hasher = DefaultHasher::new();
-    value.hash(&mut hasher);
-    hasher.finish()
 }
 
 /// A sequence of a set and a sequence.
@@ -151,14 +125,13 @@ fn values_have_sizes_and_depths(rt: HostRuntime) -> Result<(), Fail> {
 fn copies_that_find_no_room_say_so(rt: HostRuntime) -> Result<(), Fail> {
     let mut copied = false;
     let mut refused = false;
-    // Each heap has 16 bytes more than the one before it, and hands out no fewer.
-    for units in 1..128 {
+    for size in [64, 128, 256, 512, 1024, 2048, 4096] {
         let here = LocalHeap::new(rt.alloc(), 4096)?;
-        let there = LocalHeap::new(rt.alloc(), 16 * units)?;
+        let there = LocalHeap::new(rt.alloc(), size)?;
         let value = nested(&here)?;
         match value.try_copy(&there) {
             Ok(copy) => {
-                assert!(rt; copy == value, "{units}");
+                assert!(rt; copy == value, "{size}");
                 copied = true;
             }
             Err(Memory) => refused = true,
@@ -169,34 +142,15 @@ fn copies_that_find_no_room_say_so(rt: HostRuntime) -> Result<(), Fail> {
 }
 
 /// The event of the channel with the numbers as its fields.
-fn event(alloc: Global, channel: u32, fields: &[i32]) -> Result<Event<Global>, Memory> {
+fn event(alloc: Global, channel: u32, fields: &[i32]) -> Result<Action<Global>, Memory> {
     let mut values = SmallVec::new(alloc);
     for field in fields {
         values.push(Value::Int(*field))?;
     }
-    Ok(Event {
+    Ok(Action::Event(Event {
         channel: ChannelId(channel),
         fields: values,
-    })
-}
-
-#[test]
-fn events_rise_by_channel_and_then_by_fields(rt: HostRuntime) -> Result<(), Fail> {
-    let alloc = rt.alloc();
-    let events = [
-        event(alloc, 0, &[])?,
-        event(alloc, 0, &[4, 5, 6])?,
-        event(alloc, 0, &[4, 6])?,
-        event(alloc, 1, &[0])?,
-    ];
-    for (i, left) in events.iter().enumerate() {
-        for (j, right) in events.iter().enumerate() {
-            assert_eq!(rt; compare_events(left, right), i.cmp(&j), "{i} and {j}");
-            assert_eq!(rt; equal_events(left, right), i == j, "{i} and {j}");
-        }
-        assert!(rt; equal_events(&left.try_copy(alloc)?, left), "{i}");
-    }
-    Ok(())
+    }))
 }
 
 #[test]
@@ -205,15 +159,16 @@ fn actions_rise_from_tau_over_tick_to_events(rt: HostRuntime) -> Result<(), Fail
     let actions = [
         Action::Tau,
         Action::Tick,
-        Action::Event(event(alloc, 0, &[])?),
-        Action::Event(event(alloc, 1, &[4, 5, 6])?),
+        event(alloc, 0, &[])?,
+        event(alloc, 0, &[4, 5, 6])?,
+        event(alloc, 0, &[4, 6])?,
+        event(alloc, 1, &[0])?,
     ];
     for (i, left) in actions.iter().enumerate() {
         for (j, right) in actions.iter().enumerate() {
-            assert_eq!(rt; compare_actions(left, right), i.cmp(&j), "{i} and {j}");
-            assert_eq!(rt; equal_actions(left, right), i == j, "{i} and {j}");
+            assert_eq!(rt; left.cmp(right), i.cmp(&j), "{i} and {j}");
         }
-        assert!(rt; equal_actions(&left.try_copy(alloc)?, left), "{i}");
+        assert!(rt; left.try_copy(alloc)? == *left, "{i}");
     }
     Ok(())
 }

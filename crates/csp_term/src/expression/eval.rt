@@ -2,16 +2,13 @@
 
 ghost use Rattle.csp_semantics.specs.Syntax.Expression.{to_expressions};
 ghost use Rattle.csp_semantics.specs.Meaning.Evaluation.{apply, combine, value, values};
-ghost use Rattle.csp_semantics.specs.Meaning.Substitution.{put_expression};
-ghost use Rattle.csp_term.specs.Bindings.{bindings_of, puts};
 ghost use Rattle.csp_term.specs.Evaluation.{Answers, AnswersAll, Sees, seen_value, table_of};
-ghost use Rattle.csp_term.specs.Expression.{binary_of, expression_of, unary_of};
+ghost use Rattle.csp_term.specs.Expression.{binary_of, expression_of, expressions_of, unary_of};
 
 use crate::expression::expr::Expr;
 use crate::expression::fault::EvalFault;
 use crate::expression::operator::{BinaryOperator, UnaryOperator};
 use crate::expression::seen::Seen;
-use crate::expression::substitution::{Binding, bound};
 use crate::expression::types::TypeTable;
 use crate::expression::{arithmetic, comparison, connectives, ranges, sequences, sets};
 use crate::fault::Fault;
@@ -22,53 +19,43 @@ impl<A: Allocator + Copy> Expr<A> {
     /// The value of the expression in the given allocator, or the first cause from left to right for which it has none.
     /// `and` and `or` look at their right side only where the left one does not decide. A name that no value was put in
     /// for, and an operand of the wrong kind, are `Kind`. `Memory` says nothing of the value.
-    #[tactic(auto, using(crate::proofs::Nothing::put_nothing))]
     pub fn eval(&self, types: &TypeTable<A>, alloc: A) -> Result<Value<A>, EvalFault>
         ensures { Answers result (value (table_of types.now) (expression_of self.now)) }
     {
-        Ok(self.look(types, &[], alloc)?.into_value(alloc)?)
+        Ok(self.look(types, alloc)?.into_value(alloc)?)
     }
 
-    /// The same for the expression with the values of the bindings put in. The value is lent where it lies in the
-    /// expression or in a binding, and nothing is copied that is only read.
+    /// The value of the expression, lent where it lies in the expression.
     #[cycle(eval)]
-    pub fn look<'e>(
-        &'e self,
-        types: &TypeTable<A>,
-        bindings: &[Binding<'e, A>],
-        alloc: A,
-    ) -> Result<Seen<'e, A>, EvalFault>
-        ensures { Sees result (value (table_of types.now) (put_expression (bindings_of bindings.now) (expression_of self.now))) }
+    fn look<'e>(&'e self, types: &TypeTable<A>, alloc: A) -> Result<Seen<'e, A>, EvalFault>
+        ensures { Sees result (value (table_of types.now) (expression_of self.now)) }
     {
         match self {
             Expr::Literal(value) => Ok(Seen::Lent(value)),
-            Expr::Name(name) => match bound(*name, bindings) {
-                Some(value) => Ok(Seen::Lent(value)),
-                None => Err(EvalFault::Fault(Fault::Kind)),
-            },
+            Expr::Name(_) => Err(EvalFault::Fault(Fault::Kind)),
             Expr::Apply(operator, operand) => {
-                let operand = operand.look(types, bindings, alloc)?;
+                let operand = operand.look(types, alloc)?;
                 apply(*operator, operand, alloc)
             }
             Expr::Combine(operator, left, right) => {
-                let left = left.look(types, bindings, alloc)?;
+                let left = left.look(types, alloc)?;
                 if connectives::decides(*operator, left.value()) {
                     return Ok(left);
                 }
-                let right = right.look(types, bindings, alloc)?;
+                let right = right.look(types, alloc)?;
                 Ok(Seen::Made(combine(*operator, left, right, alloc)?))
             }
             Expr::Sequence(items) => {
-                let values = look_at_all(items, types, bindings, alloc)?;
+                let values = look_at_all(items, types, alloc)?;
                 Ok(Seen::Made(sequences::sequence(values)?))
             }
             Expr::Set(members) => {
-                let values = look_at_all(members, types, bindings, alloc)?;
+                let values = look_at_all(members, types, alloc)?;
                 Ok(Seen::Made(sets::set_of_values(values)?))
             }
             Expr::Range(from, to) => {
-                let from = from.look(types, bindings, alloc)?;
-                let to = to.look(types, bindings, alloc)?;
+                let from = from.look(types, alloc)?;
+                let to = to.look(types, alloc)?;
                 Ok(Seen::Made(ranges::range(from.value(), to.value(), alloc)?))
             }
             Expr::Booleans => Ok(Seen::Made(ranges::booleans(alloc)?)),
@@ -78,19 +65,18 @@ impl<A: Allocator + Copy> Expr<A> {
     }
 }
 
-/// The value of each expression with the values of the bindings put in, in order, or the first cause.
+/// The value of each expression, in order, or the first cause.
 #[cycle(eval)]
-fn look_at_all<'e, A: Allocator + Copy>(
-    expressions: &'e [Expr<A>],
+fn look_at_all<A: Allocator + Copy>(
+    expressions: &[Expr<A>],
     types: &TypeTable<A>,
-    bindings: &[Binding<'e, A>],
     alloc: A,
 ) -> Result<Vec<Value<A>, A>, EvalFault>
-    ensures { AnswersAll result (values (table_of types.now) (to_expressions (puts (bindings_of bindings.now) expressions.now))) }
+    ensures { AnswersAll result (values (table_of types.now) (to_expressions (expressions_of expressions.now))) }
 {
     let mut all = Vec::new(alloc);
     for expression in expressions {
-        let seen = expression.look(types, bindings, alloc)?;
+        let seen = expression.look(types, alloc)?;
         all.push(seen.into_value(alloc)?)?;
     }
     Ok(all)

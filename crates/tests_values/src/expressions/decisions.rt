@@ -66,51 +66,6 @@ fn the_left_side_may_decide(rt: HostRuntime) -> Result<(), Fail> {
     Ok(())
 }
 
-/// Whether this is the answer of `a first (b second head(<>) == 1)`.
-fn inside(
-    alloc: Global,
-    left: (bool, BinaryOperator),
-    inner: (bool, BinaryOperator),
-    answer: Answer<'_>,
-) -> bool {
-    let (first, outer) = left;
-    let (second, operator) = inner;
-    let parts = [
-        Part::Truth(first),
-        Part::Truth(second),
-        Part::Sequence(&[]),
-        Part::Apply(UnaryOperator::Head),
-        Part::Number(1),
-        Part::Combine(BinaryOperator::Equals),
-        Part::Combine(operator),
-        Part::Combine(outer),
-    ];
-    answers(alloc, &parts, answer)
-}
-
-#[test]
-fn an_inner_left_side_may_decide(rt: HostRuntime) -> Result<(), Fail> {
-    let (and, or) = (BinaryOperator::And, BinaryOperator::Or);
-    let empty = Answer::Cause(Fault::Empty);
-    let table = [
-        ((false, and), (true, and), Answer::Truth(false)),
-        ((true, or), (true, and), Answer::Truth(true)),
-        ((true, or), (false, or), Answer::Truth(true)),
-        ((true, and), (false, and), Answer::Truth(false)),
-        ((true, and), (true, or), Answer::Truth(true)),
-        ((false, or), (false, and), Answer::Truth(false)),
-        ((false, or), (true, or), Answer::Truth(true)),
-        ((true, and), (true, and), empty),
-        ((true, and), (false, or), empty),
-        ((false, or), (true, and), empty),
-        ((false, or), (false, or), empty),
-    ];
-    for (row, (left, right, answer)) in table.into_iter().enumerate() {
-        assert!(rt; inside(rt.alloc(), left, right, answer), "{row}");
-    }
-    Ok(())
-}
-
 #[test]
 fn truth_values_are_connected(rt: HostRuntime) -> Result<(), Fail> {
     for (left, right) in [(false, false), (false, true), (true, false), (true, true)] {

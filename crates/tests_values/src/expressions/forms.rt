@@ -9,7 +9,7 @@ use std::hash::{DefaultHasher, Hasher};
 use std::test::Fail;
 
 /// Expressions of each form, in rising order.
-pub(crate) const RISING: [&[Part<'static>]; 36] = [
+pub(super) const RISING: [&[Part<'static>]; 36] = [
     &[Part::Number(i32::MIN)],
     &[Part::Number(-1)],
     &[Part::Number(0)],
@@ -91,7 +91,7 @@ fn expressions_rise_by_form_and_then_by_their_parts(rt: HostRuntime) -> Result<(
 }
 
 /// What the law of hashing says of the expression.
-pub(crate) fn hash_of<A: Allocator>(expression: &Expr<A>) -> u64 {
+pub(super) fn hash_of<A: Allocator>(expression: &Expr<A>) -> u64 {
     let mut hasher = DefaultHasher::new();
     hash_expression(expression, &mut hasher);
     hasher.finish()

@@ -9,7 +9,7 @@ use std::alloc::{Allocator, Global};
 
 /// A part of an expression. Parts are put together in turn, each operator behind its operands.
 #[derive(Clone, Copy)]
-pub(crate) enum Part<'p> {
+pub(super) enum Part<'p> {
     Number(i32),
     Truth(bool),
     Constructor(u32),
@@ -33,7 +33,7 @@ pub(crate) enum Part<'p> {
 }
 
 /// The expression of the parts.
-pub(crate) fn expression<A: Allocator + Copy>(
+pub(super) fn expression<A: Allocator + Copy>(
     alloc: A,
     parts: &[Part<'_>],
 ) -> Result<Expr<A>, Memory> {
@@ -106,7 +106,7 @@ fn set_of<A: Allocator + Copy>(
 }
 
 /// The numbers as values.
-pub(crate) fn values<A: Allocator + Copy>(
+pub(super) fn values<A: Allocator + Copy>(
     alloc: A,
     items: &[i32],
 ) -> Result<Vec<Value<A>, A>, Memory> {
@@ -123,7 +123,7 @@ fn value_set<A: Allocator + Copy>(alloc: A, members: &[i32]) -> Result<Value<A>,
 
 /// What is expected of a value.
 #[derive(Clone, Copy)]
-pub(crate) enum Answer<'p> {
+pub(super) enum Answer<'p> {
     Number(i32),
     Truth(bool),
     /// The sequence of the numbers.
@@ -135,7 +135,7 @@ pub(crate) enum Answer<'p> {
 }
 
 /// Whether the expression of the parts has this answer.
-pub(crate) fn answers<A: Allocator + Copy>(
+pub(super) fn answers<A: Allocator + Copy>(
     alloc: A,
     parts: &[Part<'_>],
     answer: Answer<'_>,
@@ -145,7 +145,7 @@ pub(crate) fn answers<A: Allocator + Copy>(
 }
 
 /// The value of the expression of the parts.
-pub(crate) fn value<A: Allocator + Copy>(
+pub(super) fn value<A: Allocator + Copy>(
     alloc: A,
     parts: &[Part<'_>],
 ) -> Result<Value<A>, EvalFault> {
@@ -154,11 +154,11 @@ pub(crate) fn value<A: Allocator + Copy>(
 }
 
 /// One datatype of the constructors 2 to 4, and one nametype, `{5, 7}`.
-pub(crate) fn types<A: Allocator + Copy>(alloc: A) -> Result<TypeTable<A>, Memory> {
+fn types<A: Allocator + Copy>(alloc: A) -> Result<TypeTable<A>, Memory> {
     let mut datatypes = Vec::new(alloc);
     datatypes.push(Constructors {
         first: ConId(2),
-        following: 2,
+        behind: ConId(5),
     })?;
     let mut nametypes = Vec::new(alloc);
     nametypes.push(SetOf::from_values(values(alloc, &[7, 5])?))?;
@@ -168,10 +168,7 @@ pub(crate) fn types<A: Allocator + Copy>(alloc: A) -> Result<TypeTable<A>, Memor
     })
 }
 
-pub(crate) fn is_answer<A: Allocator>(
-    found: &Result<Value<A>, EvalFault>,
-    answer: Answer<'_>,
-) -> bool {
+fn is_answer<A: Allocator>(found: &Result<Value<A>, EvalFault>, answer: Answer<'_>) -> bool {
     match (found, answer) {
         (Ok(Value::Int(found)), Answer::Number(number)) => *found == number,
         (Ok(Value::Bool(found)), Answer::Truth(truth)) => *found == truth,
@@ -193,7 +190,7 @@ fn are_numbers<A: Allocator>(values: &[Value<A>], numbers: &[i32]) -> bool {
 }
 
 /// Whether the operator answers this of the two parts.
-pub(crate) fn of_parts<'p>(
+pub(super) fn of_parts<'p>(
     alloc: Global,
     left: Part<'p>,
     right: Part<'p>,
@@ -205,7 +202,7 @@ pub(crate) fn of_parts<'p>(
 }
 
 /// The numbers from 0 up to and without the end, and then a 0 again.
-pub(crate) fn counted(alloc: Global, end: i32) -> Result<Vec<i32>, Memory> {
+pub(super) fn counted(alloc: Global, end: i32) -> Result<Vec<i32>, Memory> {
     let mut all = Vec::new(alloc);
     for item in 0..end {
         all.push(item)?;

@@ -64,18 +64,14 @@ fn sequences_with_another_operand(rt: HostRuntime) -> Result<(), Fail> {
 #[test]
 fn sequences_of_at_most_1024_items(rt: HostRuntime) -> Result<(), Fail> {
     let alloc = rt.alloc();
-    let shorter = counted(alloc, 1022)?;
     let longest = counted(alloc, 1023)?;
     let longer = counted(alloc, 1024)?;
     let length = Part::Apply(UnaryOperator::Length);
     let too_long = Answer::Cause(Fault::Overflow);
     let (one, joined) = (Part::Sequence(&[1]), BinaryOperator::Concatenate);
-    let shorter = Part::Sequence(shorter.as_slice());
     let longest = Part::Sequence(longest.as_slice());
     assert!(rt; answers(alloc, &[longest, length], Answer::Number(1024)));
     assert!(rt; answers(alloc, &[Part::Sequence(longer.as_slice())], too_long));
-    let whole = [shorter, one, Part::Combine(joined), length];
-    assert!(rt; answers(alloc, &whole, Answer::Number(1024)));
     assert!(rt; of_parts(alloc, longest, one, joined, too_long));
     Ok(())
 }

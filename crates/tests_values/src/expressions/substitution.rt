@@ -1,8 +1,8 @@
 //! Values put in for names.
 
 use crate::expressions::forms::RISING;
-use crate::expressions::parts::{Part, expression, types, values};
-use csp_term::expression::{BinaryOperator, Binding, Expr, UnaryOperator};
+use crate::expressions::parts::{Part, expression};
+use csp_term::expression::{BinaryOperator, Binding, Expr};
 use csp_term::{Memory, Name};
 use csp_value::Value;
 use std::alloc::Global;
@@ -50,25 +50,5 @@ fn values_put_in_for_names(rt: HostRuntime) -> Result<(), Fail> {
         let unchanged = put(alloc, parts)? == expression(alloc, parts)?;
         assert_eq!(rt; unchanged, row != 10, "{row}");
     }
-    Ok(())
-}
-
-#[test]
-fn names_have_the_values_of_bindings(rt: HostRuntime) -> Result<(), Fail> {
-    let alloc = rt.alloc();
-    let table = types(alloc)?;
-    let pair = Value::Seq(values(alloc, &[4, 5])?);
-    let bindings = [Binding {
-        name: Name(3),
-        value: &pair,
-    }];
-    let length = [Part::Name(3), Part::Apply(UnaryOperator::Length)];
-    let length = expression(alloc, &length)?;
-    let seen = length.look(&table, bindings.as_slice(), alloc)?;
-    assert!(rt; *seen.value() == Value::Int(2));
-    let name = expression(alloc, &[Part::Name(3)])?;
-    let seen = name.look(&table, bindings.as_slice(), alloc)?;
-    assert!(rt; *seen.value() == pair);
-    assert!(rt; seen.into_value(alloc)? == pair);
     Ok(())
 }

@@ -1,7 +1,0 @@
-//! Terms of each form: their order, copies and hashes, their limits, and values put in for names.
-
-mod forms;
-mod limits;
-mod memory;
-mod pieces;
-mod substitution;
