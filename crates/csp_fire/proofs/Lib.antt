@@ -1,1 +1,16 @@
-pub mod RuleForms
+pub mod Acting
+pub mod Exactness
+pub mod Ruling
+pub mod Smaller
+pub mod Scanning
+pub mod Seeing
+pub mod Parameters
+pub mod Reaching
+pub mod Adding
+pub mod Offered
+pub mod Keeping
+pub mod Calling
+pub mod Further
+pub mod Walking
+pub mod Members
+pub mod Prefixing

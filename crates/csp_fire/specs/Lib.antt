@@ -1,2 +1,4 @@
 pub mod Form
+pub mod Answering
+pub mod Offering
 pub mod Expansion

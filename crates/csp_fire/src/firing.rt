@@ -1,14 +1,17 @@
 //! Firing a term.
 
-ghost use Rattle.std.specs.Prelude.{◌≡◌, IfOk};
+ghost use Rattle.std.specs.Prelude.{◌≡◌, IfOk, map};
 ghost use Rattle.csp_semantics.specs.Meaning.Expansions.{IsFormOf, IsExpansion};
 ghost use Rattle.csp_term.specs.Term.{process_of};
 ghost use Rattle.csp_term.specs.Script.{script_of};
-ghost use Rattle.csp_fire.specs.Form.{form_of};
+ghost use Rattle.csp_fire.specs.Form.{form_of, step_of};
+ghost use Rattle.csp_fire.specs.Offering.{IsFormBySteps};
 
 use crate::expansion::Expansion;
-use crate::form::Form;
-use crate::rules::{prefix, stop};
+use crate::form::{Form, Step};
+use crate::offers::offers;
+use crate::rules::steps;
+use crate::stuck::Stuck;
 use csp_term::{AllocHandle, Memory, Script, Term};
 
 /// Fires a closed term of the script. The expansion names the script and the term that were handed in.
@@ -36,8 +39,20 @@ fn form_of_term<A: AllocHandle>(
     if !term.fits() {
         return Ok(Form::Large);
     }
-    match term {
-        Term::Stop => stop::form(alloc),
-        Term::Prefix(channel, body) => prefix::form(alloc, script, *channel, body),
+    match steps(alloc, script, term) {
+        Ok(steps) => form_by_steps(alloc, steps),
+        Err(Stuck::Memory) => Err(Memory),
+        Err(Stuck::Fault(cause)) => Ok(Form::Faulty(cause)),
+        Err(Stuck::TooLarge) => Ok(Form::Large),
     }
+}
+
+/// The form of the term that has these steps, of which none leads past the limits.
+fn form_by_steps<A: AllocHandle>(alloc: A, mut steps: Vec<Step<A>, A>) -> Result<Form<A>, Memory>
+    ensures { IfOk result (λ f. IsFormBySteps (map step_of steps.items) (form_of f)) }
+{
+    steps.sort_unstable();
+    steps.dedup();
+    let offers = offers(alloc, &steps)?;
+    Ok(Form::Steps(steps, offers))
 }

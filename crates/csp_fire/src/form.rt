@@ -2,8 +2,9 @@
 
 use csp_term::{Action, AllocHandle, Fault, Term};
 
-/// A step of a term: the action, and the term that it leads to.
+/// A step of a term: the action, and the term that it leads to. Steps are ordered by action, then by target.
 #[derive(Drop)]
+#[derive_where(PartialEq, Eq, PartialOrd, Ord)]
 pub struct Step<A: AllocHandle> {
     pub action: Action<A>,
     pub target: Term<A>,

@@ -8,7 +8,9 @@
 mod expansion;
 mod firing;
 mod form;
+mod offers;
 mod rules;
+mod stuck;
 
 pub use expansion::Expansion;
 pub use firing::fire;

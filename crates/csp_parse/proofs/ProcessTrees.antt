@@ -1,9 +1,11 @@
--- The tree of each form of set of events that has no box in it, and of a prefix.
+-- The tree of each form of set of events that has no box in it, and of each form of process that holds a list.
 use Rattle.std.proofs.Common.{◌≡◌, ◌∙◌, sym, ap, map}
 use Rattle.std.specs.declared.vec.Vec.{Vec}
-use Rattle.csp_semantics.specs.Text.Raw.{RawEventSet, RawEnumeration, RawProductions, RawProcess, RawPrefix}
+use Rattle.csp_semantics.specs.Text.Raw.{RawEventSet, RawEnumeration, RawProductions, RawProcess, RawCall, RawPrefix, RawRenaming}
 use Rattle.csp_parse.specs.declared.names.Name.{Name}
 use Rattle.csp_parse.specs.declared.events.Event.{Event}
+use Rattle.csp_parse.specs.declared.events.Pair.{Pair}
+use Rattle.csp_parse.specs.declared.expressions.Expression.{Expression}
 use Rattle.csp_parse.specs.declared.event_sets.EventSet.TheOpen as set_layer
 use Rattle.csp_parse.specs.declared.event_sets.EventSet.TheFolds.{fold-roll-EventSet}
 use Rattle.csp_parse.specs.declared.event_sets.EventSet.TheVariants as sets
@@ -13,8 +15,9 @@ use Rattle.csp_parse.specs.declared.processes.Process.TheVariants as views
 use Rattle.std.specs.declared.boxed.Box.{Box}
 use Rattle.csp_parse.specs.declared.processes.Field.{Field}
 use Rattle.csp_parse.specs.declared.processes.Process.{Process}
-use Rattle.csp_parse.specs.Events.{event_of}
+use Rattle.csp_parse.specs.Events.{event_of, pair_of}
 use Rattle.csp_parse.specs.EventSets.{event_set_step, event_set_of}
+use Rattle.csp_parse.specs.Expressions.{expressions_of}
 use Rattle.csp_parse.specs.Names.{name_of}
 use Rattle.csp_parse.specs.Processes.{field_of, process_step, process_of, process_in}
 
@@ -27,3 +30,9 @@ module _ (A : Type 0) where
 
   pub tree_of_prefix : (n : Name) (fs : Vec (Field A) A) (p : Box (Process A) A) → process_of {A = A} (views.Prefix n fs p) ≡ RawPrefix (name_of n) (map field_of fs.items) (process_in p)
   tree_of_prefix n fs p = ap (process_of {A = A}) (sym (views.rolls-Prefix n fs p)) ∙ fold-roll-Process A RawProcess process_step (layer.Prefix n fs p)
+
+  pub tree_of_call : (n : Name) (es : Vec (Expression A) A) → process_of {A = A} (views.Call n es) ≡ RawCall (name_of n) (expressions_of es.items)
+  tree_of_call n es = ap (process_of {A = A}) (sym (views.rolls-Call n es)) ∙ fold-roll-Process A RawProcess process_step (layer.Call n es)
+
+  pub tree_of_renaming : (p : Box (Process A) A) (ps : Vec (Pair A) A) → process_of {A = A} (views.Renaming p ps) ≡ RawRenaming (process_in p) (map pair_of ps.items)
+  tree_of_renaming p ps = ap (process_of {A = A}) (sym (views.rolls-Renaming p ps)) ∙ fold-roll-Process A RawProcess process_step (layer.Renaming p ps)

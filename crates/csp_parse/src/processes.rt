@@ -117,22 +117,28 @@ impl<'a, A: Allocator + Copy> Process<'a, A> {
     ghost use Rattle.csp_parse.specs.EventSets.{event_set_of};
     ghost use Rattle.csp_parse.specs.Expressions.{expression_of, expressions_of};
     ghost use Rattle.csp_parse.specs.Names.{name_of};
-    ghost use Rattle.csp_parse.specs.Processes.{field_of, infix_of, replicator_of, process_in};
+    ghost use Rattle.csp_parse.specs.Processes.{field_of, infix_of, replicator_of, process_in, process_of};
+
+    // Alone, so that no other function holds a process in its own place, which makes proofs long.
+    fn boxed(self, alloc: A) -> Result<Box<Process<'a, A>, A>, Refused>
+        ensures { IfOk result (λ p. process_in p ≡ process_of self.entry) }
+    {
+        let process = Box::new(alloc, self)?;
+        Ok(process)
+    }
 
     /// `STOP`
     pub(crate) fn stop(alloc: A) -> Result<Box<Process<'a, A>, A>, Refused>
         ensures { IfOk result (λ p. process_in p ≡ RawStop) }
     {
-        let process = Box::new(alloc, Process::Stop)?;
-        Ok(process)
+        Process::Stop.boxed(alloc)
     }
 
     /// `SKIP`
     pub(crate) fn skip(alloc: A) -> Result<Box<Process<'a, A>, A>, Refused>
         ensures { IfOk result (λ p. process_in p ≡ RawSkip) }
     {
-        let process = Box::new(alloc, Process::Skip)?;
-        Ok(process)
+        Process::Skip.boxed(alloc)
     }
 
     /// `P(e, ..)`
@@ -143,8 +149,7 @@ impl<'a, A: Allocator + Copy> Process<'a, A> {
     ) -> Result<Box<Process<'a, A>, A>, Refused>
         ensures { IfOk result (λ p. process_in p ≡ RawCall (name_of name.entry) (expressions_of arguments.entry.items)) }
     {
-        let process = Box::new(alloc, Process::Call(name, arguments))?;
-        Ok(process)
+        Process::Call(name, arguments).boxed(alloc)
     }
 
     /// `c!e?x -> P`
@@ -156,8 +161,7 @@ impl<'a, A: Allocator + Copy> Process<'a, A> {
     ) -> Result<Box<Process<'a, A>, A>, Refused>
         ensures { IfOk result (λ p. process_in p ≡ RawPrefix (name_of channel.entry) (map field_of fields.entry.items) (process_in body.entry)) }
     {
-        let process = Box::new(alloc, Process::Prefix(channel, fields, body))?;
-        Ok(process)
+        Process::Prefix(channel, fields, body).boxed(alloc)
     }
 
     /// `e & P`
@@ -168,8 +172,7 @@ impl<'a, A: Allocator + Copy> Process<'a, A> {
     ) -> Result<Box<Process<'a, A>, A>, Refused>
         ensures { IfOk result (λ p. process_in p ≡ RawGuard (expression_of condition.entry) (process_in body.entry)) }
     {
-        let process = Box::new(alloc, Process::Guard(condition, body))?;
-        Ok(process)
+        Process::Guard(condition, body).boxed(alloc)
     }
 
     /// `if e then P else Q`
@@ -181,8 +184,7 @@ impl<'a, A: Allocator + Copy> Process<'a, A> {
     ) -> Result<Box<Process<'a, A>, A>, Refused>
         ensures { IfOk result (λ p. process_in p ≡ RawIf (expression_of condition.entry) (process_in first.entry) (process_in second.entry)) }
     {
-        let process = Box::new(alloc, Process::If(condition, first, second))?;
-        Ok(process)
+        Process::If(condition, first, second).boxed(alloc)
     }
 
     /// An operator between two processes.
@@ -194,8 +196,7 @@ impl<'a, A: Allocator + Copy> Process<'a, A> {
     ) -> Result<Box<Process<'a, A>, A>, Refused>
         ensures { IfOk result (λ p. process_in p ≡ RawInfix (infix_of operator) (process_in left.entry) (process_in right.entry)) }
     {
-        let process = Box::new(alloc, Process::Infix(operator, left, right))?;
-        Ok(process)
+        Process::Infix(operator, left, right).boxed(alloc)
     }
 
     /// `P [| X |] Q`
@@ -207,8 +208,7 @@ impl<'a, A: Allocator + Copy> Process<'a, A> {
     ) -> Result<Box<Process<'a, A>, A>, Refused>
         ensures { IfOk result (λ p. process_in p ≡ RawGeneralisedParallel (process_in left.entry) (event_set_of shared.entry) (process_in right.entry)) }
     {
-        let process = Box::new(alloc, Process::GeneralisedParallel(left, shared, right))?;
-        Ok(process)
+        Process::GeneralisedParallel(left, shared, right).boxed(alloc)
     }
 
     /// `P [X || Y] Q`
@@ -221,11 +221,7 @@ impl<'a, A: Allocator + Copy> Process<'a, A> {
     ) -> Result<Box<Process<'a, A>, A>, Refused>
         ensures { IfOk result (λ p. process_in p ≡ RawAlphabetisedParallel (process_in left.entry) (event_set_of of_left.entry) (event_set_of of_right.entry) (process_in right.entry)) }
     {
-        let process = Box::new(
-            alloc,
-            Process::AlphabetisedParallel(left, of_left, of_right, right),
-        )?;
-        Ok(process)
+        Process::AlphabetisedParallel(left, of_left, of_right, right).boxed(alloc)
     }
 
     /// `P \ X`
@@ -236,8 +232,7 @@ impl<'a, A: Allocator + Copy> Process<'a, A> {
     ) -> Result<Box<Process<'a, A>, A>, Refused>
         ensures { IfOk result (λ p. process_in p ≡ RawHiding (process_in body.entry) (event_set_of hidden.entry)) }
     {
-        let process = Box::new(alloc, Process::Hiding(body, hidden))?;
-        Ok(process)
+        Process::Hiding(body, hidden).boxed(alloc)
     }
 
     /// `P[[c <- d, ..]]`
@@ -248,8 +243,7 @@ impl<'a, A: Allocator + Copy> Process<'a, A> {
     ) -> Result<Box<Process<'a, A>, A>, Refused>
         ensures { IfOk result (λ p. process_in p ≡ RawRenaming (process_in body.entry) (map pair_of pairs.entry.items)) }
     {
-        let process = Box::new(alloc, Process::Renaming(body, pairs))?;
-        Ok(process)
+        Process::Renaming(body, pairs).boxed(alloc)
     }
 
     /// `[] x:S @ P`
@@ -262,7 +256,6 @@ impl<'a, A: Allocator + Copy> Process<'a, A> {
     ) -> Result<Box<Process<'a, A>, A>, Refused>
         ensures { IfOk result (λ p. process_in p ≡ RawReplicated (replicator_of operator) (name_of name.entry) (expression_of set.entry) (process_in body.entry)) }
     {
-        let process = Box::new(alloc, Process::Replicated(operator, name, set, body))?;
-        Ok(process)
+        Process::Replicated(operator, name, set, body).boxed(alloc)
     }
 }

@@ -2,7 +2,7 @@
 use denote.RattleType
 use mir.Syntax
 use lib.Pointwise.{pointwise}
-use Rattle.std.proofs.Common.{◌≡◌, Bool, true, ◌&&◌, nat_eq, List, [], ◌∷◌, map, refl, sym, ap, ◌∙◌}
+use Rattle.std.proofs.Common.{◌≡◌, ℕ, zero, suc, Bool, true, ◌&&◌, nat_eq, List, [], ◌∷◌, map, refl, sym, ap, ap₂, ◌∙◌}
 use Rattle.std.specs.declared.alloc.Allocator as allocator
 use Rattle.std.specs.String.{string_bytes}
 use Rattle.std.specs.Ordering.{is_eq}
@@ -10,23 +10,37 @@ use Rattle.csp_semantics.specs.Syntax.Value as pure
 use Rattle.csp_semantics.specs.Syntax.Order.{process_cmp}
 use Rattle.csp_semantics.proofs.Equalities.{is_eq-Equal}
 use Rattle.csp_semantics.proofs.ProcessOrder.{process_same, process_refl}
+use Rattle.csp_value.specs.declared.set.SetOf.{SetOf}
+use Rattle.csp_value.specs.Value.{members_of}
+use Rattle.csp_value.proofs.Equality.{set_eq, set_tells}
+use Rattle.csp_term.specs.declared.expression.types.Constructors.{Constructors}
+use Rattle.csp_term.specs.declared.expression.types.TypeTable.{TypeTable}
+use Rattle.csp_term.specs.declared.script.Constructor.{Constructor}
 use Rattle.csp_term.specs.declared.name.Name.{Name}
 use Rattle.csp_term.specs.declared.assertion.Model.{Model}
 use Rattle.csp_term.specs.declared.assertion.Model.TheVariants as model
 use Rattle.csp_term.specs.declared.assertion.Assertion.{Assertion}
 use Rattle.csp_term.specs.declared.script.Channel.{Channel}
 use Rattle.csp_term.specs.declared.script.Equation.{Equation}
+use Rattle.csp_value.specs.declared.field_set.FieldSet.{FieldSet}
+use Rattle.csp_value.specs.contracts.field_set.FieldSetPartialEq.TheImpl as field_impl
 use Rattle.csp_term.specs.declared.script.Script.{Script}
 use Rattle.csp_term.specs.declared.term.Term.{Term}
 use Rattle.csp_term.specs.contracts.assertion.ModelPartialEq.TheImpl as model_impl
 use Rattle.csp_term.specs.contracts.assertion.AssertionPartialEq.TheImpl as assertion_impl
+use Rattle.csp_term.specs.contracts.expression.types.ConstructorsPartialEq.TheImpl as constructors_impl
+use Rattle.csp_term.specs.contracts.expression.types.TypeTablePartialEq.TheImpl as table_impl
 use Rattle.csp_term.specs.contracts.script.ChannelPartialEq.TheImpl as channel_impl
+use Rattle.csp_term.specs.contracts.script.ConstructorPartialEq.TheImpl as constructor_impl
 use Rattle.csp_term.specs.contracts.script.EquationPartialEq.TheImpl as equation_impl
 use Rattle.csp_term.specs.contracts.script.ScriptPartialEq.TheImpl as script_impl
 use Rattle.csp_term.specs.contracts.term.TermPartialEq.TheImpl as term_impl
 use Rattle.csp_term.specs.contracts.term.TermOrd.TheImpl.Laws as term_laws
 use Rattle.csp_term.specs.Term.{process_of}
-use Rattle.csp_term.specs.Script.{model_of, assertion_of, equation_of, types_of, script_of}
+use Rattle.csp_term.specs.Evaluation.{constructors_of, members_listed, numbers_up, table_of}
+use Rattle.csp_term.specs.Script.{model_of, assertion_of, channel_of, equation_of, field_values, script_of}
+use Rattle.csp_term.proofs.Channels.{same_channels, same_names, same_sets}
+use Rattle.csp_term.proofs.Forming.{unlisted}
 use Rattle.csp_term.proofs.TermOrder.{cmp, ordered}
 use Rattle.csp_term.proofs.Sameness.{Tells, and_first, and_second, both, nat_tells, text_tells, lists_tell}
 
@@ -45,8 +59,33 @@ model_complete model.Failures model.Failures e = refl
 model_complete model.Traces model.Failures e = absurd (cc e)
 model_complete model.Failures model.Traces e = absurd (cc e)
 
-abbrev no_fields : List (List pure.Value)
-no_fields = []
+-- ---- the constructors of a datatype
+
+abbrev pub constructors_eq : Constructors → Constructors → Bool
+constructors_eq = constructors_impl.ghosts.eq
+
+as_many_up : (a b m n : ℕ) → numbers_up a m ≡ numbers_up b n → m ≡ n
+as_many_up a b zero zero e = refl
+as_many_up a b zero (suc n) e = absurd (cc e)
+as_many_up a b (suc m) zero e = absurd (cc e)
+as_many_up a b (suc m) (suc n) e = ap suc (as_many_up (suc a) (suc b) m n (cc e))
+
+-- the first number, and how many follow it
+first_up : (a b m n : ℕ) → numbers_up a (suc m) ≡ numbers_up b (suc n) → a ≡ b
+first_up a b m n e = cc e
+
+following_up : (a b m n : ℕ) → numbers_up a (suc m) ≡ numbers_up b (suc n) → m ≡ n
+following_up a b m n e = as_many_up (suc a) (suc b) m n (cc e)
+
+constructors_tell : Tells constructors_eq constructors_of
+constructors_tell = record {
+  sound = λ x y e.
+      ap₂ (λ a n. numbers_up a (suc n)) (nat_tells.sound x.first.0 y.first.0 (and_first (nat_eq x.first.0 y.first.0) (nat_eq x.following y.following) e))
+      (nat_tells.sound x.following y.following (and_second (nat_eq x.first.0 y.first.0) (nat_eq x.following y.following) e));
+  complete = λ x y e.
+      both (nat_eq x.first.0 y.first.0) (nat_eq x.following y.following) (nat_tells.complete x.first.0 y.first.0 (first_up x.first.0 y.first.0 x.following y.following e))
+      (nat_tells.complete x.following y.following (following_up x.first.0 y.first.0 x.following y.following e));
+}
 
 module _ (R : RattleType.RattleType) (A : allocator.Ghosts R.Denot) (ad dd : Syntax.Dict) where
   abbrev pub term_eq : Term R.Denot → Term R.Denot → Bool
@@ -84,12 +123,78 @@ module _ (R : RattleType.RattleType) (A : allocator.Ghosts R.Denot) (ad dd : Syn
   abbrev pub channel_eq : Channel R.Denot → Channel R.Denot → Bool
   channel_eq = (channel_impl.ghosts R A ad dd).eq
 
-  -- channels by their spellings
-  channel_tells : Tells channel_eq (λ c. string_bytes c.spelling)
-  channel_tells = record {
+  -- texts, and channels by their spellings and field sets
+  spelled : {x y : List ℕ} → pointwise nat_eq x y ≡ true → x ≡ y
+  spelled {x} {y} e = text_tells.sound x y e
+
+  abbrev sets_eq : List (SetOf R.Denot) → List (SetOf R.Denot) → Bool
+  sets_eq = pointwise (set_eq R A ad dd)
+
+  listed_tells : Tells (set_eq R A ad dd) (members_listed {A = R.Denot})
+  listed_tells = record {
+    sound = λ x y e. ap pure.values_list ((set_tells R A ad dd).sound x y e);
+    complete = λ x y e. (set_tells R A ad dd).complete x y (sym (unlisted (members_of x)) ∙ ap pure.to_values e ∙ unlisted (members_of y));
+  }
+
+  sets_tell : Tells sets_eq (map members_listed)
+  sets_tell = lists_tell (set_eq R A ad dd) members_listed listed_tells
+
+  abbrev field_eq : FieldSet R.Denot → FieldSet R.Denot → Bool
+  field_eq = (field_impl.ghosts R A ad dd).eq
+
+  field_tells : Tells field_eq (field_values {A = R.Denot})
+  field_tells = record { sound = λ x y e. listed_tells.sound x.values y.values e; complete = λ x y e. listed_tells.complete x.values y.values e }
+
+  fields_tell : Tells (pointwise field_eq) (map field_values)
+  fields_tell = lists_tell field_eq field_values field_tells
+
+  channel_sound : (x y : Channel R.Denot) → channel_eq x y ≡ true → channel_of x ≡ channel_of y
+  channel_sound x y e =
+      let texts = pointwise nat_eq (string_bytes x.spelling) (string_bytes y.spelling) in
+      let sets = pointwise field_eq x.fields.items y.fields.items in
+      let t = spelled (and_first texts sets e) in
+      let f = fields_tell.sound x.fields.items y.fields.items (and_second texts sets e) in
+      λ k. (t k, f k)
+
+  channel_complete : (x y : Channel R.Denot) → channel_of x ≡ channel_of y → channel_eq x y ≡ true
+  channel_complete x y e =
+      both (pointwise nat_eq (string_bytes x.spelling) (string_bytes y.spelling)) (pointwise field_eq x.fields.items y.fields.items)
+      (text_tells.complete (string_bytes x.spelling) (string_bytes y.spelling) (ap (λ c. c.0) e)) (fields_tell.complete x.fields.items y.fields.items (ap (λ c. c.1) e))
+
+  pub channel_tells : Tells channel_eq (channel_of {A = R.Denot})
+  channel_tells = record { sound = channel_sound; complete = channel_complete }
+
+  abbrev pub constructor_eq : Constructor R.Denot → Constructor R.Denot → Bool
+  constructor_eq = (constructor_impl.ghosts R A ad dd).eq
+
+  -- constructors by their spellings
+  constructor_tells : Tells constructor_eq (λ c. string_bytes c.spelling)
+  constructor_tells = record {
     sound = λ x y e. text_tells.sound (string_bytes x.spelling) (string_bytes y.spelling) e;
     complete = λ x y e. text_tells.complete (string_bytes x.spelling) (string_bytes y.spelling) e;
   }
+
+  abbrev pub table_eq : TypeTable R.Denot → TypeTable R.Denot → Bool
+  table_eq = (table_impl.ghosts R A ad dd).eq
+
+  datatypes_tell : Tells (pointwise constructors_eq) (map constructors_of)
+  datatypes_tell = lists_tell constructors_eq constructors_of constructors_tell
+
+  table_sound : (x y : TypeTable R.Denot) → table_eq x y ≡ true → table_of x ≡ table_of y
+  table_sound x y e =
+      let types = pointwise constructors_eq x.datatypes.items y.datatypes.items in
+      let sets = sets_eq x.nametypes.items y.nametypes.items in
+      let d = datatypes_tell.sound x.datatypes.items y.datatypes.items (and_first types sets e) in
+      let n = sets_tell.sound x.nametypes.items y.nametypes.items (and_second types sets e) in
+      λ k. record { datatypes = d k; nametypes = n k }
+
+  table_complete : (x y : TypeTable R.Denot) → table_of x ≡ table_of y → table_eq x y ≡ true
+  table_complete x y e =
+      both (pointwise constructors_eq x.datatypes.items y.datatypes.items) (sets_eq x.nametypes.items y.nametypes.items)
+      (datatypes_tell.complete x.datatypes.items y.datatypes.items (ap (λ t. t.datatypes) e)) (sets_tell.complete x.nametypes.items y.nametypes.items (ap (λ t. t.nametypes) e))
+
+  pub table_tells : Tells table_eq (table_of {A = R.Denot})
+  table_tells = record { sound = table_sound; complete = table_complete }
 
   abbrev name_eq : Name → Name → Bool
   name_eq m n = nat_eq m.0 n.0
@@ -118,39 +223,37 @@ module _ (R : RattleType.RattleType) (A : allocator.Ghosts R.Denot) (ad dd : Syn
   abbrev pub script_eq : Script R.Denot → Script R.Denot → Bool
   script_eq = (script_impl.ghosts R A ad dd).eq
 
-  -- the spellings of the channels tell how many there are
-  bare_channels : (cs ds : List (Channel R.Denot)) → map (λ c. string_bytes c.spelling) cs ≡ map (λ c. string_bytes c.spelling) ds → map (λ c. no_fields) cs ≡ map (λ c. no_fields) ds
-  bare_channels [] [] e = refl
-  bare_channels [] (d ∷ ds) e = absurd (cc e)
-  bare_channels (c ∷ cs) [] e = absurd (cc e)
-  bare_channels (c ∷ cs) (d ∷ ds) e = ap (λ z. no_fields ∷ z) (bare_channels cs ds (cc e))
-
   script_sound : (x y : Script R.Denot) → script_eq x y ≡ true → script_of x ≡ script_of y
   script_sound x y e =
+      let ts = table_eq x.types y.types in
+      let ks = pointwise constructor_eq x.constructors.items y.constructors.items in
       let cs = pointwise channel_eq x.channels.items y.channels.items in
       let es = pointwise equation_eq x.equations.items y.equations.items in
       let asserted = pointwise assertion_eq x.assertions.items y.assertions.items in
-      let rest = and_second cs (es && asserted) e in
-      let names = (lists_tell channel_eq (λ c. string_bytes c.spelling) channel_tells).sound x.channels.items y.channels.items (and_first cs (es && asserted) e) in
+      let second = and_second ts (ks && (cs && (es && asserted))) e in
+      let third = and_second ks (cs && (es && asserted)) second in
+      let rest = and_second cs (es && asserted) third in
+      let types = table_tells.sound x.types y.types (and_first ts (ks && (cs && (es && asserted))) e) in
+      let constructors = (lists_tell constructor_eq (λ c. string_bytes c.spelling) constructor_tells).sound x.constructors.items y.constructors.items (and_first ks (cs && (es && asserted)) second) in
+      let channels = (lists_tell channel_eq channel_of channel_tells).sound x.channels.items y.channels.items (and_first cs (es && asserted) third) in
       let equations = (lists_tell equation_eq equation_of equation_tells).sound x.equations.items y.equations.items (and_first es asserted rest) in
       let assertions = (lists_tell assertion_eq assertion_of assertion_tells).sound x.assertions.items y.assertions.items (and_second es asserted rest) in
-      let channels = bare_channels x.channels.items y.channels.items names in
-      λ k. record {
-        types = types_of x.types;
-        channels = channels k;
-        equations = equations k;
-        assertions = assertions k;
-        channel_names = names k;
-        constructor_names = [];
-      }
+      let sets = same_sets x.channels.items y.channels.items channels in
+      let names = same_names x.channels.items y.channels.items channels in
+      λ k. record { types = types k; channels = sets k; equations = equations k; assertions = assertions k; channel_names = names k; constructor_names = constructors k }
 
   script_complete : (x y : Script R.Denot) → script_of x ≡ script_of y → script_eq x y ≡ true
   script_complete x y e =
-      both (pointwise channel_eq x.channels.items y.channels.items) (pointwise equation_eq x.equations.items y.equations.items && pointwise assertion_eq x.assertions.items y.assertions.items)
-      ((lists_tell channel_eq (λ c. string_bytes c.spelling) channel_tells).complete x.channels.items y.channels.items (ap (λ s. s.channel_names) e))
-      (both (pointwise equation_eq x.equations.items y.equations.items) (pointwise assertion_eq x.assertions.items y.assertions.items)
-      ((lists_tell equation_eq equation_of equation_tells).complete x.equations.items y.equations.items (ap (λ s. s.equations) e))
-      ((lists_tell assertion_eq assertion_of assertion_tells).complete x.assertions.items y.assertions.items (ap (λ s. s.assertions) e)))
+      let ks = pointwise constructor_eq x.constructors.items y.constructors.items in
+      let cs = pointwise channel_eq x.channels.items y.channels.items in
+      let es = pointwise equation_eq x.equations.items y.equations.items in
+      let asserted = pointwise assertion_eq x.assertions.items y.assertions.items in
+      let channels = same_channels x.channels.items y.channels.items (ap (λ s. s.channel_names) e) (ap (λ s. s.channels) e) in
+      both (table_eq x.types y.types) (ks && (cs && (es && asserted))) (table_tells.complete x.types y.types (ap (λ s. s.types) e))
+      (both ks (cs && (es && asserted)) ((lists_tell constructor_eq (λ c. string_bytes c.spelling) constructor_tells).complete x.constructors.items y.constructors.items (ap (λ s. s.constructor_names) e))
+      (both cs (es && asserted) ((lists_tell channel_eq channel_of channel_tells).complete x.channels.items y.channels.items channels)
+      (both es asserted ((lists_tell equation_eq equation_of equation_tells).complete x.equations.items y.equations.items (ap (λ s. s.equations) e))
+      ((lists_tell assertion_eq assertion_of assertion_tells).complete x.assertions.items y.assertions.items (ap (λ s. s.assertions) e)))))
 
   pub script_tells : Tells script_eq (script_of {A = R.Denot})
   script_tells = record { sound = script_sound; complete = script_complete }

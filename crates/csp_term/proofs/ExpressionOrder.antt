@@ -320,3 +320,9 @@ module _ (R : RattleType.RattleType) (A : allocator.Ghosts R.Denot) (ad dd : Syn
 
   pub ordered : (a : Expr R.Denot) → IsOrdered a
   ordered = ind-Expr R.Denot IsOrdered step
+
+  pub lists_ordered : (es : List (Expr R.Denot)) → AreOrdered es
+  lists_ordered [] [] = refl
+  lists_ordered [] (f ∷ fs) = refl
+  lists_ordered (e ∷ es) [] = refl
+  lists_ordered (e ∷ es) (f ∷ fs) = ap₂ ordering_then (ordered e f) (lists_ordered es fs)

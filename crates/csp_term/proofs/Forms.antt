@@ -1,16 +1,48 @@
--- The process of a term, by its form.
-use Rattle.std.proofs.Common.{◌≡◌, sym, ◌∙◌, ap, []}
+-- The process of each form.
+use Rattle.std.proofs.Common.{◌≡◌, sym, ◌∙◌, ap}
 use Rattle.std.specs.declared.boxed.Box.{Box}
+use Rattle.std.specs.declared.vec.Vec.{Vec}
+use Rattle.csp_semantics.specs.Syntax.Expression.{to_expressions}
 use Rattle.csp_semantics.specs.Syntax.Process as pure
 use Rattle.csp_value.specs.declared.name.ChannelId.{ChannelId}
-use Rattle.csp_term.specs.declared.term.Term.{Term, fold-roll-Term}
-use Rattle.csp_term.specs.declared.term.Term.TheVariants as views
-use Rattle.csp_term.specs.declared.term.Term.TheOpen as layer
-use Rattle.csp_term.specs.Term.{process_of, process_step}
+use Rattle.csp_term.specs.declared.name.EquationId.{EquationId}
+use Rattle.csp_term.specs.declared.expression.expr.Expr.{Expr}
+use Rattle.csp_term.specs.declared.field.Field.{Field}
+use Rattle.csp_term.specs.declared.term.Term.{Term, out-Term, roll-Term}
+use Rattle.csp_term.specs.declared.term.TermForm.{TermForm}
+use Rattle.csp_term.specs.declared.term.TermForm.TheFolds.{fold-roll-Term, fold-roll-TermForm, fold_out-Term}
+use Rattle.csp_term.specs.declared.term.TermForm.TheVariants as views
+use Rattle.csp_term.specs.declared.term.TermForm.TheOpen as layer
+use Rattle.csp_term.specs.Expression.{expression_of, expressions_of}
+use Rattle.csp_term.specs.Field.{fields_of}
+use Rattle.csp_term.specs.Term.{process_of, process_of_form, term_step, form_step}
 
 module _ (A : Type 0) where
-  pub process_of_stop : process_of {A = A} views.Stop ≡ pure.Stop
-  process_of_stop = ap (process_of {A = A}) (sym views.rolls-Stop) ∙ fold-roll-Term A pure.Process process_step layer.Stop
+  -- a term stands for what its form does
+  pub of_form : (t : Term A) → process_of t ≡ process_of_form (out-Term A t).form.value
+  of_form t = fold_out-Term A pure.Process pure.Process form_step term_step t
 
-  pub process_of_prefix : (c : ChannelId) (b : Box (Term A) A) → process_of {A = A} (views.Prefix c b) ≡ pure.Prefix c.0 [] (process_of b.value)
-  process_of_prefix c b = ap (process_of {A = A}) (sym (views.rolls-Prefix c b)) ∙ fold-roll-Term A pure.Process process_step (layer.Prefix c b)
+  -- a term that is made of a form
+  pub of_made : (f : Box (TermForm A) A) → process_of (roll-Term A (record { form = f })) ≡ process_of_form f.value
+  of_made f = fold-roll-Term A pure.Process pure.Process form_step term_step (record { form = f })
+
+  pub of_stop : process_of_form {A = A} views.Stop ≡ pure.Stop
+  of_stop = ap (process_of_form {A = A}) (sym views.rolls-Stop) ∙ fold-roll-TermForm A pure.Process pure.Process form_step term_step layer.Stop
+
+  pub of_skip : process_of_form {A = A} views.Skip ≡ pure.Skip
+  of_skip = ap (process_of_form {A = A}) (sym views.rolls-Skip) ∙ fold-roll-TermForm A pure.Process pure.Process form_step term_step layer.Skip
+
+  pub of_omega_term : process_of_form {A = A} views.Omega ≡ pure.Omega
+  of_omega_term = ap (process_of_form {A = A}) (sym views.rolls-Omega) ∙ fold-roll-TermForm A pure.Process pure.Process form_step term_step layer.Omega
+
+  pub of_call : (n : EquationId) (es : Vec (Expr A) A) → process_of_form {A = A} (views.Call n es) ≡ pure.Call n.0 (to_expressions (expressions_of es.items))
+  of_call n es = ap (process_of_form {A = A}) (sym (views.rolls-Call n es)) ∙ fold-roll-TermForm A pure.Process pure.Process form_step term_step (layer.Call n es)
+
+  pub of_prefix : (c : ChannelId) (fs : Vec (Field A) A) (p : Term A) → process_of_form {A = A} (views.Prefix c fs p) ≡ pure.Prefix c.0 (fields_of fs.items) (process_of p)
+  of_prefix c fs p = ap (process_of_form {A = A}) (sym (views.rolls-Prefix c fs p)) ∙ fold-roll-TermForm A pure.Process pure.Process form_step term_step (layer.Prefix c fs p)
+
+  pub of_guard : (e : Expr A) (p : Term A) → process_of_form {A = A} (views.Guard e p) ≡ pure.Guard (expression_of e) (process_of p)
+  of_guard e p = ap (process_of_form {A = A}) (sym (views.rolls-Guard e p)) ∙ fold-roll-TermForm A pure.Process pure.Process form_step term_step (layer.Guard e p)
+
+  pub of_conditional : (e : Expr A) (p q : Term A) → process_of_form {A = A} (views.If e p q) ≡ pure.If (expression_of e) (process_of p) (process_of q)
+  of_conditional e p q = ap (process_of_form {A = A}) (sym (views.rolls-If e p q)) ∙ fold-roll-TermForm A pure.Process pure.Process form_step term_step (layer.If e p q)

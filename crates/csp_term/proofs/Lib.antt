@@ -1,7 +1,12 @@
 pub mod Answering
 pub mod Forms
+pub mod FieldOrder
 pub mod TermOrder
+pub mod ExpressionPutting
+pub mod TermCopying
+pub mod TermPutting
 pub mod Sameness
+pub mod Channels
 pub mod Equality
 pub mod Copying
 pub mod ExpressionForms
@@ -13,3 +18,8 @@ pub mod Evaluating
 pub mod Named
 pub mod Looking
 pub mod Forming
+pub mod Measures
+pub mod Fitting
+pub mod Hiding
+pub mod Growing
+pub mod Nothing

@@ -58,12 +58,9 @@ constructors_next : (a n : ℕ) → constructors (numbers_up a (suc n)) ≡ cons
 constructors_next a zero = ap (λ k. Constructor k ∷ []) (omega arith)
 constructors_next a (suc n) = ap (λ vs. Constructor a ∷ vs) (constructors_next (suc a) n ∙ ap (λ k. constructors (numbers_up (suc a) n) ++ Constructor k ∷ []) (omega arith))
 
--- up to and with k
-pub constructors_more : (a k : ℕ) → a ≤ k → constructors (numbers_up a ((k + 1) - a)) ≡ constructors (numbers_up a (k - a)) ++ Constructor k ∷ []
-constructors_more a k from =
-    let count : (k + 1) - a ≡ suc (k - a) = omega arith in
-    let last : a + (k - a) ≡ k = omega arith in
-    ap (λ n. constructors (numbers_up a n)) count ∙ constructors_next a (k - a) ∙ ap (λ n. constructors (numbers_up a (k - a)) ++ Constructor n ∷ []) last
+-- one more
+pub constructors_more : (a n : ℕ) → constructors (numbers_up a (n + 1)) ≡ constructors (numbers_up a n) ++ Constructor (a + n) ∷ []
+constructors_more a n = rw (add-one n) (constructors_next a n)
 
 pub constructors_found : (a n : ℕ) (vs : List Value) → nat_le n max_members ≡ true → vs ≡ constructors (numbers_up a n) → set_of (constructors (numbers_up a n)) ≡ Ok (Set (to_values (sorted_values vs)))
 constructors_found a n vs few is = rw is (set_of_rising (constructors (numbers_up a n)) (constructors_rise a n) (ap (λ m. nat_le m max_members) (constructors_length a n) ∙ few))

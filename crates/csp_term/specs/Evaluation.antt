@@ -1,7 +1,8 @@
 -- What an answer of an evaluation says, and what the types of the code stand for.
-use Rattle.std.specs.Prelude.{◌≡◌, ⊤, ℕ, zero, suc, ◌-◌, List, [], ◌∷◌, map, Result, Ok, Err}
+use Rattle.std.specs.Prelude.{◌≡◌, ⊤, Bool, true, false, ℕ, zero, suc, List, [], ◌∷◌, map, Result, Ok, Err}
 use Rattle.std.specs.declared.vec.Vec.{Vec}
 use Rattle.csp_semantics.specs.Syntax.Value as pure
+use Rattle.csp_semantics.specs.Syntax.Expression as expression
 use Rattle.csp_semantics.specs.Meaning.Evaluation.{Cause, Types}
 use Rattle.csp_value.specs.declared.set.SetOf.{SetOf}
 use Rattle.csp_value.specs.declared.value.Value.{Value}
@@ -47,13 +48,21 @@ AnswersAll (Ok vs) r = r ≡ Ok (values_of vs.items)
 AnswersAll (Err (variant.Fault c)) r = r ≡ Err (cause_of c)
 AnswersAll (Err variant.Memory) r = ⊤
 
+-- the operator makes its value of its operands without a part of them
+abbrev pub only_reads : expression.Binary → Bool
+only_reads expression.Concatenate = false
+only_reads expression.Union = false
+only_reads expression.Intersection = false
+only_reads expression.Difference = false
+only_reads _ = true
+
 -- so many numbers, from the first one on
 abbrev pub numbers_up : ℕ → ℕ → List ℕ
 numbers_up first zero = []
 numbers_up first (suc n) = first ∷ numbers_up (suc first) n
 
 abbrev pub constructors_of : Constructors → List ℕ
-constructors_of c = numbers_up c.first.0 (c.behind.0 - c.first.0)
+constructors_of c = numbers_up c.first.0 (suc c.following)
 
 abbrev pub members_listed : {A : Type 0} → SetOf A → List pure.Value
 members_listed s = pure.values_list (members_of s)

@@ -1,14 +1,17 @@
 -- The assertion, the equation and the script that those of the code stand for.
-use Rattle.std.specs.Prelude.{[], map}
+use Rattle.std.specs.Prelude.{ℕ, List, map}
 use Rattle.std.specs.String.{string_bytes}
-use Rattle.csp_semantics.specs.Meaning.Evaluation as meaning
+use Rattle.csp_semantics.specs.Syntax.Value.{Value, values_list}
 use Rattle.csp_semantics.specs.Syntax.Process as pure
+use Rattle.csp_value.specs.declared.field_set.FieldSet.{FieldSet}
+use Rattle.csp_value.specs.Value.{members_of}
 use Rattle.csp_term.specs.declared.assertion.Model.{Model}
 use Rattle.csp_term.specs.declared.assertion.Model.TheVariants as model
 use Rattle.csp_term.specs.declared.assertion.Assertion.{Assertion}
-use Rattle.csp_term.specs.declared.script.Types.{Types}
+use Rattle.csp_term.specs.declared.script.Channel.{Channel}
 use Rattle.csp_term.specs.declared.script.Equation.{Equation}
 use Rattle.csp_term.specs.declared.script.Script.{Script}
+use Rattle.csp_term.specs.Evaluation.{table_of}
 use Rattle.csp_term.specs.Term.{process_of}
 
 abbrev pub model_of : Model → pure.Model
@@ -21,15 +24,24 @@ assertion_of a = record { model = model_of a.model; specification = process_of a
 abbrev pub equation_of : {A : Type 0} → Equation A → pure.Equation
 equation_of e = record { parameters = map (λ n. n.0) e.parameters.items; body = process_of e.body }
 
-abbrev pub types_of : Types → meaning.Types
-types_of t = record { datatypes = []; nametypes = [] }
+-- the values that a field may have, in order
+abbrev pub field_values : {A : Type 0} → FieldSet A → List Value
+field_values s = values_list (members_of s.values)
+
+-- the field sets of a channel
+abbrev pub field_sets_of : {A : Type 0} → Channel A → List (List Value)
+field_sets_of c = map field_values c.fields.items
+
+-- a channel's spelling, and its field sets
+abbrev pub channel_of : {A : Type 0} → Channel A → List ℕ × List (List Value)
+channel_of c = (string_bytes c.spelling, field_sets_of c)
 
 abbrev pub script_of : {A : Type 0} → Script A → pure.Script
 script_of s = record {
-  types = types_of s.types;
-  channels = map (λ c. []) s.channels.items;
+  types = table_of s.types;
+  channels = map field_sets_of s.channels.items;
   equations = map equation_of s.equations.items;
   assertions = map assertion_of s.assertions.items;
   channel_names = map (λ c. string_bytes c.spelling) s.channels.items;
-  constructor_names = [];
+  constructor_names = map (λ c. string_bytes c.spelling) s.constructors.items;
 }

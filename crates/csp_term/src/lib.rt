@@ -4,12 +4,13 @@
 //! a copy stands for the same process, values are put in as the definitions say, the limits are decided exactly, and
 //! `==`, the order and the hash of two terms are those of their processes, whichever allocator holds them.
 //!
-//! Expressions stand by themselves in `expression`, with their evaluation; the terms do not have them yet.
+//! Expressions stand in `expression`, with their evaluation.
 #![tactic(auto)]
 
 mod assertion;
 pub mod expression;
 mod fault;
+mod field;
 pub mod laws;
 mod limits;
 mod name;
@@ -20,7 +21,8 @@ mod term;
 pub use assertion::{Assertion, Model};
 pub use csp_value::{Action, AllocHandle, ChannelId, Event, Memory, TryCopy, copy_all};
 pub use fault::Fault;
-pub use name::{DatatypeId, Name, NametypeId};
-pub use script::{Channel, Equation, Script, Types};
-pub use substitution::TermFault;
-pub use term::Term;
+pub use field::Field;
+pub use name::{DatatypeId, EquationId, Name, NametypeId};
+pub use script::{Channel, Constructor, Equation, Script};
+pub use substitution::{TermFault, bind};
+pub use term::{Term, TermForm};

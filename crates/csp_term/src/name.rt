@@ -11,3 +11,7 @@ pub struct DatatypeId(pub u32);
 /// A nametype, by its place among the script's nametypes, from 0.
 #[derive(Clone, Copy, Debug, PartialEq, Eq, PartialOrd, Ord, Hash)]
 pub struct NametypeId(pub u32);
+
+/// An equation, by its place among the script's equations, from 0.
+#[derive(Clone, Copy, Debug, PartialEq, Eq, PartialOrd, Ord, Hash)]
+pub struct EquationId(pub u32);

@@ -1,22 +1,27 @@
-//! Scripts, with their channels and equations.
+//! Scripts, with their types, channels and equations.
 
 ghost use Rattle.std.specs.Prelude.{◌≡◌};
 ghost use Rattle.std.specs.String.{string_bytes};
 
 use crate::assertion::Assertion;
+use crate::expression::TypeTable;
 use crate::name::Name;
 use crate::term::Term;
-use csp_value::{Memory, TryCopy, copy_all};
+use csp_value::{FieldSet, Memory, TryCopy, copy_all};
 use std::alloc::Allocator;
 
-/// The datatypes and nametypes of a script. There are none yet.
-#[derive(Clone, Copy, Debug, PartialEq, Eq, PartialOrd, Ord, Hash)]
-pub struct Types;
-
-/// A channel with its spelling. Channels have no fields yet.
+/// A channel with its spelling, and the set of the values of each of its fields.
 #[derive(Drop)]
 #[derive_where(PartialEq, Eq, PartialOrd, Ord, Hash)]
 pub struct Channel<A: Allocator> {
+    pub spelling: String<A>,
+    pub fields: Vec<FieldSet<A>, A>,
+}
+
+/// A constructor of a datatype with its spelling.
+#[derive(Drop)]
+#[derive_where(PartialEq, Eq, PartialOrd, Ord, Hash)]
+pub struct Constructor<A: Allocator> {
     pub spelling: String<A>,
 }
 
@@ -32,19 +37,33 @@ pub struct Equation<A: Allocator> {
 #[derive(Drop)]
 #[derive_where(PartialEq, Eq, PartialOrd, Ord, Hash)]
 pub struct Script<A: Allocator> {
-    pub types: Types,
+    pub types: TypeTable<A>,
+    /// The constructors of all datatypes, by their numbers.
+    pub constructors: Vec<Constructor<A>, A>,
     pub channels: Vec<Channel<A>, A>,
     pub equations: Vec<Equation<A>, A>,
     pub assertions: Vec<Assertion<A>, A>,
 }
 
 impl<A: Allocator + Copy> TryCopy<A> for Channel<A> {
-    ghost is_copy = { λ c copy. string_bytes copy.spelling ≡ string_bytes c.spelling };
+    ghost use Rattle.csp_term.specs.Script.{channel_of};
+
+    ghost is_copy = { λ c copy. channel_of copy ≡ channel_of c };
 
     fn try_copy(&self, alloc: A) -> Result<Channel<A>, Memory> {
         Ok(Channel {
             spelling: String::from_str(alloc, self.spelling.as_str())?,
+            fields: copy_all(alloc, self.fields.as_slice())?,
         })
+    }
+}
+
+impl<A: Allocator + Copy> TryCopy<A> for Constructor<A> {
+    ghost is_copy = { λ c copy. string_bytes copy.spelling ≡ string_bytes c.spelling };
+
+    fn try_copy(&self, alloc: A) -> Result<Constructor<A>, Memory> {
+        let spelling = String::from_str(alloc, self.spelling.as_str())?;
+        Ok(Constructor { spelling })
     }
 }
 
@@ -68,7 +87,8 @@ impl<A: Allocator + Copy> TryCopy<A> for Script<A> {
 
     fn try_copy(&self, alloc: A) -> Result<Script<A>, Memory> {
         Ok(Script {
-            types: self.types,
+            types: self.types.try_copy(alloc)?,
+            constructors: copy_all(alloc, self.constructors.as_slice())?,
             channels: copy_all(alloc, self.channels.as_slice())?,
             equations: copy_all(alloc, self.equations.as_slice())?,
             assertions: copy_all(alloc, self.assertions.as_slice())?,

@@ -1,12 +1,18 @@
-//! Putting values in for names. Terms have no names yet, so the list of values is empty.
+//! Putting values in for names. Nothing is evaluated.
 
-ghost use Rattle.std.specs.Prelude.{◌≡◌, ◌↔◌, [], IfOk, IsErrOf, IsFalse};
-ghost use Rattle.csp_semantics.specs.Meaning.Substitution.{put};
+ghost use Rattle.std.specs.Prelude.{◌≡◌, ◌∷◌, [], IfOk, IsErrOf, IsFalse, IsTrue};
+ghost use Rattle.csp_semantics.specs.Meaning.Substitution.{behind, bind, put, put_fields, without};
 ghost use Rattle.csp_semantics.specs.Meaning.Limits.{fits};
+ghost use Rattle.csp_value.specs.Value.{value_of};
+ghost use Rattle.csp_term.specs.Bindings.{bindings_of};
+ghost use Rattle.csp_term.specs.Field.{field_of, fields_of};
 ghost use Rattle.csp_term.specs.Term.{process_of};
 
-use crate::term::Term;
-use csp_value::Memory;
+use crate::expression::{Binding, put_in_all};
+use crate::field::Field;
+use crate::name::Name;
+use crate::term::{Term, TermForm};
+use csp_value::{Memory, Value};
 use std::alloc::Allocator;
 use thiserror::Error;
 
@@ -29,23 +35,123 @@ impl From<Memory> for TermFault {
     }
 }
 
-impl<A: Allocator + Copy> Term<A> {
-    /// The term with the values put in, whatever its size.
-    pub fn put_in(&self, alloc: A) -> Result<Term<A>, Memory>
-        ensures { IfOk result (λ t. process_of t ≡ put [] (process_of self.now)) }
+impl<A: Allocator + Copy> Field<A> {
+    /// The field with the values put in. An input binds its name behind it, and not in its own set.
+    fn put_in(&self, bindings: &[Binding<'_, A>], alloc: A) -> Result<Field<A>, Memory>
+        ensures { IfOk result (λ put. field_of put ∷ [] ≡ put_fields (bindings_of bindings.now) (field_of self.now ∷ [])) }
     {
-        self.try_copy(alloc)
+        match self {
+            Field::Given(value) => Ok(Field::Given(value.put_in(bindings, alloc)?)),
+            Field::Input(name) => Ok(Field::Input(*name)),
+            Field::InputFrom(name, set) => {
+                Ok(Field::InputFrom(*name, set.put_in(bindings, alloc)?))
+            }
+        }
     }
 
-    /// The term with the values put in, where it is within the limits. `TooLarge` comes exactly where it is not.
-    #[tactic(auto, using(csp_semantics::proofs::Putting::put_nothing))]
-    pub fn subst(&self, alloc: A) -> Result<Term<A>, TermFault>
-        ensures put { IfOk result (λ t. process_of t ≡ put [] (process_of self.now)) }
-        ensures too_large { IsErrOf result TermFault.TooLarge ↔ IsFalse (fits (put [] (process_of self.now))) }
+    /// Takes out of the bindings what the field hides: those of the name that it binds, if it is an input.
+    fn hide(&self, bindings: &mut Vec<Binding<'_, A>, A>)
+        ensures { bindings_of bindings.new.items ≡ behind (bindings_of bindings.old.items) (field_of self.now ∷ []) }
+    {
+        match self {
+            Field::Given(_) => {}
+            Field::Input(name) => take_out(*name, bindings),
+            Field::InputFrom(name, _) => take_out(*name, bindings),
+        }
+    }
+}
+
+/// Takes the bindings of the name out.
+fn take_out<A: Allocator + Copy>(name: Name, bindings: &mut Vec<Binding<'_, A>, A>)
+    ensures { bindings_of bindings.new.items ≡ without name.0 (bindings_of bindings.old.items) }
+{
+    bindings.retain(|binding| binding.name != name);
+}
+
+/// The bindings with the name's value given anew.
+pub fn bind<'v, A: Allocator + Copy>(
+    name: Name,
+    value: &'v Value<A>,
+    bindings: &[Binding<'v, A>],
+    alloc: A,
+) -> Result<Vec<Binding<'v, A>, A>, Memory>
+    ensures { IfOk result (λ bound. bindings_of bound.items ≡ bind name.0 (value_of value.now) (bindings_of bindings.now)) }
+{
+    let mut bound = Vec::from_slice(alloc, bindings)?;
+    take_out(name, &mut bound);
+    bound.insert(0, Binding { name, value })?;
+    Ok(bound)
+}
+
+/// The fields with the values put in, and the bindings that are left behind them.
+fn put_in_fields<'v, A: Allocator + Copy>(
+    fields: &[Field<A>],
+    bindings: &[Binding<'v, A>],
+    alloc: A,
+) -> Result<(Vec<Field<A>, A>, Vec<Binding<'v, A>, A>), Memory>
+    ensures fields { IfOk result (λ put. fields_of put.0.items ≡ put_fields (bindings_of bindings.now) (fields_of fields.now)) }
+    ensures left { IfOk result (λ put. bindings_of put.1.items ≡ behind (bindings_of bindings.now) (fields_of fields.now)) }
+{
+    let mut left = Vec::from_slice(alloc, bindings)?;
+    let mut all = Vec::new(alloc);
+    for field in fields {
+        all.push(field.put_in(&left, alloc)?)?;
+        field.hide(&mut left);
+    }
+    Ok((all, left))
+}
+
+impl<A: Allocator + Copy> Term<A> {
+    /// The term with the values put in, whatever its size. A name that an input binds hides an outer one. `Memory` where
+    /// there is no room.
+    pub fn put_in(&self, bindings: &[Binding<'_, A>], alloc: A) -> Result<Term<A>, Memory>
+        ensures { IfOk result (λ t. process_of t ≡ put (bindings_of bindings.now) (process_of self.now)) }
+    {
+        match &*self.form {
+            TermForm::Stop => Term::new(alloc, TermForm::Stop),
+            TermForm::Skip => Term::new(alloc, TermForm::Skip),
+            TermForm::Omega => Term::new(alloc, TermForm::Omega),
+            TermForm::Call(equation, arguments) => {
+                let arguments = put_in_all(arguments, bindings, alloc)?;
+                Term::new(alloc, TermForm::Call(*equation, arguments))
+            }
+            TermForm::Prefix(channel, fields, body) => {
+                let (fields, left) = put_in_fields(fields, bindings, alloc)?;
+                let body = body.put_in(&left, alloc)?;
+                Term::new(alloc, TermForm::Prefix(*channel, fields, body))
+            }
+            TermForm::Guard(condition, body) => {
+                let condition = condition.put_in(bindings, alloc)?;
+                let body = body.put_in(bindings, alloc)?;
+                Term::new(alloc, TermForm::Guard(condition, body))
+            }
+            TermForm::If(condition, first, second) => {
+                let condition = condition.put_in(bindings, alloc)?;
+                let first = first.put_in(bindings, alloc)?;
+                let second = second.put_in(bindings, alloc)?;
+                Term::new(alloc, TermForm::If(condition, first, second))
+            }
+        }
+    }
+}
+
+impl<A: Allocator + Copy> Term<A> {
+    /// The term with the values put in, where it is then within the limits. `TooLarge` comes only where it is not, and
+    /// `Memory` says nothing of its size. A term that is past the limits itself is refused before anything is built, so
+    /// that nothing is built deeper than they allow but for the values.
+    #[tactic(auto, using(crate::proofs::Growing::stays_large))]
+    pub fn subst(&self, bindings: &[Binding<'_, A>], alloc: A) -> Result<Term<A>, TermFault>
+        ensures put { IfOk result (λ t. process_of t ≡ put (bindings_of bindings.now) (process_of self.now)) }
+        ensures within { IfOk result (λ t. IsTrue (fits (process_of t))) }
+        ensures too_large { IsErrOf result TermFault.TooLarge → IsFalse (fits (put (bindings_of bindings.now) (process_of self.now))) }
     {
         if !self.fits() {
             return Err(TermFault::TooLarge);
         }
-        Ok(self.put_in(alloc)?)
+        let put = self.put_in(bindings, alloc)?;
+        if !put.fits() {
+            return Err(TermFault::TooLarge);
+        }
+        Ok(put)
     }
 }

@@ -1,31 +1,89 @@
 //! Terms of processes.
 
 ghost use Rattle.std.specs.Prelude.{◌≡◌, IfOk};
-ghost use Rattle.csp_term.specs.Term.{process_of};
+ghost use Rattle.csp_term.specs.Term.{process_of, process_of_form};
 
+use crate::expression::{Expr, copy_expressions};
+use crate::field::{Field, copy_fields};
+use crate::name::EquationId;
 use csp_value::{ChannelId, Memory};
 use std::alloc::Allocator;
 
-/// A process as it is written. The order is that of the forms, then of the parts in turn.
+/// A process as it is written. It holds its form behind a pointer, so that a term is moved and dropped alike whatever its
+/// form is. The order is that of the forms.
+#[cycle(term)]
 #[derive(Drop)]
 #[derive_where(PartialEq, Eq, PartialOrd, Ord, Hash)]
-pub enum Term<A: Allocator> {
+pub struct Term<A: Allocator> {
+    pub(crate) form: Box<TermForm<A>, A>,
+}
+
+/// What a process is at its head, with its parts. The order is that of the forms, then of the parts in turn.
+#[cycle(term)]
+#[derive(Drop)]
+#[derive_where(PartialEq, Eq, PartialOrd, Ord, Hash)]
+pub enum TermForm<A: Allocator> {
     /// `STOP`, which does nothing.
     Stop,
-    /// `c -> P`, which does the event of the channel and goes on as the body.
-    Prefix(ChannelId, Box<Term<A>, A>),
+    /// `SKIP`, which ends.
+    Skip,
+    /// The process that has ended, which no script can write.
+    Omega,
+    /// `P(e, ..)`, the body of the equation with the values of the arguments.
+    Call(EquationId, Vec<Expr<A>, A>),
+    /// `c!e?x -> P`, which does an event of the channel and goes on as the body.
+    Prefix(ChannelId, Vec<Field<A>, A>, Term<A>),
+    /// `e & P`, which is the body where the condition is true, and else does nothing.
+    Guard(Expr<A>, Term<A>),
+    /// `if e then P else Q`
+    If(Expr<A>, Term<A>, Term<A>),
+}
+
+impl<A: Allocator> Term<A> {
+    /// The term of the form, or `Memory` where there is no room for it.
+    pub fn new(alloc: A, form: TermForm<A>) -> Result<Term<A>, Memory>
+        ensures { IfOk result (λ term. process_of term ≡ process_of_form form) }
+    {
+        let form = Box::new(alloc, form)?;
+        Ok(Term { form })
+    }
+
+    /// The form of the term.
+    pub fn form(&self) -> &TermForm<A>
+        ensures { process_of_form result.now ≡ process_of self.now }
+    {
+        &self.form
+    }
 }
 
 impl<A: Allocator + Copy> Term<A> {
-    /// An equal term in the given allocator.
+    /// An equal term in the given allocator, or `Memory` where that has no room.
     pub fn try_copy(&self, alloc: A) -> Result<Term<A>, Memory>
         ensures { IfOk result (λ copy. process_of copy ≡ process_of self.now) }
     {
-        match self {
-            Term::Stop => Ok(Term::Stop),
-            Term::Prefix(channel, body) => {
-                let copy = body.try_copy(alloc)?;
-                Ok(Term::Prefix(*channel, Box::new(alloc, copy)?))
+        match &*self.form {
+            TermForm::Stop => Term::new(alloc, TermForm::Stop),
+            TermForm::Skip => Term::new(alloc, TermForm::Skip),
+            TermForm::Omega => Term::new(alloc, TermForm::Omega),
+            TermForm::Call(equation, arguments) => {
+                let arguments = copy_expressions(arguments, alloc)?;
+                Term::new(alloc, TermForm::Call(*equation, arguments))
+            }
+            TermForm::Prefix(channel, fields, body) => {
+                let fields = copy_fields(fields, alloc)?;
+                let body = body.try_copy(alloc)?;
+                Term::new(alloc, TermForm::Prefix(*channel, fields, body))
+            }
+            TermForm::Guard(condition, body) => {
+                let condition = condition.try_copy(alloc)?;
+                let body = body.try_copy(alloc)?;
+                Term::new(alloc, TermForm::Guard(condition, body))
+            }
+            TermForm::If(condition, first, second) => {
+                let condition = condition.try_copy(alloc)?;
+                let first = first.try_copy(alloc)?;
+                let second = second.try_copy(alloc)?;
+                Term::new(alloc, TermForm::If(condition, first, second))
             }
         }
     }

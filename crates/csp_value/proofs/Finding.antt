@@ -1,23 +1,34 @@
 -- Looking for a value in a list, and what is kept of a list that rises.
-use Rattle.std.proofs.Common.{◌≡◌, ap₂, ◌||◌, ℕ, zero, suc, List, [], ◌∷◌, length, map, filter, get_or, refl, ◌∙◌, ap, subst, Bool, true, Some, slice_get, Result, Ok, Err}
+use Rattle.std.proofs.Common.{◌≡◌, ap₂, ◌||◌, ◌⊎◌, inl, inr, ℕ, zero, suc, ◌≤◌, ◌<◌, List, [], ◌∷◌, length, map, filter, get_or, refl, sym, ◌∙◌, ap, subst, Bool, true, false, Some, slice_get, Result, Ok, Err, arith}
 use Rattle.std.specs.Result.{is_ok}
 use Rattle.std.specs.declared.cmp.Ordering.{Ordering}
 use Rattle.std.specs.declared.cmp.Ordering.TheVariants.{Less, Equal, Greater}
-use Rattle.std.specs.Ordering.{is_eq, is_lt, ordering_reverse}
+use Rattle.std.specs.Ordering.{is_eq, is_lt, ordering_index, ordering_reverse}
 use Rattle.std.specs.List.{AllByRecursion, list_any}
-use Rattle.std.specs.List.Sorted.{IsStrictlySortedBy, IsBinarySearchResult, IsSearchInRange}
+use Rattle.std.specs.List.Sorted.{IsStrictlySortedBy, IsBinarySearchResult, IsNonDecreasingBy, IsSearchInRange}
 use Rattle.std.proofs.lemmas.List.Kept.{IsStrictlySortedBy-filter}
-use Rattle.std.proofs.lemmas.Option.{slice_get-get_or}
+use Rattle.std.proofs.lemmas.List.Sorted.{searchable_from_sorted}
+use Rattle.std.proofs.lemmas.Option.{slice_get-get_or, slice_get_within, get_or_from_slice_get}
 use Rattle.csp_semantics.specs.Syntax.Value.{Value, value_cmp, value_eq, has_value}
-use Rattle.csp_semantics.proofs.Equalities.{value_same}
+use Rattle.csp_semantics.proofs.Equalities.{value_same, value_refl}
 use Rattle.csp_semantics.proofs.Orders.{value_total}
-use Rattle.csp_value.proofs.Sets.{Rises, stands_has}
+use Rattle.csp_semantics.proofs.Places.{get_map}
+use Rattle.csp_value.proofs.Sets.{Rises, has_stands, stands_has}
 use Rattle.csp_value.proofs.Sorting.{order, rise_from_sorted}
 
 is_lt-Less : (r : Ordering) → is_lt r ≡ true → r ≡ Less
 is_lt-Less Less e = refl
 is_lt-Less Equal e = absurd (cc e)
 is_lt-Less Greater e = absurd (cc e)
+
+either_side : (i j : ℕ) → (i ≤ j) ⊎ (j < i)
+either_side zero j = inl (omega arith)
+either_side (suc i) zero = inr (omega arith)
+either_side (suc i) (suc j) = next (either_side i j)
+  where
+    next : (i ≤ j) ⊎ (j < i) → (suc i ≤ suc j) ⊎ (suc j < suc i)
+    next (inl le) = inl (omega (arith, le))
+    next (inr lt) = inr (omega (arith, lt))
 
 module _ {X : Type 0} (meaning : X → Value) where
   below : (x k : X) → order meaning x k ≡ Less → (ys : List X) → Rises (map meaning (k ∷ ys)) → AllByRecursion (λ y. order meaning x y ≡ Less) ys
@@ -46,6 +57,45 @@ module _ {X : Type 0} (meaning : X → Value) where
   pub found_there : (xs : List X) (x : X) (r : Result ℕ ℕ) → IsSearchInRange r (length xs) → IsBinarySearchResult (λ y. order meaning y x) xs r → is_ok r ≡ true → has_value (map meaning xs) (meaning x) ≡ true
   found_there xs x (Ok i) within holds e = found xs x (get_or xs i x) i (slice_get-get_or xs i x within) (holds x)
   found_there xs x (Err i) within holds e = absurd (cc e)
+
+  less_not_back : (x y : X) → is_lt (order meaning x y) ≡ true → is_lt (order meaning y x) ≡ false
+  less_not_back x y less = ap is_lt (value_total.antisymm (meaning y) (meaning x)) ∙ ap (λ r. is_lt (ordering_reverse r)) (is_lt-Less (order meaning x y) less)
+
+  never_falls : (xs : List X) → Rises (map meaning xs) → (k : ℕ) (d : X) → suc k < length xs → is_lt (order meaning (get_or xs (suc k) d) (get_or xs k d)) ≡ false
+  never_falls [] rises k d within = absurd (omega (arith, within))
+  never_falls (x ∷ []) rises k d within = absurd (omega (arith, within))
+  never_falls (x ∷ y ∷ ys) rises zero d within = less_not_back x y rises.0
+  never_falls (x ∷ y ∷ ys) rises (suc k) d within = never_falls (y ∷ ys) rises.1 k d (omega (arith, within))
+
+  -- what a binary search misses in a list that rises is not there
+  missed_nowhere : (xs : List X) (x : X) (r : Result ℕ ℕ) → Rises (map meaning xs) → IsBinarySearchResult (λ y. order meaning y x) xs r → is_ok r ≡ false → has_value (map meaning xs) (meaning x) ≡ false
+  missed_nowhere xs x (Ok i) rises holds e = absurd (cc e)
+  missed_nowhere xs x (Err i) rises parts e = either (has_value (map meaning xs) (meaning x)) refl
+    where
+      searchable : IsNonDecreasingBy (λ y. ordering_index (order meaning y x)) xs
+      searchable = searchable_from_sorted value_total meaning xs (meaning x) (λ k d low high. subst (λ n. is_lt (order meaning (get_or xs n d) (get_or xs k d)) ≡ false) {x = suc k} (omega arith) (never_falls xs rises k d (omega (arith, high))))
+
+      nowhere : (j : ℕ) (y : X) → slice_get xs j ≡ Some y → meaning y ≡ meaning x → ⊥
+      nowhere j y at same = by (either_side i j)
+        where
+          equal : order meaning (get_or xs j y) x ≡ Equal
+          equal = ap (λ z. order meaning z x) (get_or_from_slice_get xs j y y at) ∙ ap (λ v. value_cmp v (meaning x)) same ∙ value_refl (meaning x)
+
+          by : (i ≤ j) ⊎ (j < i) → ⊥
+          by (inr under) = absurd (cc (sym equal ∙ (parts searchable).0 j y (omega arith) under))
+          by (inl over) = absurd (cc (sym equal ∙ (parts searchable).1 j y over (slice_get_within xs j y at)))
+
+      either : (b : Bool) → has_value (map meaning xs) (meaning x) ≡ b → b ≡ false
+      either false is = refl
+      either true is =
+          let at = has_stands (map meaning xs) (meaning x) is in
+          let found = get_map meaning xs at.0 (meaning x) at.1 in
+          absurd (nowhere at.0 found.0 found.1 found.2)
+
+  -- in a list that rises a binary search tells what is there
+  pub search_tells : (xs : List X) (x : X) (r : Result ℕ ℕ) → Rises (map meaning xs) → IsSearchInRange r (length xs) → IsBinarySearchResult (λ y. order meaning y x) xs r → is_ok r ≡ has_value (map meaning xs) (meaning x)
+  search_tells xs x (Ok i) rises within holds = sym (found_there xs x (Ok i) within holds refl)
+  search_tells xs x (Err i) rises within parts = sym (missed_nowhere xs x (Err i) rises parts refl)
 
   turned : (v w : Value) → value_eq w v ≡ value_eq v w
   turned v w = ap is_eq (value_total.antisymm w v) ∙ is_eq_reverse (value_cmp v w)

@@ -1,5 +1,5 @@
 -- Loops over a list that add up the sizes of its items, or look for one that is too deep.
-use Rattle.std.proofs.Common.{◌≡◌, ℕ, ◌+◌, ◌-◌, ◌<◌, ◌≤◌, max, List, [], ◌∷◌, length, drop, get_or, sym, ◌∙◌, ap, subst, Bool, true, false, IsTrue, ◌↔◌, arith}
+use Rattle.std.proofs.Common.{◌≡◌, ℕ, zero, suc, ◌+◌, ◌-◌, ◌<◌, ◌≤◌, max, refl, Option, Some, None, SomeIff, List, [], ◌∷◌, length, drop, get_or, sym, ◌∙◌, ap, subst, Bool, true, false, IsTrue, ◌↔◌, arith}
 use Rattle.std.proofs.lemmas.List.{drop_more, drop_all}
 use Rattle.std.proofs.lemmas.List.Recursion.{max_bounds}
 use Rattle.std.proofs.Math.Nat.{max-le}
@@ -18,6 +18,23 @@ told_beyond r P told fails p = absurd (cc (sym fails ∙ told.1 p))
 
 pub told_within : (r : Bool) (P : Type 0) → IsTrue r ↔ P → r ≡ true → P
 told_within r P told holds = told.0 holds
+
+-- what holds the items is one node above them, in size and in depth
+pub one_above : (r : Option ℕ) (room rest items all : ℕ) → 1 ≤ room → rest ≡ room - 1 → all ≡ 1 + items → SomeIff r (items ≤ rest) (rest - items) → SomeIff r (all ≤ room) (room - all)
+one_above None room rest items all some is one more = λ fits. more (omega arith)
+one_above (Some left) room rest items all some is one told =
+    let fits : items ≤ rest = told.0 in
+    let same : left ≡ rest - items = told.1 in
+    (omega arith, omega arith)
+
+at_least_one : (n : ℕ) → ¬ (n ≡ 0) → 1 ≤ n
+at_least_one zero some = absurd (some refl)
+at_least_one (suc n) some = omega arith
+
+pub one_deeper : (P : Type 0) (most items all : ℕ) → ¬ (most ≡ 0) → all ≡ 1 + items → P ↔ (items ≤ most - 1) → P ↔ (all ≤ most)
+one_deeper P most items all some one told =
+    let least : 1 ≤ most = at_least_one most some in
+    (λ p. let fits : items ≤ most - 1 = told.0 p in omega arith, λ fits. told.1 (omega arith))
 
 -- an item and what is behind it
 pub cut : {X : Type 0} (xs : List X) (i : ℕ) (x : X) → i < length xs → x ≡ get_or xs i x → x ∷ drop (i + 1) xs ≡ drop i xs

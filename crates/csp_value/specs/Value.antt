@@ -1,5 +1,7 @@
 -- The value that a value of the code stands for.
-use Rattle.std.specs.Prelude.{List, map}
+use Rattle.std.specs.Prelude.{List, [], ◌∷◌, true, map}
+use Rattle.std.specs.Ordering.{is_lt}
+use Rattle.std.specs.Coded.{Coded-set, coded_bool, ×_prop, Unit-prop}
 use Rattle.csp_semantics.specs.Syntax.Value as pure
 use Rattle.csp_semantics.specs.Meaning.Offers.{RisesBy}
 use Rattle.csp_value.specs.declared.value.Value.{Value}
@@ -31,3 +33,12 @@ values_of vs = map value_of vs
 -- a set as the definitions have it: its members rise, so that none is there twice
 abbrev pub IsRisingSet : {A : Type 0} → SetOf A → Type 0
 IsRisingSet s = RisesBy pure.value_cmp (pure.values_list (members_of s))
+
+-- at most one proof says so
+pub values_rising_prop : (vs : List pure.Value) → IsProp (RisesBy pure.value_cmp vs)
+values_rising_prop [] = Unit-prop
+values_rising_prop (v ∷ []) = Unit-prop
+values_rising_prop (v ∷ w ∷ ws) = ×_prop (Coded-set coded_bool (is_lt (pure.value_cmp v w)) true) (values_rising_prop (w ∷ ws))
+
+pub rising_prop : {A : Type 0} (s : SetOf A) → IsProp (IsRisingSet s)
+rising_prop s = values_rising_prop (pure.values_list (members_of s))

@@ -7,6 +7,7 @@
 
 mod action;
 mod copy;
+mod field_set;
 mod handle;
 pub mod laws;
 mod limits;
@@ -17,6 +18,7 @@ mod value;
 
 pub use action::{Action, Event};
 pub use copy::{TryCopy, copy_all};
+pub use field_set::FieldSet;
 pub use handle::AllocHandle;
 pub use memory::Memory;
 pub use name::{ChannelId, ConId};

@@ -6,6 +6,7 @@ ghost use Rattle.csp_semantics.specs.Syntax.Value.{has_value, insert_value, inse
 ghost use Rattle.csp_semantics.specs.Meaning.Limits.{values_depth, values_size};
 ghost use Rattle.csp_value.specs.Value.{IsRisingSet, members_of, value_of, values_of};
 
+use crate::copy::TryCopy;
 use crate::limits::{are_within_depth, room_left_by};
 use crate::memory::Memory;
 use crate::value::{Value, copy_values};
@@ -28,6 +29,16 @@ impl<A: Allocator + Copy> SetOf<A> {
     {
         let members = copy_values(&self.members, alloc)?;
         Ok(SetOf { members })
+    }
+}
+
+impl<A: Allocator + Copy> TryCopy<A> for SetOf<A> {
+    ghost use Rattle.csp_value.specs.Value.{members_of};
+
+    ghost is_copy = { λ set copy. members_of copy ≡ members_of set };
+
+    fn try_copy(&self, alloc: A) -> Result<SetOf<A>, Memory> {
+        SetOf::try_copy(self, alloc)
     }
 }
 
@@ -72,6 +83,13 @@ impl<A: Allocator> SetOf<A> {
     {
         // That the members rise stands in no type, so what a binary search misses is looked for in all of them.
         self.members.binary_search(value).is_ok() || self.members.contains(value)
+    }
+
+    /// Whether the value is a member of the set, where its members rise: by halving alone.
+    pub(crate) fn contains_by_halving(&self, value: &Value<A>) -> bool
+        ensures { IsRisingSet self.now → result ≡ has_value (values_list (members_of self.now)) (value_of value.now) }
+    {
+        self.members.binary_search(value).is_ok()
     }
 
     /// The members of either set, or `Memory` where there is no room for them.

@@ -8,7 +8,8 @@ use Rattle.csp_semantics.specs.Meaning.Refinement.{IsRefinement}
 use Rattle.csp_semantics.specs.Meaning.Violations.{Violation, IsViolation}
 use Rattle.csp_semantics.specs.Answers.Outcome.{Bounds, TooManyPairs, TooManyNodes, LargeTerm, Fault, NoMemory, Outcome, Holds, Fails, Unknown}
 use Rattle.csp_semantics.specs.Answers.Sound.{NoneStuck}
-use Rattle.refcheck.specs.Answering.{AreRight, IsReason, IsRight}
+use Rattle.explore.specs.Answering.{IsReason, IsRight}
+use Rattle.refcheck.specs.Answering.{AreRight}
 
 -- An outcome is right where each answer that it may be says what it should.
 module _ (script : Script) (a : Assertion) (bounds : Bounds) where

@@ -9,23 +9,32 @@ use Rattle.std.specs.String.{string_bytes}
 use Rattle.csp_term.specs.declared.script.Channel.{Channel}
 use Rattle.csp_semantics.specs.Text.Raw.{RawDeclaration}
 use Rattle.csp_semantics.specs.Text.Part.{IsPlain, StandOnce, all_channels, declared_channels}
-use Rattle.refcheck.specs.Reading.{Declares, names_of}
+use Rattle.csp_term.specs.Script.{field_sets_of}
+use Rattle.refcheck.specs.Reading.{AreBare, Declares, names_of}
 use Rattle.refcheck.proofs.Advancing.{one_further}
 use Rattle.refcheck.proofs.Naming.{none_spelled, once_more}
 
 pub declares_none : {A : Type 0} (channels : List (Channel A)) → Declares channels channels []
-declares_none channels = record { behind = sym (append-nil (map chars (names_of channels))); once = λ once. once }
+declares_none channels = record { behind = sym (append-nil (map chars (names_of channels))); once = λ once. once; bare = λ bare. bare }
+
+-- one more channel without fields
+one_bare : {A : Type 0} (old new : List (Channel A)) (channel : Channel A) (name : List ℕ) → new ≡ old ++ channel ∷ [] → names_of new ≡ names_of old ++ name ∷ [] → field_sets_of channel ≡ [] →
+    AreBare old → AreBare new
+one_bare old new channel name is names none before =
+    ap (map field_sets_of) is ∙ map-append field_sets_of old (channel ∷ []) ∙ ap (λ sets. map field_sets_of old ++ sets ∷ []) none ∙ ap (λ all. all ++ [] ∷ []) before ∙
+    sym (ap (map (λ _. [])) names ∙ map-append (λ _. []) (names_of old) (name ∷ []))
 
 -- a name that no channel has
-pub declares_one : {A : Type 0} (old new : List (Channel A)) (channel : Channel A) (name : List ℕ) → new ≡ old ++ channel ∷ [] → string_bytes channel.spelling ≡ name →
+pub declares_one : {A : Type 0} (old new : List (Channel A)) (channel : Channel A) (name : List ℕ) → new ≡ old ++ channel ∷ [] → string_bytes channel.spelling ≡ name → field_sets_of channel ≡ [] →
     ((k : ℕ) → slice_get (names_of old) k ≡ Some name → ⊥) → Declares old new (chars name ∷ [])
-declares_one old new channel name is spelled none =
+declares_one old new channel name is spelled fields none =
     let names : names_of new ≡ names_of old ++ name ∷ [] = ap names_of is ∙ map-append (λ c. string_bytes c.spelling) old (channel ∷ []) ∙ ap (λ n. names_of old ++ n ∷ []) spelled in
     let spellings : map chars (names_of new) ≡ map chars (names_of old) ++ chars name ∷ [] = ap (map chars) names ∙ map-append chars (names_of old) (name ∷ []) in
     let other : (k : ℕ) → slice_get (map chars (names_of old)) k ≡ Some (chars name) → ⊥ = none_spelled old channel name spelled none in
     record {
       behind = spellings;
       once = λ once. subst StandOnce (sym spellings) (once_more (map chars (names_of old)) (chars name) once other);
+      bare = one_bare old new channel name is names fields;
     }
 
 -- first some, and then others
@@ -33,6 +42,7 @@ pub declares_more : {A : Type 0} (old now new : List (Channel A)) (first others 
 declares_more old now new first others before here = record {
   behind = here.behind ∙ ap (λ ns. ns ++ others) before.behind ∙ append_assoc (map chars (names_of old)) first others;
   once = λ once. here.once (before.once once);
+  bare = λ bare. here.bare (before.bare bare);
 }
 
 -- the next name goes behind those before it

@@ -2,4 +2,3 @@ pub mod Reading
 pub mod Refusal
 pub mod Running
 pub mod Answering
-pub mod Rounds

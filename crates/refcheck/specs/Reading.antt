@@ -1,5 +1,5 @@
 -- What the reader hands out.
-use Rattle.std.specs.Prelude.{◌≡◌, List, ℕ, ◌++◌, map, ⊤}
+use Rattle.std.specs.Prelude.{◌≡◌, List, [], ℕ, ◌++◌, map, ⊤}
 use Rattle.std.specs.Str.{chars}
 use Rattle.std.specs.String.{string_bytes}
 use Rattle.csp_semantics.specs.Text.Part.{StandOnce}
@@ -7,6 +7,7 @@ use Rattle.csp_semantics.specs.Text.Raw.{RawScript}
 use Rattle.csp_semantics.specs.Text.Reading.{IsRead}
 use Rattle.csp_semantics.specs.Text.Token.{IsTextRefusal}
 use Rattle.csp_term.specs.declared.script.Channel.{Channel}
+use Rattle.csp_term.specs.Script.{field_sets_of}
 use Rattle.csp_lex.specs.Places.{place_of}
 use Rattle.csp_lex.specs.Refusals.{fault_of}
 use Rattle.csp_lex.specs.declared.refusals.Refused as lexer
@@ -20,10 +21,15 @@ use Rattle.refcheck.specs.declared.reader.ReadFault.TheVariants as fault
 abbrev pub names_of : {A : Type 0} → List (Channel A) → List (List ℕ)
 names_of channels = map (λ c. string_bytes c.spelling) channels
 
--- Channels were declared behind others: these are their spellings, and none stands twice where none did.
+-- none of the channels has fields
+abbrev pub AreBare : {A : Type 0} → List (Channel A) → Type 0
+AreBare channels = map field_sets_of channels ≡ map (λ n. []) (names_of channels)
+
+-- Channels without fields were declared behind others: these are their spellings, and none stands twice where none did.
 pub record Declares {A : Type 0} (old new : List (Channel A)) (spellings : List (List ℕ)) : Type 0 where
   pub behind : map chars (names_of new) ≡ map chars (names_of old) ++ spellings
   pub once : StandOnce (map chars (names_of old)) → StandOnce (map chars (names_of new))
+  pub bare : AreBare old → AreBare new
 
 -- what is refused where a text has no tokens
 abbrev pub of_lexer : lexer.Refused → ReadFault

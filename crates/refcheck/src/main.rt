@@ -5,7 +5,6 @@
 //! is 3 and the line of a refusal went to the error stream. `holds` means refinement, and `fails` shows a violation.
 #![tactic(auto)]
 
-mod explore;
 mod files;
 mod part;
 mod reader;

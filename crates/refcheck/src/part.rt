@@ -14,11 +14,12 @@ ghost use Rattle.csp_parse.specs.Processes as written;
 ghost use Rattle.csp_term.specs.Term.{process_of};
 ghost use Rattle.csp_term.specs.Script as term;
 ghost use Rattle.csp_semantics.specs.Text.Part.{IsAssertionOf, IsPlain, IsProcessOf, IsScriptOf, StandOnce, all_channels, declared_channels, is_assertion};
-ghost use Rattle.refcheck.specs.Reading.{Declares, IsOutside, names_of};
+ghost use Rattle.refcheck.specs.Reading.{AreBare, Declares, IsOutside, names_of};
 
 use crate::reader::ReadFault;
 use csp_parse::{Declaration, Name, Process, Raw};
-use csp_term::{Assertion, Channel, ChannelId, Model, Script, Term, Types};
+use csp_term::expression::TypeTable;
+use csp_term::{Assertion, Channel, ChannelId, Model, Script, Term, TermForm};
 use std::alloc::Allocator;
 
 /// The script that a tree stands for, or `Part` where it lies outside the part.
@@ -32,7 +33,11 @@ pub(crate) fn script<A: Allocator + Copy>(
     let channels = channels(alloc, &tree.declarations)?;
     let assertions = assertions(alloc, &channels, &tree.declarations)?;
     Ok(Script {
-        types: Types,
+        types: TypeTable {
+            datatypes: Vec::new(alloc),
+            nametypes: Vec::new(alloc),
+        },
+        constructors: Vec::new(alloc),
         channels,
         equations: Vec::new(alloc),
         assertions,
@@ -47,6 +52,7 @@ fn channels<A: Allocator + Copy>(
     ensures plain { OnOk result (All IsPlain (map raw.declaration_of declarations.now)) }
     ensures spellings { IfOk result (λ channels. map chars (names_of channels.items) ≡ all_channels (map raw.declaration_of declarations.now)) }
     ensures once { IfOk result (λ channels. StandOnce (map chars (names_of channels.items))) }
+    ensures bare { IfOk result (λ channels. AreBare channels.items) }
     ensures refused { IfErr result IsOutside }
 {
     let mut channels = Vec::new(alloc);
@@ -102,7 +108,8 @@ fn declare_name<A: Allocator + Copy>(
         Some(_) => Err(ReadFault::Part),
         None => {
             let spelling = String::from_str(alloc, name.text)?;
-            channels.push(Channel { spelling })?;
+            let fields = Vec::new(alloc);
+            channels.push(Channel { spelling, fields })?;
             Ok(())
         }
     }
@@ -193,11 +200,12 @@ fn process<A: Allocator + Copy>(
     ensures refused { IfErr result IsOutside }
 {
     match tree {
-        Process::Stop => Ok(Term::Stop),
+        Process::Stop => Ok(Term::new(alloc, TermForm::Stop)?),
         Process::Prefix(name, fields, body) if fields.is_empty() => {
             let channel = channel_of(channels, name)?;
+            let fields = Vec::new(alloc);
             let body = process(alloc, channels, body)?;
-            Ok(Term::Prefix(channel, Box::new(alloc, body)?))
+            Ok(Term::new(alloc, TermForm::Prefix(channel, fields, body))?)
         }
         _ => Err(ReadFault::Part),
     }

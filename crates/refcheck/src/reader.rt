@@ -55,6 +55,16 @@ impl From<csp_parse::Refused> for ReadFault {
     }
 }
 
+impl From<csp_term::Memory> for ReadFault {
+    ghost use Rattle.refcheck.specs.declared.reader.ReadFault.TheVariants.{Memory as no_memory};
+
+    ghost from_gives = { λ _ fault. fault ≡ no_memory };
+
+    fn from(_refused: csp_term::Memory) -> ReadFault {
+        ReadFault::Memory
+    }
+}
+
 impl From<AllocError> for ReadFault {
     ghost use Rattle.refcheck.specs.declared.reader.ReadFault.TheVariants.{Memory as no_memory};
 

@@ -7,11 +7,11 @@ ghost use Rattle.refcheck.specs.Refusal.{refusal_line};
 ghost use Rattle.refcheck.specs.Answering.{AreRight};
 ghost use Rattle.refcheck.specs.Running.{IsReported, IsRefused, IsCause, IsGiven, Leaves, outcome_status, program_bounds, status_of, texts_of};
 
-use crate::explore::explore;
 use crate::files::Files;
 use crate::reader::read;
 use crate::refusal::{Refusal, push_line};
 use csp_term::{AllocHandle, Script};
+use explore::explore;
 use pair_store::limits::Limits;
 use report::{Sink, write};
 use std::alloc::AllocError;

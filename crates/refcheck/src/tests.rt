@@ -326,28 +326,56 @@ fn an_error_output_that_fails_changes_no_status(rt: HostRuntime) -> Result<(), F
     Ok(())
 }
 
+// How a run with little memory ends.
+enum Ending {
+    Answered,
+    WithoutAnswer,
+    Refused,
+    Other,
+}
+
+fn ending_of(told: &Told, report: &str, status: u8) -> Ending {
+    if told.is(status, report, "") {
+        return Ending::Answered;
+    }
+    if told.is(2, "1 unknown memory\n", "") {
+        return Ending::WithoutAnswer;
+    }
+    if told.is_refused("refused memory\n") || told.is_refused("refused output\n") {
+        return Ending::Refused;
+    }
+    Ending::Other
+}
+
+// How the run over the text ends in a heap of so many bytes.
+fn ending_within(
+    alloc: Global,
+    bytes: usize,
+    text: &str,
+    report: &str,
+    status: u8,
+) -> Result<Ending, AllocError> {
+    let heap = LocalHeap::new(alloc, bytes)?;
+    let mut files = OneText {
+        name: "script",
+        text: text.as_bytes(),
+        alloc: &heap,
+    };
+    let told = run_in(alloc, &heap, &["script"], &mut files);
+    Ok(ending_of(&told, report, status))
+}
+
 // In heaps of more and more bytes each request for memory is refused in turn, and then none.
 #[test]
 fn refused_memory_changes_no_other_answer(rt: HostRuntime) -> Result<(), Fail> {
     for (text, report, status) in [REPORTS[1], REPORTS[2]] {
         let (mut refused, mut without_answer, mut answered) = (0u32, 0u32, 0u32);
-        for size in 1..128 {
-            let heap = LocalHeap::new(rt.alloc(), 64 * size)?;
-            let mut files = OneText {
-                name: "script",
-                text: text.as_bytes(),
-                alloc: &heap,
-            };
-            let told = run_in(rt.alloc(), &heap, &["script"], &mut files);
-            if told.is(status, report, "") {
-                answered = answered.saturating_add(1);
-            } else if told.is(2, "1 unknown memory\n", "") {
-                without_answer = without_answer.saturating_add(1);
-            } else {
-                let is_told = told.is_refused("refused memory\n")
-                    || told.is_refused("refused output\n");
-                assert!(rt; is_told, "at {text} in {size}");
-                refused = refused.saturating_add(1);
+        for size in 1..256 {
+            match ending_within(rt.alloc(), 128 * size, text, report, status)? {
+                Ending::Answered => answered = answered.saturating_add(1),
+                Ending::WithoutAnswer => without_answer = without_answer.saturating_add(1),
+                Ending::Refused => refused = refused.saturating_add(1),
+                Ending::Other => assert!(rt; false, "at {text} in {size}"),
             }
         }
         let each = refused > 4 && without_answer > 4 && answered > 4;

@@ -1,20 +1,23 @@
-use csp_lex::{Refused, TokenKind, TokenList, tokens};
+use csp_lex::{Refused, Token, TokenKind, TokenList, tokens};
 use linked_list_allocator::LocalHeap;
-use std::alloc::{AllocError, Allocator, Global};
+use std::alloc::{AllocError, Global};
 use std::fmt::Write;
 use std::test::Fail;
 
-/// A letter for each kind, and the token's text: `k` a keyword, `s` a sign, `n` a name, or the value of a number.
-fn listed<A: Allocator>(alloc: Global, list: &TokenList<'_, A>) -> Result<String, AllocError> {
+/// Writes a letter for the kind, and the token's text: `k` a keyword, `s` a sign, `n` a name, or the value of a number.
+fn write_token(shown: &mut String, kind: TokenKind, text: &str) -> Result<(), AllocError> {
+    match kind {
+        TokenKind::Keyword(keyword) => write!(shown, "k{keyword} "),
+        TokenKind::Sign(sign) => write!(shown, "s{sign} "),
+        TokenKind::Name => write!(shown, "n{text} "),
+        TokenKind::Number(value) => write!(shown, "{value} "),
+    }
+}
+
+fn listed(alloc: Global, list: &TokenList<'_, Global>) -> Result<String, AllocError> {
     let mut shown = String::new(alloc);
     for token in &list.tokens {
-        let text = token.text;
-        match token.kind {
-            TokenKind::Keyword(keyword) => write!(shown, "k{keyword} ")?,
-            TokenKind::Sign(sign) => write!(shown, "s{sign} ")?,
-            TokenKind::Name => write!(shown, "n{text} ")?,
-            TokenKind::Number(value) => write!(shown, "{value} ")?,
-        }
+        write_token(&mut shown, token.kind, token.text)?;
     }
     Ok(shown)
 }
@@ -27,122 +30,141 @@ fn read(alloc: Global, bytes: &[u8]) -> Result<String, AllocError> {
     }
 }
 
-/// Each token with its place and its bytes, and the place behind the text.
+/// Writes the token with its place and its bytes.
+fn write_place(shown: &mut String, token: Token<'_>) -> Result<(), AllocError> {
+    let (text, place, from, to) = (token.text, token.place, token.from, token.to);
+    write!(shown, "{text} at {place} {from}..{to}; ")
+}
+
+/// Each token with its place, and the place behind the text.
+fn places(alloc: Global, list: &TokenList<'_, Global>) -> Result<String, AllocError> {
+    let mut shown = String::new(alloc);
+    for token in &list.tokens {
+        write_place(&mut shown, *token)?;
+    }
+    let end = list.end;
+    write!(shown, "end {end}")?;
+    Ok(shown)
+}
+
+/// The places of a text's tokens, or its refusal.
 fn placed(alloc: Global, bytes: &[u8]) -> Result<String, AllocError> {
     match tokens(alloc, bytes) {
-        Ok(list) => {
-            let mut shown = String::new(alloc);
-            for token in &list.tokens {
-                let (text, place, from, to) = (token.text, token.place, token.from, token.to);
-                write!(shown, "{text} at {place} {from}..{to}; ")?;
-            }
-            let end = list.end;
-            write!(shown, "end {end}")?;
-            Ok(shown)
-        }
+        Ok(list) => places(alloc, &list),
         Err(refused) => format!(in alloc; "{refused}"),
     }
 }
 
+/// Whether the text has these tokens, or this refusal.
+fn reads(alloc: Global, bytes: &[u8], expected: &str) -> Result<bool, AllocError> {
+    Ok(read(alloc, bytes)?.as_str() == expected)
+}
+
+/// Whether the tokens of the text have these places, or the text has this refusal.
+fn is_placed(alloc: Global, bytes: &[u8], expected: &str) -> Result<bool, AllocError> {
+    Ok(placed(alloc, bytes)?.as_str() == expected)
+}
+
+/// Texts with their tokens.
+static TOKENS: [(&str, &str); 24] = [
+    ("", ""),
+    ("{ -1}", "s{ s- 1 s} "),
+    ("x--1", "nx "),
+    ("x - -1", "nx s- s- 1 "),
+    ("<-", "s<- "),
+    ("< -1>", "s< s- 1 s> "),
+    ("<x>==s", "s< nx s>= s= ns "),
+    ("<x> == s", "s< nx s> s== ns "),
+    ("[||] ||| || |~|", "s[| s|] s||| s|| s|~| "),
+    ("[[ ]] |]] [] {| |}", "s[[ s]] s|] s] s[] s{| s|} "),
+    ("[T= [F= [ T= [>", "s[T= s[F= s[ nT s= s[ s> "),
+    (".. ... 1..2", "s.. s.. s. 1 s.. 2 "),
+    (
+        "-> /\\ \\ ; & @ != <= >= + * % ^ # ! ? : , ( )",
+        "s-> s/\\ s\\ s; s& s@ s!= s<= s>= s+ s* s% s^ s# s! s? s: s, s( s) ",
+    ),
+    ("a'' if' if or'", "na'' nif' kif nor' "),
+    ("STOP SKIP Bool stop", "kSTOP kSKIP kBool nstop "),
+    (
+        "datatype nametype channel assert then else and or not true false",
+        "kdatatype knametype kchannel kassert kthen kelse kand kor knot ktrue kfalse ",
+    ),
+    (
+        "head tail null elem member union inter diff card",
+        "khead ktail knull kelem kmember kunion kinter kdiff kcard ",
+    ),
+    ("αβ a_1 x1", "nαβ na_1 nx1 "),
+    ("2147483647 00 12ab", "2147483647 0 12 nab "),
+    ("{- {- -} a", "na "),
+    ("{- {- -} -}", "s- s} "),
+    ("{-} a -} b", "nb "),
+    ("a --", "na "),
+    ("a -- b\nc", "na nc "),
+];
+
 #[test]
 fn texts_have_these_tokens(rt: HostRuntime) -> Result<(), Fail> {
-    let table = [
-        ("", ""),
-        ("{ -1}", "s{ s- 1 s} "),
-        ("x--1", "nx "),
-        ("x - -1", "nx s- s- 1 "),
-        ("<-", "s<- "),
-        ("< -1>", "s< s- 1 s> "),
-        ("<x>==s", "s< nx s>= s= ns "),
-        ("<x> == s", "s< nx s> s== ns "),
-        ("[||] ||| || |~|", "s[| s|] s||| s|| s|~| "),
-        ("[[ ]] |]] [] {| |}", "s[[ s]] s|] s] s[] s{| s|} "),
-        ("[T= [F= [ T= [>", "s[T= s[F= s[ nT s= s[ s> "),
-        (".. ... 1..2", "s.. s.. s. 1 s.. 2 "),
-        (
-            "-> /\\ \\ ; & @ != <= >= + * % ^ # ! ? : , ( )",
-            "s-> s/\\ s\\ s; s& s@ s!= s<= s>= s+ s* s% s^ s# s! s? s: s, s( s) ",
-        ),
-        ("a'' if' if or'", "na'' nif' kif nor' "),
-        ("STOP SKIP Bool stop", "kSTOP kSKIP kBool nstop "),
-        (
-            "datatype nametype channel assert then else and or not true false",
-            "kdatatype knametype kchannel kassert kthen kelse kand kor knot ktrue kfalse ",
-        ),
-        (
-            "head tail null elem member union inter diff card",
-            "khead ktail knull kelem kmember kunion kinter kdiff kcard ",
-        ),
-        ("αβ a_1 x1", "nαβ na_1 nx1 "),
-        ("2147483647 00 12ab", "2147483647 0 12 nab "),
-        ("{- {- -} a", "na "),
-        ("{- {- -} -}", "s- s} "),
-        ("{-} a -} b", "nb "),
-        ("a --", "na "),
-        ("a -- b\nc", "na nc "),
-    ];
-    for (text, expected) in table {
-        assert_eq!(rt;
-            read(rt.alloc(), text.as_bytes())?.as_str(),
-            expected,
-            "{text}"
-        );
+    for (text, expected) in TOKENS.iter() {
+        assert!(rt; reads(rt.alloc(), text.as_bytes(), *expected)?, "{text}");
     }
     Ok(())
 }
+
+/// Texts with their refusals.
+static REFUSALS: [(&[u8], &str); 24] = [
+    (b"{-1}", "L02 at 1:1"),
+    (b"{- x", "L02 at 1:1"),
+    (b"{- a -} {- b", "L02 at 1:9"),
+    (b"P = STOP $", "L01 at 1:10"),
+    (b"_x", "L01 at 1:1"),
+    (b"~", "L01 at 1:1"),
+    (b"a\n  ~", "L01 at 2:3"),
+    (b"\xcc\x81a", "L01 at 1:1"),
+    (b"\xef\xbb\xbfP", "L01 at 1:1"),
+    (b"2147483648", "L03 at 1:1"),
+    (b"assert STOP [T= P(2147483648)", "L03 at 1:19"),
+    (b"2147483648 $", "L03 at 1:1"),
+    (b"$ 2147483648 {-", "L01 at 1:1"),
+    (b"\xce\xb1$", "L01 at 1:2"),
+    (b"\xe0\xb2\x95$", "L01 at 1:2"),
+    (b"\xf0\x9d\x90\xb1$", "L01 at 1:2"),
+    (b"{-\xe2\x82\xac-}$", "L01 at 1:6"),
+    (b"P\xff", "L04 at 1:2"),
+    (b"P\xce", "L04 at 1:2"),
+    (b"\xce\xb1\xff", "L04 at 1:2"),
+    (b"\xc0\xaf", "L04 at 1:1"),
+    (b"\xed\xa0\x80", "L04 at 1:1"),
+    (b"$\n$\xff", "L04 at 2:2"),
+    (b"\xff", "L04 at 1:1"),
+];
 
 #[test]
 fn texts_have_these_refusals(rt: HostRuntime) -> Result<(), Fail> {
-    let table: [(&[u8], &str); 24] = [
-        (b"{-1}", "L02 at 1:1"),
-        (b"{- x", "L02 at 1:1"),
-        (b"{- a -} {- b", "L02 at 1:9"),
-        (b"P = STOP $", "L01 at 1:10"),
-        (b"_x", "L01 at 1:1"),
-        (b"~", "L01 at 1:1"),
-        (b"a\n  ~", "L01 at 2:3"),
-        (b"\xcc\x81a", "L01 at 1:1"),
-        (b"\xef\xbb\xbfP", "L01 at 1:1"),
-        (b"2147483648", "L03 at 1:1"),
-        (b"assert STOP [T= P(2147483648)", "L03 at 1:19"),
-        (b"2147483648 $", "L03 at 1:1"),
-        (b"$ 2147483648 {-", "L01 at 1:1"),
-        (b"\xce\xb1$", "L01 at 1:2"),
-        (b"\xe0\xb2\x95$", "L01 at 1:2"),
-        (b"\xf0\x9d\x90\xb1$", "L01 at 1:2"),
-        (b"{-\xe2\x82\xac-}$", "L01 at 1:6"),
-        (b"P\xff", "L04 at 1:2"),
-        (b"P\xce", "L04 at 1:2"),
-        (b"\xce\xb1\xff", "L04 at 1:2"),
-        (b"\xc0\xaf", "L04 at 1:1"),
-        (b"\xed\xa0\x80", "L04 at 1:1"),
-        (b"$\n$\xff", "L04 at 2:2"),
-        (b"\xff", "L04 at 1:1"),
-    ];
-    for (bytes, expected) in table {
-        assert_eq!(rt; read(rt.alloc(), bytes)?.as_str(), expected, "{bytes:?}");
+    for (bytes, expected) in REFUSALS.iter() {
+        assert!(rt; reads(rt.alloc(), *bytes, *expected)?, "{expected}");
     }
     Ok(())
 }
 
+/// Texts with the places of their tokens.
+static PLACES: [(&str, &str); 4] = [
+    ("", "end 1:1"),
+    (
+        "a\rb\tc\nd\r\ne",
+        "a at 1:1 0..1; b at 1:3 2..3; c at 1:5 4..5; d at 2:1 6..7; e at 3:1 9..10; end 3:2",
+    ),
+    (
+        "α -> STOP\n",
+        "α at 1:1 0..2; -> at 1:3 3..5; STOP at 1:6 6..10; end 2:1",
+    ),
+    ("{-€\n-}x -- €", "x at 2:3 8..9; end 2:9"),
+];
+
 #[test]
 fn tokens_have_these_places(rt: HostRuntime) -> Result<(), Fail> {
-    let table = [
-        ("", "end 1:1"),
-        (
-            "a\rb\tc\nd\r\ne",
-            "a at 1:1 0..1; b at 1:3 2..3; c at 1:5 4..5; d at 2:1 6..7; e at 3:1 9..10; end 3:2",
-        ),
-        (
-            "α -> STOP\n",
-            "α at 1:1 0..2; -> at 1:3 3..5; STOP at 1:6 6..10; end 2:1",
-        ),
-        ("{-€\n-}x -- €", "x at 2:3 8..9; end 2:9"),
-    ];
-    for (text, expected) in table {
-        assert_eq!(rt;
-            placed(rt.alloc(), text.as_bytes())?.as_str(),
-            expected,
+    for (text, expected) in PLACES.iter() {
+        assert!(rt;
+            is_placed(rt.alloc(), text.as_bytes(), *expected)?,
             "{text}"
         );
     }
@@ -152,12 +174,17 @@ fn tokens_have_these_places(rt: HostRuntime) -> Result<(), Fail> {
 #[test]
 fn longest_texts(rt: HostRuntime) -> Result<(), Fail> {
     let mut spaces = vec![in rt.alloc(); b' '; 65_536]?;
-    assert_eq!(rt; placed(rt.alloc(), &spaces)?.as_str(), "end 1:65537");
+    assert!(rt; is_placed(rt.alloc(), &spaces, "end 1:65537")?);
     spaces.push(b' ')?;
-    assert_eq!(rt; placed(rt.alloc(), &spaces)?.as_str(), "L05 at 1:1");
+    assert!(rt; is_placed(rt.alloc(), &spaces, "L05 at 1:1")?);
     spaces.push(0xff)?;
-    assert_eq!(rt; placed(rt.alloc(), &spaces)?.as_str(), "L05 at 1:1");
+    assert!(rt; is_placed(rt.alloc(), &spaces, "L05 at 1:1")?);
     Ok(())
+}
+
+/// How many tokens the text has.
+fn number_of_tokens(heap: &LocalHeap, bytes: &[u8]) -> Result<usize, Refused> {
+    Ok(tokens(heap, bytes)?.tokens.len())
 }
 
 /// In heaps of more and more bytes, each request for memory is refused in turn, and then none.
@@ -169,9 +196,9 @@ fn refused_memory_is_told(rt: HostRuntime) -> Result<(), Fail> {
     let mut successes = 0u32;
     for size in 1..64 {
         let heap = LocalHeap::new(rt.alloc(), 256 * size)?;
-        match tokens(&heap, text) {
-            Ok(list) => {
-                assert_eq!(rt; list.tokens.len(), 31);
+        match number_of_tokens(&heap, text) {
+            Ok(number) => {
+                assert_eq!(rt; number, 31);
                 successes = successes.saturating_add(1);
             }
             Err(refused) => {

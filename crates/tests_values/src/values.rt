@@ -1,11 +1,17 @@
 ghost use Rattle.std.specs.Prelude.{IfOk};
 ghost use Rattle.csp_value.specs.Value.{IsRisingSet};
 
-use csp_value::{Action, ChannelId, ConId, Event, Memory, SetOf, Value};
+use csp_value::laws::{
+    compare_actions, compare_events, compare_sets, compare_values, equal_actions, equal_events,
+    equal_sets, equal_values,
+};
+use csp_value::{Action, ChannelId, ConId, Event, FieldSet, Memory, SetOf, TryCopy, Value};
 use linked_list_allocator::LocalHeap;
 use smallvec::SmallVec;
 use std::alloc::{Allocator, Global};
 use std::cmp::Ordering;
+use std::hash::{DefaultHasher, Hash, Hasher};
+use std::process::Abort;
 use std::test::Fail;
 
 /// The numbers as values.
@@ -28,20 +34,42 @@ fn set_of<A: Allocator + Copy>(alloc: A, members: &[i32]) -> Result<SetOf<A>, Me
     Ok(SetOf::from_values(numbers(alloc, members)?))
 }
 
-/// Values of each form, in rising order.
-fn rising(alloc: Global) -> Result<Vec<Value<Global>>, Memory> {
-    let mut values = numbers(alloc, &[i32::MIN, -1, 0, 7, i32::MAX])?;
-    values.push(Value::Bool(false))?;
-    values.push(Value::Bool(true))?;
-    values.push(Value::Con(ConId(0)))?;
-    values.push(Value::Con(ConId(1)))?;
+/// Adds numbers, truth values and constructors, in rising order.
+fn push_scalars(values: &mut Vec<Value<Global>, Global>) -> Result<(), Memory> {
+    for number in [i32::MIN, -1, 0, 7, i32::MAX] {
+        values.push(Value::Int(number))?;
+    }
+    for truth in [false, true] {
+        values.push(Value::Bool(truth))?;
+    }
+    for constructor in 0..2 {
+        values.push(Value::Con(ConId(constructor)))?;
+    }
+    Ok(())
+}
+
+/// Adds sequences and sets, in rising order.
+fn push_lists(alloc: Global, values: &mut Vec<Value<Global>, Global>) -> Result<(), Memory> {
     for items in [&[][..], &[0], &[0, 5], &[0, 6], &[1]] {
         values.push(sequence(alloc, items)?)?;
     }
     for members in [&[][..], &[1], &[1, 3], &[2]] {
         values.push(Value::Set(set_of(alloc, members)?))?;
     }
+    Ok(())
+}
+
+/// Values of each form, in rising order.
+fn rising(alloc: Global) -> Result<Vec<Value<Global>, Global>, Memory> {
+    let mut values = Vec::new(alloc);
+    push_scalars(&mut values)?;
+    push_lists(alloc, &mut values)?;
     Ok(values)
+}
+
+/// Whether the values are in this order, and equal only where it says so.
+fn are_ordered(left: &Value<Global>, right: &Value<Global>, order: Ordering) -> bool {
+    compare_values(left, right) == order && equal_values(left, right) == (order == Ordering::Equal)
 }
 
 #[test]
@@ -49,58 +77,131 @@ fn values_rise_by_form_and_then_by_their_parts(rt: HostRuntime) -> Result<(), Fa
     let values = rising(rt.alloc())?;
     for (i, left) in values.iter().enumerate() {
         for (j, right) in values.iter().enumerate() {
-            assert_eq!(rt; left.cmp(right), i.cmp(&j), "{i} and {j}");
-            assert_eq!(rt; left == right, i == j, "{i} and {j}");
+            assert!(rt; are_ordered(left, right, i.cmp(&j)), "{i} and {j}");
         }
     }
     Ok(())
 }
 
+/// Whether the set has the members of the list, and of the numbers from -2 to 4 no others.
+fn contains_only(set: &SetOf<Global>, members: &[i32]) -> bool {
+    for number in -2..5 {
+        if set.contains(&Value::Int(number)) != members.contains(&number) {
+            return false;
+        }
+    }
+    true
+}
+
+/// Whether the set of the numbers has these members.
+fn has_members(alloc: Global, given: &[i32], members: &[i32]) -> Result<bool, Memory> {
+    let made = set_of(alloc, given)?;
+    let expected = numbers(alloc, members)?;
+    Ok(made.members() == expected.as_slice() && contains_only(&made, members))
+}
+
 #[test]
 fn sets_have_each_member_once(rt: HostRuntime) -> Result<(), Fail> {
-    let alloc = rt.alloc();
     let table = [
         (&[3, 1, 3][..], &[1, 3][..]),
         (&[], &[]),
         (&[2, 2, 2], &[2]),
         (&[1, 0, -1], &[-1, 0, 1]),
     ];
-    for (given, members) in table {
-        let made = set_of(alloc, given)?;
-        assert!(rt; made.members() == numbers(alloc, members)?.as_slice());
-        for value in -2..5 {
-            assert_eq!(rt;
-                made.contains(&Value::Int(value)),
-                members.contains(&value),
-                "{value}"
-            );
-        }
+    for (row, (given, members)) in table.into_iter().enumerate() {
+        assert!(rt; has_members(rt.alloc(), given, members)?, "{row}");
     }
     Ok(())
+}
+
+/// Whether the field has these of the values, and not the others.
+fn has_of_its_set(set: &FieldSet<Global>) -> bool {
+    for (number, is_there) in [(0, false), (1, true), (2, false), (7, true), (8, false)] {
+        if set.contains(&Value::Int(number)) != is_there {
+            return false;
+        }
+    }
+    true
+}
+
+/// Whether these are the members of the set and of its copy.
+fn are_members(alloc: Global, set: &FieldSet<Global>, members: &[i32]) -> Result<bool, Memory> {
+    let expected = numbers(alloc, members)?;
+    Ok(set.members() == expected.as_slice() && set.try_copy(alloc)? == *set)
+}
+
+#[test]
+fn a_field_has_the_values_of_its_set(rt: HostRuntime) -> Result<(), Fail> {
+    let set = FieldSet::from_values(numbers(rt.alloc(), &[3, 1, 3, 7])?);
+    assert!(rt; are_members(rt.alloc(), &set, &[1, 3, 7])?);
+    assert!(rt; has_of_its_set(&set));
+    Ok(())
+}
+
+/// Whether the set has these members.
+fn is_set(alloc: Global, set: &SetOf<Global>, members: &[i32]) -> Result<bool, Memory> {
+    let expected = set_of(alloc, members)?;
+    Ok(equal_sets(set, &expected) && *set == expected)
+}
+
+/// `{1,2,3}` cut with `{2,3,5}`
+fn cut(alloc: Global) -> Result<SetOf<Global>, Memory> {
+    let left = set_of(alloc, &[1, 2, 3])?;
+    let right = set_of(alloc, &[2, 3, 5])?;
+    Ok(left.intersection(&right))
+}
+
+/// `{1,2,3}` without `{2,3,5}`
+fn left_alone(alloc: Global) -> Result<SetOf<Global>, Memory> {
+    let left = set_of(alloc, &[1, 2, 3])?;
+    let right = set_of(alloc, &[2, 3, 5])?;
+    Ok(left.difference(&right))
+}
+
+/// `{1,2,3}` joined with `{2,3,5}`
+fn joined(alloc: Global) -> Result<SetOf<Global>, Memory> {
+    let left = set_of(alloc, &[1, 2, 3])?;
+    left.union(set_of(alloc, &[2, 3, 5])?)
+}
+
+/// Whether the one set comes before the other.
+fn is_less(set: &SetOf<Global>, other: &SetOf<Global>) -> bool {
+    !equal_sets(set, other) && compare_sets(set, other) == Ordering::Less
 }
 
 #[test]
 fn sets_are_joined_and_cut(rt: HostRuntime) -> Result<(), Fail> {
     let alloc = rt.alloc();
-    let right = set_of(alloc, &[2, 3, 5])?;
-    let both = set_of(alloc, &[1, 2, 3])?.intersection(&right);
-    assert!(rt; both == set_of(alloc, &[2, 3])?);
-    let left_alone = set_of(alloc, &[1, 2, 3])?.difference(&right);
-    assert!(rt; left_alone == set_of(alloc, &[1])?);
-    let either = set_of(alloc, &[1, 2, 3])?.union(right)?;
-    assert!(rt; either == set_of(alloc, &[1, 2, 3, 5])?);
+    assert!(rt; is_set(alloc, &joined(alloc)?, &[1, 2, 3, 5])?);
+    let (both, left_alone) = (cut(alloc)?, left_alone(alloc)?);
+    assert!(rt; is_set(alloc, &both, &[2, 3])? && is_set(alloc, &left_alone, &[1])?);
+    assert!(rt; is_less(&left_alone, &both));
     Ok(())
+}
+
+/// Whether the copy in the other heap is equal and has the same hash.
+fn is_copied_across<'h>(here: &'h LocalHeap, there: &'h LocalHeap) -> Result<bool, Memory> {
+    let value = nested(here)?;
+    let copy = value.try_copy(there)?;
+    Ok(is_equal(&copy, &value))
+}
+
+fn is_equal<A: Allocator>(copy: &Value<A>, value: &Value<A>) -> bool {
+    copy == value && copy.cmp(value) == Ordering::Equal && hash_of(copy) == hash_of(value)
 }
 
 #[test]
 fn copies_are_equal_across_allocators(rt: HostRuntime) -> Result<(), Fail> {
     let here = LocalHeap::new(rt.alloc(), 4096)?;
     let there = LocalHeap::new(rt.alloc(), 4096)?;
-    let value = nested(&here)?;
-    let copy = value.try_copy(&there)?;
-    assert!(rt; copy == value);
-    assert_eq!(rt; copy.cmp(&value), Ordering::Equal);
+    assert!(rt; is_copied_across(&here, &there)?);
     Ok(())
+}
+
+fn hash_of<A: Allocator>(value: &Value<A>) -> u64 {
+    let mut hasher = DefaultHasher::new();
+    value.hash(&mut hasher);
+    hasher.finish()
 }
 
 /// A sequence of a set and a sequence.
@@ -111,30 +212,49 @@ fn nested<A: Allocator + Copy>(alloc: A) -> Result<Value<A>, Memory> {
     Ok(Value::Seq(items))
 }
 
+/// Whether the value has the size 16 and the depth 3.
+fn has_size_and_depth(value: &Value<Global>) -> bool {
+    value.room_left(15) == None
+        && value.room_left(16) == Some(0)
+        && value.room_left(20) == Some(4)
+        && value.is_within_depth(3)
+        && !value.is_within_depth(2)
+}
+
 #[test]
 fn values_have_sizes_and_depths(rt: HostRuntime) -> Result<(), Fail> {
-    let value = nested(rt.alloc())?;
-    assert_eq!(rt; value.room_left(15), None);
-    assert_eq!(rt; value.room_left(16), Some(0));
-    assert_eq!(rt; value.room_left(20), Some(4));
-    assert!(rt; value.is_within_depth(3) && !value.is_within_depth(2));
+    assert!(rt; has_size_and_depth(&nested(rt.alloc())?));
     Ok(())
+}
+
+/// Whether the copy in the heap is equal.
+fn copies<'h>(heap: &'h LocalHeap, value: &Value<&'h LocalHeap>) -> Result<bool, Memory> {
+    Ok(value.try_copy(heap)? == *value)
+}
+
+/// Whether a heap of so many bytes has room for a copy, which is then equal.
+fn is_copied_within(rt: &impl Abort, alloc: Global, bytes: usize) -> Result<bool, Fail> {
+    let here = LocalHeap::new(alloc, 4096)?;
+    let there = LocalHeap::new(alloc, bytes)?;
+    let value = nested(&here)?;
+    let Ok(is_equal) = copies(&there, &value) else {
+        assert!(rt; there.used() == 0);
+        return Ok(false);
+    };
+    assert!(rt; is_equal);
+    Ok(true)
 }
 
 #[test]
 fn copies_that_find_no_room_say_so(rt: HostRuntime) -> Result<(), Fail> {
     let mut copied = false;
     let mut refused = false;
-    for size in [64, 128, 256, 512, 1024, 2048, 4096] {
-        let here = LocalHeap::new(rt.alloc(), 4096)?;
-        let there = LocalHeap::new(rt.alloc(), size)?;
-        let value = nested(&here)?;
-        match value.try_copy(&there) {
-            Ok(copy) => {
-                assert!(rt; copy == value, "{size}");
-                copied = true;
-            }
-            Err(Memory) => refused = true,
+    // Each heap has 16 bytes more than the one before it, and hands out no fewer.
+    for units in 1..128 {
+        if is_copied_within(&rt, rt.alloc(), 16 * units)? {
+            copied = true;
+        } else {
+            refused = true;
         }
     }
     assert!(rt; copied && refused);
@@ -142,33 +262,80 @@ fn copies_that_find_no_room_say_so(rt: HostRuntime) -> Result<(), Fail> {
 }
 
 /// The event of the channel with the numbers as its fields.
-fn event(alloc: Global, channel: u32, fields: &[i32]) -> Result<Action<Global>, Memory> {
+fn event(alloc: Global, channel: u32, fields: &[i32]) -> Result<Event<Global>, Memory> {
     let mut values = SmallVec::new(alloc);
     for field in fields {
         values.push(Value::Int(*field))?;
     }
-    Ok(Action::Event(Event {
+    Ok(Event {
         channel: ChannelId(channel),
         fields: values,
-    }))
+    })
+}
+
+/// The channels and fields of events, in rising order.
+static EVENTS: [(u32, &[i32]); 4] = [(0, &[]), (0, &[4, 5, 6]), (0, &[4, 6]), (1, &[0])];
+
+fn rising_events(alloc: Global) -> Result<Vec<Event<Global>, Global>, Memory> {
+    let mut events = Vec::new(alloc);
+    for (channel, fields) in EVENTS {
+        events.push(event(alloc, channel, fields)?)?;
+    }
+    Ok(events)
+}
+
+/// Whether the events are in this order, and equal only where it says so.
+fn are_ordered_events(left: &Event<Global>, right: &Event<Global>, order: Ordering) -> bool {
+    compare_events(left, right) == order && equal_events(left, right) == (order == Ordering::Equal)
+}
+
+fn is_event_copied(alloc: Global, event: &Event<Global>) -> Result<bool, Memory> {
+    let copy = event.try_copy(alloc)?;
+    Ok(equal_events(&copy, event))
+}
+
+#[test]
+fn events_rise_by_channel_and_then_by_fields(rt: HostRuntime) -> Result<(), Fail> {
+    let events = rising_events(rt.alloc())?;
+    for (i, left) in events.iter().enumerate() {
+        for (j, right) in events.iter().enumerate() {
+            assert!(rt; are_ordered_events(left, right, i.cmp(&j)), "{i} and {j}");
+        }
+        assert!(rt; is_event_copied(rt.alloc(), left)?, "{i}");
+    }
+    Ok(())
+}
+
+/// Tau, tick and the events.
+fn rising_actions(alloc: Global) -> Result<Vec<Action<Global>, Global>, Memory> {
+    let mut actions = Vec::new(alloc);
+    actions.push(Action::Tau)?;
+    actions.push(Action::Tick)?;
+    for (channel, fields) in EVENTS {
+        actions.push(Action::Event(event(alloc, channel, fields)?))?;
+    }
+    Ok(actions)
+}
+
+/// Whether the actions are in this order, and equal only where it says so.
+fn are_ordered_actions(left: &Action<Global>, right: &Action<Global>, order: Ordering) -> bool {
+    compare_actions(left, right) == order
+        && equal_actions(left, right) == (order == Ordering::Equal)
+}
+
+fn is_action_copied(alloc: Global, action: &Action<Global>) -> Result<bool, Memory> {
+    let copy = action.try_copy(alloc)?;
+    Ok(equal_actions(&copy, action))
 }
 
 #[test]
 fn actions_rise_from_tau_over_tick_to_events(rt: HostRuntime) -> Result<(), Fail> {
-    let alloc = rt.alloc();
-    let actions = [
-        Action::Tau,
-        Action::Tick,
-        event(alloc, 0, &[])?,
-        event(alloc, 0, &[4, 5, 6])?,
-        event(alloc, 0, &[4, 6])?,
-        event(alloc, 1, &[0])?,
-    ];
+    let actions = rising_actions(rt.alloc())?;
     for (i, left) in actions.iter().enumerate() {
         for (j, right) in actions.iter().enumerate() {
-            assert_eq!(rt; left.cmp(right), i.cmp(&j), "{i} and {j}");
+            assert!(rt; are_ordered_actions(left, right, i.cmp(&j)), "{i} and {j}");
         }
-        assert!(rt; left.try_copy(alloc)? == *left, "{i}");
+        assert!(rt; is_action_copied(rt.alloc(), left)?, "{i}");
     }
     Ok(())
 }

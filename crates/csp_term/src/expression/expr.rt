@@ -68,7 +68,7 @@ impl<A: Allocator + Copy> Expr<A> {
 
 /// A copy of each expression, in order, or `Memory` where there is no room.
 #[cycle(copy)]
-fn copy_expressions<A: Allocator + Copy>(
+pub(crate) fn copy_expressions<A: Allocator + Copy>(
     expressions: &[Expr<A>],
     alloc: A,
 ) -> Result<Vec<Expr<A>, A>, Memory>

@@ -86,13 +86,16 @@ pub(super) fn datatype<A: Allocator + Copy>(
 fn all_of<A: Allocator + Copy>(range: Constructors, alloc: A) -> Result<Value<A>, EvalFault>
     ensures { Answers result (set_of (constructors (constructors_of range))) }
 {
-    let (first, behind) = (range.first.0, range.behind.0);
-    if behind.saturating_sub(first) as usize > MAX_MEMBERS {
+    if range.following as usize >= MAX_MEMBERS {
         return Err(EvalFault::Fault(Fault::Overflow));
     }
     let mut members = Vec::new(alloc);
-    for constructor in first..behind {
-        members.push(Value::Con(ConId(constructor)))?;
+    for offset in 0..range.following + 1 {
+        // No memory holds the names of more constructors than have a number, so the last arm is never taken.
+        match range.first.0.checked_add(offset) {
+            Some(constructor) => members.push(Value::Con(ConId(constructor)))?,
+            None => return Err(EvalFault::Memory),
+        }
     }
     Ok(Value::Set(SetOf::from_values(members)))
 }

@@ -9,14 +9,14 @@ use std::alloc::Allocator;
 
 /// A value that lies in the expression, or one that was made.
 #[derive(Drop)]
-pub(super) enum Seen<'e, A: Allocator> {
+pub enum Seen<'e, A: Allocator> {
     Lent(&'e Value<A>),
     Made(Value<A>),
 }
 
 impl<'e, A: Allocator + Copy> Seen<'e, A> {
     /// The value, where it lies.
-    pub(super) fn value(&self) -> &Value<A>
+    pub fn value(&self) -> &Value<A>
         ensures { value_of result.now ≡ seen_value self.now }
     {
         match self {
@@ -26,7 +26,7 @@ impl<'e, A: Allocator + Copy> Seen<'e, A> {
     }
 
     /// The value, which is copied where it was lent. `Memory` where there is no room for that.
-    pub(super) fn into_value(self, alloc: A) -> Result<Value<A>, Memory>
+    pub fn into_value(self, alloc: A) -> Result<Value<A>, Memory>
         ensures { IfOk result (λ value. value_of value ≡ seen_value self.entry) }
     {
         match self {

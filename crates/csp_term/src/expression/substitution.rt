@@ -18,7 +18,10 @@ pub struct Binding<'v, A: Allocator> {
 }
 
 /// The value of the first binding of the name, if there is one.
-fn bound<'v, A: Allocator>(name: Name, bindings: &[Binding<'v, A>]) -> Option<&'v Value<A>>
+pub(super) fn bound<'v, A: Allocator>(
+    name: Name,
+    bindings: &[Binding<'v, A>],
+) -> Option<&'v Value<A>>
     ensures { found_of result ≡ bound (bindings_of bindings.now) name.0 }
 {
     for binding in bindings {
@@ -67,7 +70,7 @@ impl<A: Allocator + Copy> Expr<A> {
 
 /// Each expression with the values put in, in order, or `Memory` where there is no room.
 #[cycle(put)]
-fn put_in_all<A: Allocator + Copy>(
+pub(crate) fn put_in_all<A: Allocator + Copy>(
     expressions: &[Expr<A>],
     bindings: &[Binding<'_, A>],
     alloc: A,

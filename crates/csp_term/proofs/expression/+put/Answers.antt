@@ -1,19 +1,16 @@
 -- Values are put into one more expression, and what the expressions make up.
-use Rattle.std.proofs.Common.{◌≡◌, List, [], ◌∷◌, refl, sym, ◌∙◌, ap}
+use Rattle.std.proofs.Common.{◌≡◌, List, sym, ◌∙◌, ap}
 use Rattle.std.specs.declared.vec.Vec.{Vec}
-use Rattle.csp_semantics.specs.Syntax.Expression.{SequenceOf, SetOf, expression_and, to_expressions}
-use Rattle.csp_semantics.specs.Meaning.Substitution.{Bindings, put_expression, put_expressions}
+use Rattle.csp_semantics.specs.Syntax.Expression.{SequenceOf, SetOf, to_expressions}
+use Rattle.csp_semantics.specs.Meaning.Substitution.{Bindings, put_expression}
 use Rattle.csp_term.specs.declared.expression.expr.Expr.{Expr}
 use Rattle.csp_term.specs.declared.expression.expr.Expr.TheVariants as views
 use Rattle.csp_term.specs.Bindings.{bindings_of, puts}
 use Rattle.csp_term.specs.Expression.{expression_of, expressions_of}
 use Rattle.csp_term.proofs.Copying.{map_push}
+use Rattle.csp_term.proofs.ExpressionPutting.{put_list}
 use Rattle.csp_term.proofs.ExpressionForms.{of_sequence, of_set}
 use Rattle.csp_term.proofs.expression.+put.Goals as goal
-
-put_list : {A : Type 0} (bs : Bindings) (es : List (Expr A)) → to_expressions (puts bs es) ≡ put_expressions bs (to_expressions (expressions_of es))
-put_list bs [] = refl
-put_list bs (e ∷ es) = ap (expression_and (put_expression bs (expression_of e))) (put_list bs es)
 
 put_sequence : {A : Type 0} (bs : Bindings) (self : Expr A) (items all : Vec (Expr A) A) (read : List (Expr A)) → self ≡ views.Sequence items → read ≡ items.items → expressions_of all.items ≡ puts bs read →
     expression_of {A = A} (views.Sequence all) ≡ put_expression bs (expression_of self)

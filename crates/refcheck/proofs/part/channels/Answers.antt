@@ -1,4 +1,4 @@
-use Rattle.std.proofs.Common.{◌≤◌, List, [], length, map, sym, ap, ◌∙◌, subst, arith}
+use Rattle.std.proofs.Common.{◌≤◌, List, [], length, map, refl, sym, ap, ◌∙◌, subst, arith}
 use Rattle.std.proofs.lemmas.List.{take_all}
 use Rattle.std.specs.List.{All}
 use Rattle.csp_parse.specs.Declarations.{declaration_of}
@@ -40,3 +40,6 @@ returns-clause-spellings g c =
 
 pub returns-clause-once : goal.returns-clause-once
 returns-clause-once g c = c.loop-declaration.invariant.1.once none_once
+
+pub returns-clause-bare : goal.returns-clause-bare
+returns-clause-bare g c = c.loop-declaration.invariant.1.bare refl

@@ -1,5 +1,4 @@
 use Rattle.std.proofs.Common.{List, [], map, refl, sym, ap, ◌∙◌, subst}
-use Rattle.std.proofs.lemmas.Simd.{map-map}
 use Rattle.std.specs.List.{All, AllZip, filter}
 use Rattle.std.specs.Str.{chars}
 use Rattle.std.specs.String.{string_bytes}
@@ -23,11 +22,11 @@ returns-clause-script g c =
       plain = subst (λ ds. All IsPlain (raw ds)) c.deref.ensures.value c.in_ok-channels.ensures.plain;
       channels = spelled;
       once = subst StandOnce spelled c.in_ok-channels.ensures.once;
-      fields = sym (map-map (λ _. []) (λ channel. string_bytes channel.spelling) channels);
+      fields = c.in_ok-channels.ensures.bare;
       assertions =
           subst (λ names. AllZip (IsAssertionOf names) (filter is_assertion (raw c.args.tree.now.declarations.items)) assertions) spelled
           (subst Q c.deref-3.ensures.value (subst P c.deref-2.ensures.value c.in_ok-assertions.ensures.assertions));
-      types = refl;
-      equations = ap (map equation_of) c.new.ensures.items;
-      constructors = refl;
+      types = rw (c.new.ensures.items, c.new-2.ensures.items) refl;
+      equations = ap (map equation_of) c.new-4.ensures.items;
+      constructors = ap (map (λ n. string_bytes n.spelling)) c.new-3.ensures.items;
     }

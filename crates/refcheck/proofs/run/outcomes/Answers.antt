@@ -5,7 +5,8 @@ use Rattle.csp_term.specs.declared.assertion.Assertion.{Assertion}
 use Rattle.csp_term.specs.Script.{assertion_of, script_of}
 use Rattle.pair_store.specs.Bounds.{bounds_of}
 use Rattle.verdict.specs.Outcome.{outcome_of}
-use Rattle.refcheck.specs.Answering.{AreRight, IsRight}
+use Rattle.explore.specs.Answering.{IsRight}
+use Rattle.refcheck.specs.Answering.{AreRight}
 use Rattle.refcheck.specs.Running.{program_bounds}
 use Rattle.refcheck.proofs.Answering.{is_right, one_more_right}
 use Rattle.refcheck.proofs.run.outcomes.Goals as goal

@@ -1,0 +1,7 @@
+use Rattle.std.proofs.Common.{◌∙◌}
+use Rattle.std.proofs.lemmas.Result.{IfOk-weaker}
+use Rattle.csp_parse.proofs.ProcessTrees.{tree_of_call}
+use Rattle.csp_parse.proofs.processes.Process.call.Goals as goal
+
+pub returns : goal.returns
+returns g c = IfOk-weaker c.boxed.result _ _ (λ _ same. same ∙ tree_of_call g.row.A.Denot c.args.name c.args.arguments) c.boxed.ensures

@@ -1,0 +1,7 @@
+use Rattle.std.proofs.Common.{◌∙◌}
+use Rattle.std.proofs.lemmas.Result.{IfOk-weaker}
+use Rattle.csp_parse.proofs.ProcessTrees.{tree_of_renaming}
+use Rattle.csp_parse.proofs.processes.Process.renaming.Goals as goal
+
+pub returns : goal.returns
+returns g c = IfOk-weaker c.boxed.result _ _ (λ _ same. same ∙ tree_of_renaming g.row.A.Denot c.args.body c.args.pairs) c.boxed.ensures
