@@ -9,7 +9,6 @@ mod expansion;
 mod firing;
 mod form;
 mod offers;
-mod rule_step;
 mod rules;
 mod stuck;
 

@@ -1,7 +1,7 @@
 pub mod Forms
 pub mod FieldOrder
+pub mod OperatorForms
 pub mod TermOrder
-pub mod TermCopying
 pub mod TermPutting
 pub mod Channels
 pub mod Equality
