@@ -1,30 +1,23 @@
 -- Values are put into the fields of a prefix in turn, and what the parts of a term make up.
-use Rattle.std.proofs.Common.{◌≡◌, ℕ, ◌+◌, ◌<◌, List, [], ◌∷◌, ◌++◌, length, drop, get_or, refl, sym, ◌∙◌, ap, ap₂}
+use Rattle.std.proofs.Common.{◌≡◌, ℕ, ◌+◌, ◌<◌, List, [], ◌∷◌, ◌++◌, length, map, drop, get_or, refl, sym, ◌∙◌, ap, ap₂}
 use Rattle.std.proofs.lemmas.List.{map-append, append_assoc, drop_more}
 use Rattle.std.specs.declared.vec.Vec.{Vec}
 use Rattle.csp_semantics.specs.Syntax.Expression.{to_expressions}
 use Rattle.csp_semantics.specs.Syntax.Process as pure
-use Rattle.csp_semantics.specs.Meaning.Substitution.{Bindings, behind, put, put_event_set, put_expression, put_fields, put_pairs, without}
+use Rattle.csp_semantics.specs.Meaning.Substitution.{Bindings, behind, put, put_expression, put_fields}
 use Rattle.csp_value.specs.declared.name.ChannelId.{ChannelId}
 use Rattle.csp_term.specs.declared.name.EquationId.{EquationId}
-use Rattle.csp_expression.specs.declared.name.Name.{Name}
-use Rattle.csp_term.specs.declared.operator.ProcessOperator.{ProcessOperator}
-use Rattle.csp_term.specs.declared.operator.ReplicatedOperator.{ReplicatedOperator}
-use Rattle.csp_event_sets.specs.declared.event_set.EventSet.{EventSet}
-use Rattle.csp_event_sets.specs.declared.renaming_pair.RenamingPair.{RenamingPair}
-use Rattle.csp_expression.specs.declared.expr.Expr.{Expr}
+use Rattle.csp_term.specs.declared.expression.expr.Expr.{Expr}
 use Rattle.csp_term.specs.declared.field.Field.{Field}
 use Rattle.csp_term.specs.declared.term.Term.{Term}
 use Rattle.csp_term.specs.declared.term.TermForm.{TermForm}
 use Rattle.csp_term.specs.declared.term.TermForm.TheVariants as views
-use Rattle.csp_expression.specs.Bindings.{puts}
-use Rattle.csp_expression.specs.Expression.{expression_of, expressions_of}
-use Rattle.csp_event_sets.specs.Events.{event_set_of, renaming_pairs_of}
+use Rattle.csp_term.specs.Bindings.{puts}
+use Rattle.csp_term.specs.Expression.{expression_of, expressions_of}
 use Rattle.csp_term.specs.Field.{field_of, fields_of}
-use Rattle.csp_term.specs.Term.{binary_process, process_of, process_of_form, replicated_process}
-use Rattle.csp_expression.proofs.ExpressionPutting.{put_list}
-use Rattle.csp_term.proofs.Forms.{of_call, of_prefix, of_guard, of_conditional, of_binary, of_generalised, of_alphabetised, of_hiding, of_renaming, of_replicated}
-use Rattle.csp_term.proofs.OperatorForms.{binary_put, replicated_put}
+use Rattle.csp_term.specs.Term.{process_of, process_of_form}
+use Rattle.csp_term.proofs.ExpressionPutting.{put_list}
+use Rattle.csp_term.proofs.Forms.{of_call, of_prefix, of_guard, of_conditional}
 
 -- ---- fields, one and then the others
 
@@ -88,34 +81,3 @@ pub put_conditional : {A : Type 0} (bs : Bindings) (self : TermForm A) (e condit
     process_of first ≡ put bs (process_of p) → process_of second ≡ put bs (process_of q) → process_of_form {A = A} (views.If condition first second) ≡ put bs (process_of_form self)
 put_conditional {A} bs self e condition p first q second is done put_first_branch put_second =
     of_conditional A condition first second ∙ (λ i. pure.If (done i) (put_first_branch i) (put_second i)) ∙ ap (put bs) (sym (ap process_of_form is ∙ of_conditional A e p q))
-
-pub put_binary : {A : Type 0} (bs : Bindings) (self : TermForm A) (op : ProcessOperator) (p left q right : Term A) → self ≡ views.Binary op p q → process_of left ≡ put bs (process_of p) → process_of right ≡ put bs (process_of q) →
-    process_of_form {A = A} (views.Binary op left right) ≡ put bs (process_of_form self)
-put_binary {A} bs self op p left q right is put_left put_right =
-    of_binary A op left right ∙ ap₂ (binary_process op) put_left put_right ∙ sym (binary_put bs op (process_of p) (process_of q)) ∙ ap (put bs) (sym (ap process_of_form is ∙ of_binary A op p q))
-
-pub put_generalised : {A : Type 0} (bs : Bindings) (self : TermForm A) (p left : Term A) (a shared : EventSet A) (q right : Term A) → self ≡ views.GeneralisedParallel p a q →
-    process_of left ≡ put bs (process_of p) → event_set_of shared ≡ put_event_set bs (event_set_of a) → process_of right ≡ put bs (process_of q) → process_of_form {A = A} (views.GeneralisedParallel left shared right) ≡ put bs (process_of_form self)
-put_generalised {A} bs self p left a shared q right is put_left put_shared put_right =
-    of_generalised A left shared right ∙ (λ i. pure.GeneralisedParallel (put_left i) (put_shared i) (put_right i)) ∙ ap (put bs) (sym (ap process_of_form is ∙ of_generalised A p a q))
-
-pub put_alphabetised : {A : Type 0} (bs : Bindings) (self : TermForm A) (p left : Term A) (a own b other : EventSet A) (q right : Term A) → self ≡ views.AlphabetisedParallel p a b q →
-    process_of left ≡ put bs (process_of p) → event_set_of own ≡ put_event_set bs (event_set_of a) → event_set_of other ≡ put_event_set bs (event_set_of b) → process_of right ≡ put bs (process_of q) →
-    process_of_form {A = A} (views.AlphabetisedParallel left own other right) ≡ put bs (process_of_form self)
-put_alphabetised {A} bs self p left a own b other q right is put_left put_own put_other put_right =
-    of_alphabetised A left own other right ∙ (λ i. pure.AlphabetisedParallel (put_left i) (put_own i) (put_other i) (put_right i)) ∙ ap (put bs) (sym (ap process_of_form is ∙ of_alphabetised A p a b q))
-
-pub put_hiding : {A : Type 0} (bs : Bindings) (self : TermForm A) (p body : Term A) (a hidden : EventSet A) → self ≡ views.Hiding p a → process_of body ≡ put bs (process_of p) → event_set_of hidden ≡ put_event_set bs (event_set_of a) →
-    process_of_form {A = A} (views.Hiding body hidden) ≡ put bs (process_of_form self)
-put_hiding {A} bs self p body a hidden is put_body put_hidden = of_hiding A body hidden ∙ ap₂ pure.Hiding put_body put_hidden ∙ ap (put bs) (sym (ap process_of_form is ∙ of_hiding A p a))
-
-pub put_renaming : {A : Type 0} (bs : Bindings) (self : TermForm A) (p body : Term A) (rs pairs : Vec (RenamingPair A) A) (read : List (RenamingPair A)) → self ≡ views.Renaming p rs → read ≡ rs.items → process_of body ≡ put bs (process_of p) →
-    renaming_pairs_of pairs.items ≡ put_pairs bs (renaming_pairs_of read) → process_of_form {A = A} (views.Renaming body pairs) ≡ put bs (process_of_form self)
-put_renaming {A} bs self p body rs pairs read is same put_body done =
-    of_renaming A body pairs ∙ ap₂ pure.Renaming put_body (done ∙ ap (λ ss. put_pairs bs (renaming_pairs_of ss)) same) ∙ ap (put bs) (sym (ap process_of_form is ∙ of_renaming A p rs))
-
-pub put_replicated : {A : Type 0} (bs left : Bindings) (self : TermForm A) (op : ReplicatedOperator) (n : Name) (e set : Expr A) (p body : Term A) → self ≡ views.Replicated op n e p → expression_of set ≡ put_expression bs (expression_of e) →
-    left ≡ without n.0 bs → process_of body ≡ put left (process_of p) → process_of_form {A = A} (views.Replicated op n set body) ≡ put bs (process_of_form self)
-put_replicated {A} bs left self op n e set p body is done rest put_body =
-    of_replicated A op n set body ∙ ap₂ (replicated_process op n.0) done (put_body ∙ ap (λ cs. put cs (process_of p)) rest)
-    ∙ sym (replicated_put bs op n.0 (expression_of e) (process_of p)) ∙ ap (put bs) (sym (ap process_of_form is ∙ of_replicated A op n e p))
