@@ -3,14 +3,14 @@ use Rattle.std.proofs.Common.{◌≡◌, ℕ, ◌+◌, ◌<◌, List, [], ◌∷
 use Rattle.std.proofs.lemmas.List.{take_more, drop_more, take-append-drop, map-append}
 use Rattle.csp_semantics.specs.Syntax.Expression.{to_expressions}
 use Rattle.csp_semantics.specs.Meaning.Evaluation.{Types, value, values}
-use Rattle.csp_term.specs.declared.expression.expr.Expr.{Expr}
-use Rattle.csp_term.specs.declared.expression.fault.EvalFault.{EvalFault}
-use Rattle.csp_term.specs.declared.expression.fault.EvalFault.TheVariants as eval
-use Rattle.csp_term.specs.declared.expression.seen.Seen.{Seen}
-use Rattle.csp_term.specs.Evaluation.{Sees, seen_value}
-use Rattle.csp_term.specs.Expression.{expression_of, expressions_of}
-use Rattle.csp_term.specs.Fault.{cause_of}
-use Rattle.csp_term.proofs.Evaluating.{value_more, value_stops}
+use Rattle.csp_expression.specs.declared.expr.Expr.{Expr}
+use Rattle.csp_expression.specs.declared.eval_fault.EvalFault.{EvalFault}
+use Rattle.csp_expression.specs.declared.eval_fault.EvalFault.TheVariants as eval
+use Rattle.csp_expression.specs.declared.seen.Seen.{Seen}
+use Rattle.csp_expression.specs.Evaluation.{Sees, seen_value}
+use Rattle.csp_expression.specs.Expression.{expression_of, expressions_of}
+use Rattle.csp_expression.specs.Fault.{cause_of}
+use Rattle.csp_expression.proofs.Evaluating.{value_more, value_stops}
 use Rattle.csp_fire.specs.Answering.{SeesAll, seen_values, stuck_by_value}
 
 -- the values of the first i arguments are these

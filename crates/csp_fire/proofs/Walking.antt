@@ -10,9 +10,9 @@ use Rattle.csp_semantics.specs.Meaning.Events.{Communication, communications, ea
 use Rattle.csp_semantics.specs.Meaning.Substitution.{Bindings, bind, put_expression}
 use Rattle.csp_value.specs.declared.value.Value.{Value}
 use Rattle.csp_value.specs.Value.{value_of, values_of}
-use Rattle.csp_term.specs.declared.expression.fault.EvalFault.{EvalFault}
-use Rattle.csp_term.specs.declared.expression.fault.EvalFault.TheVariants as eval
-use Rattle.csp_term.specs.Evaluation.{Sees}
+use Rattle.csp_expression.specs.declared.eval_fault.EvalFault.{EvalFault}
+use Rattle.csp_expression.specs.declared.eval_fault.EvalFault.TheVariants as eval
+use Rattle.csp_expression.specs.Evaluation.{Sees}
 use Rattle.csp_fire.specs.declared.rules.communications.Found.{Found}
 use Rattle.csp_fire.specs.Answering.{Finds, stuck_by_value}
 

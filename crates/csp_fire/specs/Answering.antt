@@ -13,18 +13,18 @@ use Rattle.csp_semantics.specs.Meaning.Faults.{cause_in}
 use Rattle.csp_semantics.specs.Meaning.Stepping.{communication_steps}
 use Rattle.csp_semantics.specs.Meaning.Transitions.{LeadsPastLimits}
 use Rattle.csp_semantics.specs.Laws.Statements.{StepsAre}
-use Rattle.csp_term.specs.declared.expression.fault.EvalFault.{EvalFault}
-use Rattle.csp_term.specs.declared.expression.fault.EvalFault.TheVariants as eval
+use Rattle.csp_expression.specs.declared.eval_fault.EvalFault.{EvalFault}
+use Rattle.csp_expression.specs.declared.eval_fault.EvalFault.TheVariants as eval
 use Rattle.csp_term.specs.declared.substitution.TermFault.{TermFault}
 use Rattle.csp_term.specs.declared.substitution.TermFault.TheVariants as term
 use Rattle.csp_value.specs.declared.field_set.FieldSet.{FieldSet}
 use Rattle.csp_value.specs.declared.value.Value.{Value}
 use Rattle.csp_value.specs.Value.{value_of}
-use Rattle.csp_term.specs.declared.expression.seen.Seen.{Seen}
-use Rattle.csp_term.specs.declared.expression.substitution.Binding.{Binding}
-use Rattle.csp_term.specs.Bindings.{bindings_of}
-use Rattle.csp_term.specs.Evaluation.{seen_value}
-use Rattle.csp_term.specs.Fault.{cause_of}
+use Rattle.csp_expression.specs.declared.seen.Seen.{Seen}
+use Rattle.csp_expression.specs.declared.substitution.Binding.{Binding}
+use Rattle.csp_expression.specs.Bindings.{bindings_of}
+use Rattle.csp_expression.specs.Evaluation.{seen_value}
+use Rattle.csp_expression.specs.Fault.{cause_of}
 use Rattle.csp_term.specs.Script.{field_values}
 use Rattle.csp_fire.specs.declared.form.Step.{Step}
 use Rattle.csp_fire.specs.declared.rules.communications.Found.{Found}

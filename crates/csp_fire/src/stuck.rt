@@ -2,7 +2,7 @@
 
 ghost use Rattle.std.specs.Prelude.{◌≡◌};
 
-use csp_term::expression::EvalFault;
+use csp_expression::EvalFault;
 use csp_term::{Fault, Memory, TermFault};
 use std::alloc::AllocFailed;
 

@@ -11,7 +11,7 @@ use Rattle.csp_term.specs.declared.field.Field.{Field}
 use Rattle.csp_term.specs.declared.field.Field.TheVariants as variant
 use Rattle.csp_term.specs.contracts.field.FieldOrd.TheImpl as impl
 use Rattle.csp_term.specs.Field.{field_of, fields_of}
-use Rattle.csp_term.proofs.ExpressionOrder.{ordered}
+use Rattle.csp_expression.proofs.ExpressionOrder.{ordered}
 
 module _ (R : RattleType.RattleType) (A : allocator.Ghosts R.Denot) (ad dd : Syntax.Dict) where
   abbrev pub field_order : Field R.Denot → Field R.Denot → Ordering

@@ -6,14 +6,14 @@ use Rattle.csp_semantics.specs.Syntax.Expression.{to_expressions}
 use Rattle.csp_semantics.specs.Syntax.Process as pure
 use Rattle.csp_value.specs.declared.name.ChannelId.{ChannelId}
 use Rattle.csp_term.specs.declared.name.EquationId.{EquationId}
-use Rattle.csp_term.specs.declared.expression.expr.Expr.{Expr}
+use Rattle.csp_expression.specs.declared.expr.Expr.{Expr}
 use Rattle.csp_term.specs.declared.field.Field.{Field}
 use Rattle.csp_term.specs.declared.term.Term.{Term, out-Term, roll-Term}
 use Rattle.csp_term.specs.declared.term.TermForm.{TermForm}
 use Rattle.csp_term.specs.declared.term.TermForm.TheFolds.{fold-roll-Term, fold-roll-TermForm, fold_out-Term}
 use Rattle.csp_term.specs.declared.term.TermForm.TheVariants as views
 use Rattle.csp_term.specs.declared.term.TermForm.TheOpen as layer
-use Rattle.csp_term.specs.Expression.{expression_of, expressions_of}
+use Rattle.csp_expression.specs.Expression.{expression_of, expressions_of}
 use Rattle.csp_term.specs.Field.{fields_of}
 use Rattle.csp_term.specs.Term.{process_of, process_of_form, term_step, form_step}
 

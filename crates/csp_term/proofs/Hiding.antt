@@ -2,8 +2,8 @@
 use Rattle.std.proofs.Common.{◌≡◌, ℕ, nat_eq, cond, not, filter, Bool, true, false, List, [], ◌∷◌, refl, ap}
 use Rattle.csp_semantics.specs.Meaning.Substitution.{Bindings, without}
 use Rattle.csp_value.specs.Value.{value_of}
-use Rattle.csp_term.specs.declared.expression.substitution.Binding.{Binding}
-use Rattle.csp_term.specs.Bindings.{bindings_of}
+use Rattle.csp_expression.specs.declared.substitution.Binding.{Binding}
+use Rattle.csp_expression.specs.Bindings.{bindings_of}
 
 one_hidden : {A : Type 0} (is : Bool) (b : Binding A) (kept : List (Binding A)) (others : Bindings) → bindings_of kept ≡ others → bindings_of (cond (not is) (b ∷ kept) kept) ≡ cond is others ((b.name.0, value_of b.value.now) ∷ others)
 one_hidden true b kept others same = same

@@ -5,12 +5,12 @@ use Rattle.csp_semantics.specs.Syntax.Expression.{to_expressions}
 use Rattle.csp_semantics.specs.Syntax.Process.{Call, Prefix, Guard, If}
 use Rattle.csp_value.specs.declared.name.ChannelId.{ChannelId}
 use Rattle.csp_term.specs.declared.name.EquationId.{EquationId}
-use Rattle.csp_term.specs.declared.expression.expr.Expr.{Expr}
+use Rattle.csp_expression.specs.declared.expr.Expr.{Expr}
 use Rattle.csp_term.specs.declared.field.Field.{Field}
 use Rattle.csp_term.specs.declared.term.Term.{Term}
 use Rattle.csp_term.specs.declared.term.TermForm.{TermForm}
 use Rattle.csp_term.specs.declared.term.TermForm.TheVariants as views
-use Rattle.csp_term.specs.Expression.{expression_of, expressions_of}
+use Rattle.csp_expression.specs.Expression.{expression_of, expressions_of}
 use Rattle.csp_term.specs.Field.{fields_of}
 use Rattle.csp_term.specs.Term.{process_of, process_of_form}
 use Rattle.csp_term.proofs.Forms.{of_call, of_prefix, of_guard, of_conditional}

@@ -11,7 +11,7 @@ use Rattle.std.specs.Ordering.{nat_cmp, ordering_then}
 use Rattle.csp_semantics.specs.Syntax.Order.{process_cmp}
 use Rattle.csp_value.specs.declared.name.ChannelId.{ChannelId}
 use Rattle.csp_term.specs.declared.name.EquationId.{EquationId}
-use Rattle.csp_term.specs.declared.expression.expr.Expr.{Expr}
+use Rattle.csp_expression.specs.declared.expr.Expr.{Expr}
 use Rattle.csp_term.specs.declared.field.Field.{Field}
 use Rattle.csp_term.specs.declared.term.Term.{Term, out-Term, roll-Term, out-roll-Term}
 use Rattle.csp_term.specs.declared.term.TermForm.{TermForm, roll-TermForm}
@@ -25,7 +25,7 @@ use Rattle.csp_term.specs.contracts.term.TermFormOrd.TheImpl as form_impl
 use Rattle.csp_term.specs.contracts.term.TermFormOrd.TheImpl.Laws as laws
 use Rattle.csp_term.specs.contracts.term.TermForm as contract
 use Rattle.csp_term.specs.Term.{process_of, process_of_form}
-use Rattle.csp_term.proofs.ExpressionOrder.{ordered as expression_ordered, lists_ordered as expressions_ordered}
+use Rattle.csp_expression.proofs.ExpressionOrder.{ordered as expression_ordered, lists_ordered as expressions_ordered}
 use Rattle.csp_term.proofs.FieldOrder.{fields_ordered}
 use Rattle.csp_term.proofs.Forms.{of_form, of_stop, of_skip, of_omega_term, of_call, of_prefix, of_guard, of_conditional}
 

@@ -7,16 +7,16 @@ use Rattle.csp_semantics.specs.Syntax.Process as pure
 use Rattle.csp_semantics.specs.Meaning.Substitution.{Bindings, behind, put, put_expression, put_fields}
 use Rattle.csp_value.specs.declared.name.ChannelId.{ChannelId}
 use Rattle.csp_term.specs.declared.name.EquationId.{EquationId}
-use Rattle.csp_term.specs.declared.expression.expr.Expr.{Expr}
+use Rattle.csp_expression.specs.declared.expr.Expr.{Expr}
 use Rattle.csp_term.specs.declared.field.Field.{Field}
 use Rattle.csp_term.specs.declared.term.Term.{Term}
 use Rattle.csp_term.specs.declared.term.TermForm.{TermForm}
 use Rattle.csp_term.specs.declared.term.TermForm.TheVariants as views
-use Rattle.csp_term.specs.Bindings.{puts}
-use Rattle.csp_term.specs.Expression.{expression_of, expressions_of}
+use Rattle.csp_expression.specs.Bindings.{puts}
+use Rattle.csp_expression.specs.Expression.{expression_of, expressions_of}
 use Rattle.csp_term.specs.Field.{field_of, fields_of}
 use Rattle.csp_term.specs.Term.{process_of, process_of_form}
-use Rattle.csp_term.proofs.ExpressionPutting.{put_list}
+use Rattle.csp_expression.proofs.ExpressionPutting.{put_list}
 use Rattle.csp_term.proofs.Forms.{of_call, of_prefix, of_guard, of_conditional}
 
 -- ---- fields, one and then the others

@@ -6,7 +6,7 @@ use Rattle.csp_term.specs.declared.term.Term.{Term}
 use Rattle.csp_term.specs.declared.term.TermForm.{TermForm}
 use Rattle.csp_term.specs.declared.term.TermForm.TheOpen as layer
 use Rattle.csp_term.specs.declared.term.TermForm.TheFolds.{fold-Term, fold-TermForm}
-use Rattle.csp_term.specs.Expression.{expression_of, expressions_of}
+use Rattle.csp_expression.specs.Expression.{expression_of, expressions_of}
 use Rattle.csp_term.specs.Field.{fields_of}
 
 -- one layer, with the processes of the parts in their places

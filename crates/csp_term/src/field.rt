@@ -3,8 +3,7 @@
 ghost use Rattle.std.specs.Prelude.{◌≡◌, IfOk};
 ghost use Rattle.csp_term.specs.Field.{field_of, fields_of};
 
-use crate::expression::Expr;
-use crate::name::Name;
+use csp_expression::{Expr, Name};
 use csp_value::{Memory, TryCopy};
 use std::alloc::Allocator;
 

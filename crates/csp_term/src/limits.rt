@@ -6,9 +6,9 @@ ghost use Rattle.csp_semantics.specs.Meaning.Limits.{size, depth, fields_depth, 
 ghost use Rattle.csp_term.specs.Field.{field_of, fields_of};
 ghost use Rattle.csp_term.specs.Term.{process_of};
 
-use crate::expression::{are_within_depth, room_left_by};
 use crate::field::Field;
 use crate::term::{Term, TermForm};
+use csp_expression::{are_within_depth, room_left_by};
 use std::alloc::Allocator;
 
 /// The most nodes of a term within the limits.

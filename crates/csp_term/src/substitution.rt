@@ -4,14 +4,13 @@ ghost use Rattle.std.specs.Prelude.{◌≡◌, ◌∷◌, [], IfOk, IsErrOf, IsF
 ghost use Rattle.csp_semantics.specs.Meaning.Substitution.{behind, bind, put, put_fields, without};
 ghost use Rattle.csp_semantics.specs.Meaning.Limits.{fits};
 ghost use Rattle.csp_value.specs.Value.{value_of};
-ghost use Rattle.csp_term.specs.Bindings.{bindings_of};
+ghost use Rattle.csp_expression.specs.Bindings.{bindings_of};
 ghost use Rattle.csp_term.specs.Field.{field_of, fields_of};
 ghost use Rattle.csp_term.specs.Term.{process_of};
 
-use crate::expression::{Binding, put_in_all};
 use crate::field::Field;
-use crate::name::Name;
 use crate::term::{Term, TermForm};
+use csp_expression::{Binding, Name, put_in_all};
 use csp_value::{Memory, Value};
 use std::alloc::Allocator;
 use thiserror::Error;

@@ -3,9 +3,9 @@
 ghost use Rattle.std.specs.Prelude.{◌≡◌, IfOk};
 ghost use Rattle.csp_term.specs.Term.{process_of, process_of_form};
 
-use crate::expression::{Expr, copy_expressions};
 use crate::field::{Field, copy_fields};
 use crate::name::EquationId;
+use csp_expression::{Expr, copy_expressions};
 use csp_value::{ChannelId, Memory};
 use std::alloc::Allocator;
 

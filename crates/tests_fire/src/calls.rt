@@ -2,8 +2,8 @@
 
 use crate::expressions::{HEAD_OF_NOTHING, Part, REMAINDER_BY_NOTHING};
 use crate::made::{D, P, Place, Q, R, call, chain, does, given, prefix, script, stuck_by};
+use csp_expression::BinaryOperator;
 use csp_fire::{Form, Step, fire};
-use csp_term::expression::BinaryOperator;
 use csp_term::{Action, EquationId, Fault, Memory, Script, Term, TermForm};
 use std::alloc::Global;
 use std::process::Abort;

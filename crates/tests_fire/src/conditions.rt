@@ -2,8 +2,8 @@
 
 use crate::expressions::{HEAD_OF_NOTHING, Part, REMAINDER_BY_NOTHING, expression};
 use crate::made::{C, X, does, event, given, script, stuck_by};
+use csp_expression::{BinaryOperator, UnaryOperator};
 use csp_fire::Step;
-use csp_term::expression::{BinaryOperator, UnaryOperator};
 use csp_term::{Fault, Memory, Script, Term, TermForm};
 use std::alloc::Global;
 use std::test::Fail;

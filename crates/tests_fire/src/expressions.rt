@@ -1,6 +1,6 @@
 //! Expressions that tests put together from parts.
 
-use csp_term::expression::{BinaryOperator, Expr, UnaryOperator};
+use csp_expression::{BinaryOperator, Expr, UnaryOperator};
 use csp_term::{Memory, Name};
 use csp_value::Value;
 use std::alloc::Allocator;

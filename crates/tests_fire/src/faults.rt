@@ -2,7 +2,7 @@
 
 use crate::expressions::{HEAD_OF_NOTHING, Part, REMAINDER_BY_NOTHING};
 use crate::made::{A, C, D, E, Place, X, prefix, script, stuck_by};
-use csp_term::expression::BinaryOperator;
+use csp_expression::BinaryOperator;
 use csp_term::{ChannelId, Fault, Memory, Term, TermForm};
 use std::alloc::Global;
 use std::test::Fail;

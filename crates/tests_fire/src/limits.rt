@@ -2,8 +2,8 @@
 
 use crate::expressions::Part;
 use crate::made::{A, P, Place, X, call, chain, does, event, prefix, script, stuck_by};
+use csp_expression::{BinaryOperator, UnaryOperator};
 use csp_fire::Step;
-use csp_term::expression::{BinaryOperator, UnaryOperator};
 use csp_term::{Channel, ChannelId, Fault, Memory, Script, Term, TermFault};
 use csp_value::{FieldSet, Value};
 use std::alloc::Global;

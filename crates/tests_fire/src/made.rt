@@ -1,8 +1,8 @@
 //! Scripts, terms and events that the tests share.
 
 use crate::expressions::{Part, expression, expressions};
+use csp_expression::TypeTable;
 use csp_fire::{Form, Step, fire};
-use csp_term::expression::TypeTable;
 use csp_term::{
     Action, AllocHandle, Channel, ChannelId, Equation, EquationId, Event, Fault, Field, Memory,
     Name, Script, Term, TermForm,

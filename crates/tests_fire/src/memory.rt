@@ -3,8 +3,8 @@
 
 use crate::expressions::{HEAD_OF_NOTHING, Part, expression};
 use crate::made::{C, D, E, P, Place, Q, R, X, call, prefix, script};
+use csp_expression::{BinaryOperator, Binding};
 use csp_fire::{Form, fire};
-use csp_term::expression::{BinaryOperator, Binding};
 use csp_term::{Field, Memory, Script, Term, TermFault, TermForm, TryCopy};
 use csp_value::Value;
 use linked_list_allocator::LocalHeap;

@@ -6,8 +6,8 @@ ghost use Rattle.csp_semantics.specs.Syntax.Process.{Call};
 ghost use Rattle.csp_semantics.specs.Meaning.Evaluation.{values};
 ghost use Rattle.csp_semantics.specs.Meaning.Events.{parameter_bindings};
 ghost use Rattle.csp_semantics.specs.Syntax.Value.{Tau};
-ghost use Rattle.csp_term.specs.Evaluation.{table_of};
-ghost use Rattle.csp_term.specs.Expression.{expressions_of};
+ghost use Rattle.csp_expression.specs.Evaluation.{table_of};
+ghost use Rattle.csp_expression.specs.Expression.{expressions_of};
 ghost use Rattle.csp_term.specs.Script.{script_of};
 ghost use Rattle.csp_term.specs.Term.{process_of};
 ghost use Rattle.csp_fire.specs.Answering.{Answers, Binds, SeesAll, seen_values};
@@ -15,7 +15,7 @@ ghost use Rattle.csp_fire.specs.Form.{step_of};
 
 use crate::form::Step;
 use crate::stuck::Stuck;
-use csp_term::expression::{Binding, Expr, Seen, TypeTable};
+use csp_expression::{Binding, Expr, Seen, TypeTable};
 use csp_term::{Action, AllocHandle, EquationId, Fault, Memory, Name, Script, Term};
 
 pub(crate) fn steps<A: AllocHandle>(
@@ -36,7 +36,7 @@ pub(crate) fn steps<A: AllocHandle>(
 }
 
 /// The value of each argument, lent where it lies in it, or the first cause.
-#[tactic(auto, using(csp_term::proofs::Nothing::put_nothing, csp_term::proofs::Nothing::put_nothing_in_all))]
+#[tactic(auto, using(csp_expression::proofs::Nothing::put_nothing, csp_expression::proofs::Nothing::put_nothing_in_all))]
 fn argument_values<'e, A: AllocHandle>(
     alloc: A,
     types: &TypeTable<A>,

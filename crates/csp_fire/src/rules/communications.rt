@@ -8,9 +8,9 @@ ghost use Rattle.csp_semantics.specs.Syntax.Process.{Given, Input, InputFrom};
 ghost use Rattle.csp_semantics.specs.Meaning.Events.{communications};
 ghost use Rattle.csp_semantics.specs.Meaning.Substitution.{bind};
 ghost use Rattle.csp_value.specs.Value.{value_of, values_of};
-ghost use Rattle.csp_term.specs.Bindings.{bindings_of};
-ghost use Rattle.csp_term.specs.Evaluation.{table_of};
-ghost use Rattle.csp_term.specs.Expression.{expression_of};
+ghost use Rattle.csp_expression.specs.Bindings.{bindings_of};
+ghost use Rattle.csp_expression.specs.Evaluation.{table_of};
+ghost use Rattle.csp_expression.specs.Expression.{expression_of};
 ghost use Rattle.csp_term.specs.Field.{fields_of};
 ghost use Rattle.csp_term.specs.Script.{field_values};
 ghost use Rattle.csp_term.specs.Term.{process_of};
@@ -18,7 +18,7 @@ ghost use Rattle.csp_fire.specs.Answering.{Finds, lent_values, sets_of};
 
 use crate::form::Step;
 use crate::stuck::Stuck;
-use csp_term::expression::{Binding, Expr, TypeTable};
+use csp_expression::{Binding, Expr, TypeTable};
 use csp_term::{
     Action, AllocHandle, ChannelId, Event, Fault, Field, Memory, Name, Term, TermFault, bind,
 };

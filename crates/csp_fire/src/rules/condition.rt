@@ -2,17 +2,17 @@
 
 ghost use Rattle.csp_semantics.specs.Meaning.Events.{condition, truth_of};
 ghost use Rattle.csp_value.specs.Value.{value_of};
-ghost use Rattle.csp_term.specs.Evaluation.{table_of};
-ghost use Rattle.csp_term.specs.Expression.{expression_of};
+ghost use Rattle.csp_expression.specs.Evaluation.{table_of};
+ghost use Rattle.csp_expression.specs.Expression.{expression_of};
 ghost use Rattle.csp_fire.specs.Answering.{Decides};
 
 use crate::stuck::Stuck;
-use csp_term::expression::{Expr, TypeTable};
+use csp_expression::{Expr, TypeTable};
 use csp_term::{AllocHandle, Fault};
 use csp_value::Value;
 
 /// Whether the condition is true, or the first cause.
-#[tactic(auto, using(csp_term::proofs::Nothing::put_nothing))]
+#[tactic(auto, using(csp_expression::proofs::Nothing::put_nothing))]
 pub(crate) fn condition<A: AllocHandle>(
     alloc: A,
     types: &TypeTable<A>,

@@ -1,7 +1,7 @@
 //! A conditional process does what the branch does that its condition picks.
 
 ghost use Rattle.csp_semantics.specs.Syntax.Process.{If};
-ghost use Rattle.csp_term.specs.Expression.{expression_of};
+ghost use Rattle.csp_expression.specs.Expression.{expression_of};
 ghost use Rattle.csp_term.specs.Script.{script_of};
 ghost use Rattle.csp_term.specs.Term.{process_of};
 ghost use Rattle.csp_fire.specs.Answering.{Answers};
@@ -10,7 +10,7 @@ use crate::form::Step;
 use crate::rules;
 use crate::rules::condition::condition;
 use crate::stuck::Stuck;
-use csp_term::expression::Expr;
+use csp_expression::Expr;
 use csp_term::{AllocHandle, Script, Term};
 
 #[cycle(steps)]

@@ -1,8 +1,8 @@
 //! The order of expressions, their copies and their hashes, form by form.
 
 use crate::expressions::parts::{Part, expression};
-use csp_term::expression::laws::{compare_expressions, equal_expressions, hash_expression};
-use csp_term::expression::{BinaryOperator, Expr, UnaryOperator};
+use csp_expression::laws::{compare_expressions, equal_expressions, hash_expression};
+use csp_expression::{BinaryOperator, Expr, UnaryOperator};
 use csp_term::{Memory, copy_all};
 use std::alloc::{Allocator, Global};
 use std::cmp::Ordering;

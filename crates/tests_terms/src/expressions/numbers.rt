@@ -1,8 +1,8 @@
 //! Numbers of 32 bits and the operators on them.
 
 use crate::expressions::parts::{Answer, Part, answers};
+use csp_expression::{BinaryOperator, UnaryOperator};
 use csp_term::Fault;
-use csp_term::expression::{BinaryOperator, UnaryOperator};
 use std::alloc::Global;
 use std::test::Fail;
 

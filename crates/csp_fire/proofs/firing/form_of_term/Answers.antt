@@ -5,7 +5,7 @@ use Rattle.csp_semantics.specs.Meaning.Expansions.{IsFormOf}
 use Rattle.csp_semantics.specs.Meaning.Limits.{fits}
 use Rattle.csp_term.specs.Term.{process_of}
 use Rattle.csp_term.specs.Script.{script_of}
-use Rattle.csp_term.proofs.Answering.{if_ok-map}
+use Rattle.csp_expression.proofs.Answering.{if_ok-map}
 use Rattle.csp_fire.specs.declared.form.Step.{Step}
 use Rattle.csp_fire.specs.declared.stuck.Stuck.{Stuck}
 use Rattle.csp_fire.specs.Answering.{Answers}

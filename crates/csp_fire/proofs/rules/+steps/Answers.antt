@@ -4,7 +4,7 @@ use Rattle.std.proofs.Math.Nat.{le-max_left, le-max_right}
 use Rattle.std.proofs.lemmas.Result.{err_from_is_err_and}
 use Rattle.std.specs.declared.vec.Vec.{Vec}
 use Rattle.csp_semantics.specs.Syntax.Process as pure
-use Rattle.csp_term.specs.Expression.{expression_of, expressions_of}
+use Rattle.csp_expression.specs.Expression.{expression_of, expressions_of}
 use Rattle.csp_term.specs.Field.{fields_of}
 use Rattle.csp_term.proofs.Forms.{of_call, of_conditional, of_guard, of_omega_term, of_prefix, of_skip, of_stop}
 use Rattle.csp_semantics.specs.Syntax.Expression.{to_expressions}

@@ -1,6 +1,6 @@
 -- One more field is copied.
 use Rattle.csp_term.specs.Field.{field_of}
-use Rattle.csp_term.proofs.Copying.{map_push}
+use Rattle.csp_expression.proofs.Copying.{map_push}
 use Rattle.csp_term.proofs.field.copy_fields.Goals as goal
 
 pub loop-field-preserved : goal.loop-field-preserved

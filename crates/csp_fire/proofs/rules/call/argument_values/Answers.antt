@@ -6,10 +6,10 @@ use Rattle.std.specs.declared.vec.Vec.{Vec}
 use Rattle.csp_semantics.specs.Syntax.Expression.{to_expressions}
 use Rattle.csp_semantics.specs.Syntax.Value as pure
 use Rattle.csp_semantics.specs.Meaning.Evaluation.{Cause, value, values}
-use Rattle.csp_term.specs.declared.expression.seen.Seen.{Seen}
-use Rattle.csp_term.specs.Evaluation.{Sees, seen_value, table_of}
-use Rattle.csp_term.specs.Expression.{expression_of, expressions_of}
-use Rattle.csp_term.proofs.Nothing.{put_nothing}
+use Rattle.csp_expression.specs.declared.seen.Seen.{Seen}
+use Rattle.csp_expression.specs.Evaluation.{Sees, seen_value, table_of}
+use Rattle.csp_expression.specs.Expression.{expression_of, expressions_of}
+use Rattle.csp_expression.proofs.Nothing.{put_nothing}
 use Rattle.csp_fire.specs.declared.stuck.Stuck.{Stuck}
 use Rattle.csp_fire.specs.Answering.{SeesAll}
 use Rattle.csp_fire.proofs.Seeing.{seen_more, seen_none}

@@ -1,4 +1,4 @@
-use Rattle.csp_term.specs.Evaluation.{table_of}
+use Rattle.csp_expression.specs.Evaluation.{table_of}
 use Rattle.csp_fire.proofs.Seeing.{SeenSoFar}
 use Rattle.csp_fire.proofs.rules.call.argument_values.Given as goal
 

@@ -9,11 +9,11 @@ use Rattle.csp_semantics.specs.Meaning.Evaluation.{Cause}
 use Rattle.csp_semantics.specs.Meaning.Events.{parameter_bindings}
 use Rattle.csp_semantics.specs.Meaning.Limits.{fits}
 use Rattle.csp_semantics.specs.Meaning.Substitution.{Bindings, put}
-use Rattle.csp_term.specs.Bindings.{bindings_of}
-use Rattle.csp_term.specs.Expression.{expressions_of}
+use Rattle.csp_expression.specs.Bindings.{bindings_of}
+use Rattle.csp_expression.specs.Expression.{expressions_of}
 use Rattle.csp_term.specs.Script.{equation_of, script_of}
 use Rattle.csp_term.specs.Term.{process_of}
-use Rattle.csp_term.proofs.Forming.{get_none, get_some}
+use Rattle.csp_expression.proofs.Forming.{get_none, get_some}
 use Rattle.csp_fire.specs.declared.form.Step.{Step}
 use Rattle.csp_fire.specs.declared.stuck.Stuck.{Stuck}
 use Rattle.csp_fire.specs.Answering.{Answers, Binds, seen_values}

@@ -8,13 +8,13 @@ use Rattle.csp_semantics.specs.Meaning.Evaluation.{Cause, IllKinded, value}
 use Rattle.csp_semantics.specs.Meaning.Events.{Communication, communications, each_list, members_of}
 use Rattle.csp_semantics.specs.Meaning.Substitution.{Bindings, bind, put_expression}
 use Rattle.csp_value.specs.Value.{value_of, values_of}
-use Rattle.csp_term.specs.Bindings.{bindings_of}
-use Rattle.csp_term.specs.Evaluation.{Sees, members_listed, table_of}
+use Rattle.csp_expression.specs.Bindings.{bindings_of}
+use Rattle.csp_expression.specs.Evaluation.{Sees, members_listed, table_of}
 use Rattle.csp_term.specs.Script.{field_values}
-use Rattle.csp_term.specs.Expression.{expression_of}
+use Rattle.csp_expression.specs.Expression.{expression_of}
 use Rattle.csp_term.specs.Field.{field_of, fields_of}
 use Rattle.csp_term.specs.Term.{process_of}
-use Rattle.csp_term.proofs.Forming.{set_is}
+use Rattle.csp_expression.proofs.Forming.{set_is}
 use Rattle.csp_fire.specs.declared.rules.communications.Found.{Found}
 use Rattle.csp_fire.specs.declared.stuck.Stuck.{Stuck}
 use Rattle.csp_fire.specs.Answering.{Finds, lent_values, sets_of}

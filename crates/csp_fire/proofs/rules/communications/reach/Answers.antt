@@ -4,7 +4,7 @@ use Rattle.csp_semantics.specs.Syntax.Value.{Ev}
 use Rattle.csp_semantics.specs.Meaning.Limits.{fits}
 use Rattle.csp_semantics.specs.Meaning.Substitution.{put}
 use Rattle.csp_value.specs.Value.{values_of}
-use Rattle.csp_term.specs.Bindings.{bindings_of}
+use Rattle.csp_expression.specs.Bindings.{bindings_of}
 use Rattle.csp_term.specs.Term.{process_of}
 use Rattle.csp_fire.specs.Answering.{lent_values}
 use Rattle.csp_fire.proofs.Reaching.{last_one, passed, reached}

@@ -2,9 +2,9 @@
 use Rattle.std.proofs.Common.{◌≡◌, Bool, Result, Ok, sym, ◌∙◌, ap, subst}
 use Rattle.csp_semantics.specs.Meaning.Evaluation.{Cause, ◌and_then◌, value}
 use Rattle.csp_semantics.specs.Meaning.Events.{truth_of}
-use Rattle.csp_term.specs.Evaluation.{seen_value, table_of}
-use Rattle.csp_term.specs.Expression.{expression_of}
-use Rattle.csp_term.proofs.Nothing.{put_nothing}
+use Rattle.csp_expression.specs.Evaluation.{seen_value, table_of}
+use Rattle.csp_expression.specs.Expression.{expression_of}
+use Rattle.csp_expression.proofs.Nothing.{put_nothing}
 use Rattle.csp_fire.specs.Answering.{Decides}
 use Rattle.csp_fire.proofs.rules.condition.condition.Goals as goal
 

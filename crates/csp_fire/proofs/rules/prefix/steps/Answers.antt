@@ -7,11 +7,11 @@ use Rattle.csp_semantics.specs.Syntax.Value as pure
 use Rattle.csp_semantics.specs.Syntax.Process.{Prefix}
 use Rattle.csp_semantics.specs.Meaning.Events.{communications}
 use Rattle.csp_semantics.specs.Meaning.Substitution.{Bindings}
-use Rattle.csp_term.specs.Bindings.{bindings_of}
+use Rattle.csp_expression.specs.Bindings.{bindings_of}
 use Rattle.csp_term.specs.Field.{fields_of}
 use Rattle.csp_term.specs.Script.{field_sets_of, script_of}
 use Rattle.csp_term.specs.Term.{process_of}
-use Rattle.csp_term.proofs.Forming.{get_none, get_some}
+use Rattle.csp_expression.proofs.Forming.{get_none, get_some}
 use Rattle.csp_fire.specs.declared.form.Step.{Step}
 use Rattle.csp_fire.specs.declared.rules.communications.Found.{Found}
 use Rattle.csp_fire.specs.declared.stuck.Stuck.{Stuck}

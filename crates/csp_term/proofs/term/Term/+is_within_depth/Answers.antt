@@ -4,7 +4,8 @@ use Rattle.csp_semantics.specs.Meaning.Limits.{depth}
 use Rattle.csp_value.proofs.Walking.{told_within}
 use Rattle.csp_term.specs.Term.{process_of, process_of_form}
 use Rattle.csp_term.proofs.Forms.{of_form, of_call, of_prefix}
-use Rattle.csp_term.proofs.Measures.{depths, field_depths, depth_within, depth_both, depth_beyond}
+use Rattle.csp_expression.proofs.Measures.{depths, depth_within, depth_both, depth_beyond}
+use Rattle.csp_term.proofs.FieldMeasures.{field_depths}
 use Rattle.csp_term.proofs.term.Term.+is_within_depth.Goals as goal
 
 pub returns-in-Call : goal.returns-in-Call

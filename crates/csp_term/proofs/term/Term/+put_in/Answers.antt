@@ -2,7 +2,7 @@
 use Rattle.std.proofs.Common.{sym, ◌∙◌, ap}
 use Rattle.std.proofs.lemmas.Result.{IfOk-weaker}
 use Rattle.csp_semantics.specs.Meaning.Substitution.{put}
-use Rattle.csp_term.specs.Bindings.{bindings_of}
+use Rattle.csp_expression.specs.Bindings.{bindings_of}
 use Rattle.csp_term.specs.Term.{process_of, process_of_form}
 use Rattle.csp_term.proofs.Forms.{of_form}
 use Rattle.csp_term.proofs.TermPutting.{put_call, put_prefix, put_guard, put_conditional}

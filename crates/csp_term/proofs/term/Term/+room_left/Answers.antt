@@ -3,7 +3,8 @@ use Rattle.std.proofs.Common.{◌+◌, sym, ◌∙◌, ap}
 use Rattle.csp_semantics.specs.Meaning.Limits.{size}
 use Rattle.csp_term.specs.Term.{process_of, process_of_form}
 use Rattle.csp_term.proofs.Forms.{of_form, of_call, of_prefix}
-use Rattle.csp_term.proofs.Measures.{sizes, field_sizes, size_left, size_past, size_left_behind}
+use Rattle.csp_expression.proofs.Measures.{sizes, size_left, size_past, size_left_behind}
+use Rattle.csp_term.proofs.FieldMeasures.{field_sizes}
 use Rattle.csp_term.proofs.term.Term.+room_left.Goals as goal
 
 pub returns-in-Call : goal.returns-in-Call

@@ -1,0 +1,15 @@
+pub mod Answering
+pub mod ExpressionPutting
+pub mod Sameness
+pub mod Copying
+pub mod ExpressionForms
+pub mod OperatorOrder
+pub mod ExpressionOrder
+pub mod ExpressionEquality
+pub mod ValueTests
+pub mod Evaluating
+pub mod Named
+pub mod Looking
+pub mod Forming
+pub mod Nothing
+pub mod Measures
