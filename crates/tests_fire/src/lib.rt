@@ -1,5 +1,5 @@
 //! What `csp_fire` is seen to do: worked terms of each form, faults and their order, terms past the limits, and refused
-//! memory.
+//! memory. The terms and what is said of them are texts, which `rows` reads.
 #![tactic(auto)]
 
 #[cfg(test)]
@@ -13,8 +13,16 @@ mod faults;
 #[cfg(test)]
 mod limits;
 #[cfg(test)]
-mod made;
-#[cfg(test)]
 mod memory;
 #[cfg(test)]
+mod names;
+#[cfg(test)]
 mod prefixes;
+#[cfg(test)]
+mod rows;
+#[cfg(test)]
+mod script;
+#[cfg(test)]
+mod terms;
+#[cfg(test)]
+mod texts;

@@ -1,114 +1,46 @@
 //! Firings, copies and values put in, in heaps of more and more bytes: each request for memory is refused in turn, and
 //! then none.
 
-use crate::expressions::{HEAD_OF_NOTHING, Part, expression};
-use crate::made::{C, D, E, P, Place, Q, R, X, call, prefix, script};
-use csp_expression::{BinaryOperator, Binding};
+use crate::script::script;
+use crate::terms::term;
+use crate::texts::read;
+use csp_expression::Binding;
 use csp_fire::{Form, fire};
-use csp_term::{Field, Memory, Script, Term, TermFault, TermForm, TryCopy};
+use csp_parse::{Declaration, Process, Raw};
+use csp_term::{Memory, Name, Script, Term, TermFault, TryCopy};
 use csp_value::Value;
 use linked_list_allocator::LocalHeap;
-use std::alloc::{Allocator, Global};
+use std::alloc::Global;
 use std::process::Abort;
 use std::test::Fail;
 
-/// Terms of each form, in which `n` is 1, or the name `x` that 1 is put in for.
-#[derive(Clone, Copy)]
-enum Sample {
-    Stop,
-    Skip,
-    /// `P(n)`
-    Call,
-    /// `R(n, head(<>))`, which is faulty.
-    FaultyCall,
-    /// `Q`, which is large.
-    LargeCall,
-    /// `c!n -> STOP`
-    Given,
-    /// `d?x!x -> c!x -> STOP`
-    Input,
-    /// `e!n?x:{0..n}?x -> c!x -> STOP`
-    InputFrom,
-    /// `n == 1 & c?x -> c!x -> STOP`
-    Guard,
-    /// `if n == 0 then STOP else c!n -> STOP`
-    If,
-}
+/// Terms of each form.
+static SAMPLES: &str = "
+T = STOP
+T = SKIP
+T = P(1)
+T = R(1, head(<>))
+T = Q
+T = c!1 -> STOP
+T = d?x!x -> c!x -> STOP
+T = e!1?x:{0..1}?x -> c!x -> STOP
+T = 1 == 1 & c?x -> c!x -> STOP
+T = if 1 == 0 then STOP else c!1 -> STOP
+";
 
-const SAMPLES: [Sample; 10] = [
-    Sample::Stop,
-    Sample::Skip,
-    Sample::Call,
-    Sample::FaultyCall,
-    Sample::LargeCall,
-    Sample::Given,
-    Sample::Input,
-    Sample::InputFrom,
-    Sample::Guard,
-    Sample::If,
-];
-
-const NAME: [Part; 1] = [Part::Name(X)];
-
-/// `c!n -> STOP`
-fn output<A: Allocator + Copy>(alloc: A, number: Part) -> Result<Term<A>, Memory> {
-    prefix(
-        alloc,
-        C,
-        &[Place::Given(&[number])],
-        Term::new(alloc, TermForm::Stop)?,
-    )
-}
-
-/// `d?x!x -> c!x -> STOP`
-fn input<A: Allocator + Copy>(alloc: A) -> Result<Term<A>, Memory> {
-    let body = output(alloc, Part::Name(X))?;
-    prefix(alloc, D, &[Place::Input, Place::Given(&NAME)], body)
-}
-
-/// `e!n?x:{0..n}?x -> c!x -> STOP`
-fn input_from<A: Allocator + Copy>(alloc: A, number: Part) -> Result<Term<A>, Memory> {
-    let body = output(alloc, Part::Name(X))?;
-    let set = expression(alloc, &[Part::Number(0), number, Part::Range])?;
-    let mut fields = Vec::new(alloc);
-    fields.push(Field::Given(expression(alloc, &[number])?))?;
-    fields.push(Field::InputFrom(X, set))?;
-    fields.push(Field::Input(X))?;
-    Term::new(alloc, TermForm::Prefix(E, fields, body))
-}
-
-/// `n == 1 & c?x -> c!x -> STOP`
-fn guarded<A: Allocator + Copy>(alloc: A, number: Part) -> Result<Term<A>, Memory> {
-    let equals = Part::Combine(BinaryOperator::Equals);
-    let condition = expression(alloc, &[number, Part::Number(1), equals])?;
-    let output = output(alloc, Part::Name(X))?;
-    let body = prefix(alloc, C, &[Place::Input], output)?;
-    Term::new(alloc, TermForm::Guard(condition, body))
-}
-
-/// `if n == 0 then STOP else c!n -> STOP`
-fn chosen<A: Allocator + Copy>(alloc: A, number: Part) -> Result<Term<A>, Memory> {
-    let equals = Part::Combine(BinaryOperator::Equals);
-    let condition = expression(alloc, &[number, Part::Number(0), equals])?;
-    let first = Term::new(alloc, TermForm::Stop)?;
-    let second = output(alloc, number)?;
-    Term::new(alloc, TermForm::If(condition, first, second))
-}
-
-fn term<A: Allocator + Copy>(alloc: A, sample: Sample, number: Part) -> Result<Term<A>, Memory> {
-    match sample {
-        Sample::Stop => Term::new(alloc, TermForm::Stop),
-        Sample::Skip => Term::new(alloc, TermForm::Skip),
-        Sample::Call => call(alloc, P, &[&[number]]),
-        Sample::FaultyCall => call(alloc, R, &[&[number], &HEAD_OF_NOTHING]),
-        Sample::LargeCall => call(alloc, Q, &[]),
-        Sample::Given => output(alloc, number),
-        Sample::Input => input(alloc),
-        Sample::InputFrom => input_from(alloc, number),
-        Sample::Guard => guarded(alloc, number),
-        Sample::If => chosen(alloc, number),
-    }
-}
+/// The same, where 1 is put in for `x`.
+static OPEN_SAMPLES: &str = "
+T = STOP
+T = SKIP
+T = P(x)
+T = R(x, head(<>))
+T = Q
+T = c!x -> STOP
+T = d?x!x -> c!x -> STOP
+T = e!x?x:{0..x}?x -> c!x -> STOP
+T = x == 1 & c?x -> c!x -> STOP
+T = if x == 0 then STOP else c!x -> STOP
+";
 
 /// How often memory was refused, and how often there was enough.
 #[derive(Clone, Copy)]
@@ -161,17 +93,30 @@ fn is_fired<'h>(
 fn is_fired_within(
     rt: &impl Abort,
     alloc: Global,
-    sample: Sample,
+    sample: &Process<'_, Global>,
     bytes: usize,
 ) -> Result<bool, Fail> {
     let here = LocalHeap::new(alloc, 131_072)?;
     let there = LocalHeap::new(alloc, bytes)?;
     let script = script(&here)?;
-    let term = term(&here, sample, Part::Number(1))?;
+    let term = term(&here, sample)?;
     let (same_script, same_term) = (script.try_copy(&here)?, term.try_copy(&here)?);
     let is_fired = is_fired(rt, &there, &here, &script, &term)?;
     assert!(rt; script == same_script && term == same_term);
     Ok(is_fired)
+}
+
+/// Counts firings of the sample.
+fn count_firings(
+    rt: &impl Abort,
+    alloc: Global,
+    sample: &Process<'_, Global>,
+    counts: &mut Counts,
+) -> Result<(), Fail> {
+    for size in 1..256 {
+        counts.count(is_fired_within(rt, alloc, sample, 16 * size)?);
+    }
+    Ok(())
 }
 
 #[test]
@@ -180,9 +125,10 @@ fn a_firing_that_finds_no_room_says_so(rt: HostRuntime) -> Result<(), Fail> {
         refused: 0,
         answered: 0,
     };
-    for sample in SAMPLES {
-        for size in 1..256 {
-            counts.count(is_fired_within(&rt, rt.alloc(), sample, 16 * size)?);
+    let samples = read(rt.alloc(), SAMPLES)?;
+    for sample in &samples.declarations {
+        if let Declaration::Equation { body, .. } = sample {
+            count_firings(&rt, rt.alloc(), body, &mut counts)?;
         }
     }
     let Counts { refused, answered } = counts;
@@ -206,16 +152,13 @@ fn made<'h>(
     heap: &'h LocalHeap,
     work: Work,
     term: &Term<&'h LocalHeap>,
+    value: &Value<&'h LocalHeap>,
 ) -> Result<Term<&'h LocalHeap>, TermFault> {
-    let value = Value::Int(1);
-    let binding = Binding {
-        name: X,
-        value: &value,
-    };
+    let name = Name(0);
     match work {
         Work::Copy => Ok(term.try_copy(heap)?),
-        Work::PutIn => Ok(term.put_in(&[binding], heap)?),
-        Work::Substitute => term.subst(&[binding], heap),
+        Work::PutIn => Ok(term.put_in(&[Binding { name, value }], heap)?),
+        Work::Substitute => term.subst(&[Binding { name, value }], heap),
     }
 }
 
@@ -227,7 +170,7 @@ fn is_made<'h>(
     term: &Term<&'h LocalHeap>,
     expected: &Term<&'h LocalHeap>,
 ) -> bool {
-    match made(heap, work, term) {
+    match made(heap, work, term, &Value::Int(1)) {
         Ok(made) => {
             assert!(rt; made == *expected);
             true
@@ -239,42 +182,71 @@ fn is_made<'h>(
     }
 }
 
-/// Does the work on the sample in a heap of so many bytes, for which there may be no room. The term is as it was.
+/// Does the work on the open sample in a heap of so many bytes, for which there may be no room. The term is as it was.
 fn is_made_within(
     rt: &impl Abort,
     alloc: Global,
     work: Work,
-    sample: Sample,
+    open: &Process<'_, Global>,
+    expected: &Process<'_, Global>,
     bytes: usize,
 ) -> Result<bool, Fail> {
     let here = LocalHeap::new(alloc, 16_384)?;
     let there = LocalHeap::new(alloc, bytes)?;
-    let open = term(&here, sample, Part::Name(X))?;
-    let same = term(&here, sample, Part::Name(X))?;
-    let number = match work {
-        Work::Copy => Part::Name(X),
-        Work::PutIn | Work::Substitute => Part::Number(1),
-    };
-    let expected = term(&here, sample, number)?;
+    let same = term(&here, open)?;
+    let open = term(&here, open)?;
+    let expected = term(&here, expected)?;
     let is_made = is_made(rt, &there, work, &open, &expected);
     assert!(rt; open == same);
     Ok(is_made)
 }
 
+/// Counts what is made of the sample, which becomes the closed one, or is copied.
+fn count_made<'t>(
+    rt: &impl Abort,
+    alloc: Global,
+    work: Work,
+    open: &Declaration<'t, Global>,
+    closed: &Declaration<'t, Global>,
+    counts: &mut Counts,
+) -> Result<(), Fail> {
+    match (open, closed) {
+        (Declaration::Equation { body: open, .. }, Declaration::Equation { body, .. }) => {
+            for size in 1..128 {
+                counts.count(is_made_within(rt, alloc, work, open, body, 16 * size)?);
+            }
+            Ok(())
+        }
+        _ => Err(Fail::new("no equations")),
+    }
+}
+
+fn count_all_made<'t>(
+    rt: &impl Abort,
+    alloc: Global,
+    work: Work,
+    open: &Raw<'t, Global>,
+    closed: &Raw<'t, Global>,
+) -> Result<Counts, Fail> {
+    let mut counts = Counts {
+        refused: 0,
+        answered: 0,
+    };
+    for (open, closed) in open.declarations.iter().zip(&closed.declarations) {
+        count_made(rt, alloc, work, open, closed, &mut counts)?;
+    }
+    Ok(counts)
+}
+
 #[test]
 fn terms_that_find_no_room_say_so(rt: HostRuntime) -> Result<(), Fail> {
-    for work in [Work::Copy, Work::PutIn, Work::Substitute] {
-        let mut counts = Counts {
-            refused: 0,
-            answered: 0,
-        };
-        for sample in SAMPLES {
-            for size in 1..128 {
-                counts.count(is_made_within(&rt, rt.alloc(), work, sample, 16 * size)?);
-            }
-        }
-        let Counts { refused, answered } = counts;
+    let open = read(rt.alloc(), OPEN_SAMPLES)?;
+    let closed = read(rt.alloc(), SAMPLES)?;
+    for work in [Work::PutIn, Work::Substitute] {
+        let Counts { refused, answered } = count_all_made(&rt, rt.alloc(), work, &open, &closed)?;
         assert!(rt; refused > 100 && answered > 900, "{refused} and {answered}");
     }
+    let Counts { refused, answered } = count_all_made(&rt, rt.alloc(), Work::Copy, &open, &open)?;
+    assert!(rt; refused > 100 && answered > 900, "{refused} and {answered}");
     Ok(())
 }

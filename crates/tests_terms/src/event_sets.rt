@@ -10,6 +10,7 @@ use csp_term::{ChannelId, Memory, Name};
 use csp_value::Value;
 use linked_list_allocator::LocalHeap;
 use std::alloc::{Allocator, Global};
+use std::cmp::Ordering;
 use std::hash::{DefaultHasher, Hasher};
 use std::test::Fail;
 
@@ -137,20 +138,25 @@ fn hash_of<A: Allocator>(set: &EventSet<A>) -> u64 {
     hasher.finish()
 }
 
-/// Whether the sets at the places are ordered and equal as their places are.
-fn are_placed(alloc: Global, left: usize, right: usize) -> Result<bool, Memory> {
-    let first = set_of(alloc, RISING[left])?;
-    let second = set_of(alloc, RISING[right])?;
-    let is_ordered = compare_event_sets(&first, &second) == left.cmp(&right);
-    let is_same = equal_event_sets(&first, &second) == (left == right);
-    Ok(is_ordered && is_same)
+/// Whether the two sets are ordered so, and equal where that is the order of equals.
+fn are_placed(
+    alloc: Global,
+    left: &[Part],
+    right: &[Part],
+    order: Ordering,
+) -> Result<bool, Memory> {
+    let left = set_of(alloc, left)?;
+    let right = set_of(alloc, right)?;
+    let is_ordered = compare_event_sets(&left, &right) == order;
+    Ok(is_ordered && equal_event_sets(&left, &right) == (order == Ordering::Equal))
 }
 
 #[test]
 fn sets_of_events_rise_by_form_and_then_by_their_parts(rt: HostRuntime) -> Result<(), Fail> {
-    for left in 0..RISING.len() {
-        for right in 0..RISING.len() {
-            assert!(rt; are_placed(rt.alloc(), left, right)?, "{left} and {right}");
+    for (left, first) in RISING.iter().enumerate() {
+        for (right, second) in RISING.iter().enumerate() {
+            let are_placed = are_placed(rt.alloc(), *first, *second, left.cmp(&right))?;
+            assert!(rt; are_placed, "{left} and {right}");
         }
     }
     Ok(())

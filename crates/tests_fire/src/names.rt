@@ -1,0 +1,38 @@
+//! The names that the texts of the tests use. The place of a name in its table is its number.
+
+use csp_parse::Name as Word;
+use csp_term::{ChannelId, EquationId, Name};
+use std::test::Fail;
+
+/// The channels: `a` and `b` without fields, `c` to `e` of one to three fields of `{0..1}`, `s` of a sequence and of
+/// `{0..1}`. The script has no channel for the last.
+static CHANNELS: [&str; 7] = ["a", "b", "c", "d", "e", "s", "undeclared"];
+
+/// The equations. The script has none for the last.
+static EQUATIONS: [&str; 4] = ["P", "R", "Q", "UNDECLARED"];
+
+/// The names that inputs and parameters bind.
+static BOUND: [&str; 2] = ["x", "y"];
+
+fn place_in(names: &[&str], text: &str) -> Result<u32, Fail> {
+    let mut place: u32 = 0;
+    for name in names {
+        if *name == text {
+            return Ok(place);
+        }
+        place = place.saturating_add(1);
+    }
+    Err(Fail::new(format_args!("no {text}")))
+}
+
+pub(crate) fn channel(word: Word<'_>) -> Result<ChannelId, Fail> {
+    Ok(ChannelId(place_in(&CHANNELS, word.text)?))
+}
+
+pub(crate) fn equation(word: Word<'_>) -> Result<EquationId, Fail> {
+    Ok(EquationId(place_in(&EQUATIONS, word.text)?))
+}
+
+pub(crate) fn bound(word: Word<'_>) -> Result<Name, Fail> {
+    Ok(Name(place_in(&BOUND, word.text)?))
+}

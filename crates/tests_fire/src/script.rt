@@ -1,0 +1,110 @@
+//! The script of the tests.
+
+use crate::names::bound;
+use crate::terms::term;
+use crate::texts::read;
+use csp_expression::TypeTable;
+use csp_parse::{Declaration, Name as Word, Process};
+use csp_term::{Channel, ChannelId, Equation, Memory, Script, Term, TermForm};
+use csp_value::{FieldSet, Value};
+use std::alloc::Allocator;
+use std::test::Fail;
+
+/// `Q` is too long for a text: it has 256 prefixes.
+static EQUATIONS: &str = "
+P(x) = c!x -> STOP
+R(x, y) = d!x!y -> STOP
+";
+
+/// As many prefixes over `a` before `STOP`.
+pub(crate) fn chain<A: Allocator + Copy>(alloc: A, prefixes: u32) -> Result<Term<A>, Memory> {
+    let mut term = Term::new(alloc, TermForm::Stop)?;
+    for _ in 0..prefixes {
+        let body = term;
+        term = Term::new(alloc, TermForm::Prefix(ChannelId(0), Vec::new(alloc), body))?;
+    }
+    Ok(term)
+}
+
+/// `{0..1}`
+pub(crate) fn bits<A: Allocator + Copy>(alloc: A) -> Result<FieldSet<A>, Memory> {
+    let mut values = Vec::new(alloc);
+    values.push(Value::Int(0))?;
+    values.push(Value::Int(1))?;
+    Ok(FieldSet::from_values(values))
+}
+
+/// A channel of so many fields of `{0..1}`.
+fn channel<A: Allocator + Copy>(
+    alloc: A,
+    spelling: &str,
+    fields: usize,
+) -> Result<Channel<A>, Memory> {
+    let mut sets = Vec::new(alloc);
+    for _ in 0..fields {
+        sets.push(bits(alloc)?)?;
+    }
+    let spelling = String::from_str(alloc, spelling)?;
+    Ok(Channel {
+        spelling,
+        fields: sets,
+    })
+}
+
+static SPELLINGS: [(&str, usize); 5] = [("a", 0), ("b", 0), ("c", 1), ("d", 2), ("e", 3)];
+
+fn channels<A: Allocator + Copy>(alloc: A) -> Result<Vec<Channel<A>, A>, Memory> {
+    let mut channels = Vec::new(alloc);
+    for (spelling, fields) in &SPELLINGS {
+        channels.push(channel(alloc, *spelling, *fields)?)?;
+    }
+    Ok(channels)
+}
+
+fn equation<A: Allocator + Copy, B: Allocator>(
+    alloc: A,
+    words: &[Word<'_>],
+    body: &Process<'_, B>,
+) -> Result<Equation<A>, Fail> {
+    let mut parameters = Vec::new(alloc);
+    for word in words {
+        parameters.push(bound(*word)?)?;
+    }
+    let body = term(alloc, body)?;
+    Ok(Equation { parameters, body })
+}
+
+fn equations<A: Allocator + Copy>(alloc: A) -> Result<Vec<Equation<A>, A>, Fail> {
+    let raw = read(alloc, EQUATIONS)?;
+    let mut equations = Vec::new(alloc);
+    for declaration in &raw.declarations {
+        if let Declaration::Equation {
+            parameters,
+            body,
+            ..
+        } = declaration
+        {
+            equations.push(equation(alloc, parameters, body)?)?;
+        }
+    }
+    let body = chain(alloc, 256)?;
+    let parameters = Vec::new(alloc);
+    equations.push(Equation { parameters, body })?;
+    Ok(equations)
+}
+
+/// The channels but `s`, and the equations `P`, `R` and `Q`.
+pub(crate) fn script<A: Allocator + Copy>(alloc: A) -> Result<Script<A>, Fail> {
+    let channels = channels(alloc)?;
+    let equations = equations(alloc)?;
+    Ok(Script {
+        types: TypeTable {
+            datatypes: Vec::new(alloc),
+            nametypes: Vec::new(alloc),
+        },
+        constructors: Vec::new(alloc),
+        channels,
+        equations,
+        assertions: Vec::new(alloc),
+    })
+}
