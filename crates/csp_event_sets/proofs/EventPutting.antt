@@ -1,5 +1,6 @@
 -- Values put into events, sets of events and renaming pairs.
-use Rattle.std.proofs.Common.{◌≡◌, List, [], ◌∷◌, map, refl, sym, ◌∙◌, ap}
+use Rattle.std.proofs.Common.{◌≡◌, List, [], ◌∷◌, map, refl, sym, ◌∙◌, ap, ap₂}
+use Rattle.std.specs.declared.boxed.Box.{Box}
 use Rattle.std.specs.declared.vec.Vec.{Vec}
 use Rattle.csp_semantics.specs.Syntax.Expression.{to_expressions}
 use Rattle.csp_semantics.specs.Syntax.Process as pure
@@ -16,7 +17,7 @@ use Rattle.csp_expression.specs.Bindings.{puts}
 use Rattle.csp_event_sets.specs.Events.{put_pair}
 use Rattle.csp_expression.specs.Expression.{expressions_of}
 use Rattle.csp_event_sets.specs.Events.{combined, event_expression_of, event_expressions_of, event_set_of, renaming_pair_of, renaming_pairs_of}
-use Rattle.csp_event_sets.proofs.EventForms.{of_enumeration, of_productions}
+use Rattle.csp_event_sets.proofs.EventForms.{of_combined, of_enumeration, of_productions}
 use Rattle.csp_expression.proofs.ExpressionPutting.{put_list}
 
 pub put_fields_of : {A : Type 0} (bs : Bindings) (c : ChannelId) (es all : Vec (Expr A) A) (read : List (Expr A)) → read ≡ es.items → expressions_of all.items ≡ puts bs read →
@@ -50,3 +51,8 @@ pub put_combined : (bs : Bindings) (op : EventSetOperator) (a b : pure.EventSet)
 put_combined bs operator.Union a b = refl
 put_combined bs operator.Intersection a b = refl
 put_combined bs operator.Difference a b = refl
+
+pub put_both : {A : Type 0} (bs : Bindings) (self : EventSet A) (op : EventSetOperator) (a b c d : Box (EventSet A) A) → self ≡ views.Combine op a b → event_set_of c.value ≡ put_event_set bs (event_set_of a.value) → event_set_of d.value ≡ put_event_set bs (event_set_of b.value) →
+    event_set_of {A = A} (views.Combine op c d) ≡ put_event_set bs (event_set_of self)
+put_both {A} bs self op a b c d is first second =
+    of_combined A op c d ∙ ap₂ (combined op) first second ∙ sym (put_combined bs op (event_set_of a.value) (event_set_of b.value)) ∙ ap (put_event_set bs) (sym (ap event_set_of is ∙ of_combined A op a b))

@@ -7,7 +7,7 @@ use crate::texts::read;
 use csp_expression::Binding;
 use csp_fire::{Form, fire};
 use csp_parse::{Declaration, Process, Raw};
-use csp_term::{Memory, Name, Script, Term, TermFault, TryCopy};
+use csp_term::{Memory, Name, Script, Term, TermFault};
 use csp_value::Value;
 use linked_list_allocator::LocalHeap;
 use std::alloc::Global;
@@ -71,7 +71,24 @@ fn are_same<'h>(left: &Form<&'h LocalHeap>, right: &Form<&'h LocalHeap>) -> bool
     }
 }
 
-/// Whether the heap has room for the firing, which then shows what it shows in the other one.
+/// Whether the heap has room for the firing, which then shows this.
+fn is_fired_as<'h>(
+    rt: &impl Abort,
+    heap: &'h LocalHeap,
+    script: &Script<&'h LocalHeap>,
+    term: &Term<&'h LocalHeap>,
+    whole: &Form<&'h LocalHeap>,
+) -> bool {
+    match fire(heap, script, term) {
+        Ok(expansion) => {
+            assert!(rt; are_same(expansion.form(), whole));
+            true
+        }
+        Err(Memory) => false,
+    }
+}
+
+/// Fires the term in the heap, which may have no room, and in the other one, which has.
 fn is_fired<'h>(
     rt: &impl Abort,
     heap: &'h LocalHeap,
@@ -80,16 +97,35 @@ fn is_fired<'h>(
     term: &Term<&'h LocalHeap>,
 ) -> Result<bool, Memory> {
     let whole = fire(other, script, term)?;
-    match fire(heap, script, term) {
-        Ok(expansion) => {
-            assert!(rt; are_same(expansion.form(), whole.form()));
-            Ok(true)
-        }
-        Err(Memory) => Ok(false),
-    }
+    Ok(is_fired_as(rt, heap, script, term, whole.form()))
 }
 
-/// Fires the sample in a heap of so many bytes, for which there may be no room. The script and the term are as they were.
+/// Whether the script is that of the tests, and the term that of the sample.
+fn are_kept<'h>(
+    heap: &'h LocalHeap,
+    sample: &Process<'_, Global>,
+    fired_script: &Script<&'h LocalHeap>,
+    fired_term: &Term<&'h LocalHeap>,
+) -> Result<bool, Fail> {
+    Ok(term(heap, sample)? == *fired_term && script(heap)? == *fired_script)
+}
+
+/// Fires the sample in the heap, which may have no room. The script and the term are as they were.
+fn is_sample_fired<'h>(
+    rt: &impl Abort,
+    heap: &'h LocalHeap,
+    other: &'h LocalHeap,
+    sample: &Process<'_, Global>,
+) -> Result<bool, Fail> {
+    let script = script(other)?;
+    let term = term(other, sample)?;
+    let is_fired = is_fired(rt, heap, other, &script, &term)?;
+    let are_kept = are_kept(other, sample, &script, &term)?;
+    assert!(rt; are_kept);
+    Ok(is_fired)
+}
+
+/// Fires the sample in a heap of so many bytes, for which there may be no room.
 fn is_fired_within(
     rt: &impl Abort,
     alloc: Global,
@@ -98,12 +134,7 @@ fn is_fired_within(
 ) -> Result<bool, Fail> {
     let here = LocalHeap::new(alloc, 131_072)?;
     let there = LocalHeap::new(alloc, bytes)?;
-    let script = script(&here)?;
-    let term = term(&here, sample)?;
-    let (same_script, same_term) = (script.try_copy(&here)?, term.try_copy(&here)?);
-    let is_fired = is_fired(rt, &there, &here, &script, &term)?;
-    assert!(rt; script == same_script && term == same_term);
-    Ok(is_fired)
+    is_sample_fired(rt, &there, &here, sample)
 }
 
 /// Counts firings of the sample.
@@ -119,19 +150,27 @@ fn count_firings(
     Ok(())
 }
 
-#[test]
-fn a_firing_that_finds_no_room_says_so(rt: HostRuntime) -> Result<(), Fail> {
+fn count_all_firings(
+    rt: &impl Abort,
+    alloc: Global,
+    samples: &Raw<'_, Global>,
+) -> Result<Counts, Fail> {
     let mut counts = Counts {
         refused: 0,
         answered: 0,
     };
-    let samples = read(rt.alloc(), SAMPLES)?;
     for sample in &samples.declarations {
         if let Declaration::Equation { body, .. } = sample {
-            count_firings(&rt, rt.alloc(), body, &mut counts)?;
+            count_firings(rt, alloc, body, &mut counts)?;
         }
     }
-    let Counts { refused, answered } = counts;
+    Ok(counts)
+}
+
+#[test]
+fn a_firing_that_finds_no_room_says_so(rt: HostRuntime) -> Result<(), Fail> {
+    let samples = read(rt.alloc(), SAMPLES)?;
+    let Counts { refused, answered } = count_all_firings(&rt, rt.alloc(), &samples)?;
     assert!(rt;
         refused > 300 && answered > 1000,
         "{refused} and {answered}"
@@ -182,7 +221,24 @@ fn is_made<'h>(
     }
 }
 
-/// Does the work on the open sample in a heap of so many bytes, for which there may be no room. The term is as it was.
+/// Does the work on the open sample in the heap, which may have no room. The term is as it was.
+fn is_sample_made<'h>(
+    rt: &impl Abort,
+    heap: &'h LocalHeap,
+    other: &'h LocalHeap,
+    work: Work,
+    open: &Process<'_, Global>,
+    expected: &Process<'_, Global>,
+) -> Result<bool, Fail> {
+    let sample = term(other, open)?;
+    let expected = term(other, expected)?;
+    let is_made = is_made(rt, heap, work, &sample, &expected);
+    let is_kept = term(other, open)? == sample;
+    assert!(rt; is_kept);
+    Ok(is_made)
+}
+
+/// Does the work in a heap of so many bytes, for which there may be no room.
 fn is_made_within(
     rt: &impl Abort,
     alloc: Global,
@@ -193,12 +249,7 @@ fn is_made_within(
 ) -> Result<bool, Fail> {
     let here = LocalHeap::new(alloc, 16_384)?;
     let there = LocalHeap::new(alloc, bytes)?;
-    let same = term(&here, open)?;
-    let open = term(&here, open)?;
-    let expected = term(&here, expected)?;
-    let is_made = is_made(rt, &there, work, &open, &expected);
-    assert!(rt; open == same);
-    Ok(is_made)
+    is_sample_made(rt, &there, &here, work, open, expected)
 }
 
 /// Counts what is made of the sample, which becomes the closed one, or is copied.
@@ -238,15 +289,37 @@ fn count_all_made<'t>(
     Ok(counts)
 }
 
+/// Does the work on each of the samples, which become the expected ones.
+fn count_samples(
+    rt: &impl Abort,
+    alloc: Global,
+    work: Work,
+    open: &str,
+    expected: &str,
+) -> Result<Counts, Fail> {
+    let open = read(alloc, open)?;
+    let expected = read(alloc, expected)?;
+    count_all_made(rt, alloc, work, &open, &expected)
+}
+
+fn samples_of(work: Work) -> &'static str {
+    match work {
+        Work::Copy => OPEN_SAMPLES,
+        Work::PutIn | Work::Substitute => SAMPLES,
+    }
+}
+
 #[test]
 fn terms_that_find_no_room_say_so(rt: HostRuntime) -> Result<(), Fail> {
-    let open = read(rt.alloc(), OPEN_SAMPLES)?;
-    let closed = read(rt.alloc(), SAMPLES)?;
-    for work in [Work::PutIn, Work::Substitute] {
-        let Counts { refused, answered } = count_all_made(&rt, rt.alloc(), work, &open, &closed)?;
+    for work in [Work::Copy, Work::PutIn, Work::Substitute] {
+        let Counts { refused, answered } = count_samples(
+            &rt,
+            rt.alloc(),
+            work,
+            OPEN_SAMPLES,
+            samples_of(work),
+        )?;
         assert!(rt; refused > 100 && answered > 900, "{refused} and {answered}");
     }
-    let Counts { refused, answered } = count_all_made(&rt, rt.alloc(), Work::Copy, &open, &open)?;
-    assert!(rt; refused > 100 && answered > 900, "{refused} and {answered}");
     Ok(())
 }

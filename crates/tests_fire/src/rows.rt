@@ -12,12 +12,22 @@ use crate::script::script;
 use crate::terms::term;
 use crate::texts::read;
 use csp_fire::{Form, Step, fire};
-use csp_parse::{Declaration, Field, Infix, Name, Process};
+use csp_parse::{Declaration, Expression, Field, Infix, Name, Process, Raw};
 use csp_term::{Action, Event, Script};
+use csp_value::Value;
 use smallvec::SmallVec;
 use std::alloc::Global;
 use std::process::Abort;
 use std::test::Fail;
+
+fn value(
+    alloc: Global,
+    script: &Script<Global>,
+    raw: &Expression<'_, Global>,
+) -> Result<Value<Global>, Fail> {
+    let expression = expression(alloc, raw)?;
+    Ok(expression.eval(&script.types, alloc)?)
+}
 
 fn event(
     alloc: Global,
@@ -28,8 +38,8 @@ fn event(
     let channel = channel(name)?;
     let mut values = SmallVec::new(alloc);
     for field in fields {
-        if let Field::Given(value) = field {
-            values.push(expression(alloc, value)?.eval(&script.types, alloc)?)?;
+        if let Field::Given(raw) = field {
+            values.push(value(alloc, script, raw)?)?;
         }
     }
     Ok(Event {
@@ -233,6 +243,15 @@ pub(crate) fn holds_in(
     text: &str,
 ) -> Result<(), Fail> {
     let raw = read(alloc, text)?;
+    all_hold(rt, alloc, script, &raw)
+}
+
+fn all_hold(
+    rt: &impl Abort,
+    alloc: Global,
+    script: &Script<Global>,
+    raw: &Raw<'_, Global>,
+) -> Result<(), Fail> {
     let mut of = 0;
     for (place, said) in raw.declarations.iter().enumerate() {
         if is_term(said) {

@@ -4,7 +4,7 @@ use crate::names::bound;
 use crate::terms::term;
 use crate::texts::read;
 use csp_expression::TypeTable;
-use csp_parse::{Declaration, Name as Word, Process};
+use csp_parse::{Declaration, Name as Word, Process, Raw};
 use csp_term::{Channel, ChannelId, Equation, Memory, Script, Term, TermForm};
 use csp_value::{FieldSet, Value};
 use std::alloc::Allocator;
@@ -74,8 +74,10 @@ fn equation<A: Allocator + Copy, B: Allocator>(
     Ok(Equation { parameters, body })
 }
 
-fn equations<A: Allocator + Copy>(alloc: A) -> Result<Vec<Equation<A>, A>, Fail> {
-    let raw = read(alloc, EQUATIONS)?;
+fn written_equations<A: Allocator + Copy, B: Allocator>(
+    alloc: A,
+    raw: &Raw<'_, B>,
+) -> Result<Vec<Equation<A>, A>, Fail> {
     let mut equations = Vec::new(alloc);
     for declaration in &raw.declarations {
         if let Declaration::Equation {
@@ -87,9 +89,20 @@ fn equations<A: Allocator + Copy>(alloc: A) -> Result<Vec<Equation<A>, A>, Fail>
             equations.push(equation(alloc, parameters, body)?)?;
         }
     }
+    Ok(equations)
+}
+
+/// `Q`, which has no parameters.
+fn long_equation<A: Allocator + Copy>(alloc: A) -> Result<Equation<A>, Memory> {
     let body = chain(alloc, 256)?;
     let parameters = Vec::new(alloc);
-    equations.push(Equation { parameters, body })?;
+    Ok(Equation { parameters, body })
+}
+
+fn equations<A: Allocator + Copy>(alloc: A) -> Result<Vec<Equation<A>, A>, Fail> {
+    let raw = read(alloc, EQUATIONS)?;
+    let mut equations = written_equations(alloc, &raw)?;
+    equations.push(long_equation(alloc)?)?;
     Ok(equations)
 }
 

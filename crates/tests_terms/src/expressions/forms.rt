@@ -72,8 +72,8 @@ static RISING: [&[Part<'static>]; 36] = [
 /// Expressions of each form, in rising order.
 pub(crate) fn rising(alloc: Global) -> Result<Vec<Expr<Global>, Global>, Memory> {
     let mut all = Vec::new(alloc);
-    for parts in RISING {
-        all.push(expression(alloc, parts)?)?;
+    for parts in &RISING {
+        all.push(expression(alloc, *parts)?)?;
     }
     Ok(all)
 }

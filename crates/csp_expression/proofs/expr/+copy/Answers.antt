@@ -29,3 +29,6 @@ Expr::try_copy-returns-in_ok-copy_expressions-in-Sequence g t c =
 pub Expr::try_copy-returns-in_ok-copy_expressions-in-Set : goal.Expr::try_copy-returns-in_ok-copy_expressions-in-Set
 Expr::try_copy-returns-in_ok-copy_expressions-in-Set g t c =
     copied_set c.args.self.now c.in-Set.members c.in_ok-copy_expressions-in-Set.field-0 c.deref-in-Set.result.now c.in-Set.is c.deref-in-Set.ensures.value c.in_ok-copy_expressions-in-Set.ensures
+
+pub Expr::try_copy-returns-in-Name : goal.Expr::try_copy-returns-in-Name
+Expr::try_copy-returns-in-Name g t c = ap (expression_of {A = g.row.A.Denot}) (sym c.in-Name.is)
