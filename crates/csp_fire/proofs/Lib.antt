@@ -1,3 +1,5 @@
+pub mod Answered
+pub mod Within
 pub mod Acting
 pub mod Exactness
 pub mod Ruling
@@ -13,4 +15,11 @@ pub mod Calling
 pub mod Further
 pub mod Walking
 pub mod Members
+pub mod Twice
+pub mod Beginning
 pub mod Prefixing
+pub mod Past
+pub mod Composing
+pub mod Operating
+pub mod Sharing
+pub mod Changing

@@ -9,6 +9,7 @@ mod expansion;
 mod firing;
 mod form;
 mod offers;
+mod rule_step;
 mod rules;
 mod stuck;
 
