@@ -8,6 +8,7 @@ use Rattle.csp_semantics.specs.Meaning.Limits.{fits}
 use Rattle.csp_semantics.specs.Meaning.Stepping.{Steps, each_step, leave, stay}
 use Rattle.csp_semantics.specs.Laws.Statements.{IsOneOf}
 use Rattle.csp_fire.specs.Answering.{Answered, within_limits}
+use Rattle.csp_fire.specs.Composing.{each_answer, leave_answer, stay_answer, under_both, under_limits}
 use Rattle.csp_fire.proofs.Acting.{contains_one_of, one_of_contains}
 use Rattle.csp_fire.proofs.Answered.{AreAnswered, kept_answers}
 use Rattle.csp_fire.proofs.Past.{StaysPast}
@@ -44,12 +45,7 @@ both_answered ss zs bs cs first second = record {
 
 -- ---- what is made of each step
 
--- what f makes of what is answered of each step, in turn
-abbrev pub each_answer : (Action → Option Process → List Answered) → List Answered → List Answered
-each_answer f [] = []
-each_answer f (b ∷ bs) = f b.0 b.1 ++ each_answer f bs
-
--- and of one more
+-- one more step
 pub each_more : (f : Action → Option Process → List Answered) (bs : List Answered) (b : Answered) → each_answer f (bs ++ b ∷ []) ≡ each_answer f bs ++ f b.0 b.1
 each_more f [] b = append-nil (f b.0 b.1)
 each_more f (c ∷ bs) b = ap (λ cs. f c.0 c.1 ++ cs) (each_more f bs b) ∙ sym (append_assoc (f c.0 c.1) (each_answer f bs) (f b.0 b.1))
@@ -99,39 +95,36 @@ each_answered f g one ss bs all = record {
 
 -- ---- under an operator
 
--- what is answered of a target under an operator
-abbrev pub under_limits : (Process → Process) → Option Process → Option Process
-under_limits under (Some t) = within_limits (under t)
-under_limits under None = None
+-- what is answered of a process under an operator, by what is answered of it
+abbrev pub Keeps : (Option Process → Option Process) → (Process → Process) → Type 0
+Keeps answer under = (u : Process) → answer (within_limits u) ≡ within_limits (under u)
 
-abbrev pub leave_answer : (Process → Process) → Action → Option Process → List Answered
-leave_answer under Tau t = (Tau, under_limits under t) ∷ []
-leave_answer under Tick t = (Tick, t) ∷ []
-leave_answer under (Ev e) t = (Ev e, t) ∷ []
+pub limits_under : (under : Process → Process) → StaysPast under → Keeps (under_limits under) under
+limits_under under stays u = by_fit (fits u) refl
+  where
+    by_fit : (b : Bool) → fits u ≡ b → under_limits under (cond b (Some u) None) ≡ within_limits (under u)
+    by_fit true is = refl
+    by_fit false is = ap (λ b. cond b (Some (under u)) None) (sym (stays u is))
 
-abbrev pub stay_answer : (Event → Bool) → (Process → Process) → List Answered → Action → Option Process → List Answered
-stay_answer free under ended Tau t = (Tau, under_limits under t) ∷ []
-stay_answer free under ended Tick t = ended
-stay_answer free under ended (Ev e) t = cond (free e) ((Ev e, under_limits under t) ∷ []) []
+pub limits_under_both : (under : Process → Process → Process) → ((q : Process) → StaysPast (λ p. under p q)) → ((p : Process) → StaysPast (λ q. under p q)) → (t u : Process) →
+    under_both under (within_limits t) (within_limits u) ≡ within_limits (under t u)
+limits_under_both under first_past second_past t u = by_fit (fits t) refl
+  where
+    by_fit : (b : Bool) → fits t ≡ b → under_both under (cond b (Some t) None) (within_limits u) ≡ within_limits (under t u)
+    by_fit true is = limits_under (under t) (second_past t) u
+    by_fit false is = ap (λ b. cond b (Some (under t u)) None) (sym (first_past u t is))
 
-module _ (under : Process → Process) (stays : StaysPast under) where
-  pub limits_under : (u : Process) → under_limits under (within_limits u) ≡ within_limits (under u)
-  limits_under u = by_fit (fits u) refl
-    where
-      by_fit : (b : Bool) → fits u ≡ b → under_limits under (cond b (Some u) None) ≡ within_limits (under u)
-      by_fit true is = refl
-      by_fit false is = ap (λ b. cond b (Some (under u)) None) (sym (stays u is))
-
-  pub leave_answered : (x : Action) (u : Process) → AreAnswered (leave under x u) (leave_answer under x (within_limits u))
-  leave_answered Tau u = one_answered Tau (under_limits under (within_limits u)) (under u) (limits_under u)
+module _ (answer : Option Process → Option Process) (under : Process → Process) (keeps : Keeps answer under) where
+  pub leave_answered : (x : Action) (u : Process) → AreAnswered (leave under x u) (leave_answer answer x (within_limits u))
+  leave_answered Tau u = one_answered Tau (answer (within_limits u)) (under u) (keeps u)
   leave_answered Tick u = one_answered Tick (within_limits u) u refl
   leave_answered (Ev e) u = one_answered (Ev e) (within_limits u) u refl
 
-  pub stay_answered : (free : Event → Bool) (end : Steps) (ended : List Answered) → AreAnswered end ended → (x : Action) (u : Process) → AreAnswered (stay free under end x u) (stay_answer free under ended x (within_limits u))
-  stay_answered free end ended ends Tau u = one_answered Tau (under_limits under (within_limits u)) (under u) (limits_under u)
+  pub stay_answered : (free : Event → Bool) (end : Steps) (ended : List Answered) → AreAnswered end ended → (x : Action) (u : Process) → AreAnswered (stay free under end x u) (stay_answer free answer ended x (within_limits u))
+  stay_answered free end ended ends Tau u = one_answered Tau (answer (within_limits u)) (under u) (keeps u)
   stay_answered free end ended ends Tick u = ends
   stay_answered free end ended ends (Ev e) u = by_test (free e)
     where
-      by_test : (b : Bool) → AreAnswered (cond b ((Ev e, under u) ∷ []) []) (cond b ((Ev e, under_limits under (within_limits u)) ∷ []) [])
-      by_test true = one_answered (Ev e) (under_limits under (within_limits u)) (under u) (limits_under u)
+      by_test : (b : Bool) → AreAnswered (cond b ((Ev e, under u) ∷ []) []) (cond b ((Ev e, answer (within_limits u)) ∷ []) [])
+      by_test true = one_answered (Ev e) (answer (within_limits u)) (under u) (keeps u)
       by_test false = none_answered

@@ -20,6 +20,12 @@ pub mod Beginning
 pub mod Prefixing
 pub mod Past
 pub mod Composing
+pub mod Collecting
+pub mod Siding
+pub mod Halving
+pub mod Testing
+pub mod Enumerating
+pub mod Evaluating
 pub mod Operating
-pub mod Sharing
+pub mod Joining
 pub mod Changing

@@ -1,14 +1,15 @@
 //! The steps that rules answer, which may lead past the limits.
 
-ghost use Rattle.std.specs.Prelude.{◌≡◌, ◌∷◌, [], IfOk, map};
+ghost use Rattle.std.specs.Prelude.{◌≡◌, ◌∷◌, [], IfOk, Some, map};
 ghost use Rattle.csp_semantics.specs.Meaning.Substitution.{put};
+ghost use Rattle.csp_semantics.specs.Syntax.Process.{Omega};
 ghost use Rattle.csp_value.specs.Action.{action_of};
 ghost use Rattle.csp_expression.specs.Bindings.{bindings_of};
 ghost use Rattle.csp_term.specs.Term.{process_of};
 ghost use Rattle.csp_fire.specs.Answering.{answered_of, target_of, within_limits};
 
 use csp_expression::Binding;
-use csp_term::{Action, AllocHandle, Memory, Term, TermFault};
+use csp_term::{Action, AllocHandle, Memory, Term, TermFault, TermForm};
 
 /// Where a step of a rule leads.
 #[derive(Drop)]
@@ -40,6 +41,25 @@ impl<A: AllocHandle> Target<A> {
             Err(TermFault::TooLarge) => Ok(Target::Past),
             Err(TermFault::Memory) => Err(Memory),
         }
+    }
+}
+
+impl<A: AllocHandle> Target<A> {
+    /// An equal target, or `Memory` where there is no room for it.
+    pub(crate) fn try_copy(&self, alloc: A) -> Result<Target<A>, Memory>
+        ensures { IfOk result (λ t. target_of t ≡ target_of self.now) }
+    {
+        match self {
+            Target::Within(term) => Ok(Target::Within(term.try_copy(alloc)?)),
+            Target::Past => Ok(Target::Past),
+        }
+    }
+
+    /// The process that has ended.
+    pub(crate) fn omega(alloc: A) -> Result<Target<A>, Memory>
+        ensures { IfOk result (λ t. target_of t ≡ Some Omega) }
+    {
+        Ok(Target::Within(Term::new(alloc, TermForm::Omega)?))
     }
 }
 

@@ -1,11 +1,12 @@
 pub mod Forms
 pub mod FieldOrder
+pub mod OperatorForms
 pub mod TermOrder
-pub mod TermCopying
 pub mod TermPutting
 pub mod Channels
 pub mod Equality
 pub mod FieldMeasures
+pub mod TermMeasures
 pub mod Fitting
-pub mod Hiding
+pub mod Without
 pub mod Growing

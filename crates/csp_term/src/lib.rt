@@ -7,9 +7,12 @@
 
 mod assertion;
 mod field;
+mod hiding;
 pub mod laws;
 mod limits;
 mod name;
+mod operator;
+mod replicated;
 mod script;
 mod substitution;
 mod term;
@@ -19,6 +22,7 @@ pub use csp_expression::{DatatypeId, Fault, Name, NametypeId};
 pub use csp_value::{Action, AllocHandle, ChannelId, Event, Memory, TryCopy, copy_all};
 pub use field::Field;
 pub use name::EquationId;
+pub use operator::{ProcessOperator, ReplicatedOperator};
 pub use script::{Channel, Constructor, Equation, Script};
 pub use substitution::{TermFault, bind};
 pub use term::{Term, TermForm};

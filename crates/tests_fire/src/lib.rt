@@ -5,7 +5,13 @@
 #[cfg(test)]
 mod calls;
 #[cfg(test)]
+mod choices;
+#[cfg(test)]
 mod conditions;
+#[cfg(test)]
+mod events;
+#[cfg(test)]
+mod events_changed;
 #[cfg(test)]
 mod expressions;
 #[cfg(test)]
@@ -17,12 +23,20 @@ mod memory;
 #[cfg(test)]
 mod names;
 #[cfg(test)]
+mod parallels;
+#[cfg(test)]
 mod prefixes;
+#[cfg(test)]
+mod replicated;
 #[cfg(test)]
 mod rows;
 #[cfg(test)]
 mod script;
 #[cfg(test)]
+mod successions;
+#[cfg(test)]
 mod terms;
 #[cfg(test)]
 mod texts;
+#[cfg(test)]
+mod worked;

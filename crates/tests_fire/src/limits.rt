@@ -39,7 +39,7 @@ fn leads_to(alloc: Global, form: &Form<Global>, prefixes: u32) -> Result<bool, F
 
 const A: u32 = 0;
 
-const UNDECLARED: u32 = 6;
+const UNDECLARED: u32 = 10;
 
 #[test]
 fn a_chain_of_prefixes_is_fired_up_to_the_limit(rt: HostRuntime) -> Result<(), Fail> {

@@ -4,15 +4,38 @@ use csp_parse::Name as Word;
 use csp_term::{ChannelId, EquationId, Name};
 use std::test::Fail;
 
-/// The channels: `a` and `b` without fields, `c` to `e` of one to three fields of `{0..1}`, `s` of a sequence and of
-/// `{0..1}`. The script has no channel for the last.
-static CHANNELS: [&str; 7] = ["a", "b", "c", "d", "e", "s", "undeclared"];
+/// The channels: `a` and `b` without fields, `c` to `e` of one to three fields of `{0..1}`, `f` to `out` of one, `s` of a
+/// sequence and of `{0..1}`. The script has no channel for the last.
+static CHANNELS: [&str; 11] = [
+    "a",
+    "b",
+    "c",
+    "d",
+    "e",
+    "f",
+    "in",
+    "mid",
+    "out",
+    "s",
+    "undeclared",
+];
 
 /// The equations. The script has none for the last.
-static EQUATIONS: [&str; 4] = ["P", "R", "Q", "UNDECLARED"];
+static EQUATIONS: [&str; 10] = [
+    "P",
+    "R",
+    "COPY1",
+    "COPY2",
+    "CHAIN",
+    "BUF",
+    "LOOP",
+    "RUN",
+    "Q",
+    "UNDECLARED",
+];
 
 /// The names that inputs and parameters bind.
-static BOUND: [&str; 2] = ["x", "y"];
+static BOUND: [&str; 4] = ["x", "y", "n", "s"];
 
 fn place_in(names: &[&str], text: &str) -> Result<u32, Fail> {
     let mut place: u32 = 0;

@@ -14,6 +14,12 @@ use std::test::Fail;
 static EQUATIONS: &str = "
 P(x) = c!x -> STOP
 R(x, y) = d!x!y -> STOP
+COPY1 = in?x -> mid!x -> COPY1
+COPY2 = mid?x -> out!x -> COPY2
+CHAIN = (COPY1 [| {| mid |} |] COPY2) \\ {| mid |}
+BUF(n, s) = (#s < n & in?x -> BUF(n, s ^ <x>)) [] (#s > 0 & out!head(s) -> BUF(n, tail(s)))
+LOOP = LOOP
+RUN = a -> RUN
 ";
 
 /// As many prefixes over `a` before `STOP`.
@@ -51,7 +57,17 @@ fn channel<A: Allocator + Copy>(
     })
 }
 
-static SPELLINGS: [(&str, usize); 5] = [("a", 0), ("b", 0), ("c", 1), ("d", 2), ("e", 3)];
+static SPELLINGS: [(&str, usize); 9] = [
+    ("a", 0),
+    ("b", 0),
+    ("c", 1),
+    ("d", 2),
+    ("e", 3),
+    ("f", 1),
+    ("in", 1),
+    ("mid", 1),
+    ("out", 1),
+];
 
 fn channels<A: Allocator + Copy>(alloc: A) -> Result<Vec<Channel<A>, A>, Memory> {
     let mut channels = Vec::new(alloc);

@@ -1,9 +1,10 @@
 //! Terms of texts.
 
+use crate::events::{event_set, pairs};
 use crate::expressions::{expression, expressions};
 use crate::names::{bound, channel, equation};
-use csp_parse::{Expression, Field as RawField, Name, Process};
-use csp_term::{Field, Term, TermForm};
+use csp_parse::{Expression, Field as RawField, Infix, Name, Process, Replicator};
+use csp_term::{Field, ProcessOperator, ReplicatedOperator, Term, TermForm};
 use std::alloc::Allocator;
 use std::test::Fail;
 
@@ -43,6 +44,24 @@ fn call<A: Allocator + Copy, B: Allocator>(
     Ok(TermForm::Call(equation(name)?, expressions(alloc, arguments)?))
 }
 
+fn infix(operator: Infix) -> ProcessOperator {
+    match operator {
+        Infix::ExternalChoice => ProcessOperator::ExternalChoice,
+        Infix::InternalChoice => ProcessOperator::InternalChoice,
+        Infix::Sequential => ProcessOperator::Sequential,
+        Infix::Interleaving => ProcessOperator::Interleaving,
+        Infix::Interrupt => ProcessOperator::Interrupt,
+    }
+}
+
+fn replicator(operator: Replicator) -> ReplicatedOperator {
+    match operator {
+        Replicator::ExternalChoice => ReplicatedOperator::ExternalChoice,
+        Replicator::InternalChoice => ReplicatedOperator::InternalChoice,
+        Replicator::Interleaving => ReplicatedOperator::Interleaving,
+    }
+}
+
 /// The term as it is written.
 #[cycle(term)]
 pub(crate) fn term<A: Allocator + Copy, B: Allocator>(
@@ -74,6 +93,33 @@ fn form<A: Allocator + Copy, B: Allocator>(
             let first = term(alloc, first)?;
             Ok(TermForm::If(condition, first, term(alloc, second)?))
         }
-        _ => Err(Fail::new("a form that terms do not have")),
+        Process::Infix(by, left, right) => {
+            let left = term(alloc, left)?;
+            Ok(TermForm::Binary(infix(*by), left, term(alloc, right)?))
+        }
+        Process::GeneralisedParallel(left, shared, right) => {
+            let left = term(alloc, left)?;
+            let shared = event_set(alloc, shared)?;
+            Ok(TermForm::GeneralisedParallel(left, shared, term(alloc, right)?))
+        }
+        Process::AlphabetisedParallel(left, own, other, right) => {
+            let left = term(alloc, left)?;
+            let own = event_set(alloc, own)?;
+            let other = event_set(alloc, other)?;
+            Ok(TermForm::AlphabetisedParallel(left, own, other, term(alloc, right)?))
+        }
+        Process::Hiding(body, hidden) => {
+            let body = term(alloc, body)?;
+            Ok(TermForm::Hiding(body, event_set(alloc, hidden)?))
+        }
+        Process::Renaming(body, renaming) => {
+            let body = term(alloc, body)?;
+            Ok(TermForm::Renaming(body, pairs(alloc, renaming)?))
+        }
+        Process::Replicated(by, name, set, body) => {
+            let set = expression(alloc, set)?;
+            let body = term(alloc, body)?;
+            Ok(TermForm::Replicated(replicator(*by), bound(*name)?, set, body))
+        }
     }
 }

@@ -1,0 +1,42 @@
+-- Each beginning in turn, or the first cause.
+use Rattle.std.proofs.Common.{◌≡◌, map, Result, Ok, Err, sym, ◌∙◌, ap, subst, arith}
+use Rattle.std.proofs.lemmas.List.{take_all}
+use Rattle.std.proofs.lemmas.Result.{err_from_is_err_and}
+use Rattle.std.specs.List.{list_any}
+use Rattle.csp_semantics.specs.Syntax.Value as pure
+use Rattle.csp_semantics.specs.Syntax.Process as process
+use Rattle.csp_semantics.specs.Meaning.Evaluation.{◌and_then◌}
+use Rattle.csp_semantics.specs.Meaning.Events as events
+use Rattle.csp_value.specs.Action.{event_of}
+use Rattle.csp_event_sets.specs.Events.{event_expression_of, event_expressions_of}
+use Rattle.csp_term.specs.Script.{script_of}
+use Rattle.csp_fire.specs.declared.event_test.EventTest.{EventTest}
+use Rattle.csp_fire.specs.declared.stuck.Stuck.{Stuck}
+use Rattle.csp_fire.specs.Testing.{IsTestOf}
+use Rattle.csp_fire.proofs.Enumerating.{one_further, stopped_at}
+use Rattle.csp_fire.proofs.Evaluating.{begun_by, test_stopped}
+use Rattle.csp_fire.proofs.event_test.beginnings.Goals as goal
+
+pub loop-event-preserved : goal.loop-event-preserved
+loop-event-preserved g c =
+    one_further (events.beginning_of (script_of c.args.script.now)) event_expression_of event_of c.args.written.now c.loop-event.event-index c.event-item.result c.loop-event.events.items c.loop-event.invariant c.loop-event-test.true c.event-item.is
+    c.push.new.self.items c.in_ok-beginning.field-0 c.in_ok-beginning.ensures c.in_ok-push.ensures.items
+
+pub returns-in_err-beginning : goal.returns-in_err-beginning
+returns-in_err-beginning g c =
+    let script = script_of c.args.script.now in
+    let f = events.beginning_of script in
+    let items = c.args.written.now in
+    let item = c.event-item.result in
+    let all = events.event_test script (process.Productions (event_expressions_of items)) in
+    let p = err_from_is_err_and c.from_residual.result c.from_residual.ensures.1 in
+    let P : Result (EventTest g.row.A.Denot) Stuck → Type 0 = λ r. IsTestOf r all in
+    subst P (sym (p.1 ∙ ap Err p.2))
+    (test_stopped g.row.A.Denot (f (event_expression_of item)) all c.in_err-beginning.field-0.0 c.in_err-beginning.ensures
+    (λ cause none. ap (λ r. r and_then λ xs. Ok (λ e. list_any (events.begins_with e) xs)) (stopped_at f event_expression_of event_of items c.loop-event.event-index item c.loop-event.events.items c.loop-event.invariant c.loop-event-test.true c.event-item.is cause none)))
+
+pub returns : goal.returns
+returns g c =
+    let script = script_of c.args.script.now in
+    let all = take_all c.loop-event.event-index c.args.written.now (omega arith) in
+    begun_by g.row.A.Denot script (event_expressions_of c.args.written.now) c.loop-event.events (ap (λ es. events.each (events.beginning_of script) (event_expressions_of es)) (sym all) ∙ c.loop-event.invariant)
