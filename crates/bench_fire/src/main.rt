@@ -3,8 +3,8 @@
 #![tactic(auto)]
 
 use anyhow::{Result, ensure};
-use csp_expression::{BinaryOperator, Binding, Expr, TypeTable};
 use csp_fire::{Form, fire};
+use csp_term::expression::{BinaryOperator, Binding, Expr, TypeTable};
 use csp_term::{Channel, ChannelId, Field, Memory, Name, Script, Term, TermForm};
 use csp_value::{FieldSet, Value};
 use std::alloc::Global;

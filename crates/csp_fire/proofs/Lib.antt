@@ -1,5 +1,3 @@
-pub mod Answered
-pub mod Within
 pub mod Acting
 pub mod Exactness
 pub mod Ruling
@@ -15,17 +13,4 @@ pub mod Calling
 pub mod Further
 pub mod Walking
 pub mod Members
-pub mod Twice
-pub mod Beginning
 pub mod Prefixing
-pub mod Past
-pub mod Composing
-pub mod Collecting
-pub mod Siding
-pub mod Halving
-pub mod Testing
-pub mod Enumerating
-pub mod Evaluating
-pub mod Operating
-pub mod Joining
-pub mod Changing

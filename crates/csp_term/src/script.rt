@@ -4,8 +4,9 @@ ghost use Rattle.std.specs.Prelude.{◌≡◌};
 ghost use Rattle.std.specs.String.{string_bytes};
 
 use crate::assertion::Assertion;
+use crate::expression::TypeTable;
+use crate::name::Name;
 use crate::term::Term;
-use csp_expression::{Name, TypeTable};
 use csp_value::{FieldSet, Memory, TryCopy, copy_all};
 use std::alloc::Allocator;
 

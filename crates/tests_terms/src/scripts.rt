@@ -1,6 +1,6 @@
 //! Copies of a script and of its parts.
 
-use csp_expression::TypeTable;
+use csp_term::expression::TypeTable;
 use csp_term::laws::{equal_assertions, equal_scripts};
 use csp_term::{
     Assertion, Channel, ChannelId, Constructor, Equation, Memory, Model, Name, Script, Term,

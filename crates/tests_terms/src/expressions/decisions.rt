@@ -3,8 +3,8 @@
 use crate::expressions::parts::{
     Answer, Part, Row, RowOfTwo, answers, have_answers, have_answers_of_two, of_parts,
 };
-use csp_expression::{BinaryOperator, UnaryOperator};
 use csp_term::Fault;
+use csp_term::expression::{BinaryOperator, UnaryOperator};
 use std::alloc::Global;
 use std::test::Fail;
 

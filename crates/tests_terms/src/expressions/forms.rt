@@ -1,8 +1,8 @@
 //! The order of expressions, their copies and their hashes, form by form.
 
 use crate::expressions::parts::{Part, expression};
-use csp_expression::laws::{compare_expressions, equal_expressions, hash_expression};
-use csp_expression::{BinaryOperator, Expr, UnaryOperator};
+use csp_term::expression::laws::{compare_expressions, equal_expressions, hash_expression};
+use csp_term::expression::{BinaryOperator, Expr, UnaryOperator};
 use csp_term::{Memory, copy_all};
 use std::alloc::{Allocator, Global};
 use std::cmp::Ordering;
@@ -72,8 +72,8 @@ static RISING: [&[Part<'static>]; 36] = [
 /// Expressions of each form, in rising order.
 pub(crate) fn rising(alloc: Global) -> Result<Vec<Expr<Global>, Global>, Memory> {
     let mut all = Vec::new(alloc);
-    for parts in &RISING {
-        all.push(expression(alloc, *parts)?)?;
+    for parts in RISING {
+        all.push(expression(alloc, parts)?)?;
     }
     Ok(all)
 }

@@ -6,7 +6,7 @@
 use crate::expressions::forms::hash_of;
 use crate::expressions::parts::{Answer, Part, Row, expression, is_answer, types, values};
 use crate::room::had_room;
-use csp_expression::{BinaryOperator, Binding, EvalFault, Expr, TypeTable, UnaryOperator};
+use csp_term::expression::{BinaryOperator, Binding, EvalFault, Expr, TypeTable, UnaryOperator};
 use csp_term::{Memory, Name};
 use csp_value::Value;
 use linked_list_allocator::LocalHeap;

@@ -1,8 +1,8 @@
 //! Numbers of 32 bits and the operators on them.
 
 use crate::expressions::parts::{Answer, Part, answers};
-use csp_expression::{BinaryOperator, UnaryOperator};
 use csp_term::Fault;
+use csp_term::expression::{BinaryOperator, UnaryOperator};
 use std::alloc::Global;
 use std::test::Fail;
 
@@ -108,9 +108,9 @@ static OF_NUMBERS: [(BinaryOperator, i32, i32, Answer<'static>); 20] = [
 
 #[test]
 fn numbers_are_of_32_bits(rt: HostRuntime) -> Result<(), Fail> {
-    for (operator, left, right, answer) in &OF_NUMBERS {
+    for (operator, left, right, answer) in OF_NUMBERS {
         assert!(rt;
-            of_numbers(rt.alloc(), *operator, *left, *right, *answer),
+            of_numbers(rt.alloc(), operator, left, right, answer),
             "{left} and {right}"
         );
     }
@@ -125,9 +125,9 @@ static OPPOSITES: [(i32, Answer<'static>); 3] = [
 
 #[test]
 fn opposites(rt: HostRuntime) -> Result<(), Fail> {
-    for (number, answer) in &OPPOSITES {
-        let parts = [Part::Number(*number), Part::Apply(UnaryOperator::Negate)];
-        assert!(rt; answers(rt.alloc(), &parts, *answer), "{number}");
+    for (number, answer) in OPPOSITES {
+        let parts = [Part::Number(number), Part::Apply(UnaryOperator::Negate)];
+        assert!(rt; answers(rt.alloc(), &parts, answer), "{number}");
     }
     Ok(())
 }

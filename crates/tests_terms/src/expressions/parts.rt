@@ -1,6 +1,8 @@
 //! Expressions that tests put together from parts, and what they expect of their values.
 
-use csp_expression::{BinaryOperator, Constructors, EvalFault, Expr, TypeTable, UnaryOperator};
+use csp_term::expression::{
+    BinaryOperator, Constructors, EvalFault, Expr, TypeTable, UnaryOperator,
+};
 use csp_term::{DatatypeId, Fault, Memory, Name, NametypeId};
 use csp_value::{ConId, SetOf, Value};
 use std::alloc::{Allocator, Global};

@@ -3,8 +3,8 @@
 use crate::expressions::parts::{
     Answer, Part, Row, RowOfTwo, answers, counted, have_answers, have_answers_of_two,
 };
-use csp_expression::{BinaryOperator, UnaryOperator};
 use csp_term::Fault;
+use csp_term::expression::{BinaryOperator, UnaryOperator};
 use std::alloc::Global;
 use std::test::Fail;
 
@@ -140,9 +140,9 @@ static RANGES: [(i32, i32, Answer<'static>); 9] = [
 
 #[test]
 fn ranges(rt: HostRuntime) -> Result<(), Fail> {
-    for (from, to, answer) in &RANGES {
-        let parts = [Part::Number(*from), Part::Number(*to), Part::Range, CARD];
-        assert!(rt; answers(rt.alloc(), &parts, *answer), "{from} to {to}");
+    for (from, to, answer) in RANGES {
+        let parts = [Part::Number(from), Part::Number(to), Part::Range, CARD];
+        assert!(rt; answers(rt.alloc(), &parts, answer), "{from} to {to}");
     }
     let numbers = [Part::Number(-1), Part::Number(1), Part::Range];
     assert!(rt; answers(rt.alloc(), &numbers, Answer::Set(&[-1, 0, 1])));

@@ -2,7 +2,7 @@
 
 use crate::expressions::forms::rising;
 use crate::expressions::parts::{Part, expression, types, values};
-use csp_expression::{BinaryOperator, Binding, EvalFault, Expr, UnaryOperator};
+use csp_term::expression::{BinaryOperator, Binding, EvalFault, Expr, UnaryOperator};
 use csp_term::{Memory, Name};
 use csp_value::Value;
 use std::alloc::Global;

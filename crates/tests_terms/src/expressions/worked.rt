@@ -1,8 +1,8 @@
 //! Expressions of several operators with their values.
 
 use crate::expressions::parts::{Answer, Part, Row, have_answers};
-use csp_expression::{BinaryOperator, UnaryOperator};
 use csp_term::Fault;
+use csp_term::expression::{BinaryOperator, UnaryOperator};
 use std::test::Fail;
 
 const NEGATE: Part<'static> = Part::Apply(UnaryOperator::Negate);

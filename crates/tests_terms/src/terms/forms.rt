@@ -62,8 +62,8 @@ static RISING: [&[Piece<'static>]; 29] = [
 
 fn rising<A: Allocator + Copy>(alloc: A) -> Result<Vec<Term<A>, A>, Memory> {
     let mut all = Vec::new(alloc);
-    for pieces in &RISING {
-        all.push(term(alloc, *pieces)?)?;
+    for pieces in RISING {
+        all.push(term(alloc, pieces)?)?;
     }
     Ok(all)
 }

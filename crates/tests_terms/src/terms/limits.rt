@@ -2,7 +2,7 @@
 
 use crate::expressions::parts::{Part, expression};
 use crate::terms::pieces::{Piece, Slot, chain, term, wide};
-use csp_expression::{BinaryOperator, Expr, UnaryOperator};
+use csp_term::expression::{BinaryOperator, Expr, UnaryOperator};
 use csp_term::{EquationId, Memory, Term, TermForm};
 use csp_value::Value;
 use std::alloc::Global;

@@ -2,7 +2,7 @@
 
 use crate::expressions::parts::{Part, value};
 use crate::terms::pieces::{Piece, Slot, chain, term, wide};
-use csp_expression::{BinaryOperator, Binding};
+use csp_term::expression::{BinaryOperator, Binding};
 use csp_term::{Memory, Name, Term, TermFault, bind};
 use csp_value::Value;
 use std::alloc::Global;
