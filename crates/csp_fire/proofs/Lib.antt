@@ -26,6 +26,7 @@ pub mod Halving
 pub mod Testing
 pub mod Enumerating
 pub mod Evaluating
+pub mod Same
 pub mod Operating
 pub mod Joining
 pub mod Changing

@@ -1,5 +1,5 @@
 -- What is answered of composed terms, by what is answered of their parts.
-use Rattle.std.specs.Prelude.{◌≡◌, ⊤, Bool, true, false, ◌&&◌, List, [], ◌∷◌, ◌++◌, cond, map, Option, Some, None, Result, Ok, Err}
+use Rattle.std.specs.Prelude.{◌≡◌, ⊤, Bool, true, false, ◌&&◌, ◌↔◌, Contains, List, [], ◌∷◌, ◌++◌, cond, map, Option, Some, None, Result, Ok, Err}
 use Rattle.csp_semantics.specs.Syntax.Value.{Action, Event, Tau, Tick, Ev, event_eq}
 use Rattle.csp_semantics.specs.Syntax.Process.{Process, Omega, ExternalChoice, Sequential, Interrupt, AlphabetisedParallel, GeneralisedParallel, Hiding, Renaming, Script}
 use Rattle.csp_semantics.specs.Meaning.Faults.{cause_in}
@@ -48,6 +48,10 @@ on_side hand.Right of_two other t = of_two other t
 -- what is answered of a target in the place of the side that moves
 abbrev pub around_of : {A : Type 0} → Context A → Option Process → Option Process
 around_of c t = on_side c.hand (under_both (composition_of c.composition.now)) (target_of c.other.now) t
+
+-- the same steps, in whatever order and however often
+abbrev pub HaveSameSteps : List Answered → List Answered → Type 0
+HaveSameSteps bs cs = (b : Answered) → Contains bs b ↔ Contains cs b
 
 -- ---- what is made of each step
 

@@ -1,7 +1,7 @@
 -- Which events the sides of a composition do alone, and which together, and what follows a side's tick.
-use Rattle.std.specs.Prelude.{⊤, Bool, true, false, not, ◌&&◌, List, [], ◌∷◌, Some}
+use Rattle.std.specs.Prelude.{⊤, Bool, true, false, not, ◌&&◌, List, [], ◌∷◌, Option, Some}
 use Rattle.csp_semantics.specs.Syntax.Value.{Event, Tau, Tick}
-use Rattle.csp_semantics.specs.Syntax.Process.{Omega}
+use Rattle.csp_semantics.specs.Syntax.Process.{Process, Omega}
 use Rattle.csp_fire.specs.declared.context.Context.{Context}
 use Rattle.csp_fire.specs.declared.context.Hand.{Hand}
 use Rattle.csp_fire.specs.declared.context.Hand.TheVariants as hand
@@ -10,7 +10,7 @@ use Rattle.csp_fire.specs.declared.rules.stay.AfterTick.TheVariants as after
 use Rattle.csp_fire.specs.declared.sharing.Sharing.{Sharing}
 use Rattle.csp_fire.specs.declared.sharing.Sharing.TheVariants as sharing
 use Rattle.csp_fire.specs.Answering.{Answered, target_of}
-use Rattle.csp_fire.specs.Composing.{around_of}
+use Rattle.csp_fire.specs.Composing.{around_of, parallel_answers}
 use Rattle.csp_fire.specs.Testing.{AreSorted, listed_in, test_of}
 
 -- What the sets list rises, so that an event is found by halving.
@@ -31,6 +31,10 @@ abbrev pub is_shared : {A : Type 0} → Sharing A → Event → Bool
 is_shared sharing.Nothing e = false
 is_shared (sharing.Events t) e = test_of t e
 is_shared (sharing.Alphabets t u) e = test_of t e && test_of u e
+
+-- what is answered of two sides that share so, under an operator
+abbrev pub composed_answers : {A : Type 0} → Sharing A → (Process → Process → Process) → Option Process → List Answered → Option Process → List Answered → List Answered
+composed_answers s under o bs r cs = parallel_answers (is_free s hand.Left) (is_free s hand.Right) (is_shared s) under o bs r cs
 
 -- what is answered of a side's tick
 abbrev pub ended_by : {A : Type 0} → AfterTick → Context A → List Answered
