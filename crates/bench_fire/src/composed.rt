@@ -8,14 +8,14 @@ use csp_value::Value;
 use std::alloc::Global;
 
 /// `c.number`, of which an event has one field more.
-fn beginning(alloc: Global, number: i64) -> Result<EventExpression<Global>, Memory> {
+fn beginning(alloc: Global, number: i32) -> Result<EventExpression<Global>, Memory> {
     let mut fields = Vec::new(alloc);
     fields.push(Expr::Literal(Value::Int(number)))?;
     Ok(EventExpression { channel: C, fields })
 }
 
 /// `{| c.from, .. |}` up to 63
-fn beginnings(alloc: Global, from: i64) -> Result<EventSet<Global>, Memory> {
+fn beginnings(alloc: Global, from: i32) -> Result<EventSet<Global>, Memory> {
     let mut events = Vec::new(alloc);
     for number in from..64 {
         events.push(beginning(alloc, number)?)?;
@@ -32,14 +32,14 @@ fn prefix(alloc: Global, first: Field<Global>) -> Result<Term<Global>, Memory> {
 }
 
 /// `c!number?y -> STOP [] c!63?y -> STOP`
-fn component(alloc: Global, number: i64) -> Result<Term<Global>, Memory> {
+fn component(alloc: Global, number: i32) -> Result<Term<Global>, Memory> {
     let own = prefix(alloc, Field::Given(Expr::Literal(Value::Int(number))))?;
     let shared = prefix(alloc, Field::Given(Expr::Literal(Value::Int(63))))?;
     Term::new(alloc, TermForm::Binary(ProcessOperator::ExternalChoice, own, shared))
 }
 
 /// So many components that share the events of `{| c.63 |}`: each does 64 events alone, and all do 64 together.
-pub(crate) fn components(alloc: Global, count: i64) -> Result<Term<Global>, Memory> {
+pub(crate) fn components(alloc: Global, count: i32) -> Result<Term<Global>, Memory> {
     let mut whole = component(alloc, 0)?;
     for number in 1..count {
         let (left, shared) = (whole, beginnings(alloc, 63)?);

@@ -1,7 +1,7 @@
 //! Operators of sets of events.
 
 /// An operator of two sets of events. The order is that of the list.
-#[derive(Clone, Copy, Debug, PartialEq, Eq, PartialOrd, Ord, Hash)]
+#[derive(Clone, Copy, PartialEq, Eq, PartialOrd, Ord, Hash)]
 pub enum EventSetOperator {
     /// `union(A, B)`
     Union,

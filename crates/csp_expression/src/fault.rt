@@ -6,7 +6,7 @@ ghost use Rattle.csp_semantics.specs.Answers.Printing.{cause_word};
 ghost use Rattle.csp_expression.specs.Fault.{cause_of};
 
 /// A cause for which a rule of a term needs a value that does not exist (this profile).
-#[derive(Clone, Copy, Debug, PartialEq, Eq, PartialOrd, Ord, Hash)]
+#[derive(Clone, Copy, Debug, PartialEq, Eq)]
 pub enum Fault {
     /// A given value lies outside its field set.
     Range,

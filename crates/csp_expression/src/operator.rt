@@ -1,7 +1,7 @@
 //! Operators of expressions.
 
 /// An operator of one operand. The order is that of the list.
-#[derive(Clone, Copy, Debug, PartialEq, Eq, PartialOrd, Ord, Hash)]
+#[derive(Clone, Copy, PartialEq, Eq, PartialOrd, Ord, Hash)]
 pub enum UnaryOperator {
     /// `-e`
     Negate,
@@ -20,7 +20,7 @@ pub enum UnaryOperator {
 }
 
 /// An operator of two operands. The order is that of the list.
-#[derive(Clone, Copy, Debug, PartialEq, Eq, PartialOrd, Ord, Hash)]
+#[derive(Clone, Copy, PartialEq, Eq, PartialOrd, Ord, Hash)]
 pub enum BinaryOperator {
     /// `e + f`
     Add,

@@ -6,7 +6,7 @@ use csp_value::{ConId, Memory, SetOf, TryCopy, copy_all};
 use std::alloc::Allocator;
 
 /// The constructors of a datatype, which are numbered one after the other: the first one, and how many follow it.
-#[derive(Clone, Copy, Debug, PartialEq, Eq, PartialOrd, Ord, Hash)]
+#[derive(Clone, Copy, PartialEq, Eq)]
 pub struct Constructors {
     pub first: ConId,
     pub following: u32,
@@ -14,7 +14,7 @@ pub struct Constructors {
 
 /// The datatypes and the nametypes of a script, each in the order of the text.
 #[derive(Drop)]
-#[derive_where(PartialEq, Eq, PartialOrd, Ord, Hash)]
+#[derive_where(PartialEq, Eq)]
 pub struct TypeTable<A: Allocator> {
     pub datatypes: Vec<Constructors, A>,
     /// The set that each nametype names.

@@ -1,7 +1,7 @@
 //! Operators of processes.
 
 /// An operator of two processes. The order is that of the list.
-#[derive(Clone, Copy, Debug, PartialEq, Eq, PartialOrd, Ord, Hash)]
+#[derive(Clone, Copy, PartialEq, Eq, PartialOrd, Ord, Hash)]
 pub enum ProcessOperator {
     /// `P [] Q`, where the first event chooses.
     ExternalChoice,
@@ -16,7 +16,7 @@ pub enum ProcessOperator {
 }
 
 /// An operator of a process for each value of a set. The order is that of the list.
-#[derive(Clone, Copy, Debug, PartialEq, Eq, PartialOrd, Ord, Hash)]
+#[derive(Clone, Copy, PartialEq, Eq, PartialOrd, Ord, Hash)]
 pub enum ReplicatedOperator {
     /// `[] x : S @ P`
     ExternalChoice,
