@@ -33,7 +33,7 @@ use Rattle.csp_event_sets.proofs.Apart.{event_sets}
 use Rattle.csp_event_sets.proofs.EventForms.{of_enumeration, of_productions, of_combined}
 use Rattle.csp_expression.proofs.ExpressionOrder.{lists_ordered as expressions_ordered}
 use Rattle.csp_event_sets.proofs.Slices.{slices_ordered}
-use Rattle.csp_event_sets.proofs.Variants.{Ranks, first_or, no_more, none, one_more, one_at, either, either_holds}
+use Rattle.csp_expression.proofs.Variants.{Ranks, first_or, no_more, none, one_more, one_at, either, either_holds}
 
 -- ---- operators
 

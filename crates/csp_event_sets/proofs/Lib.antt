@@ -5,4 +5,3 @@ pub mod EventMeasures
 pub mod EventOrder
 pub mod EventPutting
 pub mod Slices
-pub mod Variants

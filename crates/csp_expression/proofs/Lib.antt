@@ -4,6 +4,8 @@ pub mod Sameness
 pub mod Copying
 pub mod ExpressionForms
 pub mod OperatorOrder
+pub mod Variants
+pub mod Apart
 pub mod ExpressionOrder
 pub mod ExpressionEquality
 pub mod ValueTests

@@ -44,7 +44,7 @@ use Rattle.csp_expression.proofs.ExpressionOrder.{cmp as expression_order, order
 use Rattle.csp_term.proofs.FieldOrder.{field_order, fields_ordered}
 use Rattle.csp_term.proofs.Forms.{of_form, of_stop, of_skip, of_omega_term, of_call, of_prefix, of_guard, of_conditional, of_binary, of_generalised, of_alphabetised, of_hiding, of_renaming, of_replicated}
 use Rattle.csp_term.proofs.OperatorForms.{binary_below, binary_cmp, binary_from, binary_ordered, replicated_below, replicated_cmp, replicated_from, replicated_ordered}
-use Rattle.csp_event_sets.proofs.Variants.{Ranks, first_or, no_more, none, one_more, one_at, either, either_holds}
+use Rattle.csp_expression.proofs.Variants.{Ranks, first_or, no_more, none, one_more, one_at, either, either_holds}
 
 module _ (R : RattleType.RattleType) (A : allocator.Ghosts R.Denot) (ad dd : Syntax.Dict) where
   abbrev pub cmp : Term R.Denot → Term R.Denot → Ordering
