@@ -25,6 +25,7 @@ pub mod Siding
 pub mod Halving
 pub mod Testing
 pub mod Enumerating
+pub mod Giving
 pub mod Evaluating
 pub mod Same
 pub mod Operating

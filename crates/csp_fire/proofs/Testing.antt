@@ -48,6 +48,10 @@ second_sorted : {A : Type 0} (xs ys : List (List (Event A))) → AreSorted (xs +
 second_sorted [] ys h = h
 second_sorted (x ∷ xs) ys h = second_sorted xs ys h.1
 
+pub both_sorted : {A : Type 0} (xs ys : List (List (Event A))) → AreSorted xs → AreSorted ys → AreSorted (xs ++ ys)
+both_sorted [] ys first second = second
+both_sorted (x ∷ xs) ys first second = (first.0, both_sorted xs ys first.1 second)
+
 module _ (A : Type 0) where
   pub test_of_events : (es : Vec (Event A) A) (e : pure.Event) → test_of {A = A} (views.Events es) e ≡ list_any (pure.event_eq e) (map event_of es.items)
   test_of_events es e = ap (λ t. test_of {A = A} t e) (sym (views.rolls-Events es)) ∙ ap (λ f. f e) (fold-roll-EventTest A (pure.Event → Bool) test_step (layer.Events es))
@@ -64,7 +68,7 @@ module _ (A : Type 0) where
   pub in_beginnings : (es : Vec (Event A) A) → listed_in {A = A} (views.Beginnings es) ≡ []
   in_beginnings es = ap (listed_in {A = A}) (sym (views.rolls-Beginnings es)) ∙ fold-roll-EventTest A (List (List (Event A))) listed_step (layer.Beginnings es)
 
-  in_combined : (op : EventSetOperator) (a b : Box (EventTest A) A) → listed_in {A = A} (views.Combine op a b) ≡ listed_in a.value ++ listed_in b.value
+  pub in_combined : (op : EventSetOperator) (a b : Box (EventTest A) A) → listed_in {A = A} (views.Combine op a b) ≡ listed_in a.value ++ listed_in b.value
   in_combined op a b = ap (listed_in {A = A}) (sym (views.rolls-Combine op a b)) ∙ fold-roll-EventTest A (List (List (Event A))) listed_step (layer.Combine op a b)
 
   module _ (t : EventTest A) (sorted : AreSorted (listed_in t)) where

@@ -6,15 +6,19 @@ ghost use Rattle.std.specs.List.Sorted.{IsSortedBy};
 ghost use Rattle.std.specs.Ordering.{is_lt};
 ghost use Rattle.csp_semantics.specs.Syntax.Value.{event_cmp, event_eq};
 ghost use Rattle.csp_semantics.specs.Syntax.Process.{Enumeration, Productions};
-ghost use Rattle.csp_semantics.specs.Meaning.Events.{begins_with, beginning_of, event_of as written_event, event_test};
+ghost use Rattle.csp_semantics.specs.Syntax.Expression.{to_expressions};
+ghost use Rattle.csp_semantics.specs.Meaning.Events.{begins_with, beginning_of, event_of as written_event, event_test, field_sets, given_values};
 ghost use Rattle.csp_value.specs.Action.{event_of};
+ghost use Rattle.csp_expression.specs.Evaluation.{table_of};
+ghost use Rattle.csp_expression.specs.Expression.{expression_of, expressions_of};
 ghost use Rattle.csp_event_sets.specs.Events.{event_expression_of, event_expressions_of, event_set_of};
-ghost use Rattle.csp_term.specs.Script.{script_of};
-ghost use Rattle.csp_fire.specs.Testing.{AreSorted, IsBoxedTestOf, IsEventOf, IsTestOf, listed_in, test_of};
+ghost use Rattle.csp_term.specs.Script.{field_values, script_of};
+ghost use Rattle.csp_fire.specs.Answering.{sets_of};
+ghost use Rattle.csp_fire.specs.Testing.{AreGivenBy, AreSetsOf, AreSorted, IsBoxedTestOf, IsEventOf, IsGivenBy, IsTestOf, given, listed_in, test_of};
 
 use crate::stuck::Stuck;
 use csp_event_sets::{EventExpression, EventSet, EventSetOperator};
-use csp_expression::Expr;
+use csp_expression::{Expr, TypeTable};
 use csp_term::{AllocHandle, Channel, ChannelId, Event, Fault, Memory, Script};
 use csp_value::{FieldSet, Value};
 use smallvec::SmallVec;
@@ -33,7 +37,9 @@ pub(crate) enum EventTest<A: AllocHandle> {
 pub(crate) fn field_sets<A: AllocHandle>(
     script: &Script<A>,
     channel: ChannelId,
-) -> Result<&[FieldSet<A>], Stuck> {
+) -> Result<&[FieldSet<A>], Stuck>
+    ensures { AreSetsOf result (field_sets (script_of script.now) channel.0) }
+{
     match script.channels.get(channel.0 as usize) {
         Some(declared) => Ok(&declared.fields),
         None => Err(Stuck::Fault(Fault::Kind)),
@@ -43,11 +49,13 @@ pub(crate) fn field_sets<A: AllocHandle>(
 /// The value of a given field, which has to lie in its field set.
 fn given_value<A: AllocHandle>(
     alloc: A,
-    script: &Script<A>,
+    types: &TypeTable<A>,
     field: &Expr<A>,
     set: &FieldSet<A>,
-) -> Result<Value<A>, Stuck> {
-    let value = field.eval(&script.types, alloc)?;
+) -> Result<Value<A>, Stuck>
+    ensures { IsGivenBy result (given (table_of types.now) (expression_of field.now) (field_values set.now)) }
+{
+    let value = field.eval(types, alloc)?;
     if set.contains(&value) {
         Ok(value)
     } else {
@@ -55,7 +63,26 @@ fn given_value<A: AllocHandle>(
     }
 }
 
-/// The channel with the values of its first fields, each evaluated and then compared with its set.
+/// The values of the fields, each evaluated and then compared with its set.
+fn given_values<A: AllocHandle>(
+    alloc: A,
+    types: &TypeTable<A>,
+    fields: &[Expr<A>],
+    sets: &[FieldSet<A>],
+) -> Result<SmallVec<Value<A>, 2, A>, Stuck>
+    ensures { AreGivenBy result (given_values (table_of types.now) (to_expressions (expressions_of fields.now)) (sets_of sets.now)) }
+{
+    let mut values = SmallVec::new(alloc);
+    for (place, field) in fields.iter().enumerate() {
+        let Some(set) = sets.get(place) else {
+            return Err(Stuck::Fault(Fault::Kind));
+        };
+        values.push(given_value(alloc, types, field, set)?)?;
+    }
+    Ok(values)
+}
+
+/// The channel with the values of its first fields.
 fn beginning<A: AllocHandle>(
     alloc: A,
     script: &Script<A>,
@@ -63,15 +90,9 @@ fn beginning<A: AllocHandle>(
 ) -> Result<Event<A>, Stuck>
     ensures { IsEventOf result (beginning_of (script_of script.now) (event_expression_of written.now)) }
 {
-    let sets = field_sets(script, written.channel)?;
-    let mut fields = SmallVec::new(alloc);
-    for (place, field) in written.fields.iter().enumerate() {
-        let Some(set) = sets.get(place) else {
-            return Err(Stuck::Fault(Fault::Kind));
-        };
-        fields.push(given_value(alloc, script, field, set)?)?;
-    }
     let channel = written.channel;
+    let sets = field_sets(script, channel)?;
+    let fields = given_values(alloc, &script.types, &written.fields, sets)?;
     Ok(Event { channel, fields })
 }
 
@@ -84,7 +105,8 @@ pub(crate) fn whole_event<A: AllocHandle>(
     ensures { IsEventOf result (written_event (script_of script.now) (event_expression_of written.now)) }
 {
     let event = beginning(alloc, script, written)?;
-    if event.fields.len() == field_sets(script, written.channel)?.len() {
+    let sets = field_sets(script, written.channel)?;
+    if event.fields.len() == sets.len() {
         Ok(event)
     } else {
         Err(Stuck::Fault(Fault::Kind))

@@ -1,5 +1,5 @@
 -- Each beginning in turn, or the first cause.
-use Rattle.std.proofs.Common.{◌≡◌, map, Result, Ok, Err, sym, ◌∙◌, ap, subst, arith}
+use Rattle.std.proofs.Common.{◌≡◌, map, Result, Ok, Err, sym, ◌∙◌, ap, subst, inl, inr, lit<, arith}
 use Rattle.std.proofs.lemmas.List.{take_all}
 use Rattle.std.proofs.lemmas.Result.{err_from_is_err_and}
 use Rattle.std.specs.List.{list_any}
@@ -40,3 +40,15 @@ returns g c =
     let script = script_of c.args.script.now in
     let all = take_all c.loop-event.event-index c.args.written.now (omega arith) in
     begun_by g.row.A.Denot script (event_expressions_of c.args.written.now) c.loop-event.events (ap (λ es. events.each (events.beginning_of script) (event_expressions_of es)) (sym all) ∙ c.loop-event.invariant)
+
+pub beginning-requires : goal.beginning-requires
+beginning-requires g c = elim g.met.A.AllocHandle.small [ inl e ↦ rw (e.0, e.1) (lit< tt) | inr e ↦ rw (e.0, e.1) (lit< tt) ]
+
+pub drop-events-requires-room-T-Destruct : goal.drop-events-requires-room-T-Destruct
+drop-events-requires-room-T-Destruct g c κs within = elim g.met.A.AllocHandle.small [ inl e ↦ rw (e.0, e.1) (lit< tt) | inr e ↦ rw (e.0, e.1) (lit< tt) ]
+
+pub from_residual-requires-in_err-push-room-F-From : goal.from_residual-requires-in_err-push-room-F-From
+from_residual-requires-in_err-push-room-F-From g c κs within = elim g.met.A.AllocHandle.small [ inl e ↦ rw (e.0, e.1) (lit< tt) | inr e ↦ rw (e.0, e.1) (lit< tt) ]
+
+pub drop-events-requires-in_err-push-room-T-Destruct : goal.drop-events-requires-in_err-push-room-T-Destruct
+drop-events-requires-in_err-push-room-T-Destruct g c κs within = elim g.met.A.AllocHandle.small [ inl e ↦ rw (e.0, e.1) (lit< tt) | inr e ↦ rw (e.0, e.1) (lit< tt) ]
