@@ -58,20 +58,21 @@ module _ {X Y A B : Type 0} (f : A → Result B Cause) (meant : X → A) (means 
 
 -- ---- a test of each
 
+-- two truths of which each follows from the other
+pub same_truth : (a b : Bool) → (a ≡ true → b ≡ true) → (b ≡ true → a ≡ true) → a ≡ b
+same_truth true b to back = sym (to refl)
+same_truth false true to back = back refl
+same_truth false false to back = refl
+
 module _ {K : Type 0} (test : K → Bool) where
-  any_from : (ks : List K) (k : K) → Contains ks k → test k ≡ true → list_any test ks ≡ true
+  pub any_from : (ks : List K) (k : K) → Contains ks k → test k ≡ true → list_any test ks ≡ true
   any_from [] k (i, h, e) is = absurd (omega arith)
   any_from (j ∷ ks) k (zero, h, e) is = or_first (test j) (list_any test ks) (ap test e ∙ is)
   any_from (j ∷ ks) k (suc i, h, e) is = or_second (test j) (list_any test ks) (any_from ks k (i, omega arith, e) is)
 
-  any_of : (ks : List K) → list_any test ks ≡ true → (k : K) × Contains ks k × (test k ≡ true)
+  pub any_of : (ks : List K) → list_any test ks ≡ true → (k : K) × Contains ks k × (test k ≡ true)
   any_of [] h = absurd (cc h)
   any_of (j ∷ ks) h = ⊎_elim (λ e. (j, (0, omega arith, refl), e)) (λ e. let r = any_of ks e in let i = r.1 in (r.0, (suc i.0, omega (arith, i.1), i.2), r.2)) (or_cases (test j) (list_any test ks) h)
-
-  same_truth : (a b : Bool) → (a ≡ true → b ≡ true) → (b ≡ true → a ≡ true) → a ≡ b
-  same_truth true b to back = sym (to refl)
-  same_truth false true to back = back refl
-  same_truth false false to back = refl
 
   one_way : (ks ls : List K) → IsPermutation ks ls → list_any test ks ≡ true → list_any test ls ≡ true
   one_way ks ls moved h = let r = any_of ks h in any_from ls r.0 (Contains-permutation ks ls r.0 moved r.1) r.2

@@ -26,10 +26,12 @@ use Rattle.csp_fire.proofs.Enumerating.{moved_any}
 use Rattle.csp_fire.proofs.Testing.{both_sorted, in_beginnings, in_combined, in_events, test_of_beginnings, test_of_combined, test_of_events}
 
 module _ (A : Type 0) (s : process.Script) (es : List process.EventExpression) where
-  pub begun_by : (all : Vec (Event A) A) → each (beginning_of s) es ≡ Ok (map event_of all.items) → IsTestOf (Ok (views.Beginnings all)) (event_test s (process.Productions es))
-  begun_by all is = (
-    ap (λ r. r and_then λ xs. Ok (λ e. list_any (begins_with e) xs)) is ∙ ap Ok (λ j e. sym (test_of_beginnings A all e) j),
-    subst AreSorted (sym (in_beginnings A all)) tt,
+  pub begun_by : (given : List (Event A)) (sorted : Vec (Event A) A) → each (beginning_of s) es ≡ Ok (map event_of given) → IsPermutation given sorted.items → IsSortedBy (λ e f. is_lt (pure.event_cmp (event_of e) (event_of f))) sorted.items →
+      IsTestOf (Ok (views.Beginnings sorted)) (event_test s (process.Productions es))
+  begun_by given sorted is moved rises = (
+    ap (λ r. r and_then λ xs. Ok (λ e. list_any (begins_with e) xs)) is
+        ∙ ap Ok (λ j e. (moved_any (begins_with e) (map event_of given) (map event_of sorted.items) (IsPermutation-map event_of given sorted.items moved) ∙ sym (test_of_beginnings A sorted e)) j),
+    subst AreSorted (sym (in_beginnings A sorted)) (rises, tt),
   )
 
   pub listed_by : (given : List (Event A)) (sorted : Vec (Event A) A) → each (events.event_of s) es ≡ Ok (map event_of given) → IsPermutation given sorted.items → IsSortedBy (λ e f. is_lt (pure.event_cmp (event_of e) (event_of f))) sorted.items →

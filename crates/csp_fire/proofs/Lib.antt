@@ -24,6 +24,7 @@ pub mod Collecting
 pub mod Siding
 pub mod Halving
 pub mod Testing
+pub mod Fronts
 pub mod Enumerating
 pub mod Giving
 pub mod Evaluating

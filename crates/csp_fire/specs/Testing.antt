@@ -13,6 +13,7 @@ use Rattle.csp_semantics.specs.Meaning.Evaluation.{Cause, Types, ◌and_then◌,
 use Rattle.csp_semantics.specs.Meaning.Events.{begins_with, in_field_set}
 use Rattle.csp_value.specs.declared.action.Event.{Event}
 use Rattle.csp_value.specs.declared.field_set.FieldSet.{FieldSet}
+use Rattle.csp_value.specs.declared.name.ChannelId.{ChannelId}
 use Rattle.csp_value.specs.declared.value.Value.{Value}
 use Rattle.csp_value.specs.Action.{event_of}
 use Rattle.csp_value.specs.Value.{value_of, values_of}
@@ -44,10 +45,10 @@ test_of {A} = fold-EventTest A (pure.Event → Bool) test_step
 -- one layer, with what the parts list in their places
 abbrev pub listed_step : {A : Type 0} → layer.EventTest-F A (List (List (Event A))) → List (List (Event A))
 listed_step (layer.Events es) = es.items ∷ []
-listed_step (layer.Beginnings es) = []
+listed_step (layer.Beginnings es) = es.items ∷ []
 listed_step (layer.Combine op a b) = box_value a ++ box_value b
 
--- the lists in which an event is looked for by halving
+-- the lists in which an event, or a beginning of it, is looked for by halving
 abbrev pub listed_in : {A : Type 0} → EventTest A → List (List (Event A))
 listed_in {A} = fold-EventTest A (List (List (Event A))) listed_step
 
@@ -76,6 +77,10 @@ abbrev pub AreGivenBy : {A : Type 0} → Result (SmallVec (Value A)) Stuck → R
 AreGivenBy (Ok vs) r = r ≡ Ok (values_of vs.items)
 AreGivenBy (Err (stuck.Fault c)) r = r ≡ Err (cause_of c)
 AreGivenBy (Err stuck.Memory) r = ⊤
+
+-- the channel with these fields
+abbrev pub event_with : {A : Type 0} → ChannelId → List (Value A) → pure.Event
+event_with c vs = record { channel = c.0; fields = values_of vs }
 
 -- the event that is written, or the first cause
 abbrev pub IsEventOf : {A : Type 0} → Result (Event A) Stuck → Result pure.Event Cause → Type 0

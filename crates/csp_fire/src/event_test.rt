@@ -14,7 +14,7 @@ ghost use Rattle.csp_expression.specs.Expression.{expression_of, expressions_of}
 ghost use Rattle.csp_event_sets.specs.Events.{event_expression_of, event_expressions_of, event_set_of};
 ghost use Rattle.csp_term.specs.Script.{field_values, script_of};
 ghost use Rattle.csp_fire.specs.Answering.{sets_of};
-ghost use Rattle.csp_fire.specs.Testing.{AreGivenBy, AreSetsOf, AreSorted, IsBoxedTestOf, IsEventOf, IsGivenBy, IsTestOf, given, listed_in, test_of};
+ghost use Rattle.csp_fire.specs.Testing.{AreGivenBy, AreSetsOf, AreSorted, IsBoxedTestOf, IsEventOf, IsGivenBy, IsTestOf, event_with, given, listed_in, test_of};
 
 use crate::stuck::Stuck;
 use csp_event_sets::{EventExpression, EventSet, EventSetOperator};
@@ -22,13 +22,14 @@ use csp_expression::{Expr, TypeTable};
 use csp_term::{AllocHandle, Channel, ChannelId, Event, Fault, Memory, Script};
 use csp_value::{FieldSet, Value};
 use smallvec::SmallVec;
+use std::cmp::Ordering;
 
 /// Which events a set holds.
 #[derive(Drop)]
 pub(crate) enum EventTest<A: AllocHandle> {
     /// These events, which rise, so that one is found by halving.
     Events(Vec<Event<A>, A>),
-    /// The events that begin with one of these: its channel and its fields, and whatever fields behind.
+    /// The events that begin with one of these: its channel and its fields, and whatever fields behind. They rise too.
     Beginnings(Vec<Event<A>, A>),
     Combine(EventSetOperator, Box<EventTest<A>, A>, Box<EventTest<A>, A>),
 }
@@ -139,6 +140,7 @@ fn beginnings<A: AllocHandle>(
     for event in written {
         events.push(beginning(alloc, script, event)?)?;
     }
+    events.sort_unstable();
     Ok(EventTest::Beginnings(events))
 }
 
@@ -161,23 +163,50 @@ fn is_listed<A: AllocHandle>(listed: &[Event<A>], event: &Event<A>) -> bool
     listed.binary_search(event).is_ok()
 }
 
-/// Whether the event is on the channel of the beginning and has its fields first.
-fn begins_with<A: AllocHandle>(event: &Event<A>, beginning: &Event<A>) -> bool
-    ensures { result ≡ begins_with (event_of event.now) (event_of beginning.now) }
+/// The order of the beginning and the channel with these fields.
+fn compared<A: AllocHandle>(
+    beginning: &Event<A>,
+    channel: ChannelId,
+    fields: &[Value<A>],
+) -> Ordering
+    ensures { result ≡ event_cmp (event_of beginning.now) (event_with channel fields.now) }
 {
-    event.channel == beginning.channel && event.fields.starts_with(&beginning.fields)
+    match beginning.channel.cmp(&channel) {
+        Ordering::Equal => beginning.fields.as_slice().cmp(&fields),
+        order => order,
+    }
 }
 
-/// Whether the event begins with one of these.
+/// Whether the channel with these fields is one of the beginnings, which rise.
+fn is_beginning<A: AllocHandle>(
+    beginnings: &[Event<A>],
+    channel: ChannelId,
+    fields: &[Value<A>],
+) -> bool
+    requires { IsSortedBy (λ e f. is_lt (event_cmp (event_of e) (event_of f))) beginnings.now }
+    ensures { result ≡ list_any (event_eq (event_with channel fields.now)) (map event_of beginnings.now) }
+{
+    let found = beginnings.binary_search_by(
+        |beginning: &Event<A>| -> Ordering
+            ensures { result ≡ event_cmp (event_of beginning.now) (event_with channel fields.entry.now) }
+        { compared(beginning, channel, fields) },
+    );
+    found.is_ok()
+}
+
+/// Whether the event begins with one of these, which rise. Its channel is looked for with each number of its first
+/// fields, so the cost is in the number of its fields, and not in that of the beginnings.
 fn is_begun<A: AllocHandle>(beginnings: &[Event<A>], event: &Event<A>) -> bool
+    requires { IsSortedBy (λ e f. is_lt (event_cmp (event_of e) (event_of f))) beginnings.now }
     ensures { result ≡ list_any (begins_with (event_of event.now)) (map event_of beginnings.now) }
 {
-    for beginning in beginnings {
-        if begins_with(event, beginning) {
+    let fields = event.fields.as_slice();
+    for count in 0..fields.len() {
+        if is_beginning(beginnings, event.channel, &fields[..count]) {
             return true;
         }
     }
-    false
+    is_beginning(beginnings, event.channel, fields)
 }
 
 impl<A: AllocHandle> EventTest<A> {
