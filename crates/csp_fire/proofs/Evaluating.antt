@@ -1,11 +1,11 @@
 -- The test of a list of events that are written, and of two sets under an operator.
-use Rattle.std.proofs.Common.{◌≡◌, Bool, List, [], ◌∷◌, map, Result, Ok, Err, refl, sym, ◌∙◌, ap, subst}
+use Rattle.std.proofs.Common.{◌≡◌, Bool, List, map, Result, Ok, Err, refl, sym, ◌∙◌, ap, subst}
 use Rattle.std.specs.declared.boxed.Box.{Box}
 use Rattle.std.specs.declared.vec.Vec.{Vec}
 use Rattle.std.specs.List.{list_any}
 use Rattle.std.specs.List.Sorted.{IsPermutation, IsSortedBy}
 use Rattle.std.specs.Ordering.{is_lt}
-use Rattle.std.proofs.lemmas.List.Sorted.{IsPermutation-map}
+use Rattle.std.proofs.lemmas.List.Sorted.{IsPermutation-map, list_any-IsPermutation}
 use Rattle.csp_semantics.specs.Syntax.Value as pure
 use Rattle.csp_semantics.specs.Syntax.Process as process
 use Rattle.csp_semantics.specs.Meaning.Evaluation.{Cause, ◌and_then◌}
@@ -22,7 +22,6 @@ use Rattle.csp_fire.specs.declared.stuck.Stuck.TheVariants as stuck
 use Rattle.csp_fire.specs.declared.event_test.EventTest.{EventTest}
 use Rattle.csp_fire.specs.declared.event_test.EventTest.TheVariants as views
 use Rattle.csp_fire.specs.Testing.{AreSorted, IsBoxedTestOf, IsEventOf, IsTestOf, combined_test, listed_in, test_of}
-use Rattle.csp_fire.proofs.Enumerating.{moved_any}
 use Rattle.csp_fire.proofs.Testing.{both_sorted, in_beginnings, in_combined, in_events, test_of_beginnings, test_of_combined, test_of_events}
 
 module _ (A : Type 0) (s : process.Script) (es : List process.EventExpression) where
@@ -30,7 +29,7 @@ module _ (A : Type 0) (s : process.Script) (es : List process.EventExpression) w
       IsTestOf (Ok (views.Beginnings sorted)) (event_test s (process.Productions es))
   begun_by given sorted is moved rises = (
     ap (λ r. r and_then λ xs. Ok (λ e. list_any (begins_with e) xs)) is
-        ∙ ap Ok (λ j e. (moved_any (begins_with e) (map event_of given) (map event_of sorted.items) (IsPermutation-map event_of given sorted.items moved) ∙ sym (test_of_beginnings A sorted e)) j),
+        ∙ ap Ok (λ j e. (list_any-IsPermutation (begins_with e) (map event_of given) (map event_of sorted.items) (IsPermutation-map event_of given sorted.items moved) ∙ sym (test_of_beginnings A sorted e)) j),
     subst AreSorted (sym (in_beginnings A sorted)) (rises, tt),
   )
 
@@ -38,7 +37,7 @@ module _ (A : Type 0) (s : process.Script) (es : List process.EventExpression) w
       IsTestOf (Ok (views.Events sorted)) (event_test s (process.Enumeration es))
   listed_by given sorted is moved rises = (
     ap (λ r. r and_then λ xs. Ok (λ e. list_any (pure.event_eq e) xs)) is
-        ∙ ap Ok (λ j e. (moved_any (pure.event_eq e) (map event_of given) (map event_of sorted.items) (IsPermutation-map event_of given sorted.items moved) ∙ sym (test_of_events A sorted e)) j),
+        ∙ ap Ok (λ j e. (list_any-IsPermutation (pure.event_eq e) (map event_of given) (map event_of sorted.items) (IsPermutation-map event_of given sorted.items moved) ∙ sym (test_of_events A sorted e)) j),
     subst AreSorted (sym (in_events A sorted)) (rises, tt),
   )
 

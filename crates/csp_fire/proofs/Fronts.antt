@@ -1,5 +1,5 @@
 -- An event begins with one of some beginnings where one of its fronts, its channel with its first fields, is among them.
-use Rattle.std.proofs.Common.{◌≡◌, ℕ, zero, suc, ◌+◌, ◌<◌, ◌≤◌, Bool, true, false, ◌&&◌, List, [], ◌∷◌, length, take, map, Contains, nat_eq, refl, sym, ◌∙◌, ap, ap₂, subst, ⊎_elim, arith}
+use Rattle.std.proofs.Common.{◌≡◌, ℕ, zero, suc, ◌+◌, ◌<◌, ◌≤◌, Bool, true, false, ◌&&◌, List, [], ◌∷◌, length, take, Contains, nat_eq, refl, sym, ◌∙◌, ap, ap₂, subst, ⊎_elim, arith}
 use Rattle.std.proofs.lemmas.List.{take_all, take-map}
 use Rattle.std.specs.declared.cmp.Ordering.{Ordering}
 use Rattle.std.specs.declared.cmp.Ordering.TheVariants.{Less, Equal, Greater}
@@ -13,7 +13,7 @@ use Rattle.csp_semantics.proofs.Equalities.{event_refl, event_same, is_eq-Equal,
 use Rattle.csp_value.specs.declared.action.Event.{Event as CodeEvent}
 use Rattle.csp_value.specs.declared.value.Value.{Value}
 use Rattle.csp_value.specs.Action.{event_of}
-use Rattle.csp_value.specs.Value.{value_of, values_of}
+use Rattle.csp_value.specs.Value.{value_of}
 use Rattle.csp_fire.specs.Testing.{event_with}
 use Rattle.csp_fire.proofs.Enumerating.{any_from, any_of, same_truth}
 use Rattle.csp_fire.proofs.Halving.{either_side}
@@ -22,17 +22,20 @@ use Rattle.csp_fire.proofs.Halving.{either_side}
 abbrev pub front : ℕ → Event → Event
 front k e = record { channel = e.channel; fields = take k e.fields }
 
+-- two truths
 both_true : (a b : Bool) → a && b ≡ true → (a ≡ true) × (b ≡ true)
 both_true true b is = (refl, is)
 both_true false b is = absurd (cc is)
 
 -- ---- lists
 
+-- a list starts with each of its fronts
 starts_with_front : (vs : List pure.Value) (k : ℕ) → starts_with value_eq vs (take k vs) ≡ true
 starts_with_front vs zero = refl
 starts_with_front [] (suc k) = refl
 starts_with_front (v ∷ vs) (suc k) = ap₂ ◌&&◌ (ap is_eq (value_refl v)) (starts_with_front vs k)
 
+-- what a list starts with is one of them
 is_front : (vs ws : List pure.Value) → starts_with value_eq vs ws ≡ true → take (length ws) vs ≡ ws
 is_front vs [] h = refl
 is_front [] (w ∷ ws) h = absurd (cc h)
@@ -43,9 +46,11 @@ is_front (v ∷ vs) (w ∷ ws) h =
 -- ---- events
 
 module _ (e : Event) where
+  -- an event begins with each of its fronts
   begins_with_front : (k : ℕ) → begins_with e (front k e) ≡ true
   begins_with_front k = ap₂ ◌&&◌ (eq-eqb e.channel e.channel refl) (starts_with_front e.fields k)
 
+  -- and with itself
   begins_with_all : begins_with e e ≡ true
   begins_with_all = ap (begins_with e) (λ i. record { channel = e.channel; fields = sym (take_all (length e.fields) e.fields (omega arith)) i }) ∙ begins_with_front (length e.fields)
 

@@ -1,10 +1,10 @@
 -- Given fields one after the other, each evaluated and then compared with its set.
-use Rattle.std.proofs.Common.{◌≡◌, ℕ, zero, suc, ◌+◌, ◌<◌, nat_eq, Bool, true, false, cond, List, [], ◌∷◌, ◌++◌, length, map, take, drop, get_or, slice_get, Option, Some, None, Result, Ok, Err, refl, sym, ◌∙◌, ap, arith}
+use Rattle.std.proofs.Common.{◌≡◌, ℕ, zero, suc, ◌+◌, ◌<◌, nat_eq, Bool, true, false, cond, List, [], ◌∷◌, ◌++◌, length, take, drop, get_or, slice_get, Some, None, Result, Ok, Err, refl, sym, ◌∙◌, ap, arith}
 use Rattle.std.proofs.lemmas.Bool.{eq-eqb, eqb-true}
 use Rattle.std.proofs.lemmas.List.{drop_more, length-take-le, map-append, take-append-drop, take_more}
 use Rattle.std.specs.Result.{result_err, result_ok}
 use Rattle.csp_semantics.specs.Syntax.Value.{Event, Value, has_value}
-use Rattle.csp_semantics.specs.Syntax.Expression.{Expression, Expressions, no_expressions, expression_and, to_expressions}
+use Rattle.csp_semantics.specs.Syntax.Expression.{Expression, Expressions, expression_and, to_expressions}
 use Rattle.csp_semantics.specs.Syntax.Process.{EventExpression, Script}
 use Rattle.csp_semantics.specs.Meaning.Evaluation.{Cause, IllKinded, OutOfRange, Types, ◌and_then◌, value}
 use Rattle.csp_semantics.specs.Meaning.Events.{beginning_of, event_of, field_sets, given_values, in_field_set}
@@ -24,11 +24,13 @@ use Rattle.csp_fire.proofs.Parameters.{same_length}
 
 -- ---- what is left of a list
 
+-- there is a set for the next field
 drop_at : {X : Type 0} (xs : List X) (i : ℕ) (x : X) → slice_get xs i ≡ Some x → drop i xs ≡ x ∷ drop (suc i) xs
 drop_at [] i x at = absurd (cc at)
 drop_at (y ∷ ys) zero x at = let f : Some y ≡ Some x = at in let e : y ≡ x = cc f in ap (λ z. z ∷ ys) e
 drop_at (y ∷ ys) (suc i) x at = drop_at ys i x at
 
+-- there is none
 drop_past : {X : Type 0} (xs : List X) (i : ℕ) → slice_get xs i ≡ None → drop i xs ≡ []
 drop_past [] zero at = refl
 drop_past [] (suc i) at = refl
@@ -38,6 +40,7 @@ drop_past (y ∷ ys) (suc i) at = drop_past ys i at
 module _ (types : Types) where
   -- ---- the first field, and those behind it
 
+  -- what is done with a value that lies in its set
   by_given : (r : Result Value Cause) (set : List Value) (k : Value → Result (List Value) Cause) → (r and_then λ v. in_field_set set v and_then λ w. k v) ≡ ((r and_then λ v. in_field_set set v) and_then λ v. k v)
   by_given (Ok v) set k = by_test (has_value set v)
     where
@@ -46,9 +49,11 @@ module _ (types : Types) where
       by_test false = refl
   by_given (Err c) set k = refl
 
+  -- the first field
   first_given : (e : Expression) (es : Expressions) (set : List Value) (sets : List (List Value)) → given_values types (expression_and e es) (set ∷ sets) ≡ (given types e set and_then λ v. given_values types es sets and_then λ vs. Ok (v ∷ vs))
   first_given e es set sets = by_given (value types e) set (λ v. given_values types es sets and_then λ vs. Ok (v ∷ vs))
 
+  -- some fields, and those behind them
   given_both : (es fs : List Expression) (sets : List (List Value)) →
       given_values types (to_expressions (es ++ fs)) sets ≡ (given_values types (to_expressions es) sets and_then λ vs. given_values types (to_expressions fs) (drop (length es) sets) and_then λ ws. Ok (vs ++ ws))
   given_both [] fs sets = alone (given_values types (to_expressions fs) sets)
@@ -80,21 +85,26 @@ module _ (types : Types) where
   -- ---- one field more
 
   module _ (es : List Expression) (vs : List Value) (sets : List (List Value)) (so_far : given_values types (to_expressions es) sets ≡ Ok vs) (e : Expression) where
+    -- the values so far do not hang on what follows
     after : (fs : List Expression) → given_values types (to_expressions (es ++ e ∷ fs)) sets ≡ (given_values types (expression_and e (to_expressions fs)) (drop (length es) sets) and_then λ ws. Ok (vs ++ ws))
     after fs = given_both es (e ∷ fs) sets ∙ ap (λ r. r and_then λ us. given_values types (expression_and e (to_expressions fs)) (drop (length es) sets) and_then λ ws. Ok (us ++ ws)) so_far
 
+    -- so where there is a set for the field
     after_set : (fs : List Expression) (set : List Value) → slice_get sets (length es) ≡ Some set →
         given_values types (to_expressions (es ++ e ∷ fs)) sets ≡ ((given types e set and_then λ v. given_values types (to_expressions fs) (drop (suc (length es)) sets) and_then λ ws. Ok (v ∷ ws)) and_then λ ws. Ok (vs ++ ws))
     after_set fs set at =
         after fs ∙ ap (λ zs. given_values types (expression_and e (to_expressions fs)) zs and_then λ ws. Ok (vs ++ ws)) (drop_at sets (length es) set at)
         ∙ ap (λ r. r and_then λ ws. Ok (vs ++ ws)) (first_given e (to_expressions fs) set (drop (suc (length es)) sets))
 
+    -- its value is the next
     one_given : (set : List Value) (v : Value) → slice_get sets (length es) ≡ Some set → given types e set ≡ Ok v → given_values types (to_expressions (es ++ e ∷ [])) sets ≡ Ok (vs ++ v ∷ [])
     one_given set v at one = after_set [] set at ∙ ap (λ r. (r and_then λ w. Ok (w ∷ [])) and_then λ ws. Ok (vs ++ ws)) one
 
+    -- it has no value
     one_stops : (fs : List Expression) (set : List Value) (c : Cause) → slice_get sets (length es) ≡ Some set → given types e set ≡ Err c → given_values types (to_expressions (es ++ e ∷ fs)) sets ≡ Err c
     one_stops fs set c at none = after_set fs set at ∙ ap (λ r. (r and_then λ w. given_values types (to_expressions fs) (drop (suc (length es)) sets) and_then λ ws. Ok (w ∷ ws)) and_then λ ws. Ok (vs ++ ws)) none
 
+    -- it has no set
     one_too_many : (fs : List Expression) → slice_get sets (length es) ≡ None → given_values types (to_expressions (es ++ e ∷ fs)) sets ≡ Err IllKinded
     one_too_many fs at = after fs ∙ ap (λ zs. given_values types (expression_and e (to_expressions fs)) zs and_then λ ws. Ok (vs ++ ws)) (drop_past sets (length es) at)
 
@@ -105,29 +115,35 @@ module _ (types : Types) where
   GivenSoFar items sets i all = given_values types (to_expressions (expressions_of (take i items))) (sets_of sets) ≡ Ok (values_of all)
 
   module _ {A : Type 0} (items : List (Expr A)) (sets : List (FieldSet A)) (i : ℕ) (item : Expr A) (all : List (code.Value A)) (so_far : GivenSoFar items sets i all) (within : i < length items) (read : item ≡ get_or items i item) where
+    -- so many fields are before it
     counted : length (expressions_of (take i items)) ≡ i
     counted = same_length expression_of (take i items) ∙ length-take-le i items (omega (arith, within))
 
+    -- its set
     set_at : (set : FieldSet A) → slice_get sets i ≡ Some set → slice_get (sets_of sets) (length (expressions_of (take i items))) ≡ Some (field_values set)
     set_at set at = ap (slice_get (sets_of sets)) counted ∙ get_some field_values sets i set at
 
+    -- the fields before it, itself and those behind it
     split : expressions_of items ≡ expressions_of (take i items) ++ expression_of item ∷ expressions_of (drop (i + 1) items)
     split =
         ap expressions_of (sym (take-append-drop i items) ∙ ap (λ zs. take i items ++ zs) (drop_more items i item within ∙ ap (λ z. z ∷ drop (i + 1) items) (sym read)))
         ∙ map-append expression_of (take i items) (item ∷ drop (i + 1) items)
 
+    -- its value is the next
     pub next_given : (set : FieldSet A) (v : code.Value A) (more : List (code.Value A)) → slice_get sets i ≡ Some set → given types (expression_of item) (field_values set) ≡ Ok (value_of v) → more ≡ all ++ v ∷ [] → GivenSoFar items sets (i + 1) more
     next_given set v more at one pushed =
         let longer = ap expressions_of (take_more items i item within ∙ ap (λ z. take i items ++ z ∷ []) (sym read)) ∙ map-append expression_of (take i items) (item ∷ []) in
         ap (λ es. given_values types (to_expressions es) (sets_of sets)) longer ∙ one_given (expressions_of (take i items)) (values_of all) (sets_of sets) so_far (expression_of item) (field_values set) (value_of v) (set_at set at) one
         ∙ ap Ok (sym (map-append value_of all (v ∷ [])) ∙ ap values_of (sym pushed))
 
+    -- it has no value
     pub given_stops : (set : FieldSet A) (why : Stuck) → slice_get sets i ≡ Some set → IsGivenBy {A = A} (Err why) (given types (expression_of item) (field_values set)) → AreGivenBy {A = A} (Err why) (given_values types (to_expressions (expressions_of items)) (sets_of sets))
     given_stops set (stuck.Fault c) at none =
         ap (λ es. given_values types (to_expressions es) (sets_of sets)) split
         ∙ one_stops (expressions_of (take i items)) (values_of all) (sets_of sets) so_far (expression_of item) (expressions_of (drop (i + 1) items)) (field_values set) (cause_of c) (set_at set at) none
     given_stops set stuck.Memory at none = tt
 
+    -- it has no set
     pub too_many : slice_get sets i ≡ None → given_values types (to_expressions (expressions_of items)) (sets_of sets) ≡ Err IllKinded
     too_many at =
         ap (λ es. given_values types (to_expressions es) (sets_of sets)) split
@@ -135,6 +151,7 @@ module _ (types : Types) where
 
 -- ---- events
 
+-- the channel with these values
 abbrev made : ℕ → List Value → Event
 made c vs = record { channel = c; fields = vs }
 
@@ -143,9 +160,11 @@ module _ (s : Script) (e : EventExpression) (sets : List (List Value)) (has : fi
   begins_by : beginning_of s e ≡ (given_values s.types e.fields sets and_then λ vs. Ok (made e.channel vs))
   begins_by = ap (λ r. r and_then λ zs. given_values s.types e.fields zs and_then λ vs. Ok (made e.channel vs)) has
 
+  -- there are values
   pub begun : (vs : List Value) → given_values s.types e.fields sets ≡ Ok vs → beginning_of s e ≡ Ok (made e.channel vs)
   begun vs is = begins_by ∙ ap (λ r. r and_then λ us. Ok (made e.channel us)) is
 
+  -- there are none
   pub not_begun : (c : Cause) → given_values s.types e.fields sets ≡ Err c → beginning_of s e ≡ Err c
   not_begun c is = begins_by ∙ ap (λ r. r and_then λ us. Ok (made e.channel us)) is
 
@@ -163,9 +182,11 @@ module _ (s : Script) (e : EventExpression) (sets : List (List Value)) (has : fi
           ap (λ d. cond (nat_eq (length d.fields) (length sets)) (Ok d) (Err IllKinded)) j
       by_values (Err c) same = absurd (cc same)
 
+  -- it has them all
   pub whole : (b : Event) → beginning_of s e ≡ Ok b → length b.fields ≡ length sets → event_of s e ≡ Ok b
   whole b is all = whole_by b is ∙ ap (λ t. cond t (Ok b) (Err IllKinded)) (eq-eqb (length b.fields) (length sets) all)
 
+  -- it has not
   pub not_all : (b : Event) → beginning_of s e ≡ Ok b → (length b.fields ≡ length sets → ⊥) → event_of s e ≡ Err IllKinded
   not_all b is fewer = whole_by b is ∙ by_test (nat_eq (length b.fields) (length sets)) refl
     where
@@ -174,6 +195,7 @@ module _ (s : Script) (e : EventExpression) (sets : List (List Value)) (has : fi
       by_test false same = refl
 
 module _ (s : Script) (e : EventExpression) (c : Cause) where
+  -- a channel that is not there has no event
   pub no_sets : field_sets s e.channel ≡ Err c → beginning_of s e ≡ Err c
   no_sets none = ap (λ r. r and_then λ zs. given_values s.types e.fields zs and_then λ vs. Ok (made e.channel vs)) none
 
@@ -194,14 +216,17 @@ module _ (s : Script) (e : EventExpression) (c : Cause) where
 -- ---- events that are not found
 
 module _ (A : Type 0) (s : Script) (e : EventExpression) where
+  -- without sets there is no beginning
   pub sets_stuck : (why : Stuck) → AreSetsOf {A = A} (Err why) (field_sets s e.channel) → IsEventOf {A = A} (Err why) (beginning_of s e)
   sets_stuck (stuck.Fault c) none = no_sets s e (cause_of c) none
   sets_stuck stuck.Memory none = tt
 
+  -- nor without values
   pub values_stuck : (sets : List (List Value)) → field_sets s e.channel ≡ Ok sets → (why : Stuck) → AreGivenBy {A = A} (Err why) (given_values s.types e.fields sets) → IsEventOf {A = A} (Err why) (beginning_of s e)
   values_stuck sets has (stuck.Fault c) none = not_begun s e sets has (cause_of c) none
   values_stuck sets has stuck.Memory none = tt
 
+  -- without a beginning there is no event
   pub beginning_stuck : (why : Stuck) → IsEventOf {A = A} (Err why) (beginning_of s e) → IsEventOf {A = A} (Err why) (event_of s e)
   beginning_stuck (stuck.Fault c) none = not_whole s e (cause_of c) none
   beginning_stuck stuck.Memory none = tt

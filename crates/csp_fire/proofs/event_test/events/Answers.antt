@@ -1,5 +1,5 @@
 -- Each event in turn, or the first cause; all are sorted then.
-use Rattle.std.proofs.Common.{◌≡◌, map, Result, Ok, Err, sym, ◌∙◌, ap, subst, inl, inr, lit<, arith}
+use Rattle.std.proofs.Common.{◌≡◌, Result, Ok, Err, sym, ◌∙◌, ap, subst, inl, inr, lit<, arith}
 use Rattle.std.proofs.lemmas.List.{take_all}
 use Rattle.std.proofs.lemmas.Result.{err_from_is_err_and}
 use Rattle.std.specs.List.{list_any}

@@ -1,5 +1,5 @@
 -- Each field in turn, or the first cause.
-use Rattle.std.proofs.Common.{◌≡◌, length, Result, Err, refl, sym, ◌∙◌, ap, subst}
+use Rattle.std.proofs.Common.{length, Result, Err, refl, sym, ◌∙◌, ap, subst}
 use Rattle.std.proofs.lemmas.Option.{slice_get_past, slice_get_read}
 use Rattle.std.proofs.lemmas.Result.{err_from_is_err_and}
 use Rattle.smallvec.specs.SmallVec.{SmallVec}

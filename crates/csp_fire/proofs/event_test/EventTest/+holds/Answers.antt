@@ -1,5 +1,5 @@
 -- Each form of a test.
-use Rattle.std.proofs.Common.{◌≡◌, map, not, sym, ◌∙◌, ap, subst, inl, inr, lit<}
+use Rattle.std.proofs.Common.{map, not, sym, ◌∙◌, ap, subst, inl, inr, lit<}
 use Rattle.std.specs.List.{list_any}
 use Rattle.std.specs.List.Sorted.{IsSortedBy}
 use Rattle.std.specs.Ordering.{is_lt}
