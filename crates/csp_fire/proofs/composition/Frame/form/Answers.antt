@@ -1,5 +1,5 @@
 -- The copies of the pairs stand for the same.
-use Rattle.std.proofs.Common.{◌≡◌, sym, ◌∙◌, ap}
+use Rattle.std.proofs.Common.{sym, ◌∙◌, ap}
 use Rattle.csp_semantics.specs.Syntax.Process.{Renaming}
 use Rattle.csp_event_sets.specs.Events.{renaming_pair_of, renaming_pairs_of}
 use Rattle.csp_expression.proofs.Copying.{copies_same}
