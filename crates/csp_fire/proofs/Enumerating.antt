@@ -1,9 +1,7 @@
--- The results of a list one after the other, and a test of each of a list that is moved about.
+-- The results of a list one after the other, and a test of each item of a list.
 use Rattle.std.proofs.Common.{◌≡◌, ℕ, ◌+◌, ◌<◌, length, take, drop, get_or, Bool, true, false, List, [], ◌∷◌, ◌++◌, map, Contains, Result, Ok, Err, refl, sym, ◌∙◌, ap, zero, suc, ⊎_elim, arith}
 use Rattle.std.proofs.lemmas.List.{drop_more, map-append, take-append-drop, take_more}
-use Rattle.std.proofs.lemmas.List.Sorted.{Contains-permutation, IsPermutation-sym}
 use Rattle.std.specs.List.{list_any}
-use Rattle.std.specs.List.Sorted.{IsPermutation}
 use Rattle.csp_semantics.specs.Meaning.Evaluation.{Cause, ◌and_then◌}
 use Rattle.csp_semantics.specs.Meaning.Events.{each}
 use Rattle.csp_fire.proofs.Acting.{or_cases, or_first, or_second}
@@ -58,24 +56,20 @@ module _ {X Y A B : Type 0} (f : A → Result B Cause) (meant : X → A) (means 
 
 -- ---- a test of each
 
+-- two truths of which each follows from the other
+pub same_truth : (a b : Bool) → (a ≡ true → b ≡ true) → (b ≡ true → a ≡ true) → a ≡ b
+same_truth true b to back = sym (to refl)
+same_truth false true to back = back refl
+same_truth false false to back = refl
+
 module _ {K : Type 0} (test : K → Bool) where
-  any_from : (ks : List K) (k : K) → Contains ks k → test k ≡ true → list_any test ks ≡ true
+  -- an item that passes
+  pub any_from : (ks : List K) (k : K) → Contains ks k → test k ≡ true → list_any test ks ≡ true
   any_from [] k (i, h, e) is = absurd (omega arith)
   any_from (j ∷ ks) k (zero, h, e) is = or_first (test j) (list_any test ks) (ap test e ∙ is)
   any_from (j ∷ ks) k (suc i, h, e) is = or_second (test j) (list_any test ks) (any_from ks k (i, omega arith, e) is)
 
-  any_of : (ks : List K) → list_any test ks ≡ true → (k : K) × Contains ks k × (test k ≡ true)
+  -- one of the items that pass
+  pub any_of : (ks : List K) → list_any test ks ≡ true → (k : K) × Contains ks k × (test k ≡ true)
   any_of [] h = absurd (cc h)
   any_of (j ∷ ks) h = ⊎_elim (λ e. (j, (0, omega arith, refl), e)) (λ e. let r = any_of ks e in let i = r.1 in (r.0, (suc i.0, omega (arith, i.1), i.2), r.2)) (or_cases (test j) (list_any test ks) h)
-
-  same_truth : (a b : Bool) → (a ≡ true → b ≡ true) → (b ≡ true → a ≡ true) → a ≡ b
-  same_truth true b to back = sym (to refl)
-  same_truth false true to back = back refl
-  same_truth false false to back = refl
-
-  one_way : (ks ls : List K) → IsPermutation ks ls → list_any test ks ≡ true → list_any test ls ≡ true
-  one_way ks ls moved h = let r = any_of ks h in any_from ls r.0 (Contains-permutation ks ls r.0 moved r.1) r.2
-
-  -- what is moved about is told alike
-  pub moved_any : (ks ls : List K) → IsPermutation ks ls → list_any test ks ≡ list_any test ls
-  moved_any ks ls moved = same_truth (list_any test ks) (list_any test ls) (one_way ks ls moved) (one_way ls ks (IsPermutation-sym ks ls moved))

@@ -1,5 +1,5 @@
--- In a list that rises a binary search tells whether an equal one is there.
-use Rattle.std.proofs.Common.{◌≡◌, ℕ, zero, suc, ◌≤◌, ◌<◌, ◌||◌, Bool, true, false, Some, List, [], ◌∷◌, length, map, get_or, slice_get, Result, Ok, Err, refl, sym, ◌∙◌, ap, inl, inr, ◌⊎◌, ⊎_elim, arith}
+-- In a list that rises a binary search tells whether a wanted one is there.
+use Rattle.std.proofs.Common.{◌≡◌, ℕ, zero, suc, ◌≤◌, ◌<◌, Bool, true, false, Some, List, [], ◌∷◌, length, map, get_or, slice_get, Result, Ok, Err, refl, sym, ◌∙◌, ap, inl, inr, ◌⊎◌, ⊎_elim, arith}
 use Rattle.std.specs.Result.{is_ok}
 use Rattle.std.specs.declared.cmp.Ordering.{Ordering}
 use Rattle.std.specs.declared.cmp.Ordering.TheVariants.{Less, Equal, Greater}
@@ -16,14 +16,14 @@ is_eq-Equal Less e = absurd (cc e)
 is_eq-Equal Equal e = refl
 is_eq-Equal Greater e = absurd (cc e)
 
-either_side : (i j : ℕ) → (i ≤ j) ⊎ (j < i)
+pub either_side : (i j : ℕ) → (i ≤ j) ⊎ (j < i)
 either_side zero j = inl (omega arith)
 either_side (suc i) zero = inr (omega arith)
 either_side (suc i) (suc j) = ⊎_elim (λ le. inl (omega (arith, le))) (λ lt. inr (omega (arith, lt))) (either_side i j)
 
-module _ {K X : Type 0} {R : K → K → Ordering} (total : IsTotalOrder R) (key : X → K) (x : X) where
+module _ {K X : Type 0} {R : K → K → Ordering} (total : IsTotalOrder R) (key : X → K) (wanted : K) where
   abbrev ties : K → Bool
-  ties k = is_eq (R (key x) k)
+  ties k = is_eq (R wanted k)
 
   any_at : (xs : List X) (i : ℕ) (y : X) → slice_get xs i ≡ Some y → ties (key y) ≡ true → list_any ties (map key xs) ≡ true
   any_at [] i y at is = absurd (cc at)
@@ -34,19 +34,21 @@ module _ {K X : Type 0} {R : K → K → Ordering} (total : IsTotalOrder R) (key
   any_found [] h = absurd (cc h)
   any_found (z ∷ zs) h = ⊎_elim (λ e. (0, z, refl, e)) (λ e. let r = any_found zs e in (suc r.0, r.1, r.2, r.3)) (or_cases (ties (key z)) (list_any ties (map key zs)) h)
 
-  pub told_by_halving : (xs : List X) (r : Result ℕ ℕ) → IsSortedBy (λ a b. is_lt (R (key a) (key b))) xs → IsSearchInRange r (length xs) → IsBinarySearchResult (λ y. R (key y) (key x)) xs r → is_ok r ≡ list_any ties (map key xs)
-  told_by_halving xs (Ok i) sorted within holds =
-      sym (any_at xs i (get_or xs i x) (slice_get-get_or xs i x within) (ap is_eq (total.antisymm (key x) (key (get_or xs i x)) ∙ ap ordering_reverse (holds x))))
+  pub told_by_halving : (xs : List X) (r : Result ℕ ℕ) → IsSortedBy (λ a b. is_lt (R (key a) (key b))) xs → IsSearchInRange r (length xs) → IsBinarySearchResult (λ y. R (key y) wanted) xs r → is_ok r ≡ list_any ties (map key xs)
+  told_by_halving [] (Ok i) sorted within holds = absurd (omega (arith, within))
+  told_by_halving (y ∷ ys) (Ok i) sorted within holds =
+      let x = get_or (y ∷ ys) i y in
+      sym (any_at (y ∷ ys) i x (slice_get-get_or (y ∷ ys) i y within) (ap is_eq (total.antisymm wanted (key x) ∙ ap ordering_reverse (holds y))))
   told_by_halving xs (Err i) sorted within parts = by_test (list_any ties (map key xs)) refl
     where
-      searchable : IsNonDecreasingBy (λ y. ordering_index (R (key y) (key x))) xs
-      searchable = searchable_from_sorted total key xs (key x) sorted
+      searchable : IsNonDecreasingBy (λ y. ordering_index (R (key y) wanted)) xs
+      searchable = searchable_from_sorted total key xs wanted sorted
 
       nowhere : (j : ℕ) (y : X) → slice_get xs j ≡ Some y → ties (key y) ≡ true → ⊥
       nowhere j y at is = by_side (either_side i j)
         where
-          equal : R (key (get_or xs j y)) (key x) ≡ Equal
-          equal = ap (λ z. R (key z) (key x)) (get_or_from_slice_get xs j y y at) ∙ total.antisymm (key y) (key x) ∙ ap ordering_reverse (is_eq-Equal (R (key x) (key y)) is)
+          equal : R (key (get_or xs j y)) wanted ≡ Equal
+          equal = ap (λ z. R (key z) wanted) (get_or_from_slice_get xs j y y at) ∙ total.antisymm (key y) wanted ∙ ap ordering_reverse (is_eq-Equal (R wanted (key y)) is)
 
           by_side : (i ≤ j) ⊎ (j < i) → ⊥
           by_side (inr under) = absurd (cc (sym equal ∙ (parts searchable).0 j y (omega arith) under))

@@ -24,7 +24,9 @@ pub mod Collecting
 pub mod Siding
 pub mod Halving
 pub mod Testing
+pub mod Fronts
 pub mod Enumerating
+pub mod Giving
 pub mod Evaluating
 pub mod Same
 pub mod Operating

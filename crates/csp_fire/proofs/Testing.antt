@@ -1,9 +1,9 @@
 -- What a test is at each of its forms, and what it lists.
-use Rattle.std.proofs.Common.{◌≡◌, ℕ, suc, ◌+◌, ◌<◌, Bool, true, false, ◌&&◌, ◌||◌, List, [], ◌∷◌, ◌++◌, map, refl, sym, ◌∙◌, ap, ap₂, subst, arith}
+use Rattle.std.proofs.Common.{◌≡◌, ℕ, suc, ◌+◌, ◌<◌, Bool, true, false, ◌&&◌, ◌||◌, List, [], ◌∷◌, ◌++◌, map, sym, ◌∙◌, ap, subst, arith}
 use Rattle.std.specs.Box.{box_value}
 use Rattle.std.specs.declared.boxed.Box.{Box}
 use Rattle.std.specs.declared.vec.Vec.{Vec}
-use Rattle.std.specs.List.{list_any, starts_with}
+use Rattle.std.specs.List.{list_any}
 use Rattle.std.specs.List.Sorted.{IsSortedBy}
 use Rattle.std.specs.Ordering.{is_lt}
 use Rattle.csp_semantics.specs.Syntax.Value as pure
@@ -31,12 +31,6 @@ and_true x f y g is same then = then ∙ ap (λ b. b && g) (sym is ∙ same)
 pub and_false : (x f g : Bool) → x ≡ false → x ≡ f → x ≡ f && g
 and_false x f g is same = is ∙ ap (λ b. b && g) (sym is ∙ same)
 
--- a list starts with another where what they stand for does
-pub starts_alike : {X Y : Type 0} (meaning : X → Y) (same : X → X → Bool) (alike : Y → Y → Bool) → ((x y : X) → same x y ≡ alike (meaning x) (meaning y)) → (xs ys : List X) → starts_with same xs ys ≡ starts_with alike (map meaning xs) (map meaning ys)
-starts_alike meaning same alike tells xs [] = refl
-starts_alike meaning same alike tells [] (y ∷ ys) = refl
-starts_alike meaning same alike tells (x ∷ xs) (y ∷ ys) = ap₂ ◌&&◌ (tells y x) (starts_alike meaning same alike tells xs ys)
-
 -- ---- what is listed
 
 -- the first lists rise, and so do the others
@@ -47,6 +41,10 @@ first_sorted (x ∷ xs) ys h = (h.0, first_sorted xs ys h.1)
 second_sorted : {A : Type 0} (xs ys : List (List (Event A))) → AreSorted (xs ++ ys) → AreSorted ys
 second_sorted [] ys h = h
 second_sorted (x ∷ xs) ys h = second_sorted xs ys h.1
+
+pub both_sorted : {A : Type 0} (xs ys : List (List (Event A))) → AreSorted xs → AreSorted ys → AreSorted (xs ++ ys)
+both_sorted [] ys first second = second
+both_sorted (x ∷ xs) ys first second = (first.0, both_sorted xs ys first.1 second)
 
 module _ (A : Type 0) where
   pub test_of_events : (es : Vec (Event A) A) (e : pure.Event) → test_of {A = A} (views.Events es) e ≡ list_any (pure.event_eq e) (map event_of es.items)
@@ -61,15 +59,18 @@ module _ (A : Type 0) where
   pub in_events : (es : Vec (Event A) A) → listed_in {A = A} (views.Events es) ≡ es.items ∷ []
   in_events es = ap (listed_in {A = A}) (sym (views.rolls-Events es)) ∙ fold-roll-EventTest A (List (List (Event A))) listed_step (layer.Events es)
 
-  pub in_beginnings : (es : Vec (Event A) A) → listed_in {A = A} (views.Beginnings es) ≡ []
+  pub in_beginnings : (es : Vec (Event A) A) → listed_in {A = A} (views.Beginnings es) ≡ es.items ∷ []
   in_beginnings es = ap (listed_in {A = A}) (sym (views.rolls-Beginnings es)) ∙ fold-roll-EventTest A (List (List (Event A))) listed_step (layer.Beginnings es)
 
-  in_combined : (op : EventSetOperator) (a b : Box (EventTest A) A) → listed_in {A = A} (views.Combine op a b) ≡ listed_in a.value ++ listed_in b.value
+  pub in_combined : (op : EventSetOperator) (a b : Box (EventTest A) A) → listed_in {A = A} (views.Combine op a b) ≡ listed_in a.value ++ listed_in b.value
   in_combined op a b = ap (listed_in {A = A}) (sym (views.rolls-Combine op a b)) ∙ fold-roll-EventTest A (List (List (Event A))) listed_step (layer.Combine op a b)
 
   module _ (t : EventTest A) (sorted : AreSorted (listed_in t)) where
     pub events_sorted : (es : Vec (Event A) A) → t ≡ views.Events es → IsSortedBy (λ e f. is_lt (pure.event_cmp (event_of e) (event_of f))) es.items
     events_sorted es is = (subst AreSorted (ap listed_in is ∙ in_events es) sorted).0
+
+    pub beginnings_sorted : (es : Vec (Event A) A) → t ≡ views.Beginnings es → IsSortedBy (λ e f. is_lt (pure.event_cmp (event_of e) (event_of f))) es.items
+    beginnings_sorted es is = (subst AreSorted (ap listed_in is ∙ in_beginnings es) sorted).0
 
     pub left_sorted : (op : EventSetOperator) (a b : Box (EventTest A) A) → t ≡ views.Combine op a b → AreSorted (listed_in a.value)
     left_sorted op a b is = first_sorted (listed_in a.value) (listed_in b.value) (subst AreSorted (ap listed_in is ∙ in_combined op a b) sorted)

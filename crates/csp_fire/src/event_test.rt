@@ -6,25 +6,30 @@ ghost use Rattle.std.specs.List.Sorted.{IsSortedBy};
 ghost use Rattle.std.specs.Ordering.{is_lt};
 ghost use Rattle.csp_semantics.specs.Syntax.Value.{event_cmp, event_eq};
 ghost use Rattle.csp_semantics.specs.Syntax.Process.{Enumeration, Productions};
-ghost use Rattle.csp_semantics.specs.Meaning.Events.{begins_with, beginning_of, event_of as written_event, event_test};
+ghost use Rattle.csp_semantics.specs.Syntax.Expression.{to_expressions};
+ghost use Rattle.csp_semantics.specs.Meaning.Events.{begins_with, beginning_of, event_of as written_event, event_test, field_sets, given_values};
 ghost use Rattle.csp_value.specs.Action.{event_of};
+ghost use Rattle.csp_expression.specs.Evaluation.{table_of};
+ghost use Rattle.csp_expression.specs.Expression.{expression_of, expressions_of};
 ghost use Rattle.csp_event_sets.specs.Events.{event_expression_of, event_expressions_of, event_set_of};
-ghost use Rattle.csp_term.specs.Script.{script_of};
-ghost use Rattle.csp_fire.specs.Testing.{AreSorted, IsBoxedTestOf, IsEventOf, IsTestOf, listed_in, test_of};
+ghost use Rattle.csp_term.specs.Script.{field_values, script_of};
+ghost use Rattle.csp_fire.specs.Answering.{sets_of};
+ghost use Rattle.csp_fire.specs.Testing.{AreGivenBy, AreSetsOf, AreSorted, IsBoxedTestOf, IsEventOf, IsGivenBy, IsTestOf, event_with, given, listed_in, test_of};
 
 use crate::stuck::Stuck;
 use csp_event_sets::{EventExpression, EventSet, EventSetOperator};
-use csp_expression::Expr;
+use csp_expression::{Expr, TypeTable};
 use csp_term::{AllocHandle, Channel, ChannelId, Event, Fault, Memory, Script};
 use csp_value::{FieldSet, Value};
 use smallvec::SmallVec;
+use std::cmp::Ordering;
 
 /// Which events a set holds.
 #[derive(Drop)]
 pub(crate) enum EventTest<A: AllocHandle> {
     /// These events, which rise, so that one is found by halving.
     Events(Vec<Event<A>, A>),
-    /// The events that begin with one of these: its channel and its fields, and whatever fields behind.
+    /// The events that begin with one of these: its channel and its fields, and whatever fields behind. They rise too.
     Beginnings(Vec<Event<A>, A>),
     Combine(EventSetOperator, Box<EventTest<A>, A>, Box<EventTest<A>, A>),
 }
@@ -33,7 +38,9 @@ pub(crate) enum EventTest<A: AllocHandle> {
 pub(crate) fn field_sets<A: AllocHandle>(
     script: &Script<A>,
     channel: ChannelId,
-) -> Result<&[FieldSet<A>], Stuck> {
+) -> Result<&[FieldSet<A>], Stuck>
+    ensures { AreSetsOf result (field_sets (script_of script.now) channel.0) }
+{
     match script.channels.get(channel.0 as usize) {
         Some(declared) => Ok(&declared.fields),
         None => Err(Stuck::Fault(Fault::Kind)),
@@ -43,11 +50,13 @@ pub(crate) fn field_sets<A: AllocHandle>(
 /// The value of a given field, which has to lie in its field set.
 fn given_value<A: AllocHandle>(
     alloc: A,
-    script: &Script<A>,
+    types: &TypeTable<A>,
     field: &Expr<A>,
     set: &FieldSet<A>,
-) -> Result<Value<A>, Stuck> {
-    let value = field.eval(&script.types, alloc)?;
+) -> Result<Value<A>, Stuck>
+    ensures { IsGivenBy result (given (table_of types.now) (expression_of field.now) (field_values set.now)) }
+{
+    let value = field.eval(types, alloc)?;
     if set.contains(&value) {
         Ok(value)
     } else {
@@ -55,7 +64,26 @@ fn given_value<A: AllocHandle>(
     }
 }
 
-/// The channel with the values of its first fields, each evaluated and then compared with its set.
+/// The values of the fields, each evaluated and then compared with its set.
+fn given_values<A: AllocHandle>(
+    alloc: A,
+    types: &TypeTable<A>,
+    fields: &[Expr<A>],
+    sets: &[FieldSet<A>],
+) -> Result<SmallVec<Value<A>, 2, A>, Stuck>
+    ensures { AreGivenBy result (given_values (table_of types.now) (to_expressions (expressions_of fields.now)) (sets_of sets.now)) }
+{
+    let mut values = SmallVec::new(alloc);
+    for (place, field) in fields.iter().enumerate() {
+        let Some(set) = sets.get(place) else {
+            return Err(Stuck::Fault(Fault::Kind));
+        };
+        values.push(given_value(alloc, types, field, set)?)?;
+    }
+    Ok(values)
+}
+
+/// The channel with the values of its first fields.
 fn beginning<A: AllocHandle>(
     alloc: A,
     script: &Script<A>,
@@ -63,15 +91,9 @@ fn beginning<A: AllocHandle>(
 ) -> Result<Event<A>, Stuck>
     ensures { IsEventOf result (beginning_of (script_of script.now) (event_expression_of written.now)) }
 {
-    let sets = field_sets(script, written.channel)?;
-    let mut fields = SmallVec::new(alloc);
-    for (place, field) in written.fields.iter().enumerate() {
-        let Some(set) = sets.get(place) else {
-            return Err(Stuck::Fault(Fault::Kind));
-        };
-        fields.push(given_value(alloc, script, field, set)?)?;
-    }
     let channel = written.channel;
+    let sets = field_sets(script, channel)?;
+    let fields = given_values(alloc, &script.types, &written.fields, sets)?;
     Ok(Event { channel, fields })
 }
 
@@ -84,7 +106,8 @@ pub(crate) fn whole_event<A: AllocHandle>(
     ensures { IsEventOf result (written_event (script_of script.now) (event_expression_of written.now)) }
 {
     let event = beginning(alloc, script, written)?;
-    if event.fields.len() == field_sets(script, written.channel)?.len() {
+    let sets = field_sets(script, written.channel)?;
+    if event.fields.len() == sets.len() {
         Ok(event)
     } else {
         Err(Stuck::Fault(Fault::Kind))
@@ -117,6 +140,7 @@ fn beginnings<A: AllocHandle>(
     for event in written {
         events.push(beginning(alloc, script, event)?)?;
     }
+    events.sort_unstable();
     Ok(EventTest::Beginnings(events))
 }
 
@@ -139,23 +163,50 @@ fn is_listed<A: AllocHandle>(listed: &[Event<A>], event: &Event<A>) -> bool
     listed.binary_search(event).is_ok()
 }
 
-/// Whether the event is on the channel of the beginning and has its fields first.
-fn begins_with<A: AllocHandle>(event: &Event<A>, beginning: &Event<A>) -> bool
-    ensures { result ≡ begins_with (event_of event.now) (event_of beginning.now) }
+/// The order of the beginning and the channel with these fields.
+fn compared<A: AllocHandle>(
+    beginning: &Event<A>,
+    channel: ChannelId,
+    fields: &[Value<A>],
+) -> Ordering
+    ensures { result ≡ event_cmp (event_of beginning.now) (event_with channel fields.now) }
 {
-    event.channel == beginning.channel && event.fields.starts_with(&beginning.fields)
+    match beginning.channel.cmp(&channel) {
+        Ordering::Equal => beginning.fields.as_slice().cmp(&fields),
+        order => order,
+    }
 }
 
-/// Whether the event begins with one of these.
+/// Whether the channel with these fields is one of the beginnings, which rise.
+fn is_beginning<A: AllocHandle>(
+    beginnings: &[Event<A>],
+    channel: ChannelId,
+    fields: &[Value<A>],
+) -> bool
+    requires { IsSortedBy (λ e f. is_lt (event_cmp (event_of e) (event_of f))) beginnings.now }
+    ensures { result ≡ list_any (event_eq (event_with channel fields.now)) (map event_of beginnings.now) }
+{
+    let found = beginnings.binary_search_by(
+        |beginning: &Event<A>| -> Ordering
+            ensures { result ≡ event_cmp (event_of beginning.now) (event_with channel fields.entry.now) }
+        { compared(beginning, channel, fields) },
+    );
+    found.is_ok()
+}
+
+/// Whether the event begins with one of these, which rise. Its channel is looked for by halving with none of its fields,
+/// with the first one, and so on: so many searches as it has fields, and one more.
 fn is_begun<A: AllocHandle>(beginnings: &[Event<A>], event: &Event<A>) -> bool
+    requires { IsSortedBy (λ e f. is_lt (event_cmp (event_of e) (event_of f))) beginnings.now }
     ensures { result ≡ list_any (begins_with (event_of event.now)) (map event_of beginnings.now) }
 {
-    for beginning in beginnings {
-        if begins_with(event, beginning) {
+    let fields = event.fields.as_slice();
+    for count in 0..fields.len() {
+        if is_beginning(beginnings, event.channel, &fields[..count]) {
             return true;
         }
     }
-    false
+    is_beginning(beginnings, event.channel, fields)
 }
 
 impl<A: AllocHandle> EventTest<A> {

@@ -1,5 +1,5 @@
 -- Each event in turn, or the first cause; all are sorted then.
-use Rattle.std.proofs.Common.{◌≡◌, map, Result, Ok, Err, sym, ◌∙◌, ap, subst, arith}
+use Rattle.std.proofs.Common.{◌≡◌, Result, Ok, Err, sym, ◌∙◌, ap, subst, inl, inr, lit<, arith}
 use Rattle.std.proofs.lemmas.List.{take_all}
 use Rattle.std.proofs.lemmas.Result.{err_from_is_err_and}
 use Rattle.std.specs.List.{list_any}
@@ -49,3 +49,27 @@ returns g c =
     let P : (Event g.row.A.Denot → Event g.row.A.Denot → Ordering) → Type 0 = λ r. IsSorted r sorted.items in
     listed_by g.row.A.Denot script (event_expressions_of c.args.written.now) c.loop-event.events.items sorted (ap (λ es. events.each (events.event_of script) (event_expressions_of es)) (sym all) ∙ c.loop-event.invariant)
     c.sort_unstable.ensures.permutation (subst P as_events c.sort_unstable.ensures.sorted)
+
+pub whole_event-requires : goal.whole_event-requires
+whole_event-requires g c = elim g.met.A.AllocHandle.small [ inl e ↦ rw (e.0, e.1) (lit< tt) | inr e ↦ rw (e.0, e.1) (lit< tt) ]
+
+pub drop-events-requires-room-T-Destruct : goal.drop-events-requires-room-T-Destruct
+drop-events-requires-room-T-Destruct g c κs within = elim g.met.A.AllocHandle.small [ inl e ↦ rw (e.0, e.1) (lit< tt) | inr e ↦ rw (e.0, e.1) (lit< tt) ]
+
+pub from_residual-requires-in_err-push-room-F-From : goal.from_residual-requires-in_err-push-room-F-From
+from_residual-requires-in_err-push-room-F-From g c κs within = elim g.met.A.AllocHandle.small [ inl e ↦ rw (e.0, e.1) (lit< tt) | inr e ↦ rw (e.0, e.1) (lit< tt) ]
+
+pub drop-events-requires-in_err-push-room-T-Destruct : goal.drop-events-requires-in_err-push-room-T-Destruct
+drop-events-requires-in_err-push-room-T-Destruct g c κs within = elim g.met.A.AllocHandle.small [ inl e ↦ rw (e.0, e.1) (lit< tt) | inr e ↦ rw (e.0, e.1) (lit< tt) ]
+
+pub sort_unstable-requires-room-T-Ord : goal.sort_unstable-requires-room-T-Ord
+sort_unstable-requires-room-T-Ord g c κs within = elim g.met.A.AllocHandle.small [ inl e ↦ rw (e.0, e.1) (lit< tt) | inr e ↦ rw (e.0, e.1) (lit< tt) ]
+
+pub sort_unstable-requires-room-T-Eq : goal.sort_unstable-requires-room-T-Eq
+sort_unstable-requires-room-T-Eq g c κs within = elim g.met.A.AllocHandle.small [ inl e ↦ rw (e.0, e.1) (lit< tt) | inr e ↦ rw (e.0, e.1) (lit< tt) ]
+
+pub sort_unstable-requires-room-T-PartialEq : goal.sort_unstable-requires-room-T-PartialEq
+sort_unstable-requires-room-T-PartialEq g c κs within = elim g.met.A.AllocHandle.small [ inl e ↦ rw (e.0, e.1) (lit< tt) | inr e ↦ rw (e.0, e.1) (lit< tt) ]
+
+pub sort_unstable-requires-room-T-PartialOrd : goal.sort_unstable-requires-room-T-PartialOrd
+sort_unstable-requires-room-T-PartialOrd g c κs within = elim g.met.A.AllocHandle.small [ inl e ↦ rw (e.0, e.1) (lit< tt) | inr e ↦ rw (e.0, e.1) (lit< tt) ]

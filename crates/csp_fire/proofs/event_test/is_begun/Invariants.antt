@@ -1,9 +1,10 @@
--- What is left decides.
-use Rattle.std.proofs.Common.{◌≡◌, drop, map}
+-- No shorter front is one of the beginnings.
+use Rattle.std.proofs.Common.{◌≡◌, ℕ, ◌<◌, false, map}
 use Rattle.std.specs.List.{list_any}
-use Rattle.csp_semantics.specs.Meaning.Events.{begins_with}
+use Rattle.csp_semantics.specs.Syntax.Value.{event_eq}
 use Rattle.csp_value.specs.Action.{event_of}
+use Rattle.csp_fire.proofs.Fronts.{front}
 use Rattle.csp_fire.proofs.event_test.is_begun.Given as goal
 
-abbrev pub invariant-loop-beginning : goal.invariant-loop-beginning
-invariant-loop-beginning g l = list_any (begins_with (event_of l.event)) (map event_of (drop l.beginning-index l.beginnings)) ≡ list_any (begins_with (event_of l.event)) (map event_of l.beginnings)
+abbrev pub invariant-loop-count : goal.invariant-loop-count
+invariant-loop-count g l = (k : ℕ) → k < l.count → list_any (event_eq (front k (event_of l.event))) (map event_of l.beginnings) ≡ false

@@ -17,4 +17,4 @@ returns g c =
     let order = event_order g.row.A g.A.AllocHandle g.A.AllocHandle-dict g.A.Allocator g.A.Allocator-dict g.A.Clone g.A.Clone-dict in
     let as_events : order ≡ (λ e f. event_cmp (event_of e) (event_of f)) = λ i e f. event_ordered g.row.A g.A.AllocHandle g.A.AllocHandle-dict g.A.Allocator g.A.Allocator-dict g.A.Clone g.A.Clone-dict e f i in
     let P : (Event g.row.A.Denot → Event g.row.A.Denot → Ordering) → Type 0 = λ r. IsBinarySearchResult (λ y. r y x) items c.binary_search.result in
-    c.is_ok.ensures.value ∙ told_by_halving event_total event_of x items c.binary_search.result c.requires c.binary_search.ensures.bound (subst P as_events c.binary_search.ensures.position)
+    c.is_ok.ensures.value ∙ told_by_halving event_total event_of (event_of x) items c.binary_search.result c.requires c.binary_search.ensures.bound (subst P as_events c.binary_search.ensures.position)

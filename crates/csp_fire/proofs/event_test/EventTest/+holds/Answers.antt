@@ -1,5 +1,5 @@
 -- Each form of a test.
-use Rattle.std.proofs.Common.{◌≡◌, map, not, sym, ◌∙◌, ap, subst, inl, inr, lit<}
+use Rattle.std.proofs.Common.{map, not, sym, ◌∙◌, ap, subst, inl, inr, lit<}
 use Rattle.std.specs.List.{list_any}
 use Rattle.std.specs.List.Sorted.{IsSortedBy}
 use Rattle.std.specs.Ordering.{is_lt}
@@ -7,13 +7,19 @@ use Rattle.csp_semantics.specs.Syntax.Value.{event_cmp, event_eq}
 use Rattle.csp_semantics.specs.Meaning.Events.{begins_with}
 use Rattle.csp_value.specs.Action.{event_of}
 use Rattle.csp_fire.specs.Testing.{AreSorted, combined_test, listed_in, test_of}
-use Rattle.csp_fire.proofs.Testing.{and_false, and_true, events_sorted, left_smaller, left_sorted, or_false, or_true, right_smaller, right_sorted, test_of_beginnings, test_of_events, test_told}
+use Rattle.csp_fire.proofs.Testing.{and_false, and_true, beginnings_sorted, events_sorted, left_smaller, left_sorted, or_false, or_true, right_smaller, right_sorted, test_of_beginnings, test_of_events, test_told}
 use Rattle.csp_fire.proofs.event_test.EventTest.+holds.Goals as goal
 
 pub is_listed-requires : goal.is_listed-requires
 is_listed-requires g t c = (
   elim g.met.A.AllocHandle.small [ inl e ↦ rw (e.0, e.1) (lit< tt) | inr e ↦ rw (e.0, e.1) (lit< tt) ],
   subst (IsSortedBy (λ e f. is_lt (event_cmp (event_of e) (event_of f)))) (sym c.deref.ensures.value) (events_sorted g.row.A.Denot c.args.self.now c.requires c.in-Events.listed c.in-Events.is),
+)
+
+pub is_begun-requires : goal.is_begun-requires
+is_begun-requires g t c = (
+  elim g.met.A.AllocHandle.small [ inl e ↦ rw (e.0, e.1) (lit< tt) | inr e ↦ rw (e.0, e.1) (lit< tt) ],
+  subst (IsSortedBy (λ e f. is_lt (event_cmp (event_of e) (event_of f)))) (sym c.deref-in-Beginnings.ensures.value) (beginnings_sorted g.row.A.Denot c.args.self.now c.requires c.in-Beginnings.beginnings c.in-Beginnings.is),
 )
 
 pub holds-requires : goal.holds-requires
