@@ -1,8 +1,9 @@
 //! Expressions of texts.
 
-use crate::names::bound;
+use crate::literals::named;
+use crate::names::{bound, datatype, nametype};
 use csp_expression::{BinaryOperator, Expr, UnaryOperator};
-use csp_parse::{BinaryOperator as Infix, Expression, UnaryOperator as Prefix};
+use csp_parse::{BinaryOperator as Infix, Expression, Name, UnaryOperator as Prefix};
 use csp_value::Value;
 use std::alloc::Allocator;
 use std::test::Fail;
@@ -42,6 +43,20 @@ fn binary(operator: Infix) -> BinaryOperator {
     }
 }
 
+/// A value, a set or what is bound, by its name.
+fn used<A: Allocator + Copy>(alloc: A, name: Name<'_>) -> Result<Expr<A>, Fail> {
+    if let Some(value) = named(alloc, name.text)? {
+        return Ok(Expr::Literal(value));
+    }
+    if let Some(datatype) = datatype(name.text) {
+        return Ok(Expr::Datatype(datatype));
+    }
+    if let Some(nametype) = nametype(name.text) {
+        return Ok(Expr::Nametype(nametype));
+    }
+    Ok(Expr::Name(bound(name)?))
+}
+
 #[cycle(expression)]
 fn boxed<A: Allocator + Copy, B: Allocator>(
     alloc: A,
@@ -60,7 +75,7 @@ pub(crate) fn expression<A: Allocator + Copy, B: Allocator>(
         Expression::Number(number) => Ok(Expr::Literal(Value::Int(i32::try_from(*number)?))),
         Expression::Truth(truth) => Ok(Expr::Literal(Value::Bool(*truth))),
         Expression::Booleans => Ok(Expr::Booleans),
-        Expression::Use(name) => Ok(Expr::Name(bound(*name)?)),
+        Expression::Use(name) => used(alloc, *name),
         Expression::Apply(operator, operand) => {
             Ok(Expr::Apply(unary(*operator), boxed(alloc, operand)?))
         }

@@ -1,13 +1,14 @@
-//! Firings, copies and values put in, in heaps of more and more bytes: each request for memory is refused in turn, and
-//! then none.
+//! Firings, copies, values put in and values of expressions, in heaps of more and more bytes: each request for memory is
+//! refused in turn, and then none.
 
-use crate::script::script;
+use crate::literals::named;
+use crate::script::{script, types, wide};
 use crate::terms::term;
 use crate::texts::read;
-use csp_expression::Binding;
+use csp_expression::{Binding, EvalFault, Expr, TypeTable};
 use csp_fire::{Form, fire};
 use csp_parse::{Declaration, Process, Raw};
-use csp_term::{Memory, Name, Script, Term, TermFault};
+use csp_term::{Memory, Name, Script, Term, TermFault, TermForm};
 use csp_value::Value;
 use linked_list_allocator::LocalHeap;
 use std::alloc::Global;
@@ -15,7 +16,7 @@ use std::process::Abort;
 use std::test::Fail;
 
 /// Terms of each form.
-static SAMPLES: &str = "
+const SAMPLES: &str = "
 T = STOP
 T = SKIP
 T = P(1)
@@ -41,7 +42,7 @@ T = ||| y:{0..1} @ c!y -> STOP
 ";
 
 /// The same, where 1 is put in for `x`.
-static OPEN_SAMPLES: &str = "
+const OPEN_SAMPLES: &str = "
 T = STOP
 T = SKIP
 T = P(x)
@@ -202,17 +203,174 @@ fn a_firing_that_finds_no_room_says_so(rt: HostRuntime) -> Result<(), Fail> {
     Ok(())
 }
 
+/// An expression with all that copies and values put in go through.
+const OPEN_EXPRESSIONS: &str = "
+T = P({#(x ^ <1, 2>)..card(SET15)})
+";
+
+/// The same, where `<7, 8>` is put in for `x`.
+const EXPRESSIONS: &str = "
+T = P({#(SEQ78 ^ <1, 2>)..card(SET15)})
+";
+
+/// Calls with expressions that need room for their values.
+const EVALUATED: &str = "
+T = P(SEQ123)
+T = P(#<1, 2, 3>)
+T = P(tail(SEQ12) ^ <3>)
+T = P(union({3, 1}, {0..2}))
+T = P(inter(SET12, {2, 3}))
+T = P(diff(SET12, {2, 3}))
+T = P(card(Bool))
+T = P(card(D))
+T = P(N)
+";
+
+/// The same calls with the values.
+const VALUES: &str = "
+T = P(SEQ123)
+T = P(3)
+T = P(SEQ23)
+T = P(SET0123)
+T = P(SET2)
+T = P(SET1)
+T = P(2)
+T = P(3)
+T = P(SET57)
+";
+
 /// What is made of a term.
 #[derive(Clone, Copy)]
 enum Work {
     Copy,
     PutIn,
     Substitute,
+    /// The call with the value of its argument.
+    Evaluate,
 }
 
-/// The term with 1 put in for `x`, or its copy.
+/// Terms that something is made of.
+struct Table {
+    work: Work,
+    /// The name of the value that is put in for `x`.
+    given: &'static str,
+    open: &'static str,
+    made: &'static str,
+    /// More heaps than these have no room for one of the terms.
+    least: u32,
+    /// More heaps than these have none for one or the other, and have room.
+    refused: u32,
+    answered: u32,
+}
+
+static TABLES: [Table; 7] = [
+    Table {
+        work: Work::Copy,
+        given: "ONE",
+        open: OPEN_SAMPLES,
+        made: OPEN_SAMPLES,
+        least: 0,
+        refused: 100,
+        answered: 900,
+    },
+    Table {
+        work: Work::PutIn,
+        given: "ONE",
+        open: OPEN_SAMPLES,
+        made: SAMPLES,
+        least: 0,
+        refused: 100,
+        answered: 900,
+    },
+    Table {
+        work: Work::Substitute,
+        given: "ONE",
+        open: OPEN_SAMPLES,
+        made: SAMPLES,
+        least: 0,
+        refused: 100,
+        answered: 900,
+    },
+    Table {
+        work: Work::Copy,
+        given: "SEQ78",
+        open: OPEN_EXPRESSIONS,
+        made: OPEN_EXPRESSIONS,
+        least: 8,
+        refused: 8,
+        answered: 0,
+    },
+    Table {
+        work: Work::PutIn,
+        given: "SEQ78",
+        open: OPEN_EXPRESSIONS,
+        made: EXPRESSIONS,
+        least: 8,
+        refused: 8,
+        answered: 0,
+    },
+    Table {
+        work: Work::Substitute,
+        given: "SEQ78",
+        open: OPEN_EXPRESSIONS,
+        made: EXPRESSIONS,
+        least: 8,
+        refused: 8,
+        answered: 0,
+    },
+    Table {
+        work: Work::Evaluate,
+        given: "ONE",
+        open: EVALUATED,
+        made: VALUES,
+        least: 1,
+        refused: 9,
+        answered: 9,
+    },
+];
+
+/// One of the terms with what is made of it.
+#[derive(Clone, Copy)]
+struct Sample<'s, 't> {
+    work: Work,
+    given: &'static str,
+    open: &'s Process<'t, Global>,
+    made: &'s Process<'t, Global>,
+}
+
+/// The call with the value, which is made in the heap. The call is made in the other heap.
+fn call_with_value<'h>(
+    heap: &'h LocalHeap,
+    other: &'h LocalHeap,
+    types: &TypeTable<&'h LocalHeap>,
+    argument: &Expr<&'h LocalHeap>,
+) -> Result<Term<&'h LocalHeap>, TermFault> {
+    match argument.eval(types, heap) {
+        Ok(value) => Ok(wide(other, &Expr::Literal(value), 1)?),
+        Err(EvalFault::Memory) => Err(TermFault::Memory),
+        Err(EvalFault::Fault(_)) => Err(TermFault::TooLarge),
+    }
+}
+
+fn evaluated<'h>(
+    heap: &'h LocalHeap,
+    other: &'h LocalHeap,
+    types: &TypeTable<&'h LocalHeap>,
+    term: &Term<&'h LocalHeap>,
+) -> Result<Term<&'h LocalHeap>, TermFault> {
+    if let TermForm::Call(_, arguments) = term.form() {
+        for argument in arguments {
+            return call_with_value(heap, other, types, argument);
+        }
+    }
+    Err(TermFault::TooLarge)
+}
+
+/// What is made of the term in the heap.
 fn made<'h>(
     heap: &'h LocalHeap,
+    other: &'h LocalHeap,
+    types: &TypeTable<&'h LocalHeap>,
     work: Work,
     term: &Term<&'h LocalHeap>,
     value: &Value<&'h LocalHeap>,
@@ -222,18 +380,18 @@ fn made<'h>(
         Work::Copy => Ok(term.try_copy(heap)?),
         Work::PutIn => Ok(term.put_in(&[Binding { name, value }], heap)?),
         Work::Substitute => term.subst(&[Binding { name, value }], heap),
+        Work::Evaluate => evaluated(heap, other, types, term),
     }
 }
 
-/// Whether the heap has room for what is made, which then is as expected. Else the heap is empty again.
+/// Whether the heap had room for what was made, which then is as expected. Else the heap is empty again.
 fn is_made<'h>(
     rt: &impl Abort,
     heap: &'h LocalHeap,
-    work: Work,
-    term: &Term<&'h LocalHeap>,
+    made: Result<Term<&'h LocalHeap>, TermFault>,
     expected: &Term<&'h LocalHeap>,
 ) -> bool {
-    match made(heap, work, term, &Value::Int(1)) {
+    match made {
         Ok(made) => {
             assert!(rt; made == *expected);
             true
@@ -245,19 +403,42 @@ fn is_made<'h>(
     }
 }
 
-/// Does the work on the open sample in the heap, which may have no room. The term is as it was.
+/// The value of the name.
+fn value_of<'h>(heap: &'h LocalHeap, name: &str) -> Result<Value<&'h LocalHeap>, Fail> {
+    match named(heap, name)? {
+        Some(value) => Ok(value),
+        None => Err(Fail::new("no value of that name")),
+    }
+}
+
+/// Does the work on the term in the heap, which may have no room. The types are as they were.
+fn is_term_made<'h>(
+    rt: &impl Abort,
+    heap: &'h LocalHeap,
+    other: &'h LocalHeap,
+    sample: Sample<'_, '_>,
+    of: &Term<&'h LocalHeap>,
+) -> Result<bool, Fail> {
+    let table = types(other)?;
+    let value = value_of(other, sample.given)?;
+    let expected = term(other, sample.made)?;
+    let made = made(heap, other, &table, sample.work, of, &value);
+    let is_made = is_made(rt, heap, made, &expected);
+    let are_kept = types(other)? == table;
+    assert!(rt; are_kept);
+    Ok(is_made)
+}
+
+/// Does the work on the sample in the heap, which may have no room. The term is as it was.
 fn is_sample_made<'h>(
     rt: &impl Abort,
     heap: &'h LocalHeap,
     other: &'h LocalHeap,
-    work: Work,
-    open: &Process<'_, Global>,
-    expected: &Process<'_, Global>,
+    sample: Sample<'_, '_>,
 ) -> Result<bool, Fail> {
-    let sample = term(other, open)?;
-    let expected = term(other, expected)?;
-    let is_made = is_made(rt, heap, work, &sample, &expected);
-    let is_kept = term(other, open)? == sample;
+    let of = term(other, sample.open)?;
+    let is_made = is_term_made(rt, heap, other, sample, &of)?;
+    let is_kept = term(other, sample.open)? == of;
     assert!(rt; is_kept);
     Ok(is_made)
 }
@@ -266,31 +447,51 @@ fn is_sample_made<'h>(
 fn is_made_within(
     rt: &impl Abort,
     alloc: Global,
-    work: Work,
-    open: &Process<'_, Global>,
-    expected: &Process<'_, Global>,
+    sample: Sample<'_, '_>,
     bytes: usize,
 ) -> Result<bool, Fail> {
     let here = LocalHeap::new(alloc, 16_384)?;
     let there = LocalHeap::new(alloc, bytes)?;
-    is_sample_made(rt, &there, &here, work, open, expected)
+    is_sample_made(rt, &there, &here, sample)
 }
 
-/// Counts what is made of the sample, which becomes the closed one, or is copied.
-fn count_made<'t>(
+/// Counts what is made of the sample.
+fn count_made(
     rt: &impl Abort,
     alloc: Global,
-    work: Work,
-    open: &Declaration<'t, Global>,
-    closed: &Declaration<'t, Global>,
+    sample: Sample<'_, '_>,
+    least: u32,
     counts: &mut Counts,
 ) -> Result<(), Fail> {
-    match (open, closed) {
+    let before = counts.refused;
+    let mut is_made = false;
+    for size in 1..128 {
+        is_made = is_made_within(rt, alloc, sample, 16 * size)?;
+        counts.count(is_made);
+    }
+    let refused = counts.refused.saturating_sub(before);
+    assert!(rt; is_made && refused > least, "{refused}");
+    Ok(())
+}
+
+/// Counts what is made of the open sample, which becomes the other one.
+fn count_row<'t>(
+    rt: &impl Abort,
+    alloc: Global,
+    table: &Table,
+    open: &Declaration<'t, Global>,
+    made: &Declaration<'t, Global>,
+    counts: &mut Counts,
+) -> Result<(), Fail> {
+    match (open, made) {
         (Declaration::Equation { body: open, .. }, Declaration::Equation { body, .. }) => {
-            for size in 1..128 {
-                counts.count(is_made_within(rt, alloc, work, open, body, 16 * size)?);
-            }
-            Ok(())
+            let sample = Sample {
+                work: table.work,
+                given: table.given,
+                open,
+                made: body,
+            };
+            count_made(rt, alloc, sample, table.least, counts)
         }
         _ => Err(Fail::new("no equations")),
     }
@@ -299,51 +500,36 @@ fn count_made<'t>(
 fn count_all_made<'t>(
     rt: &impl Abort,
     alloc: Global,
-    work: Work,
+    table: &Table,
     open: &Raw<'t, Global>,
-    closed: &Raw<'t, Global>,
+    made: &Raw<'t, Global>,
 ) -> Result<Counts, Fail> {
     let mut counts = Counts {
         refused: 0,
         answered: 0,
     };
-    for (open, closed) in open.declarations.iter().zip(&closed.declarations) {
-        count_made(rt, alloc, work, open, closed, &mut counts)?;
+    for (open, made) in open.declarations.iter().zip(&made.declarations) {
+        count_row(rt, alloc, table, open, made, &mut counts)?;
     }
     Ok(counts)
 }
 
-/// Does the work on each of the samples, which become the expected ones.
-fn count_samples(
-    rt: &impl Abort,
-    alloc: Global,
-    work: Work,
-    open: &str,
-    expected: &str,
-) -> Result<Counts, Fail> {
-    let open = read(alloc, open)?;
-    let expected = read(alloc, expected)?;
-    count_all_made(rt, alloc, work, &open, &expected)
-}
-
-fn samples_of(work: Work) -> &'static str {
-    match work {
-        Work::Copy => OPEN_SAMPLES,
-        Work::PutIn | Work::Substitute => SAMPLES,
-    }
+/// Does the work on each of the terms.
+fn count_table(rt: &impl Abort, alloc: Global, table: &Table) -> Result<(), Fail> {
+    let open = read(alloc, table.open)?;
+    let made = read(alloc, table.made)?;
+    let Counts { refused, answered } = count_all_made(rt, alloc, table, &open, &made)?;
+    assert!(rt;
+        refused > table.refused && answered > table.answered,
+        "{refused} and {answered}"
+    );
+    Ok(())
 }
 
 #[test]
-fn terms_that_find_no_room_say_so(rt: HostRuntime) -> Result<(), Fail> {
-    for work in [Work::Copy, Work::PutIn, Work::Substitute] {
-        let Counts { refused, answered } = count_samples(
-            &rt,
-            rt.alloc(),
-            work,
-            OPEN_SAMPLES,
-            samples_of(work),
-        )?;
-        assert!(rt; refused > 100 && answered > 900, "{refused} and {answered}");
+fn terms_and_values_that_find_no_room_say_so(rt: HostRuntime) -> Result<(), Fail> {
+    for table in &TABLES {
+        count_table(&rt, rt.alloc(), table)?;
     }
     Ok(())
 }

@@ -1,7 +1,8 @@
 //! The names that the texts of the tests use. The place of a name in its table is its number.
 
 use csp_parse::Name as Word;
-use csp_term::{ChannelId, EquationId, Name};
+use csp_term::{ChannelId, DatatypeId, EquationId, Name, NametypeId};
+use csp_value::ConId;
 use std::test::Fail;
 
 /// The channels: `a` and `b` without fields, `c` to `e` of one to three fields of `{0..1}`, `f` to `out` of one, `s` of a
@@ -35,17 +36,32 @@ static EQUATIONS: [&str; 10] = [
 ];
 
 /// The names that inputs and parameters bind.
-static BOUND: [&str; 4] = ["x", "y", "n", "s"];
+static BOUND: [&str; 5] = ["x", "y", "z", "n", "s"];
 
-fn place_in(names: &[&str], text: &str) -> Result<u32, Fail> {
+pub(crate) static CONSTRUCTORS: [&str; 6] = ["A0", "A1", "A2", "A3", "A4", "A5"];
+
+/// The datatypes: `D` has the constructors `A2` to `A4`. The script has none for the last.
+static DATATYPES: [&str; 2] = ["D", "E"];
+
+/// The nametypes: `N` is `{5, 7}`. The script has none for the last.
+static NAMETYPES: [&str; 2] = ["N", "M"];
+
+fn place(names: &[&str], text: &str) -> Option<u32> {
     let mut place: u32 = 0;
     for name in names {
         if *name == text {
-            return Ok(place);
+            return Some(place);
         }
         place = place.saturating_add(1);
     }
-    Err(Fail::new(format_args!("no {text}")))
+    None
+}
+
+fn place_in(names: &[&str], text: &str) -> Result<u32, Fail> {
+    match place(names, text) {
+        Some(place) => Ok(place),
+        None => Err(Fail::new(format_args!("no {text}"))),
+    }
 }
 
 pub(crate) fn channel(word: Word<'_>) -> Result<ChannelId, Fail> {
@@ -58,4 +74,16 @@ pub(crate) fn equation(word: Word<'_>) -> Result<EquationId, Fail> {
 
 pub(crate) fn bound(word: Word<'_>) -> Result<Name, Fail> {
     Ok(Name(place_in(&BOUND, word.text)?))
+}
+
+pub(crate) fn constructor(text: &str) -> Option<ConId> {
+    Some(ConId(place(&CONSTRUCTORS, text)?))
+}
+
+pub(crate) fn datatype(text: &str) -> Option<DatatypeId> {
+    Some(DatatypeId(place(&DATATYPES, text)?))
+}
+
+pub(crate) fn nametype(text: &str) -> Option<NametypeId> {
+    Some(NametypeId(place(&NAMETYPES, text)?))
 }

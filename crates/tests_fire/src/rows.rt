@@ -1,5 +1,7 @@
 //! Texts that say of terms what they do. A text has a term as `T`, and behind it what is said of that term:
 //!
+//! - `VALUE`, `CAUSE` and `SEES` of expressions, as `values` reads them. They need no term.
+//! - `PUT`, `BOUND`, `SIZE` and the like of terms, sets of events and renamings, as `puts` and `sizes` read them.
 //! - `DOES`: the steps, in order, as prefixes with `[]` between. `tau` and `tick` are no channels, and `STOP` is no step.
 //! - `OFFERS`: the acceptances, in order, each as prefixes before `STOP` with `[]` between, and `|~|` between two
 //!   acceptances. `STOP` is the empty one, and `NOTHING` stands for none.
@@ -11,6 +13,7 @@ use crate::names::channel;
 use crate::script::script;
 use crate::terms::term;
 use crate::texts::read;
+use crate::{puts, sizes, values};
 use csp_fire::{Form, Step, fire};
 use csp_parse::{Declaration, Expression, Field, Infix, Name, Process, Raw};
 use csp_term::{Action, Event, Script};
@@ -179,7 +182,7 @@ fn fires(form: &Form<Global>) -> bool {
 }
 
 /// Whether what is said of the form is so.
-fn is_so(
+fn is_form_so(
     alloc: Global,
     script: &Script<Global>,
     form: &Form<Global>,
@@ -201,6 +204,39 @@ fn is_so(
     Ok(name.text == "LARGE" && is_large(form))
 }
 
+/// Whether what is said of the term's firing is so.
+fn is_fired_so<'t>(
+    alloc: Global,
+    script: &Script<Global>,
+    of: &Process<'t, Global>,
+    name: Name<'t>,
+    said: &Process<'t, Global>,
+) -> Result<bool, Fail> {
+    let term = term(alloc, of)?;
+    let expansion = fire(alloc, script, &term)?;
+    is_form_so(alloc, script, expansion.form(), name, said)
+}
+
+/// Whether what is said of the process, or by itself, is so.
+fn is_so<'t>(
+    alloc: Global,
+    script: &Script<Global>,
+    of: &Process<'t, Global>,
+    name: Name<'t>,
+    said: &Process<'t, Global>,
+) -> Result<bool, Fail> {
+    if name.text == "VALUE" || name.text == "CAUSE" {
+        return values::is_so(alloc, &script.types, name, said);
+    }
+    if name.text == "PUT" || name.text == "BOUND" || name.text == "SEES" {
+        return puts::is_so(alloc, &script.types, of, name, said);
+    }
+    if name.text == "MEASURES" {
+        return sizes::is_so(alloc, of, said);
+    }
+    is_fired_so(alloc, script, of, name, said)
+}
+
 /// Whether the declaration is of a term.
 fn is_term(declaration: &Declaration<'_, Global>) -> bool {
     match declaration {
@@ -210,18 +246,16 @@ fn is_term(declaration: &Declaration<'_, Global>) -> bool {
 }
 
 /// What the second declaration says of the term of the first is so.
-fn holds_of(
+fn holds_of<'t>(
     rt: &impl Abort,
     alloc: Global,
     script: &Script<Global>,
-    of: &Declaration<'_, Global>,
-    said: &Declaration<'_, Global>,
+    of: &Declaration<'t, Global>,
+    said: &Declaration<'t, Global>,
 ) -> Result<(), Fail> {
     match (of, said) {
         (Declaration::Equation { body: of, .. }, Declaration::Equation { name, body, .. }) => {
-            let term = term(alloc, of)?;
-            let expansion = fire(alloc, script, &term)?;
-            let is_so = is_so(alloc, script, expansion.form(), *name, body)?;
+            let is_so = is_so(alloc, script, of, *name, body)?;
             assert!(rt; is_so, "{}", name.place);
             Ok(())
         }

@@ -1,12 +1,16 @@
 //! The script of the tests.
 
-use crate::names::bound;
+use crate::literals::digits;
+use crate::names::{CONSTRUCTORS, bound};
 use crate::terms::term;
 use crate::texts::read;
-use csp_expression::TypeTable;
-use csp_parse::{Declaration, Name as Word, Process, Raw};
-use csp_term::{Channel, ChannelId, Equation, Memory, Script, Term, TermForm};
-use csp_value::{FieldSet, Value};
+use csp_expression::{Constructors, Expr, TypeTable};
+use csp_parse::{Declaration, Model as RawModel, Name as Word, Process, Raw};
+use csp_term::{
+    Assertion, Channel, ChannelId, Constructor, Equation, EquationId, Memory, Model, Script, Term,
+    TermForm,
+};
+use csp_value::{ConId, FieldSet, SetOf, Value};
 use std::alloc::Allocator;
 use std::test::Fail;
 
@@ -20,6 +24,9 @@ CHAIN = (COPY1 [| {| mid |} |] COPY2) \\ {| mid |}
 BUF(n, s) = (#s < n & in?x -> BUF(n, s ^ <x>)) [] (#s > 0 & out!head(s) -> BUF(n, tail(s)))
 LOOP = LOOP
 RUN = a -> RUN
+
+assert b -> STOP [F= STOP
+assert P(1) [T= R(0, 1)
 ";
 
 /// As many prefixes over `a` before `STOP`.
@@ -30,6 +37,19 @@ pub(crate) fn chain<A: Allocator + Copy>(alloc: A, prefixes: u32) -> Result<Term
         term = Term::new(alloc, TermForm::Prefix(ChannelId(0), Vec::new(alloc), body))?;
     }
     Ok(term)
+}
+
+/// A call with as many arguments.
+pub(crate) fn wide<A: Allocator + Copy>(
+    alloc: A,
+    argument: &Expr<A>,
+    count: u32,
+) -> Result<Term<A>, Memory> {
+    let mut all = Vec::new(alloc);
+    for _ in 0..count {
+        all.push(argument.try_copy(alloc)?)?;
+    }
+    Term::new(alloc, TermForm::Call(EquationId(0), all))
 }
 
 /// `{0..1}`
@@ -90,7 +110,8 @@ fn equation<A: Allocator + Copy, B: Allocator>(
     Ok(Equation { parameters, body })
 }
 
-fn written_equations<A: Allocator + Copy, B: Allocator>(
+/// The equations of the text.
+pub(crate) fn written_equations<A: Allocator + Copy, B: Allocator>(
     alloc: A,
     raw: &Raw<'_, B>,
 ) -> Result<Vec<Equation<A>, A>, Fail> {
@@ -122,18 +143,84 @@ fn equations<A: Allocator + Copy>(alloc: A) -> Result<Vec<Equation<A>, A>, Fail>
     Ok(equations)
 }
 
-/// The channels but `s`, and the equations `P`, `R` and `Q`.
+fn assertion<A: Allocator + Copy, B: Allocator>(
+    alloc: A,
+    model: RawModel,
+    specification: &Process<'_, B>,
+    implementation: &Process<'_, B>,
+) -> Result<Assertion<A>, Fail> {
+    let specification = term(alloc, specification)?;
+    let implementation = term(alloc, implementation)?;
+    let model = match model {
+        RawModel::Traces => Model::Traces,
+        RawModel::Failures => Model::Failures,
+    };
+    Ok(Assertion {
+        model,
+        specification,
+        implementation,
+    })
+}
+
+fn written_assertions<A: Allocator + Copy, B: Allocator>(
+    alloc: A,
+    raw: &Raw<'_, B>,
+) -> Result<Vec<Assertion<A>, A>, Fail> {
+    let mut assertions = Vec::new(alloc);
+    for declaration in &raw.declarations {
+        if let Declaration::Assertion {
+            model,
+            specification,
+            implementation,
+            ..
+        } = declaration
+        {
+            assertions.push(assertion(alloc, *model, specification, implementation)?)?;
+        }
+    }
+    Ok(assertions)
+}
+
+fn assertions<A: Allocator + Copy>(alloc: A) -> Result<Vec<Assertion<A>, A>, Fail> {
+    let raw = read(alloc, EQUATIONS)?;
+    written_assertions(alloc, &raw)
+}
+
+fn constructors<A: Allocator + Copy>(alloc: A) -> Result<Vec<Constructor<A>, A>, Memory> {
+    let mut constructors = Vec::new(alloc);
+    for spelling in &CONSTRUCTORS {
+        let spelling = String::from_str(alloc, *spelling)?;
+        constructors.push(Constructor { spelling })?;
+    }
+    Ok(constructors)
+}
+
+/// The datatype `D` of the constructors 2 to 4, and the nametype `N`, which is `{5, 7}`.
+pub(crate) fn types<A: Allocator + Copy>(alloc: A) -> Result<TypeTable<A>, Memory> {
+    let of_data = Constructors {
+        first: ConId(2),
+        following: 2,
+    };
+    let datatypes = Vec::from_slice(alloc, &[of_data])?;
+    let mut nametypes = Vec::new(alloc);
+    nametypes.push(SetOf::from_values(digits(alloc, "75")?))?;
+    Ok(TypeTable {
+        datatypes,
+        nametypes,
+    })
+}
+
+/// The channels but `s`, the types, the equations `P`, `R` and `Q`, and two assertions.
 pub(crate) fn script<A: Allocator + Copy>(alloc: A) -> Result<Script<A>, Fail> {
     let channels = channels(alloc)?;
     let equations = equations(alloc)?;
+    let assertions = assertions(alloc)?;
+    let constructors = constructors(alloc)?;
     Ok(Script {
-        types: TypeTable {
-            datatypes: Vec::new(alloc),
-            nametypes: Vec::new(alloc),
-        },
-        constructors: Vec::new(alloc),
+        types: types(alloc)?,
+        constructors,
         channels,
         equations,
-        assertions: Vec::new(alloc),
+        assertions,
     })
 }
