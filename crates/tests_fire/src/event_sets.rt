@@ -38,7 +38,16 @@ fn operator(raw: SetOperator) -> EventSetOperator {
     }
 }
 
+#[cycle(event_set)]
+fn boxed<A: Allocator + Copy, B: Allocator>(
+    alloc: A,
+    raw: &RawSet<'_, B>,
+) -> Result<Box<EventSet<A>, A>, Fail> {
+    Ok(Box::new(alloc, event_set(alloc, raw)?)?)
+}
+
 /// The set as it is written.
+#[cycle(event_set)]
 pub(crate) fn event_set<A: Allocator + Copy, B: Allocator>(
     alloc: A,
     raw: &RawSet<'_, B>,
@@ -47,9 +56,8 @@ pub(crate) fn event_set<A: Allocator + Copy, B: Allocator>(
         RawSet::Enumeration(items) => Ok(EventSet::Enumeration(events(alloc, items)?)),
         RawSet::Productions(items) => Ok(EventSet::Productions(events(alloc, items)?)),
         RawSet::Combine(sign, left, right) => {
-            let left = Box::new(alloc, event_set(alloc, left)?)?;
-            let right = Box::new(alloc, event_set(alloc, right)?)?;
-            Ok(EventSet::Combine(operator(*sign), left, right))
+            let left = boxed(alloc, left)?;
+            Ok(EventSet::Combine(operator(*sign), left, boxed(alloc, right)?))
         }
     }
 }

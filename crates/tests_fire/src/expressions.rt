@@ -1,8 +1,8 @@
 //! Expressions of texts.
 
 use crate::literals::named;
-use crate::names::{bound, datatype, nametype};
-use csp_expression::{BinaryOperator, Expr, UnaryOperator};
+use crate::names::{DATATYPES, NAMETYPES, bound, place};
+use csp_expression::{BinaryOperator, DatatypeId, Expr, NametypeId, UnaryOperator};
 use csp_parse::{BinaryOperator as Infix, Expression, Name, UnaryOperator as Prefix};
 use csp_value::Value;
 use std::alloc::Allocator;
@@ -48,11 +48,11 @@ fn used<A: Allocator + Copy>(alloc: A, name: Name<'_>) -> Result<Expr<A>, Fail> 
     if let Some(value) = named(alloc, name.text)? {
         return Ok(Expr::Literal(value));
     }
-    if let Some(datatype) = datatype(name.text) {
-        return Ok(Expr::Datatype(datatype));
+    if let Some(datatype) = place(&DATATYPES, name.text) {
+        return Ok(Expr::Datatype(DatatypeId(datatype)));
     }
-    if let Some(nametype) = nametype(name.text) {
-        return Ok(Expr::Nametype(nametype));
+    if let Some(nametype) = place(&NAMETYPES, name.text) {
+        return Ok(Expr::Nametype(NametypeId(nametype)));
     }
     Ok(Expr::Name(bound(name)?))
 }

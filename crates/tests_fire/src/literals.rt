@@ -5,9 +5,9 @@
 //!   are alike.
 //! - `A0` to `A5` are constructors.
 
-use crate::names::constructor;
+use crate::names::{CONSTRUCTORS, place};
 use csp_parse::{Expression, UnaryOperator};
-use csp_value::{Memory, SetOf, Value};
+use csp_value::{ConId, Memory, SetOf, Value};
 use std::alloc::Allocator;
 use std::test::Fail;
 
@@ -27,14 +27,13 @@ pub(crate) fn digits<A: Allocator + Copy>(
 
 static NUMBERS: [(&str, i32); 3] = [("LEAST", i32::MIN), ("MINUS1", -1), ("ONE", 1)];
 
-/// The number or the constructor of the name.
-fn named_alone<A: Allocator>(text: &str) -> Option<Value<A>> {
+fn number(text: &str) -> Option<i32> {
     for (name, number) in &NUMBERS {
         if *name == text {
-            return Some(Value::Int(*number));
+            return Some(*number);
         }
     }
-    Some(Value::Con(constructor(text)?))
+    None
 }
 
 /// The value that has the name.
@@ -46,16 +45,18 @@ pub(crate) fn named<A: Allocator + Copy>(alloc: A, text: &str) -> Result<Option<
         let members = digits(alloc, text)?;
         return Ok(Some(Value::Set(SetOf::from_values(members))));
     }
-    Ok(named_alone(text))
-}
-
-fn positive(number: u32) -> Result<i32, Fail> {
-    Ok(i32::try_from(number)?)
+    if let Some(number) = number(text) {
+        return Ok(Some(Value::Int(number)));
+    }
+    match place(&CONSTRUCTORS, text) {
+        Some(constructor) => Ok(Some(Value::Con(ConId(constructor)))),
+        None => Ok(None),
+    }
 }
 
 fn negative<B: Allocator>(raw: &Expression<'_, B>) -> Result<i32, Fail> {
     match raw {
-        Expression::Number(number) => Ok(positive(*number)?.saturating_neg()),
+        Expression::Number(number) => Ok(i32::try_from(*number)?.saturating_neg()),
         _ => Err(Fail::new("no number")),
     }
 }
@@ -67,7 +68,7 @@ pub(crate) fn value<A: Allocator + Copy, B: Allocator>(
     raw: &Expression<'_, B>,
 ) -> Result<Value<A>, Fail> {
     match raw {
-        Expression::Number(number) => Ok(Value::Int(positive(*number)?)),
+        Expression::Number(number) => Ok(Value::Int(i32::try_from(*number)?)),
         Expression::Apply(UnaryOperator::Negate, operand) => Ok(Value::Int(negative(operand)?)),
         Expression::Truth(truth) => Ok(Value::Bool(*truth)),
         Expression::Sequence(items) => Ok(Value::Seq(values(alloc, items)?)),

@@ -338,15 +338,24 @@ struct Sample<'s, 't> {
     made: &'s Process<'t, Global>,
 }
 
-/// The call with the value, which is made in the heap. The call is made in the other heap.
+/// The argument's value, which is made in the heap.
+fn value_in<'h>(
+    heap: &'h LocalHeap,
+    types: &TypeTable<&'h LocalHeap>,
+    argument: &Expr<&'h LocalHeap>,
+) -> Result<Expr<&'h LocalHeap>, EvalFault> {
+    Ok(Expr::Literal(argument.eval(types, heap)?))
+}
+
+/// The call with the value. The call is made in the other heap.
 fn call_with_value<'h>(
     heap: &'h LocalHeap,
     other: &'h LocalHeap,
     types: &TypeTable<&'h LocalHeap>,
     argument: &Expr<&'h LocalHeap>,
 ) -> Result<Term<&'h LocalHeap>, TermFault> {
-    match argument.eval(types, heap) {
-        Ok(value) => Ok(wide(other, &Expr::Literal(value), 1)?),
+    match value_in(heap, types, argument) {
+        Ok(value) => Ok(wide(other, &value, 1)?),
         Err(EvalFault::Memory) => Err(TermFault::Memory),
         Err(EvalFault::Fault(_)) => Err(TermFault::TooLarge),
     }

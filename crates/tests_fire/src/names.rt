@@ -1,8 +1,7 @@
 //! The names that the texts of the tests use. The place of a name in its table is its number.
 
 use csp_parse::Name as Word;
-use csp_term::{ChannelId, DatatypeId, EquationId, Name, NametypeId};
-use csp_value::ConId;
+use csp_term::{ChannelId, EquationId, Name};
 use std::test::Fail;
 
 /// The channels: `a` and `b` without fields, `c` to `e` of one to three fields of `{0..1}`, `f` to `out` of one, `s` of a
@@ -41,12 +40,13 @@ static BOUND: [&str; 5] = ["x", "y", "z", "n", "s"];
 pub(crate) static CONSTRUCTORS: [&str; 6] = ["A0", "A1", "A2", "A3", "A4", "A5"];
 
 /// The datatypes: `D` has the constructors `A2` to `A4`. The script has none for the last.
-static DATATYPES: [&str; 2] = ["D", "E"];
+pub(crate) static DATATYPES: [&str; 2] = ["D", "E"];
 
 /// The nametypes: `N` is `{5, 7}`. The script has none for the last.
-static NAMETYPES: [&str; 2] = ["N", "M"];
+pub(crate) static NAMETYPES: [&str; 2] = ["N", "M"];
 
-fn place(names: &[&str], text: &str) -> Option<u32> {
+/// The place of the name in the table.
+pub(crate) fn place(names: &[&str], text: &str) -> Option<u32> {
     let mut place: u32 = 0;
     for name in names {
         if *name == text {
@@ -74,16 +74,4 @@ pub(crate) fn equation(word: Word<'_>) -> Result<EquationId, Fail> {
 
 pub(crate) fn bound(word: Word<'_>) -> Result<Name, Fail> {
     Ok(Name(place_in(&BOUND, word.text)?))
-}
-
-pub(crate) fn constructor(text: &str) -> Option<ConId> {
-    Some(ConId(place(&CONSTRUCTORS, text)?))
-}
-
-pub(crate) fn datatype(text: &str) -> Option<DatatypeId> {
-    Some(DatatypeId(place(&DATATYPES, text)?))
-}
-
-pub(crate) fn nametype(text: &str) -> Option<NametypeId> {
-    Some(NametypeId(place(&NAMETYPES, text)?))
 }

@@ -3,16 +3,16 @@
 //! - `PUT`: what the term, the set of events behind `\\` or the renaming then is. Where a name is there more than once,
 //!   the first one counts.
 //! - `BOUND`: the same, where each name is bound anew, so that the last one counts.
-//! - `SEES = OF(e, v)`: that `e` then has the value that `v` writes.
+//! - `VALUE`: what value an expression then has, as `values` reads it.
 
 use crate::event_sets::{event_set, pairs};
-use crate::expressions::expression;
 use crate::literals::value;
 use crate::names::bound;
 use crate::terms::term;
+use crate::values;
 use csp_event_sets::put_in_pairs;
-use csp_expression::{Binding, EvalFault, Expr, TypeTable};
-use csp_parse::{EventSet, Expression, Name as Word, Pair, Process};
+use csp_expression::{Binding, TypeTable};
+use csp_parse::{EventSet, Name as Word, Pair, Process};
 use csp_term::{Memory, Name, Term, TermFault, bind, copy_all};
 use csp_value::Value;
 use std::alloc::Global;
@@ -122,46 +122,6 @@ fn is_put<'t>(
     }
 }
 
-/// Whether the expression has the value with the bindings, where it lies and as a copy.
-fn sees(
-    alloc: Global,
-    types: &TypeTable<Global>,
-    bindings: &[Binding<'_, Global>],
-    expression: &Expr<Global>,
-    said: &Value<Global>,
-) -> Result<bool, EvalFault> {
-    let seen = expression.look(types, bindings, alloc)?;
-    let is_seen = *seen.value() == *said;
-    Ok(seen.into_value(alloc)? == *said && is_seen)
-}
-
-fn sees_value<'t>(
-    alloc: Global,
-    types: &TypeTable<Global>,
-    bindings: &[Binding<'_, Global>],
-    raw: &Expression<'t, Global>,
-    said: &Expression<'t, Global>,
-) -> Result<bool, Fail> {
-    let said = value(alloc, said)?;
-    let expression = expression(alloc, raw)?;
-    Ok(sees(alloc, types, bindings, &expression, &said)?)
-}
-
-fn has_value(
-    alloc: Global,
-    types: &TypeTable<Global>,
-    bindings: &[Binding<'_, Global>],
-    said: &Process<'_, Global>,
-) -> Result<bool, Fail> {
-    match said {
-        Process::Call(_, arguments) => match (arguments.first(), arguments.get(1)) {
-            (Some(raw), Some(said)) => sees_value(alloc, types, bindings, raw, said),
-            _ => Err(Fail::new("no expression and value")),
-        },
-        _ => Err(Fail::new("no call")),
-    }
-}
-
 /// Whether what is said is so with the values put in.
 fn is_so_with<'t>(
     alloc: Global,
@@ -171,8 +131,8 @@ fn is_so_with<'t>(
     name: Word<'t>,
     said: &Process<'t, Global>,
 ) -> Result<bool, Fail> {
-    if name.text == "SEES" {
-        return has_value(alloc, types, bindings, said);
+    if name.text == "VALUE" {
+        return values::has_value(alloc, types, bindings, said);
     }
     is_put(alloc, bindings, of, said)
 }

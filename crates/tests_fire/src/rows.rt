@@ -1,7 +1,7 @@
 //! Texts that say of terms what they do. A text has a term as `T`, and behind it what is said of that term:
 //!
-//! - `VALUE`, `CAUSE` and `SEES` of expressions, as `values` reads them. They need no term.
-//! - `PUT`, `BOUND`, `SIZE` and the like of terms, sets of events and renamings, as `puts` and `sizes` read them.
+//! - `VALUE` and `CAUSE` of expressions, as `values` reads them. They need no term.
+//! - `PUT` and `BOUND`, as `puts` reads them, and `MEASURES`, as `sizes` reads it.
 //! - `DOES`: the steps, in order, as prefixes with `[]` between. `tau` and `tick` are no channels, and `STOP` is no step.
 //! - `OFFERS`: the acceptances, in order, each as prefixes before `STOP` with `[]` between, and `|~|` between two
 //!   acceptances. `STOP` is the empty one, and `NOTHING` stands for none.
@@ -225,10 +225,10 @@ fn is_so<'t>(
     name: Name<'t>,
     said: &Process<'t, Global>,
 ) -> Result<bool, Fail> {
-    if name.text == "VALUE" || name.text == "CAUSE" {
-        return values::is_so(alloc, &script.types, name, said);
+    if name.text == "CAUSE" {
+        return values::are_faulty(alloc, &script.types, said);
     }
-    if name.text == "PUT" || name.text == "BOUND" || name.text == "SEES" {
+    if name.text == "VALUE" || name.text == "PUT" || name.text == "BOUND" {
         return puts::is_so(alloc, &script.types, of, name, said);
     }
     if name.text == "MEASURES" {

@@ -5,31 +5,50 @@
 
 use crate::expressions::expression;
 use crate::literals::value;
-use csp_expression::{EvalFault, TypeTable};
-use csp_parse::{Expression, Name, Process};
+use csp_expression::{Binding, EvalFault, Expr, TypeTable};
+use csp_parse::{Expression, Process};
+use csp_value::Value;
 use std::alloc::Global;
 use std::test::Fail;
 
-/// Whether the expression has the value that the text writes.
-fn evaluates<'t>(
+/// Whether the expression has the value with the bindings, where it lies and as a copy.
+fn sees(
     alloc: Global,
     types: &TypeTable<Global>,
+    bindings: &[Binding<'_, Global>],
+    expression: &Expr<Global>,
+    said: &Value<Global>,
+) -> Result<bool, EvalFault> {
+    let seen = expression.look(types, bindings, alloc)?;
+    let is_seen = *seen.value() == *said;
+    Ok(seen.into_value(alloc)? == *said && is_seen)
+}
+
+fn has_written_value<'t>(
+    alloc: Global,
+    types: &TypeTable<Global>,
+    bindings: &[Binding<'_, Global>],
     raw: &Expression<'t, Global>,
     said: &Expression<'t, Global>,
 ) -> Result<bool, Fail> {
     let said = value(alloc, said)?;
     let expression = expression(alloc, raw)?;
-    Ok(expression.eval(types, alloc)? == said)
+    Ok(sees(alloc, types, bindings, &expression, &said)?)
 }
 
-fn has_value(
+/// Whether the expression of the call has the value of the call, with the bindings.
+pub(crate) fn has_value(
     alloc: Global,
     types: &TypeTable<Global>,
-    arguments: &[Expression<'_, Global>],
+    bindings: &[Binding<'_, Global>],
+    said: &Process<'_, Global>,
 ) -> Result<bool, Fail> {
-    match (arguments.first(), arguments.get(1)) {
-        (Some(raw), Some(said)) => evaluates(alloc, types, raw, said),
-        _ => Err(Fail::new("no expression and value")),
+    match said {
+        Process::Call(_, arguments) => match (arguments.first(), arguments.get(1)) {
+            (Some(raw), Some(said)) => has_written_value(alloc, types, bindings, raw, said),
+            _ => Err(Fail::new("no expression and value")),
+        },
+        _ => Err(Fail::new("no call")),
     }
 }
 
@@ -61,20 +80,14 @@ fn have_cause(
     Ok(!arguments.is_empty())
 }
 
-/// Whether what is said of the value or of the cause is so.
-pub(crate) fn is_so(
+/// Whether the expressions of the call have no value, for the cause that it names.
+pub(crate) fn are_faulty(
     alloc: Global,
     types: &TypeTable<Global>,
-    name: Name<'_>,
     said: &Process<'_, Global>,
 ) -> Result<bool, Fail> {
     match said {
-        Process::Call(word, arguments) => {
-            if name.text == "VALUE" {
-                return has_value(alloc, types, arguments);
-            }
-            have_cause(alloc, types, arguments, word.text)
-        }
+        Process::Call(word, arguments) => have_cause(alloc, types, arguments, word.text),
         _ => Err(Fail::new("no call")),
     }
 }
