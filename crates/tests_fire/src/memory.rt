@@ -367,12 +367,13 @@ fn evaluated<'h>(
     types: &TypeTable<&'h LocalHeap>,
     term: &Term<&'h LocalHeap>,
 ) -> Result<Term<&'h LocalHeap>, TermFault> {
-    if let TermForm::Call(_, arguments) = term.form() {
-        for argument in arguments {
-            return call_with_value(heap, other, types, argument);
-        }
+    match term.form() {
+        TermForm::Call(_, arguments) => match arguments.first() {
+            Some(argument) => call_with_value(heap, other, types, argument),
+            None => Err(TermFault::TooLarge),
+        },
+        _ => Err(TermFault::TooLarge),
     }
-    Err(TermFault::TooLarge)
 }
 
 /// What is made of the term in the heap.
@@ -420,7 +421,22 @@ fn value_of<'h>(heap: &'h LocalHeap, name: &str) -> Result<Value<&'h LocalHeap>,
     }
 }
 
-/// Does the work on the term in the heap, which may have no room. The types are as they were.
+/// Does the work on the term in the heap, which may have no room.
+fn is_made_with<'h>(
+    rt: &impl Abort,
+    heap: &'h LocalHeap,
+    other: &'h LocalHeap,
+    types: &TypeTable<&'h LocalHeap>,
+    sample: Sample<'_, '_>,
+    of: &Term<&'h LocalHeap>,
+) -> Result<bool, Fail> {
+    let value = value_of(other, sample.given)?;
+    let expected = term(other, sample.made)?;
+    let made = made(heap, other, types, sample.work, of, &value);
+    Ok(is_made(rt, heap, made, &expected))
+}
+
+/// The same. The types are as they were.
 fn is_term_made<'h>(
     rt: &impl Abort,
     heap: &'h LocalHeap,
@@ -429,10 +445,7 @@ fn is_term_made<'h>(
     of: &Term<&'h LocalHeap>,
 ) -> Result<bool, Fail> {
     let table = types(other)?;
-    let value = value_of(other, sample.given)?;
-    let expected = term(other, sample.made)?;
-    let made = made(heap, other, &table, sample.work, of, &value);
-    let is_made = is_made(rt, heap, made, &expected);
+    let is_made = is_made_with(rt, heap, other, &table, sample, of)?;
     let are_kept = types(other)? == table;
     assert!(rt; are_kept);
     Ok(is_made)
@@ -512,7 +525,7 @@ fn count_all_made<'t>(
     table: &Table,
     open: &Raw<'t, Global>,
     made: &Raw<'t, Global>,
-) -> Result<Counts, Fail> {
+) -> Result<(), Fail> {
     let mut counts = Counts {
         refused: 0,
         answered: 0,
@@ -520,19 +533,19 @@ fn count_all_made<'t>(
     for (open, made) in open.declarations.iter().zip(&made.declarations) {
         count_row(rt, alloc, table, open, made, &mut counts)?;
     }
-    Ok(counts)
+    let Counts { refused, answered } = counts;
+    assert!(rt;
+        refused > table.refused && answered > table.answered,
+        "{refused} and {answered}"
+    );
+    Ok(())
 }
 
 /// Does the work on each of the terms.
 fn count_table(rt: &impl Abort, alloc: Global, table: &Table) -> Result<(), Fail> {
     let open = read(alloc, table.open)?;
     let made = read(alloc, table.made)?;
-    let Counts { refused, answered } = count_all_made(rt, alloc, table, &open, &made)?;
-    assert!(rt;
-        refused > table.refused && answered > table.answered,
-        "{refused} and {answered}"
-    );
-    Ok(())
+    count_all_made(rt, alloc, table, &open, &made)
 }
 
 #[test]

@@ -251,6 +251,11 @@ fn all_rise<'h>(rt: &impl Abort, heaps: Heaps<'h>, raw: &Raw<'_, Global>) -> Res
     Ok(())
 }
 
+fn rise_in<'h>(rt: &impl Abort, alloc: Global, heaps: Heaps<'h>, text: &str) -> Result<(), Fail> {
+    let raw = read(alloc, text)?;
+    all_rise(rt, heaps, &raw)
+}
+
 /// Each row of the text is less than the next.
 fn rise(rt: &impl Abort, alloc: Global, text: &str) -> Result<(), Fail> {
     let here = LocalHeap::new(alloc, 16_384)?;
@@ -259,8 +264,7 @@ fn rise(rt: &impl Abort, alloc: Global, text: &str) -> Result<(), Fail> {
         here: &here,
         there: &there,
     };
-    let raw = read(alloc, text)?;
-    all_rise(rt, heaps, &raw)
+    rise_in(rt, alloc, heaps, text)
 }
 
 #[test]

@@ -160,20 +160,38 @@ fn nested(alloc: Global, sequences: u32) -> Result<Expr<Global>, Memory> {
     Ok(Expr::Literal(value))
 }
 
-/// Whether a call with so many of the arguments is within the limits.
-fn fits(alloc: Global, argument: &Expr<Global>, count: u32) -> Result<bool, Memory> {
-    Ok(wide(alloc, argument, count)?.fits())
+/// Whether a call with 1 so many times is within the limits.
+fn ones_fit(alloc: Global, count: u32) -> Result<bool, Memory> {
+    Ok(wide(alloc, &Expr::Literal(Value::Int(1)), count)?.fits())
 }
 
-/// Whether sizes of 2,000 and 2,001, and depths of 256 and 257, are within the limits.
+fn chain_fits(alloc: Global, prefixes: u32) -> Result<bool, Memory> {
+    Ok(chain(alloc, prefixes)?.fits())
+}
+
+/// Whether a call with the one argument is within the limits.
+fn call_fits(alloc: Global, argument: &Expr<Global>) -> Result<bool, Memory> {
+    Ok(wide(alloc, argument, 1)?.fits())
+}
+
+fn negated_fits(alloc: Global, signs: u32) -> Result<bool, Memory> {
+    let argument = negated(alloc, signs)?;
+    call_fits(alloc, &argument)
+}
+
+fn nested_fits(alloc: Global, sequences: u32) -> Result<bool, Memory> {
+    let argument = nested(alloc, sequences)?;
+    call_fits(alloc, &argument)
+}
+
+/// Sizes of 2,000 and depths of 256 are within the limits, and of one more are not.
 #[test]
 fn the_limits_are_exact(rt: HostRuntime) -> Result<(), Fail> {
     let alloc = rt.alloc();
-    let one = Expr::Literal(Value::Int(1));
-    assert!(rt; fits(alloc, &one, 1999)? && !fits(alloc, &one, 2000)?);
-    assert!(rt; chain(alloc, 255)?.fits() && !chain(alloc, 256)?.fits());
-    assert!(rt; fits(alloc, &negated(alloc, 254)?, 1)? && !fits(alloc, &negated(alloc, 255)?, 1)?);
-    assert!(rt; fits(alloc, &nested(alloc, 254)?, 1)? && !fits(alloc, &nested(alloc, 255)?, 1)?);
+    assert!(rt; ones_fit(alloc, 1999)? && !ones_fit(alloc, 2000)?);
+    assert!(rt; chain_fits(alloc, 255)? && !chain_fits(alloc, 256)?);
+    assert!(rt; negated_fits(alloc, 254)? && !negated_fits(alloc, 255)?);
+    assert!(rt; nested_fits(alloc, 254)? && !nested_fits(alloc, 255)?);
     Ok(())
 }
 
