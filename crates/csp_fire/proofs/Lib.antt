@@ -30,3 +30,4 @@ pub mod Same
 pub mod Operating
 pub mod Joining
 pub mod Changing
+pub mod Replicating
