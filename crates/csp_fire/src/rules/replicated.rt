@@ -85,11 +85,7 @@ impl Looking {
 }
 
 /// `P |~| Q`, if it is within the limits.
-fn either<A: AllocHandle>(
-    alloc: A,
-    left: Target<A>,
-    right: Target<A>,
-) -> Result<Target<A>, Memory>
+fn either<A: AllocHandle>(alloc: A, left: Target<A>, right: Target<A>) -> Result<Target<A>, Memory>
     ensures { IfOk result (λ t. target_of t ≡ under_both InternalChoice (target_of left) (target_of right)) }
 {
     let composition = Composition::Operator(ProcessOperator::InternalChoice);

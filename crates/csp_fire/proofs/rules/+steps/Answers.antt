@@ -428,8 +428,6 @@ replicated::steps-returns-in-ExternalChoice g t c =
     let P : ReplicatedOperator → Type 0 = λ op. Answers script (put bs (replicated_process op n e body)) c.external.result in
     subst P (sym c.in-ExternalChoice.is) (external_by_chain script n (put_expression bs e) (put (without n bs) body) (values_of values) are c.external.result (subst H (sym (instances_are n bs body values)) c.external.ensures))
 
-
-
 pub replicated::steps-returns-in-InternalChoice : goal.replicated::steps-returns-in-InternalChoice
 replicated::steps-returns-in-InternalChoice g t c =
     let script = script_of c.args.script.now in
@@ -472,7 +470,6 @@ replicated::Instances::chain-returns-in_err-chain g t c =
     let Q : Result (Vec (RuleStep g.row.A.Denot) g.row.A.Denot) Stuck → Type 0 = λ r. Answers script (left_grouped (looking_process k) first others) r in
     subst Q (sym (q.1 ∙ ap Err q.2)) (stuck_at_first script k g.row.A.Denot first others why c.in_err-chain.ensures)
 
-
 pub replicated::Instances::chain-returns-in_err-instance : goal.replicated::Instances::chain-returns-in_err-instance
 replicated::Instances::chain-returns-in_err-instance g t c =
     let i = c.args.self.now in
@@ -509,7 +506,6 @@ replicated::Instances::chain-loop-value-preserved g t c =
     (subst Q (sym (grouped_more (looking_process k) first before one))
     (two_sides script k (left_grouped (looking_process k) first before) one c.loop-value.chain c.in_ok-instance.instance more c.loop-value.invariant c.in_ok-instance.ensures c.in_ok-chain-2.ensures.process c.in_ok-chain-2.ensures.steps))
 
-
 pub replicated::Instances::external-returns-in-None : goal.replicated::Instances::external-returns-in-None
 replicated::Instances::external-returns-in-None g t c =
     let i = c.args.self.now in
@@ -535,7 +531,6 @@ replicated::Instances::interleaving-returns-in-Some g t c =
     let i = c.args.self.now in
     let P : List (Value g.row.A.Denot) → Type 0 = λ vs. Answers (script_of i.script.now) (chain pure.Interleaving pure.Skip (instances_of i vs)) c.chain.result in
     subst P (sym c.in-Some.ensures.cases.0) c.chain.ensures
-
 
 pub replicated::Instances::internal-returns-in_ok-side-in-None : goal.replicated::Instances::internal-returns-in_ok-side-in-None
 replicated::Instances::internal-returns-in_ok-side-in-None g t c =
