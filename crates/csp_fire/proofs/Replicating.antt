@@ -13,31 +13,29 @@ use Rattle.csp_semantics.specs.Meaning.Stepping.{always, never}
 use Rattle.csp_semantics.specs.Meaning.Substitution.{Bindings, bind, put, put_expression, without}
 use Rattle.csp_semantics.specs.Meaning.Transitions as rule
 use Rattle.csp_semantics.specs.Meaning.Transitions.{chain, left_grouped}
-use Rattle.csp_semantics.proofs.Causes.{external_cause, interleaving_cause, replicated_external_cause, replicated_interleaving_cause, replicated_internal_cause}
+use Rattle.csp_semantics.proofs.Causes.{replicated_external_cause, replicated_interleaving_cause, replicated_internal_cause}
 use Rattle.csp_semantics.proofs.Chains.{external_chain_cause, interleaving_chain_cause, internal_chain_cause}
 use Rattle.csp_value.specs.declared.value.Value.{Value}
 use Rattle.csp_value.specs.Value.{members_of as set_members, value_of, values_of}
 use Rattle.csp_value.specs.declared.value.Value.TheVariants as views
 use Rattle.csp_value.specs.declared.set.SetOf.{SetOf}
 use Rattle.csp_expression.proofs.Forming.{set_is}
-use Rattle.csp_expression.specs.Bindings.{bindings_of}
 use Rattle.csp_expression.specs.Evaluation.{Sees}
 use Rattle.csp_expression.specs.Fault.{cause_of}
 use Rattle.csp_expression.specs.declared.eval_fault.EvalFault.{EvalFault}
 use Rattle.csp_expression.specs.declared.eval_fault.EvalFault.TheVariants as eval
 use Rattle.csp_term.specs.declared.operator.ReplicatedOperator.{ReplicatedOperator}
 use Rattle.csp_term.specs.declared.operator.ReplicatedOperator.TheVariants as operator
-use Rattle.csp_term.specs.Term.{process_of, replicated_process}
+use Rattle.csp_term.specs.Term.{replicated_process}
 use Rattle.csp_fire.specs.declared.rule_step.RuleStep.{RuleStep}
-use Rattle.csp_fire.specs.declared.rules.replicated.Instances.{Instances}
 use Rattle.csp_fire.specs.declared.rules.replicated.Looking.{Looking}
 use Rattle.csp_fire.specs.declared.rules.replicated.Looking.TheVariants as looking
 use Rattle.csp_fire.specs.declared.rules.side.Side.{Side}
 use Rattle.csp_fire.specs.declared.stuck.Stuck.{Stuck}
 use Rattle.csp_fire.specs.declared.stuck.Stuck.TheVariants as stuck
 use Rattle.csp_fire.specs.Answering.{Answered, Answers, IsAnswered, stuck_by_value, target_of, within_limits}
-use Rattle.csp_fire.specs.Composing.{HaveSameSteps, IsSideOf, external_answers, parallel_answers, side_answers, under_both}
-use Rattle.csp_fire.specs.Replicating.{AnswersChoices, instance_of, instances_of, looking_answers, looking_process}
+use Rattle.csp_fire.specs.Composing.{HaveSameSteps, IsSideOf, parallel_answers, side_answers, under_both}
+use Rattle.csp_fire.specs.Replicating.{AnswersChoices, looking_answers, looking_process}
 use Rattle.csp_fire.proofs.Composing.{limits_under_both}
 use Rattle.csp_fire.proofs.Joining.{interleaving_answered}
 use Rattle.csp_fire.proofs.Operating.{external_answered, internal_answered}

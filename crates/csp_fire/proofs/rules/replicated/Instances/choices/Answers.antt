@@ -1,5 +1,5 @@
 -- One more instance, and the chain of all.
-use Rattle.std.proofs.Common.{◌≡◌, List, take, sym, ◌∙◌, ap, subst, arith, inl, inr, lit<}
+use Rattle.std.proofs.Common.{◌≡◌, List, take, sym, ◌∙◌, ap, subst, arith}
 use Rattle.std.proofs.lemmas.List.{take_all}
 use Rattle.csp_semantics.specs.Syntax.Process.{Process, InternalChoice}
 use Rattle.csp_semantics.specs.Meaning.Transitions.{left_grouped}
