@@ -70,7 +70,7 @@ module _ (s : Script) (p : Process) where
         subst P (ap passes is) (hiding_answered a (ap result_err is))
 
 -- an event that is hidden is done as tau
-pub hidden_is : (b : Bool) (x : Action) (e : Event) (t u : Option Process) → x ≡ cond b Tau (Ev e) → u ≡ t → (x, u) ∷ [] ≡ cond b ((Tau, t) ∷ []) ((Ev e, t) ∷ [])
+pub hidden_is : (b : Bool) (x : Action) (e : Event) (t u : Option Process) → x ≡ cond b Tau (Ev e) → u ≡ t → ◌≡◌ {A = List Answered} ((x, u) ∷ []) (cond b ((Tau, t) ∷ []) ((Ev e, t) ∷ []))
 hidden_is true x e t u is same = ap₂ (λ y o. (y, o) ∷ []) is same
 hidden_is false x e t u is same = ap₂ (λ y o. (y, o) ∷ []) is same
 

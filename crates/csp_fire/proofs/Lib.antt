@@ -32,3 +32,4 @@ pub mod Same
 pub mod Operating
 pub mod Joining
 pub mod Changing
+pub mod Replicating

@@ -1,5 +1,6 @@
 -- Each form is answered as its rule says, and each call is of less.
-use Rattle.std.proofs.Common.{◌≡◌, ℕ, suc, ◌<◌, Result, Ok, Err, List, sym, ◌∙◌, ap, subst, arith, inl, inr, lit<, max, ◌*◌, ◌+◌, [], map}
+use Rattle.std.proofs.Common.{◌≡◌, ℕ, suc, ◌<◌, Result, Ok, Err, Some, List, refl, sym, ◌∙◌, ap, subst, arith, inl, inr, lit<, max, ◌*◌, ◌+◌, [], ◌∷◌, ◌++◌, length, map, take, drop}
+use Rattle.std.proofs.lemmas.List.{map-append}
 use Rattle.std.proofs.Math.Nat.{le-max_left, le-max_right}
 use Rattle.std.proofs.lemmas.Result.{err_from_is_err_and}
 use Rattle.std.specs.declared.vec.Vec.{Vec}
@@ -7,28 +8,42 @@ use Rattle.csp_semantics.specs.Syntax.Process as pure
 use Rattle.csp_expression.specs.Expression.{expression_of, expressions_of}
 use Rattle.csp_term.specs.Field.{fields_of}
 use Rattle.csp_term.specs.declared.operator.ProcessOperator.{ProcessOperator}
-use Rattle.csp_term.proofs.Forms.{of_binary, of_call, of_conditional, of_guard, of_omega_term, of_prefix, of_skip, of_stop}
+use Rattle.csp_term.proofs.Forms.{of_alphabetised, of_binary, of_call, of_conditional, of_generalised, of_guard, of_hiding, of_omega_term, of_prefix, of_renaming, of_replicated, of_skip, of_stop}
 use Rattle.csp_semantics.specs.Syntax.Expression.{to_expressions}
 use Rattle.std.specs.Result.{result_err}
-use Rattle.csp_semantics.specs.Syntax.Process.{EventSet}
-use Rattle.csp_semantics.specs.Meaning.Substitution.{put, put_event_set, put_expression}
-use Rattle.csp_event_sets.specs.Events.{event_set_of}
+use Rattle.csp_semantics.specs.Syntax.Process.{EventSet, Process}
+use Rattle.csp_semantics.specs.Meaning.Evaluation.{IllKinded, value}
+use Rattle.csp_semantics.specs.Meaning.Events.{members_of}
+use Rattle.csp_semantics.specs.Meaning.Faults.{cause_in}
+use Rattle.csp_semantics.specs.Meaning.Transitions.{chain, left_grouped}
+use Rattle.csp_semantics.specs.Meaning.Substitution.{put, put_event_set, put_expression, without}
+use Rattle.csp_value.specs.declared.value.Value.{Value}
+use Rattle.csp_value.specs.Value.{value_of, values_of}
+use Rattle.csp_term.specs.declared.operator.ReplicatedOperator.{ReplicatedOperator}
+use Rattle.csp_event_sets.specs.Events.{event_set_of, renaming_pairs_of}
 use Rattle.csp_expression.specs.Bindings.{bindings_of}
 use Rattle.csp_term.specs.Script.{script_of}
-use Rattle.csp_term.specs.Term.{binary_process, process_of, process_of_form}
+use Rattle.csp_term.specs.Term.{binary_process, process_of, process_of_form, replicated_process}
 use Rattle.csp_fire.specs.declared.rule_step.RuleStep.{RuleStep}
 use Rattle.csp_fire.specs.declared.stuck.Stuck.{Stuck}
 use Rattle.csp_semantics.proofs.Causes.{external_cause, interrupt_cause, sequential_cause}
 use Rattle.csp_fire.specs.declared.rules.side.Side.{Side}
-use Rattle.csp_fire.specs.Answering.{Answered, Answers, IsAnswered, answered_of, target_of}
+use Rattle.csp_fire.specs.Answering.{Answered, Answers, IsAnswered, answered_of, stuck_by_value, target_of}
 use Rattle.csp_fire.specs.Composing.{IsSideOf, side_answers}
+use Rattle.csp_fire.specs.Replicating.{AnswersChoices, instance_of, instances_of, looking_process}
 use Rattle.csp_fire.specs.Testing.{test_of}
+use Rattle.csp_fire.proofs.Members.{no_members}
+use Rattle.csp_fire.proofs.Replicating.{external_by_chain, grouped_more, instances_are, interleaving_by_chain, internal_by_chain, last_choice, mapped_more, mapped_split, no_set, put_replicated, seen_elements, set_stuck, stuck_at_first, stuck_behind, two_sides}
 use Rattle.csp_fire.proofs.Changing.{hiding_by, hiding_rest, hiding_stuck}
 use Rattle.csp_fire.proofs.Operating.{external_answered, interrupt_answered, sequential_answered, stuck_by_first, stuck_by_only, stuck_by_second}
 use Rattle.csp_fire.proofs.Siding.{side_of_stuck, stuck_of_side}
 use Rattle.csp_fire.proofs.Smaller.{alphabetised_height, binary_height, branch_height, generalised_height, guard_height, height_of, hiding_height, renaming_height, replicated_height}
 use Rattle.csp_fire.proofs.Ruling.{guarded, closed, first_branch, second_branch, guard_stuck, if_stuck, ended, stopped}
 use Rattle.csp_fire.proofs.rules.+steps.Goals as goal
+
+nothing_in : {X : Type 0} (xs : List X) → length xs ≡ 0 → xs ≡ []
+nothing_in [] none = refl
+nothing_in (x ∷ xs) none = absurd (cc none)
 
 below : (part whole t : ℕ) → whole ≡ suc part → 6 * whole ≡ t → 5 + 6 * part < t
 below part whole t is falls = omega (arith, is, falls)
@@ -142,18 +157,18 @@ guard::steps-returns-else-branch g t c =
     let Q : List (RuleStep g.row.A.Denot) → Type 0 = λ ss. IsAnswered script whole (map answered_of ss) in
     subst Q (sym c.new.ensures.items) (closed script (put_expression bs (expression_of c.args.test.now)) (put bs (process_of c.args.body.now)) (c.in_ok-condition.ensures ∙ ap Ok c.if-branch.false))
 
-pub steps-binary-requires-in-Binary : goal.steps-binary-requires-in-Binary
-steps-binary-requires-in-Binary g t c κs within =
+pub steps-binary-requires : goal.steps-binary-requires
+steps-binary-requires g t c κs within =
     let less = binary_height g.row.A.Denot c.args.term.now c.form.result.now c.form.ensures c.in-Binary.operator c.in-Binary.left c.in-Binary.right c.in-Binary.is in
     (omega (arith, below (max (height_of c.in-Binary.left) (height_of c.in-Binary.right)) (height_of c.args.term.now) t less c.decreases), (within, elim g.met.A.AllocHandle.small [ inl e ↦ rw (e.0, e.1) (lit< tt) | inr e ↦ rw (e.0, e.1) (lit< tt) ]))
 
-pub steps-generalised-requires-in-GeneralisedParallel : goal.steps-generalised-requires-in-GeneralisedParallel
-steps-generalised-requires-in-GeneralisedParallel g t c κs within =
+pub steps-generalised-requires : goal.steps-generalised-requires
+steps-generalised-requires g t c κs within =
     let less = generalised_height g.row.A.Denot c.args.term.now c.form.result.now c.form.ensures c.in-GeneralisedParallel.left c.in-GeneralisedParallel.shared c.in-GeneralisedParallel.right c.in-GeneralisedParallel.is in
     (omega (arith, below (max (height_of c.in-GeneralisedParallel.left) (height_of c.in-GeneralisedParallel.right)) (height_of c.args.term.now) t less c.decreases), (within, elim g.met.A.AllocHandle.small [ inl e ↦ rw (e.0, e.1) (lit< tt) | inr e ↦ rw (e.0, e.1) (lit< tt) ]))
 
-pub steps-alphabetised-requires-in-AlphabetisedParallel : goal.steps-alphabetised-requires-in-AlphabetisedParallel
-steps-alphabetised-requires-in-AlphabetisedParallel g t c κs within =
+pub steps-alphabetised-requires : goal.steps-alphabetised-requires
+steps-alphabetised-requires g t c κs within =
     let less = alphabetised_height g.row.A.Denot c.args.term.now c.form.result.now c.form.ensures c.in-AlphabetisedParallel.left c.in-AlphabetisedParallel.own c.in-AlphabetisedParallel.other c.in-AlphabetisedParallel.right c.in-AlphabetisedParallel.is in
     (omega (arith, below (max (height_of c.in-AlphabetisedParallel.left) (height_of c.in-AlphabetisedParallel.right)) (height_of c.args.term.now) t less c.decreases), (within, elim g.met.A.AllocHandle.small [ inl e ↦ rw (e.0, e.1) (lit< tt) | inr e ↦ rw (e.0, e.1) (lit< tt) ]))
 
@@ -326,3 +341,229 @@ hiding::steps-returns g t c =
     let P : EventSet → Type 0 = λ a. IsAnswered script (pure.Hiding body a) (map answered_of c.in_ok-without.field-0.items) in
     let Q : List Answered → Type 0 = λ ss. IsAnswered script (pure.Hiding body a) ss in
     subst P c.in_ok-hidden.ensures (subst Q (sym c.in_ok-without.ensures) all)
+
+pub steps-returns-in-GeneralisedParallel : goal.steps-returns-in-GeneralisedParallel
+steps-returns-in-GeneralisedParallel g t c =
+    let w = c.in-GeneralisedParallel in
+    let is : process_of c.args.term.now ≡ pure.GeneralisedParallel (process_of w.left) (event_set_of w.shared) (process_of w.right) =
+    sym c.form.ensures ∙ ap process_of_form w.is ∙ of_generalised g.row.A.Denot w.left w.shared w.right
+    in let P : pure.Process → Type 0 = λ p. Answers (script_of c.args.script.now) (put (bindings_of c.args.bindings.now) p) c.generalised.result in subst P (sym is) c.generalised.ensures
+
+pub steps-returns-in-AlphabetisedParallel : goal.steps-returns-in-AlphabetisedParallel
+steps-returns-in-AlphabetisedParallel g t c =
+    let w = c.in-AlphabetisedParallel in
+    let is : process_of c.args.term.now ≡ pure.AlphabetisedParallel (process_of w.left) (event_set_of w.own) (event_set_of w.other) (process_of w.right) =
+    sym c.form.ensures ∙ ap process_of_form w.is ∙ of_alphabetised g.row.A.Denot w.left w.own w.other w.right
+    in let P : pure.Process → Type 0 = λ p. Answers (script_of c.args.script.now) (put (bindings_of c.args.bindings.now) p) c.alphabetised.result in subst P (sym is) c.alphabetised.ensures
+
+pub steps-returns-in-Hiding : goal.steps-returns-in-Hiding
+steps-returns-in-Hiding g t c =
+    let w = c.in-Hiding in
+    let is : process_of c.args.term.now ≡ pure.Hiding (process_of w.body) (event_set_of w.hidden) =
+    sym c.form.ensures ∙ ap process_of_form w.is ∙ of_hiding g.row.A.Denot w.body w.hidden
+    in let P : pure.Process → Type 0 = λ p. Answers (script_of c.args.script.now) (put (bindings_of c.args.bindings.now) p) c.steps-in-Hiding.result in subst P (sym is) c.steps-in-Hiding.ensures
+
+pub steps-returns-in-Renaming : goal.steps-returns-in-Renaming
+steps-returns-in-Renaming g t c =
+    let w = c.in-Renaming in
+    let is : process_of c.args.term.now ≡ pure.Renaming (process_of w.body) (renaming_pairs_of c.deref-in-Renaming.result.now) =
+    sym c.form.ensures ∙ ap process_of_form w.is ∙ of_renaming g.row.A.Denot w.body w.pairs ∙ ap (λ rs. pure.Renaming (process_of w.body) (renaming_pairs_of rs)) (sym c.deref-in-Renaming.ensures.value)
+    in let P : pure.Process → Type 0 = λ p. Answers (script_of c.args.script.now) (put (bindings_of c.args.bindings.now) p) c.steps-in-Renaming.result in subst P (sym is) c.steps-in-Renaming.ensures
+
+pub steps-returns-in-Replicated : goal.steps-returns-in-Replicated
+steps-returns-in-Replicated g t c =
+    let w = c.in-Replicated in
+    let is : process_of c.args.term.now ≡ replicated_process w.operator w.name.0 (expression_of w.set) (process_of w.body) =
+    sym c.form.ensures ∙ ap process_of_form w.is ∙ of_replicated g.row.A.Denot w.operator w.name w.set w.body
+    in let P : pure.Process → Type 0 = λ p. Answers (script_of c.args.script.now) (put (bindings_of c.args.bindings.now) p) c.steps-in-Replicated.result in subst P (sym is) c.steps-in-Replicated.ensures
+
+pub side::Side::under-steps-requires : goal.side::Side::under-steps-requires
+side::Side::under-steps-requires g t c κs within = (omega (arith, c.decreases), (within, elim g.met.A.AllocHandle.small [ inl e ↦ rw (e.0, e.1) (lit< tt) | inr e ↦ rw (e.0, e.1) (lit< tt) ]))
+
+pub side::Side::under-drop-steps-requires-room-T-Destruct : goal.side::Side::under-drop-steps-requires-room-T-Destruct
+side::Side::under-drop-steps-requires-room-T-Destruct g t c κs within = elim g.met.A.AllocHandle.small [ inl e ↦ rw (e.0, e.1) (lit< tt) | inr e ↦ rw (e.0, e.1) (lit< tt) ]
+
+-- ---- replicated operators
+
+pub replicated::steps-returns-in_err-seen : goal.replicated::steps-returns-in_err-seen
+replicated::steps-returns-in_err-seen g t c =
+    let script = script_of c.args.script.now in
+    let bs = bindings_of c.args.bindings.now in
+    let n = c.args.name.0 in
+    let e = expression_of c.args.set.now in
+    let body = process_of c.args.body.now in
+    let op = c.args.operator in
+    let why = c.in_err-seen.field-0.0 in
+    let q = err_from_is_err_and c.from_residual.result c.from_residual.ensures.1 in
+    let P : Process → Type 0 = λ p. Answers {A = g.row.A.Denot} script p (Err (stuck_by_value why)) in
+    let Q : Result (Vec (RuleStep g.row.A.Denot) g.row.A.Denot) Stuck → Type 0 = λ r. Answers script (put bs (replicated_process op n e body)) r in
+    subst Q (sym (q.1 ∙ ap Err q.2)) (subst P (sym (put_replicated bs op n e body)) (set_stuck script n (put_expression bs e) (put (without n bs) body) g.row.A.Denot op why c.in_err-seen.ensures))
+
+pub replicated::steps-returns-in_default : goal.replicated::steps-returns-in_default
+replicated::steps-returns-in_default g t c =
+    let script = script_of c.args.script.now in
+    let bs = bindings_of c.args.bindings.now in
+    let n = c.args.name.0 in
+    let e = expression_of c.args.set.now in
+    let body = process_of c.args.body.now in
+    let op = c.args.operator in
+    let v = c.value.result.now in
+    let seen : value script.types (put_expression bs e) ≡ Ok (value_of v) = c.in_ok-seen.ensures ∙ ap Ok (sym c.value.ensures) in
+    let none : members_of (value_of v) ≡ Err IllKinded = no_members g.row.A g.A.Allocator v c.in_default.not-Set in
+    let P : Process → Type 0 = λ p. cause_in script p ≡ Some IllKinded in
+    subst P (sym (put_replicated bs op n e body)) (no_set script n (put_expression bs e) (put (without n bs) body) op (value_of v) seen none)
+
+pub replicated::steps-returns-in-ExternalChoice : goal.replicated::steps-returns-in-ExternalChoice
+replicated::steps-returns-in-ExternalChoice g t c =
+    let script = script_of c.args.script.now in
+    let bs = bindings_of c.args.bindings.now in
+    let n = c.args.name.0 in
+    let e = expression_of c.args.set.now in
+    let body = process_of c.args.body.now in
+    let v = c.value.result.now in
+    let values = c.members-values.result.now in
+    let seen : value script.types (put_expression bs e) ≡ Ok (value_of v) = c.in_ok-seen.ensures ∙ ap Ok (sym c.value.ensures) in
+    let are = seen_elements script.types (put_expression bs e) v c.in-Set.members values seen c.in-Set.is c.members-values.ensures in
+    let H : List Process → Type 0 = λ qs. Answers script (chain pure.ExternalChoice pure.Stop qs) c.external.result in
+    let P : ReplicatedOperator → Type 0 = λ op. Answers script (put bs (replicated_process op n e body)) c.external.result in
+    subst P (sym c.in-ExternalChoice.is) (external_by_chain script n (put_expression bs e) (put (without n bs) body) (values_of values) are c.external.result (subst H (sym (instances_are n bs body values)) c.external.ensures))
+
+pub replicated::steps-returns-in-InternalChoice : goal.replicated::steps-returns-in-InternalChoice
+replicated::steps-returns-in-InternalChoice g t c =
+    let script = script_of c.args.script.now in
+    let bs = bindings_of c.args.bindings.now in
+    let n = c.args.name.0 in
+    let e = expression_of c.args.set.now in
+    let body = process_of c.args.body.now in
+    let v = c.value.result.now in
+    let values = c.members-values.result.now in
+    let seen : value script.types (put_expression bs e) ≡ Ok (value_of v) = c.in_ok-seen.ensures ∙ ap Ok (sym c.value.ensures) in
+    let are = seen_elements script.types (put_expression bs e) v c.in-Set.members values seen c.in-Set.is c.members-values.ensures in
+    let H : List Process → Type 0 = λ qs. AnswersChoices script qs c.internal.result in
+    let P : ReplicatedOperator → Type 0 = λ op. Answers script (put bs (replicated_process op n e body)) c.internal.result in
+    subst P (sym c.in-InternalChoice.is) (internal_by_chain script n (put_expression bs e) (put (without n bs) body) (values_of values) are c.internal.result (subst H (sym (instances_are n bs body values)) c.internal.ensures))
+
+pub replicated::steps-returns : goal.replicated::steps-returns
+replicated::steps-returns g t c =
+    let script = script_of c.args.script.now in
+    let bs = bindings_of c.args.bindings.now in
+    let n = c.args.name.0 in
+    let e = expression_of c.args.set.now in
+    let body = process_of c.args.body.now in
+    let v = c.value.result.now in
+    let values = c.members-values.result.now in
+    let seen : value script.types (put_expression bs e) ≡ Ok (value_of v) = c.in_ok-seen.ensures ∙ ap Ok (sym c.value.ensures) in
+    let are = seen_elements script.types (put_expression bs e) v c.in-Set.members values seen c.in-Set.is c.members-values.ensures in
+    let H : List Process → Type 0 = λ qs. Answers script (chain pure.Interleaving pure.Skip qs) c.interleaving.result in
+    let P : ReplicatedOperator → Type 0 = λ op. Answers script (put bs (replicated_process op n e body)) c.interleaving.result in
+    subst P (sym c.in-Interleaving.is) (interleaving_by_chain script n (put_expression bs e) (put (without n bs) body) (values_of values) are c.interleaving.result (subst H (sym (instances_are n bs body values)) c.interleaving.ensures))
+
+pub replicated::Instances::chain-returns-in_err-chain : goal.replicated::Instances::chain-returns-in_err-chain
+replicated::Instances::chain-returns-in_err-chain g t c =
+    let i = c.args.self.now in
+    let k = c.args.operator in
+    let script = script_of i.script.now in
+    let first = instance_of i c.args.first.now in
+    let others = instances_of i c.args.others.now in
+    let why = c.in_err-chain.field-0.0 in
+    let q = err_from_is_err_and c.from_residual.result c.from_residual.ensures.1 in
+    let Q : Result (Vec (RuleStep g.row.A.Denot) g.row.A.Denot) Stuck → Type 0 = λ r. Answers script (left_grouped (looking_process k) first others) r in
+    subst Q (sym (q.1 ∙ ap Err q.2)) (stuck_at_first script k g.row.A.Denot first others why c.in_err-chain.ensures)
+
+pub replicated::Instances::chain-returns-in_err-instance : goal.replicated::Instances::chain-returns-in_err-instance
+replicated::Instances::chain-returns-in_err-instance g t c =
+    let i = c.args.self.now in
+    let k = c.args.operator in
+    let script = script_of i.script.now in
+    let first = instance_of i c.args.first.now in
+    let items = c.args.others.now in
+    let m = c.loop-value.value-index in
+    let item = c.value-item.result in
+    let before = instances_of i (take m items) in
+    let after = instances_of i (drop (m + 1) items) in
+    let why = c.in_err-instance.field-0.0 in
+    let q = err_from_is_err_and c.from_residual-in_err-instance.result c.from_residual-in_err-instance.ensures.1 in
+    let P : List Process → Type 0 = λ qs. Answers {A = g.row.A.Denot} script (left_grouped (looking_process k) first qs) (Err why) in
+    let Q : Result (Vec (RuleStep g.row.A.Denot) g.row.A.Denot) Stuck → Type 0 = λ r. Answers script (left_grouped (looking_process k) first (instances_of i items)) r in
+    subst Q (sym (q.1 ∙ ap Err q.2)) (subst P (sym (mapped_split (instance_of i) items m item c.loop-value-test.true c.value-item.is))
+    (stuck_behind script k g.row.A.Denot first before (instance_of i item) after c.loop-value.invariant.1.no_cause why c.in_err-instance.ensures))
+
+pub replicated::Instances::chain-loop-value-preserved : goal.replicated::Instances::chain-loop-value-preserved
+replicated::Instances::chain-loop-value-preserved g t c =
+    let i = c.args.self.now in
+    let k = c.args.operator in
+    let script = script_of i.script.now in
+    let first = instance_of i c.args.first.now in
+    let items = c.args.others.now in
+    let m = c.loop-value.value-index in
+    let item = c.value-item.result in
+    let before = instances_of i (take m items) in
+    let one = instance_of i item in
+    let more = c.in_ok-chain-2.chain in
+    let P : List Process → Type 0 = λ qs. IsSideOf script (left_grouped (looking_process k) first qs) (Ok more) in
+    let Q : Process → Type 0 = λ p. IsSideOf script p (Ok more) in
+    subst P (sym (mapped_more (instance_of i) items m item c.loop-value-test.true c.value-item.is))
+    (subst Q (sym (grouped_more (looking_process k) first before one))
+    (two_sides script k (left_grouped (looking_process k) first before) one c.loop-value.chain c.in_ok-instance.instance more c.loop-value.invariant c.in_ok-instance.ensures c.in_ok-chain-2.ensures.process c.in_ok-chain-2.ensures.steps))
+
+pub replicated::Instances::external-returns-in-None : goal.replicated::Instances::external-returns-in-None
+replicated::Instances::external-returns-in-None g t c =
+    let i = c.args.self.now in
+    let script = script_of i.script.now in
+    let P : List (Value g.row.A.Denot) → Type 0 = λ vs. IsAnswered script (chain pure.ExternalChoice pure.Stop (instances_of i vs)) [] in
+    let Q : List (RuleStep g.row.A.Denot) → Type 0 = λ ss. IsAnswered script (chain pure.ExternalChoice pure.Stop (instances_of i c.args.values.now)) (map answered_of ss) in
+    subst Q (sym c.new.ensures.items) (subst P (sym (nothing_in c.args.values.now c.in-None.ensures.cases)) (stopped script))
+
+pub replicated::Instances::external-returns-in-Some : goal.replicated::Instances::external-returns-in-Some
+replicated::Instances::external-returns-in-Some g t c =
+    let i = c.args.self.now in
+    let P : List (Value g.row.A.Denot) → Type 0 = λ vs. Answers (script_of i.script.now) (chain pure.ExternalChoice pure.Stop (instances_of i vs)) c.chain.result in
+    subst P (sym c.in-Some.ensures.cases.0) c.chain.ensures
+
+pub replicated::Instances::interleaving-returns-in-None : goal.replicated::Instances::interleaving-returns-in-None
+replicated::Instances::interleaving-returns-in-None g t c =
+    let i = c.args.self.now in
+    let P : List (Value g.row.A.Denot) → Type 0 = λ vs. Answers (script_of i.script.now) (chain pure.Interleaving pure.Skip (instances_of i vs)) c.steps.result in
+    subst P (sym (nothing_in c.args.values.now c.in-None.ensures.cases)) c.steps.ensures
+
+pub replicated::Instances::interleaving-returns-in-Some : goal.replicated::Instances::interleaving-returns-in-Some
+replicated::Instances::interleaving-returns-in-Some g t c =
+    let i = c.args.self.now in
+    let P : List (Value g.row.A.Denot) → Type 0 = λ vs. Answers (script_of i.script.now) (chain pure.Interleaving pure.Skip (instances_of i vs)) c.chain.result in
+    subst P (sym c.in-Some.ensures.cases.0) c.chain.ensures
+
+pub replicated::Instances::internal-returns-in_ok-side-in-None : goal.replicated::Instances::internal-returns-in_ok-side-in-None
+replicated::Instances::internal-returns-in_ok-side-in-None g t c =
+    let i = c.args.self.now in
+    let side = c.in_ok-side-in-None.field-0 in
+    let last = c.in-Some.last.now in
+    let P : List (Value g.row.A.Denot) → Type 0 = λ vs. AnswersChoices (script_of i.script.now) (instances_of i vs) (Ok side.steps) in
+    let Q : List (Value g.row.A.Denot) → Type 0 = λ vs. P (vs ++ last ∷ []) in
+    subst P (sym c.in-Some.ensures.cases.0) (subst Q (sym (nothing_in c.in-Some.before.now c.in-None.ensures.cases)) c.in_ok-side-in-None.ensures.1)
+
+pub replicated::Instances::internal-returns-in_err-side-in-None : goal.replicated::Instances::internal-returns-in_err-side-in-None
+replicated::Instances::internal-returns-in_err-side-in-None g t c =
+    let i = c.args.self.now in
+    let script = script_of i.script.now in
+    let last = c.in-Some.last.now in
+    let why = c.in_err-side-in-None.field-0.0 in
+    let q = err_from_is_err_and c.from_residual.result c.from_residual.ensures.1 in
+    let P : List (Value g.row.A.Denot) → Type 0 = λ vs. AnswersChoices {A = g.row.A.Denot} script (instances_of i vs) (Err why) in
+    let Q : List (Value g.row.A.Denot) → Type 0 = λ vs. P (vs ++ last ∷ []) in
+    let R : Result (Vec (RuleStep g.row.A.Denot) g.row.A.Denot) Stuck → Type 0 = λ r. AnswersChoices script (instances_of i c.args.values.now) r in
+    subst R (sym (q.1 ∙ ap Err q.2))
+    (subst P (sym c.in-Some.ensures.cases.0) (subst Q (sym (nothing_in c.in-Some.before.now c.in-None.ensures.cases)) (stuck_of_side g.row.A.Denot script (instance_of i last) why c.in_err-side-in-None.ensures)))
+
+pub replicated::Instances::internal-returns-in_ok-choose-in-Some-split_first : goal.replicated::Instances::internal-returns-in_ok-choose-in-Some-split_first
+replicated::Instances::internal-returns-in_ok-choose-in-Some-split_first g t c =
+    let i = c.args.self.now in
+    let script = script_of i.script.now in
+    let last = c.in-Some.last.now in
+    let first = c.in-Some-split_first.first.now in
+    let others = c.in-Some-split_first.others.now in
+    let steps = c.in_ok-choose-in-Some-split_first.field-0 in
+    let P : List (Value g.row.A.Denot) → Type 0 = λ vs. AnswersChoices script (instances_of i vs) (Ok steps) in
+    let Q : List (Value g.row.A.Denot) → Type 0 = λ vs. P (vs ++ last ∷ []) in
+    let R : List Process → Type 0 = λ qs. IsAnswered script (left_grouped pure.InternalChoice (instance_of i first) qs) (map answered_of steps.items) in
+    subst P (sym c.in-Some.ensures.cases.0) (subst Q (sym c.in-Some-split_first.ensures.cases.0)
+    (subst R (sym (map-append (instance_of i) others (last ∷ []))) (last_choice script (instance_of i first) (instances_of i others) (instance_of i last) (map answered_of steps.items) c.in_ok-choose-in-Some-split_first.ensures)))

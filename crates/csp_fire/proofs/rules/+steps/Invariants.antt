@@ -1,5 +1,9 @@
 -- A rule that looks at a part goes on to it, so each call counts less than six times the height of the term.
-use Rattle.std.proofs.Common.{◌+◌, ◌*◌, max}
+use Rattle.std.proofs.Common.{◌+◌, ◌*◌, max, take, Ok}
+use Rattle.csp_semantics.specs.Meaning.Transitions.{left_grouped}
+use Rattle.csp_term.specs.Script.{script_of}
+use Rattle.csp_fire.specs.Composing.{IsSideOf}
+use Rattle.csp_fire.specs.Replicating.{instance_of, instances_of, looking_process}
 use Rattle.csp_fire.proofs.Smaller.{height_of}
 use Rattle.csp_fire.proofs.rules.+steps.Given as goal
 
@@ -42,8 +46,18 @@ decreases-renaming::steps g l = 1 + 6 * height_of l.body.now
 abbrev pub decreases-replicated::steps : goal.decreases-replicated::steps
 decreases-replicated::steps g l = 5 + 6 * height_of l.body.now
 
-abbrev pub decreases-replicated::Instances::steps : goal.decreases-replicated::Instances::steps
-decreases-replicated::Instances::steps g l = 4 + 6 * height_of l.self.now.body.now
+abbrev pub decreases-replicated::Instances::external : goal.decreases-replicated::Instances::external
+decreases-replicated::Instances::external g l = 4 + 6 * height_of l.self.now.body.now
+
+abbrev pub decreases-replicated::Instances::interleaving : goal.decreases-replicated::Instances::interleaving
+decreases-replicated::Instances::interleaving g l = 4 + 6 * height_of l.self.now.body.now
+
+abbrev pub decreases-replicated::Instances::internal : goal.decreases-replicated::Instances::internal
+decreases-replicated::Instances::internal g l = 4 + 6 * height_of l.self.now.body.now
+
+abbrev pub invariant-replicated::Instances::chain-loop-value : goal.invariant-replicated::Instances::chain-loop-value
+invariant-replicated::Instances::chain-loop-value g l =
+    IsSideOf (script_of l.self.script.now) (left_grouped (looking_process l.operator) (instance_of l.self l.first) (instances_of l.self (take l.value-index l.others))) (Ok l.chain)
 
 abbrev pub decreases-replicated::Instances::chain : goal.decreases-replicated::Instances::chain
 decreases-replicated::Instances::chain g l = 3 + 6 * height_of l.self.now.body.now
