@@ -30,3 +30,5 @@ pub mod Same
 pub mod Operating
 pub mod Joining
 pub mod Changing
+pub mod Together
+pub mod Ended
