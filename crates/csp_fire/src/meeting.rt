@@ -5,7 +5,7 @@ ghost use Rattle.csp_value.specs.Action.{action_of};
 ghost use Rattle.csp_fire.specs.Answering.{answered_of, target_of};
 ghost use Rattle.csp_fire.specs.Composing.{composition_of, each_answer, meet_answer, under_both};
 ghost use Rattle.csp_fire.specs.Sharing.{IsSearchable, is_shared};
-ghost use Rattle.csp_fire.specs.Together.{AreRising, is_done_together};
+ghost use Rattle.csp_fire.specs.Together.{AreRising, is_before, is_done_together};
 
 use crate::composition::Composition;
 use crate::rule_step::{RuleStep, Target};
@@ -61,7 +61,11 @@ impl<'m, A: AllocHandle> Meeting<'m, A> {
         if !self.is_shared(&left.action) {
             return Ok(());
         }
-        let first = self.right.partition_point(|step| step.action < left.action);
+        let first = self.right.partition_point(|step| -> bool
+            ensures { result ≡ is_before (action_of left.entry.now.action) step.now }
+        {
+            step.action < left.action
+        });
         for right in &self.right[first..] {
             if right.action != left.action {
                 return Ok(());
