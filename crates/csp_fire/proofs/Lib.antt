@@ -32,3 +32,4 @@ pub mod Joining
 pub mod Changing
 pub mod Together
 pub mod Ended
+pub mod Sided
