@@ -33,12 +33,7 @@ impl<'m, A: AllocHandle> Meeting<'m, A> {
     }
 
     /// The step by which both do the action.
-    fn both(
-        self,
-        alloc: A,
-        left: &RuleStep<A>,
-        right: &RuleStep<A>,
-    ) -> Result<RuleStep<A>, Memory>
+    fn both(self, alloc: A, left: &RuleStep<A>, right: &RuleStep<A>) -> Result<RuleStep<A>, Memory>
         ensures { IfOk result (λ s. answered_of s ≡ (action_of left.now.action, under_both (composition_of self.entry.composition.now) (target_of left.now.target) (target_of right.now.target))) }
     {
         let action = left.action.try_copy(alloc)?;
@@ -61,11 +56,11 @@ impl<'m, A: AllocHandle> Meeting<'m, A> {
         if !self.is_shared(&left.action) {
             return Ok(());
         }
-        let first = self.right.partition_point(|step| -> bool
-            ensures { result ≡ is_before (action_of left.entry.now.action) step.now }
-        {
-            step.action < left.action
-        });
+        let first = self.right.partition_point(
+            |step| -> bool
+                ensures { result ≡ is_before (action_of left.entry.now.action) step.now }
+            { step.action < left.action },
+        );
         for right in &self.right[first..] {
             if right.action != left.action {
                 return Ok(());
