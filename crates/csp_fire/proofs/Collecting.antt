@@ -1,6 +1,6 @@
 -- What is made of each step in turn, added behind what was there.
-use Rattle.std.proofs.Common.{◌≡◌, List, [], ◌∷◌, ◌++◌, map, Option, refl, sym, ◌∙◌, ap}
-use Rattle.std.proofs.lemmas.List.{append-nil, append_assoc, map-append}
+use Rattle.std.proofs.Common.{◌≡◌, ℕ, ◌+◌, ◌≤◌, ◌<◌, List, [], ◌∷◌, ◌++◌, length, map, take, get_or, Option, refl, sym, ◌∙◌, ap, subst}
+use Rattle.std.proofs.lemmas.List.{append-nil, append_assoc, map-append, take_all, take_more}
 use Rattle.csp_semantics.specs.Syntax.Value.{Action}
 use Rattle.csp_semantics.specs.Syntax.Process.{Process}
 use Rattle.csp_value.specs.Action.{action_of}
@@ -26,6 +26,13 @@ module _ {A : Type 0} (f : Action → Option Process → List Answered) (before 
       let made = f (action_of s.action) (target_of s.target) in
       one ∙ ap (λ bs. bs ++ made) so_far ∙ append_assoc before (each_answer f (map answered_of taken)) made
       ∙ ap (λ bs. before ++ bs) (sym (each_more f (map answered_of taken) (answered_of s)) ∙ ap (each_answer f) (sym (map-append answered_of taken (s ∷ []))))
+
+  -- one step more of a list
+  pub one_taken : (steps more items : List (RuleStep A)) (i : ℕ) (s : RuleStep A) → i < length items → s ≡ get_or items i s → Collected steps (take i items) → map answered_of more ≡ map answered_of steps ++ f (action_of s.action) (target_of s.target) → Collected more (take (i + 1) items)
+  one_taken steps more items i s within read so_far one = subst (λ ss. Collected more ss) (sym (take_more items i s within ∙ ap (λ u. take i items ++ u ∷ []) (sym read))) (one_collected steps more (take i items) s so_far one)
+
+  pub all_taken : (steps items : List (RuleStep A)) (i : ℕ) → length items ≤ i → Collected steps (take i items) → Collected steps items
+  all_taken steps items i done so_far = subst (λ ss. Collected steps ss) (take_all i items done) so_far
 
 -- ---- behind nothing
 

@@ -64,14 +64,14 @@ module _ (f : Action → Process → Steps) where
   each_to (s ∷ ss) y v x u (inr k) h = one_of_right (f s.0 s.1) (each_step f ss) x u (each_to ss y v x u k h)
 
 module _ (g : Action → Option Process → List Answered) where
-  answers_from : (bs : List Answered) (a : Answered) → Contains (each_answer g bs) a → (b : Answered) × Contains bs b × Contains (g b.0 b.1) a
+  pub answers_from : (bs : List Answered) (a : Answered) → Contains (each_answer g bs) a → (b : Answered) × Contains bs b × Contains (g b.0 b.1) a
   answers_from [] a h = absurd (let k = h.1 in omega (arith, k))
   answers_from (b ∷ bs) a h = ⊎_elim
       (λ k. (b, (0, omega arith, refl), k))
       (λ k. let r = answers_from bs a k in let i = r.1 in (r.0, (suc i.0, omega (arith, i.1), i.2), r.2))
       (Contains-append_cases (g b.0 b.1) (each_answer g bs) a h)
 
-  answers_to : (bs : List Answered) (b a : Answered) → Contains bs b → Contains (g b.0 b.1) a → Contains (each_answer g bs) a
+  pub answers_to : (bs : List Answered) (b a : Answered) → Contains bs b → Contains (g b.0 b.1) a → Contains (each_answer g bs) a
   answers_to [] b a (k, h, e) has = absurd (omega arith)
   answers_to (c ∷ bs) b a (zero, h, e) has =
       let P : Answered → Type 0 = λ d. Contains (g d.0 d.1) a in Contains-append_left (g c.0 c.1) (each_answer g bs) a (subst P (sym e) has)

@@ -33,3 +33,6 @@ pub mod Operating
 pub mod Joining
 pub mod Changing
 pub mod Replicating
+pub mod Together
+pub mod Ended
+pub mod Sided

@@ -6,3 +6,4 @@ pub mod Sharing
 pub mod Offering
 pub mod Expansion
 pub mod Replicating
+pub mod Together

@@ -1,6 +1,9 @@
 -- Each form is answered as its rule says, and each call is of less.
-use Rattle.std.proofs.Common.{◌≡◌, ℕ, suc, ◌<◌, Result, Ok, Err, Some, List, refl, sym, ◌∙◌, ap, subst, arith, inl, inr, lit<, max, ◌*◌, ◌+◌, [], ◌∷◌, ◌++◌, length, map, take, drop}
+use Rattle.std.proofs.Common.{◌≡◌, ℕ, suc, ◌<◌, Result, Ok, Err, Some, List, refl, sym, ◌∙◌, ap, ap₂, subst, arith, inl, inr, lit<, max, ◌*◌, ◌+◌, [], ◌∷◌, ◌++◌, length, map, take, drop}
 use Rattle.std.proofs.lemmas.List.{map-append}
+use Rattle.csp_semantics.proofs.Causes.{interleaving_cause}
+use Rattle.csp_fire.proofs.Joining.{alphabetised_rest, generalised_rest}
+use Rattle.csp_fire.proofs.Sided.{alphabetised_by, generalised_by, generalised_stuck, interleaving_by, other_stuck, own_stuck}
 use Rattle.std.proofs.Math.Nat.{le-max_left, le-max_right}
 use Rattle.std.proofs.lemmas.Result.{err_from_is_err_and}
 use Rattle.std.specs.declared.vec.Vec.{Vec}
@@ -567,3 +570,176 @@ replicated::Instances::internal-returns-in_ok-choose-in-Some-split_first g t c =
     let R : List Process → Type 0 = λ qs. IsAnswered script (left_grouped pure.InternalChoice (instance_of i first) qs) (map answered_of steps.items) in
     subst P (sym c.in-Some.ensures.cases.0) (subst Q (sym c.in-Some-split_first.ensures.cases.0)
     (subst R (sym (map-append (instance_of i) others (last ∷ []))) (last_choice script (instance_of i first) (instances_of i others) (instance_of i last) (map answered_of steps.items) c.in_ok-choose-in-Some-split_first.ensures)))
+
+-- ---- parallel compositions
+
+pub parallel::interleaving-returns-in_err-left : goal.parallel::interleaving-returns-in_err-left
+parallel::interleaving-returns-in_err-left g t c =
+    let script = script_of c.args.script.now in
+    let bs = bindings_of c.args.bindings.now in
+    let left = put bs (process_of c.args.left.now) in
+    let right = put bs (process_of c.args.right.now) in
+    let why = c.in_err-left.field-0.0 in
+    let p = err_from_is_err_and c.from_residual.result c.from_residual.ensures.1 in
+    let Q : Result (Vec (RuleStep g.row.A.Denot) g.row.A.Denot) Stuck → Type 0 = λ r. Answers script (pure.Interleaving left right) r in
+    subst Q (sym (p.1 ∙ ap Err p.2)) (stuck_by_first script left right (pure.Interleaving left right) (interleaving_cause script left right) g.row.A.Denot why (stuck_of_side g.row.A.Denot script left why c.in_err-left.ensures))
+
+pub parallel::interleaving-returns-in_err-right : goal.parallel::interleaving-returns-in_err-right
+parallel::interleaving-returns-in_err-right g t c =
+    let script = script_of c.args.script.now in
+    let bs = bindings_of c.args.bindings.now in
+    let left = put bs (process_of c.args.left.now) in
+    let right = put bs (process_of c.args.right.now) in
+    let why = c.in_err-right.field-0.0 in
+    let p = err_from_is_err_and c.from_residual-in_err-right.result c.from_residual-in_err-right.ensures.1 in
+    let Q : Result (Vec (RuleStep g.row.A.Denot) g.row.A.Denot) Stuck → Type 0 = λ r. Answers script (pure.Interleaving left right) r in
+    subst Q (sym (p.1 ∙ ap Err p.2)) (stuck_by_second script left right (pure.Interleaving left right) (interleaving_cause script left right) c.in_ok-left.ensures.1.no_cause g.row.A.Denot why (stuck_of_side g.row.A.Denot script right why c.in_err-right.ensures))
+
+pub parallel::interleaving-returns : goal.parallel::interleaving-returns
+parallel::interleaving-returns g t c =
+    let script = script_of c.args.script.now in
+    let bs = bindings_of c.args.bindings.now in
+    let left = put bs (process_of c.args.left.now) in
+    let right = put bs (process_of c.args.right.now) in
+    let first = c.in_ok-left.left in
+    let second = c.in_ok-right.right in
+    interleaving_by script left right (target_of first.process) (target_of second.process) (side_answers first) (side_answers second) c.in_ok-left.ensures.0 c.in_ok-right.ensures.0 c.in_ok-left.ensures.1 c.in_ok-right.ensures.1 (side_answers c.in_ok-interleave.field-0) c.in_ok-interleave.ensures.steps
+
+pub parallel::generalised-returns-in_err-test : goal.parallel::generalised-returns-in_err-test
+parallel::generalised-returns-in_err-test g t c =
+    let script = script_of c.args.script.now in
+    let bs = bindings_of c.args.bindings.now in
+    let left = put bs (process_of c.args.left.now) in
+    let right = put bs (process_of c.args.right.now) in
+    let why = c.in_err-test.field-0.0 in
+    let a = event_set_of c.in_ok-shared.shared in
+    let same = ap (λ a. pure.GeneralisedParallel left a right) c.in_ok-shared.ensures in
+    let p = err_from_is_err_and c.from_residual-in_err-test.result c.from_residual-in_err-test.ensures.1 in
+    let Q : Result (Vec (RuleStep g.row.A.Denot) g.row.A.Denot) Stuck → Type 0 = λ r. Answers script (pure.GeneralisedParallel left (put_event_set bs (event_set_of c.args.shared.now)) right) r in
+    let P : pure.Process → Type 0 = λ w. Answers {A = g.row.A.Denot} script w (Err why) in
+    subst Q (sym (p.1 ∙ ap Err p.2)) (subst P same (generalised_stuck g.row.A.Denot script left right a why c.in_err-test.ensures))
+
+pub parallel::generalised-returns-in_err-left : goal.parallel::generalised-returns-in_err-left
+parallel::generalised-returns-in_err-left g t c =
+    let script = script_of c.args.script.now in
+    let bs = bindings_of c.args.bindings.now in
+    let left = put bs (process_of c.args.left.now) in
+    let right = put bs (process_of c.args.right.now) in
+    let why = c.in_err-left.field-0.0 in
+    let a = event_set_of c.in_ok-shared.shared in
+    let same = ap (λ a. pure.GeneralisedParallel left a right) c.in_ok-shared.ensures in
+    let p = err_from_is_err_and c.from_residual-in_err-left.result c.from_residual-in_err-left.ensures.1 in
+    let Q : Result (Vec (RuleStep g.row.A.Denot) g.row.A.Denot) Stuck → Type 0 = λ r. Answers script (pure.GeneralisedParallel left (put_event_set bs (event_set_of c.args.shared.now)) right) r in
+    let P : pure.Process → Type 0 = λ w. Answers {A = g.row.A.Denot} script w (Err why) in
+    subst Q (sym (p.1 ∙ ap Err p.2)) (subst P same (stuck_by_first script left right (pure.GeneralisedParallel left a right) (generalised_rest script left right a (ap result_err c.in_ok-test.ensures.0)) g.row.A.Denot why (stuck_of_side g.row.A.Denot script left why c.in_err-left.ensures)))
+
+pub parallel::generalised-returns-in_err-right : goal.parallel::generalised-returns-in_err-right
+parallel::generalised-returns-in_err-right g t c =
+    let script = script_of c.args.script.now in
+    let bs = bindings_of c.args.bindings.now in
+    let left = put bs (process_of c.args.left.now) in
+    let right = put bs (process_of c.args.right.now) in
+    let why = c.in_err-right.field-0.0 in
+    let a = event_set_of c.in_ok-shared.shared in
+    let same = ap (λ a. pure.GeneralisedParallel left a right) c.in_ok-shared.ensures in
+    let p = err_from_is_err_and c.from_residual-in_err-right.result c.from_residual-in_err-right.ensures.1 in
+    let Q : Result (Vec (RuleStep g.row.A.Denot) g.row.A.Denot) Stuck → Type 0 = λ r. Answers script (pure.GeneralisedParallel left (put_event_set bs (event_set_of c.args.shared.now)) right) r in
+    let P : pure.Process → Type 0 = λ w. Answers {A = g.row.A.Denot} script w (Err why) in
+    subst Q (sym (p.1 ∙ ap Err p.2)) (subst P same (stuck_by_second script left right (pure.GeneralisedParallel left a right) (generalised_rest script left right a (ap result_err c.in_ok-test.ensures.0)) c.in_ok-left.ensures.1.no_cause g.row.A.Denot why (stuck_of_side g.row.A.Denot script right why c.in_err-right.ensures)))
+
+pub parallel::generalised-returns : goal.parallel::generalised-returns
+parallel::generalised-returns g t c =
+    let script = script_of c.args.script.now in
+    let bs = bindings_of c.args.bindings.now in
+    let left = put bs (process_of c.args.left.now) in
+    let right = put bs (process_of c.args.right.now) in
+    let first = c.in_ok-left.left in
+    let second = c.in_ok-right.right in
+    let a = event_set_of c.in_ok-shared.shared in
+    let same = ap (λ a. pure.GeneralisedParallel left a right) c.in_ok-shared.ensures in
+    let all = side_answers c.in_ok-compose.field-0 in
+    let P : pure.Process → Type 0 = λ w. IsAnswered script w all in
+    subst P same (generalised_by script left right (target_of first.process) (target_of second.process) (side_answers first) (side_answers second) c.in_ok-left.ensures.0 c.in_ok-right.ensures.0 c.in_ok-left.ensures.1 c.in_ok-right.ensures.1 all a c.in_ok-test.test c.in_ok-test.ensures.0 c.in_ok-compose.ensures.steps)
+
+pub parallel::generalised-compose-requires : goal.parallel::generalised-compose-requires
+parallel::generalised-compose-requires g t c =
+    (elim g.met.A.AllocHandle.small [ inl e ↦ rw (e.0, e.1) (lit< tt) | inr e ↦ rw (e.0, e.1) (lit< tt) ], c.in_ok-test.ensures.1)
+
+pub parallel::alphabetised-returns-in_err-of_left : goal.parallel::alphabetised-returns-in_err-of_left
+parallel::alphabetised-returns-in_err-of_left g t c =
+    let script = script_of c.args.script.now in
+    let bs = bindings_of c.args.bindings.now in
+    let left = put bs (process_of c.args.left.now) in
+    let right = put bs (process_of c.args.right.now) in
+    let why = c.in_err-of_left.field-0.0 in
+    let a = event_set_of c.in_ok-own.own in
+    let b = event_set_of c.in_ok-other.other in
+    let same = ap₂ (λ a b. pure.AlphabetisedParallel left a b right) c.in_ok-own.ensures c.in_ok-other.ensures in
+    let p = err_from_is_err_and c.from_residual-in_err-of_left.result c.from_residual-in_err-of_left.ensures.1 in
+    let Q : Result (Vec (RuleStep g.row.A.Denot) g.row.A.Denot) Stuck → Type 0 = λ r. Answers script (pure.AlphabetisedParallel left (put_event_set bs (event_set_of c.args.own.now)) (put_event_set bs (event_set_of c.args.other.now)) right) r in
+    let P : pure.Process → Type 0 = λ w. Answers {A = g.row.A.Denot} script w (Err why) in
+    subst Q (sym (p.1 ∙ ap Err p.2)) (subst P same (own_stuck g.row.A.Denot script left right a b why c.in_err-of_left.ensures))
+
+pub parallel::alphabetised-returns-in_err-of_right : goal.parallel::alphabetised-returns-in_err-of_right
+parallel::alphabetised-returns-in_err-of_right g t c =
+    let script = script_of c.args.script.now in
+    let bs = bindings_of c.args.bindings.now in
+    let left = put bs (process_of c.args.left.now) in
+    let right = put bs (process_of c.args.right.now) in
+    let why = c.in_err-of_right.field-0.0 in
+    let a = event_set_of c.in_ok-own.own in
+    let b = event_set_of c.in_ok-other.other in
+    let same = ap₂ (λ a b. pure.AlphabetisedParallel left a b right) c.in_ok-own.ensures c.in_ok-other.ensures in
+    let p = err_from_is_err_and c.from_residual-in_err-of_right.result c.from_residual-in_err-of_right.ensures.1 in
+    let Q : Result (Vec (RuleStep g.row.A.Denot) g.row.A.Denot) Stuck → Type 0 = λ r. Answers script (pure.AlphabetisedParallel left (put_event_set bs (event_set_of c.args.own.now)) (put_event_set bs (event_set_of c.args.other.now)) right) r in
+    let P : pure.Process → Type 0 = λ w. Answers {A = g.row.A.Denot} script w (Err why) in
+    subst Q (sym (p.1 ∙ ap Err p.2)) (subst P same (other_stuck g.row.A.Denot script left right a b (ap result_err c.in_ok-of_left.ensures.0) why c.in_err-of_right.ensures))
+
+pub parallel::alphabetised-returns-in_err-left : goal.parallel::alphabetised-returns-in_err-left
+parallel::alphabetised-returns-in_err-left g t c =
+    let script = script_of c.args.script.now in
+    let bs = bindings_of c.args.bindings.now in
+    let left = put bs (process_of c.args.left.now) in
+    let right = put bs (process_of c.args.right.now) in
+    let why = c.in_err-left.field-0.0 in
+    let a = event_set_of c.in_ok-own.own in
+    let b = event_set_of c.in_ok-other.other in
+    let same = ap₂ (λ a b. pure.AlphabetisedParallel left a b right) c.in_ok-own.ensures c.in_ok-other.ensures in
+    let p = err_from_is_err_and c.from_residual-in_err-left.result c.from_residual-in_err-left.ensures.1 in
+    let Q : Result (Vec (RuleStep g.row.A.Denot) g.row.A.Denot) Stuck → Type 0 = λ r. Answers script (pure.AlphabetisedParallel left (put_event_set bs (event_set_of c.args.own.now)) (put_event_set bs (event_set_of c.args.other.now)) right) r in
+    let P : pure.Process → Type 0 = λ w. Answers {A = g.row.A.Denot} script w (Err why) in
+    subst Q (sym (p.1 ∙ ap Err p.2)) (subst P same (stuck_by_first script left right (pure.AlphabetisedParallel left a b right) (alphabetised_rest script left right a b (ap result_err c.in_ok-of_left.ensures.0) (ap result_err c.in_ok-of_right.ensures.0)) g.row.A.Denot why (stuck_of_side g.row.A.Denot script left why c.in_err-left.ensures)))
+
+pub parallel::alphabetised-returns-in_err-right : goal.parallel::alphabetised-returns-in_err-right
+parallel::alphabetised-returns-in_err-right g t c =
+    let script = script_of c.args.script.now in
+    let bs = bindings_of c.args.bindings.now in
+    let left = put bs (process_of c.args.left.now) in
+    let right = put bs (process_of c.args.right.now) in
+    let why = c.in_err-right.field-0.0 in
+    let a = event_set_of c.in_ok-own.own in
+    let b = event_set_of c.in_ok-other.other in
+    let same = ap₂ (λ a b. pure.AlphabetisedParallel left a b right) c.in_ok-own.ensures c.in_ok-other.ensures in
+    let p = err_from_is_err_and c.from_residual-in_err-right.result c.from_residual-in_err-right.ensures.1 in
+    let Q : Result (Vec (RuleStep g.row.A.Denot) g.row.A.Denot) Stuck → Type 0 = λ r. Answers script (pure.AlphabetisedParallel left (put_event_set bs (event_set_of c.args.own.now)) (put_event_set bs (event_set_of c.args.other.now)) right) r in
+    let P : pure.Process → Type 0 = λ w. Answers {A = g.row.A.Denot} script w (Err why) in
+    subst Q (sym (p.1 ∙ ap Err p.2)) (subst P same (stuck_by_second script left right (pure.AlphabetisedParallel left a b right) (alphabetised_rest script left right a b (ap result_err c.in_ok-of_left.ensures.0) (ap result_err c.in_ok-of_right.ensures.0)) c.in_ok-left.ensures.1.no_cause g.row.A.Denot why (stuck_of_side g.row.A.Denot script right why c.in_err-right.ensures)))
+
+pub parallel::alphabetised-returns : goal.parallel::alphabetised-returns
+parallel::alphabetised-returns g t c =
+    let script = script_of c.args.script.now in
+    let bs = bindings_of c.args.bindings.now in
+    let left = put bs (process_of c.args.left.now) in
+    let right = put bs (process_of c.args.right.now) in
+    let first = c.in_ok-left.left in
+    let second = c.in_ok-right.right in
+    let a = event_set_of c.in_ok-own.own in
+    let b = event_set_of c.in_ok-other.other in
+    let same = ap₂ (λ a b. pure.AlphabetisedParallel left a b right) c.in_ok-own.ensures c.in_ok-other.ensures in
+    let all = side_answers c.in_ok-compose.field-0 in
+    let P : pure.Process → Type 0 = λ w. IsAnswered script w all in
+    subst P same (alphabetised_by script left right (target_of first.process) (target_of second.process) (side_answers first) (side_answers second) c.in_ok-left.ensures.0 c.in_ok-right.ensures.0 c.in_ok-left.ensures.1 c.in_ok-right.ensures.1 all a b c.in_ok-of_left.of_left c.in_ok-of_right.of_right c.in_ok-of_left.ensures.0 c.in_ok-of_right.ensures.0 c.in_ok-compose.ensures.steps)
+
+pub parallel::alphabetised-compose-requires : goal.parallel::alphabetised-compose-requires
+parallel::alphabetised-compose-requires g t c =
+    (elim g.met.A.AllocHandle.small [ inl e ↦ rw (e.0, e.1) (lit< tt) | inr e ↦ rw (e.0, e.1) (lit< tt) ], (c.in_ok-of_left.ensures.1, c.in_ok-of_right.ensures.1))
