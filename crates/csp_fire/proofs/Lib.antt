@@ -30,3 +30,8 @@ pub mod Same
 pub mod Operating
 pub mod Joining
 pub mod Changing
+pub mod Alike
+pub mod Ranging
+pub mod Naming
+pub mod Imaged
+pub mod Comparing

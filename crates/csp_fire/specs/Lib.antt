@@ -5,3 +5,4 @@ pub mod Testing
 pub mod Sharing
 pub mod Offering
 pub mod Expansion
+pub mod Imaging

@@ -6,10 +6,11 @@ ghost use Rattle.std.specs.List.Sorted.{IsSortedBy};
 ghost use Rattle.std.specs.Ordering.{is_lt};
 ghost use Rattle.csp_semantics.specs.Syntax.Value.{event_cmp, event_eq};
 ghost use Rattle.csp_semantics.specs.Syntax.Process.{Enumeration, Productions};
-ghost use Rattle.csp_semantics.specs.Meaning.Events.{begins_with, beginning_of, event_of as written_event, event_test};
+ghost use Rattle.csp_semantics.specs.Meaning.Events.{begins_with, beginning_of, event_of as written_event, event_test, field_sets};
 ghost use Rattle.csp_value.specs.Action.{event_of};
 ghost use Rattle.csp_event_sets.specs.Events.{event_expression_of, event_expressions_of, event_set_of};
 ghost use Rattle.csp_term.specs.Script.{script_of};
+ghost use Rattle.csp_fire.specs.Imaging.{AreSetsOf};
 ghost use Rattle.csp_fire.specs.Testing.{AreSorted, IsBoxedTestOf, IsEventOf, IsTestOf, listed_in, test_of};
 
 use crate::stuck::Stuck;
@@ -33,7 +34,9 @@ pub(crate) enum EventTest<A: AllocHandle> {
 pub(crate) fn field_sets<A: AllocHandle>(
     script: &Script<A>,
     channel: ChannelId,
-) -> Result<&[FieldSet<A>], Stuck> {
+) -> Result<&[FieldSet<A>], Stuck>
+    ensures { AreSetsOf result (field_sets (script_of script.now) channel.0) }
+{
     match script.channels.get(channel.0 as usize) {
         Some(declared) => Ok(&declared.fields),
         None => Err(Stuck::Fault(Fault::Kind)),
