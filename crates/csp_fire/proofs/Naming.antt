@@ -268,13 +268,14 @@ no_channel_image e p other = ap (λ b. cond b (record { channel = p.1.0; fields 
 pub no_event_image : {A : Type 0} (e : pure.Event) (p : Event A × Event A) → is_eq (pure.event_cmp (event_of p.0) e) ≡ false → event_image e p ≡ []
 no_event_image e p other = ap (λ b. cond b (event_of p.1 ∷ []) []) (sym (events_tie (event_of p.0) e) ∙ other)
 
--- and one that does, one event
-pub channel_differs : (e : pure.Event) (p : ChannelId × ChannelId) → nat_eq e.channel p.0.0 ≡ false → is_eq (nat_cmp p.0.0 e.channel) ≡ false
-channel_differs e p other = channels_tie p.0.0 e.channel ∙ other
+-- another key
+pub channel_differs : (c k : ℕ) → nat_eq k c ≡ false → is_eq (nat_cmp c k) ≡ false
+channel_differs c k other = channels_tie c k ∙ other
 
 pub event_differs : {A : Type 0} (e : pure.Event) (p : Event A × Event A) → pure.event_eq e (event_of p.0) ≡ false → is_eq (pure.event_cmp (event_of p.0) e) ≡ false
 event_differs e p other = events_tie (event_of p.0) e ∙ other
 
+-- a pair that names the event makes one of it
 pub one_image : (b : Bool) (f g : pure.Event) → b ≡ true → g ≡ f → cond b (f ∷ []) [] ≡ g ∷ []
 one_image b f g is same = ap (λ c. cond c (f ∷ []) []) is ∙ ap (λ h. h ∷ []) (sym same)
 

@@ -44,8 +44,8 @@ returns-then-not-names_channel g c =
     (λ rises. IsPartitionPoint-from_clause (λ p. is_lt (nat_cmp p.0.0 k)) _ _ c.partition_point-first.ensures.partitioned (lesser_first nat_cmp_total channel_key k c.deref.result.now rises) (λ a r q h. search rules)) in
     c.loop-pair.invariant
     ∙ ap (λ fs. map event_of c.args.found.now.items ++ fs)
-    (made_until_at nat_cmp_total channel_key k c.deref-2.result.now parts.0 (channel_image e) (no_channel_image e) c.partition_point-first.result parts.1 c.loop-pair.pair-index (_, c.args.event.now.channel) c.loop-pair-test.true
-    (channel_differs e _ (sym c.names_channel.ensures ∙ c.if-not-names_channel.true)) ∙ ap (flat_map (channel_image e)) c.deref-2.ensures.value)
+    (made_until_at nat_cmp_total channel_key k c.deref-2.result.now parts.0 (channel_image e) (no_channel_image e) c.partition_point-first.result parts.1 c.loop-pair.pair-index (record { 0 = 0 }, record { 0 = 0 }) c.loop-pair-test.true
+    (channel_differs _ k (sym c.names_channel.ensures ∙ c.if-not-names_channel.true)) ∙ ap (flat_map (channel_image e)) c.deref-2.ensures.value)
 
 pub returns : goal.returns
 returns g c =

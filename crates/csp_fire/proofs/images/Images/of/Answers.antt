@@ -79,7 +79,7 @@ pub sort_unstable-requires-2-room-T-PartialOrd-4 : goal.sort_unstable-requires-2
 sort_unstable-requires-2-room-T-PartialOrd-4 g c κs within = elim g.met.A.AllocHandle.small [ inl e ↦ rw (e.0, e.1) (lit< tt) | inr e ↦ rw (e.0, e.1) (lit< tt) ]
 
 pub loop-pair-init : goal.loop-pair-init
-loop-pair-init g c = none_named (script_of c.args.script.now) _ c.new.ensures.items c.new-2.ensures.items
+loop-pair-init g c = none_named (script_of c.args.script.now) (record { channels = c.new.result; events = c.new-2.result }) c.new.ensures.items c.new-2.ensures.items
 
 pub loop-pair-preserved : goal.loop-pair-preserved
 loop-pair-preserved g c =
