@@ -1,5 +1,5 @@
 -- Both events are written whole, or that is the cause.
-use Rattle.std.proofs.Common.{◌≡◌, Result, Ok, Err, sym, ◌∙◌, ap, subst}
+use Rattle.std.proofs.Common.{◌≡◌, inl, inr, lit<, Result, Ok, Err, sym, ◌∙◌, ap, subst}
 use Rattle.std.proofs.lemmas.Result.{err_from_is_err_and}
 use Rattle.csp_semantics.specs.Meaning.Events as events
 use Rattle.csp_value.specs.Action.{event_of}
@@ -9,6 +9,18 @@ use Rattle.csp_fire.specs.declared.stuck.Stuck.{Stuck}
 use Rattle.csp_fire.specs.Imaging.{MakesMore}
 use Rattle.csp_fire.proofs.Naming.{events_named, no_first_event, no_second_event, stopped_at_event}
 use Rattle.csp_fire.proofs.images.Images.add_events.Goals as goal
+
+pub whole_event-requires : goal.whole_event-requires
+whole_event-requires g c = elim g.met.A.AllocHandle.small [ inl e ↦ rw (e.0, e.1) (lit< tt) | inr e ↦ rw (e.0, e.1) (lit< tt) ]
+
+pub whole_event-requires-2 : goal.whole_event-requires-2
+whole_event-requires-2 g c = elim g.met.A.AllocHandle.small [ inl e ↦ rw (e.0, e.1) (lit< tt) | inr e ↦ rw (e.0, e.1) (lit< tt) ]
+
+pub from_residual-requires-in_err-push-room-F-From : goal.from_residual-requires-in_err-push-room-F-From
+from_residual-requires-in_err-push-room-F-From g c κs within = elim g.met.A.AllocHandle.small [ inl e ↦ rw (e.0, e.1) (lit< tt) | inr e ↦ rw (e.0, e.1) (lit< tt) ]
+
+pub from_residual-requires-in_err-push-room-F-From-2 : goal.from_residual-requires-in_err-push-room-F-From-2
+from_residual-requires-in_err-push-room-F-From-2 g c κs within = elim g.met.A.AllocHandle.small [ inl e ↦ rw (e.0, e.1) (lit< tt) | inr e ↦ rw (e.0, e.1) (lit< tt) ]
 
 pub returns-in_err-from : goal.returns-in_err-from
 returns-in_err-from g c =
