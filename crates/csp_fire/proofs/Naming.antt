@@ -94,11 +94,12 @@ module _ (s : process.Script) where
     pub one_pair_more : MakesMore images (pair_images s (renaming_pair_of item)) (Ok tt) more → AreMade more (renaming s (renaming_pairs_of (take (i + 1) items)))
     one_pair_more one =
         let f = so_far.0 in
-        let g = one.0 in
-        (both_of f (both_of g no_image),
-         ap (renaming s) longer ∙ renaming_more (renaming_pairs_of (take i items)) (renaming_pair_of item) f g so_far.1 one.1,
-         λ e. alike_then (f e ++ (g e ++ [])) (found_images images e ++ g e) (found_images more e)
-             (alike_both (f e) (found_images images e) (g e ++ []) (g e) (so_far.2 e) (alike_by (g e ++ []) (g e) (append-nil (g e)))) (one.2 e))
+        let g = one.0 in (
+          both_of f (both_of g no_image),
+          ap (renaming s) longer ∙ renaming_more (renaming_pairs_of (take i items)) (renaming_pair_of item) f g so_far.1 one.1,
+          λ e. alike_then (f e ++ (g e ++ [])) (found_images images e ++ g e) (found_images more e)
+              (alike_both (f e) (found_images images e) (g e ++ []) (g e) (so_far.2 e) (alike_by (g e ++ []) (g e) (append-nil (g e)))) (one.2 e),
+        )
 
     pub stops_at_pair : (why : Stuck) → MakesMore images (pair_images s (renaming_pair_of item)) (Err why) more → IsImagesOf {A = A} (Err why) (renaming s (renaming_pairs_of items))
     stops_at_pair (stuck.Fault c) is =
@@ -151,7 +152,7 @@ module _ {A : Type 0} (images : Images A) where
       let last = flat_map (event_image e) images.events.items in
       let one = channel_image e p in
       let put : flat_map (channel_image e) channels.items ≡ first ++ one =
-          ap (flat_map (channel_image e)) pushed ∙ flat_map-append (channel_image e) images.channels.items (p ∷ []) ∙ ap (λ ys. first ++ ys) (append-nil one)
+      ap (flat_map (channel_image e)) pushed ∙ flat_map-append (channel_image e) images.channels.items (p ∷ []) ∙ ap (λ ys. first ++ ys) (append-nil one)
       in
       alike_then ((first ++ last) ++ one) (first ++ (one ++ last)) (flat_map (channel_image e) channels.items ++ last)
       (alike_then ((first ++ last) ++ one) (first ++ (last ++ one)) (first ++ (one ++ last)) (alike_by ((first ++ last) ++ one) (first ++ (last ++ one)) (append_assoc first last one))
@@ -165,7 +166,7 @@ module _ {A : Type 0} (images : Images A) where
       let last = flat_map (event_image e) images.events.items in
       let one = event_image e p in
       let put : flat_map (event_image e) all.items ≡ last ++ one =
-          ap (flat_map (event_image e)) pushed ∙ flat_map-append (event_image e) images.events.items (p ∷ []) ∙ ap (λ ys. last ++ ys) (append-nil one)
+      ap (flat_map (event_image e)) pushed ∙ flat_map-append (event_image e) images.events.items (p ∷ []) ∙ ap (λ ys. last ++ ys) (append-nil one)
       in
       alike_by ((first ++ last) ++ one) (first ++ flat_map (event_image e) all.items) (append_assoc first last one ∙ ap (λ ys. first ++ ys) (sym put))
 
@@ -174,20 +175,22 @@ module _ (A : Type 0) (s : process.Script) (images : Images A) where
   pub channels_named : (from to : ChannelId) (sets others : List (List pure.Value)) (channels : Vec (ChannelId × ChannelId) A) → field_sets s from.0 ≡ Ok sets → field_sets s to.0 ≡ Ok others → same_sets sets others ≡ true →
       channels.items ≡ images.channels.items ++ (from, to) ∷ [] → MakesMore images (channel_images s from.0 to.0) (Ok tt) (record { channels = channels; events = images.events })
   channels_named from to sets others channels first second same pushed =
-      let f : Image = λ e. channel_image e (from, to) in
-      (f,
-       ap (λ r. r and_then λ s'. field_sets s to.0 and_then λ t. cond (same_sets s' t) (Ok f) (Err IllKinded)) first ∙ ap (λ r. r and_then λ t. cond (same_sets sets t) (Ok f) (Err IllKinded)) second
-           ∙ ap (λ b. cond b (Ok f) (Err IllKinded)) same,
-       channel_put images (from, to) channels pushed)
+      let f : Image = λ e. channel_image e (from, to) in (
+        f,
+        ap (λ r. r and_then λ s'. field_sets s to.0 and_then λ t. cond (same_sets s' t) (Ok f) (Err IllKinded)) first ∙ ap (λ r. r and_then λ t. cond (same_sets sets t) (Ok f) (Err IllKinded)) second
+            ∙ ap (λ b. cond b (Ok f) (Err IllKinded)) same,
+        channel_put images (from, to) channels pushed,
+      )
 
   -- two events
   pub events_named : (from to : process.EventExpression) (f g : Event A) (all : Vec (Event A × Event A) A) → events.event_of s from ≡ Ok (event_of f) → events.event_of s to ≡ Ok (event_of g) →
       all.items ≡ images.events.items ++ (f, g) ∷ [] → MakesMore images (event_images s from to) (Ok tt) (record { channels = images.channels; events = all })
   events_named from to f g all first second pushed =
-      let made : pure.Event → pure.Event → Image = λ x y e. cond (pure.event_eq e x) (y ∷ []) [] in
-      (λ e. event_image e (f, g),
-       ap (λ r. r and_then λ x. events.event_of s to and_then λ y. Ok (made x y)) first ∙ ap (λ r. r and_then λ y. Ok (made (event_of f) y)) second,
-       event_put images (f, g) all pushed)
+      let made : pure.Event → pure.Event → Image = λ x y e. cond (pure.event_eq e x) (y ∷ []) [] in (
+        λ e. event_image e (f, g),
+        ap (λ r. r and_then λ x. events.event_of s to and_then λ y. Ok (made x y)) first ∙ ap (λ r. r and_then λ y. Ok (made (event_of f) y)) second,
+        event_put images (f, g) all pushed,
+      )
 
 -- ---- pairs without images
 

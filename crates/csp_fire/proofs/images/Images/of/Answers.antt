@@ -99,7 +99,10 @@ returns g c =
     let as_events : order ≡ (λ e f. pure.event_cmp (event_of e) (event_of f)) = λ i e f. event_ordered g.row.A g.A.AllocHandle g.A.AllocHandle-dict g.A.Allocator g.A.Allocator-dict g.A.Clone g.A.Clone-dict e f i in
     let P : (Event g.row.A.Denot → Event g.row.A.Denot → Ordering) → Type 0 = λ r. IsSortedBy (λ p q. is_lt (r p.0 q.0)) c.sort_unstable-2.new.self.items in
     let all = take_all c.loop-pair.pair-index c.args.pairs.now (omega arith) in
-    let made = subst (λ ps. AreMade c.loop-pair.images (renaming (script_of c.args.script.now) (renaming_pairs_of ps))) all c.loop-pair.invariant in
-    (found_moved c.loop-pair.images (record { channels = c.sort_unstable.new.self; events = c.sort_unstable-2.new.self }) (renaming (script_of c.args.script.now) (renaming_pairs_of c.args.pairs.now)) made c.sort_unstable.ensures.permutation c.sort_unstable-2.ensures.permutation,
-     (firsts_rise (λ p q. nat_cmp p.0.0 q.0.0) (λ p q. nat_cmp p.1.0 q.1.0) c.sort_unstable.new.self.items c.sort_unstable.ensures.sorted,
-      subst P as_events (firsts_rise (λ p q. order p.0 q.0) (λ p q. order p.1 q.1) c.sort_unstable-2.new.self.items c.sort_unstable-2.ensures.sorted)))
+    let made = subst (λ ps. AreMade c.loop-pair.images (renaming (script_of c.args.script.now) (renaming_pairs_of ps))) all c.loop-pair.invariant in (
+      found_moved c.loop-pair.images (record { channels = c.sort_unstable.new.self; events = c.sort_unstable-2.new.self }) (renaming (script_of c.args.script.now) (renaming_pairs_of c.args.pairs.now)) made c.sort_unstable.ensures.permutation c.sort_unstable-2.ensures.permutation,
+      (
+        firsts_rise (λ p q. nat_cmp p.0.0 q.0.0) (λ p q. nat_cmp p.1.0 q.1.0) c.sort_unstable.new.self.items c.sort_unstable.ensures.sorted,
+        subst P as_events (firsts_rise (λ p q. order p.0 q.0) (λ p q. order p.1 q.1) c.sort_unstable-2.new.self.items c.sort_unstable-2.ensures.sorted),
+      ),
+    )
