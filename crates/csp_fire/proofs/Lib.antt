@@ -36,3 +36,8 @@ pub mod Replicating
 pub mod Together
 pub mod Ended
 pub mod Sided
+pub mod Alike
+pub mod Ranging
+pub mod Naming
+pub mod Imaged
+pub mod Comparing

@@ -7,3 +7,4 @@ pub mod Offering
 pub mod Expansion
 pub mod Replicating
 pub mod Together
+pub mod Imaging

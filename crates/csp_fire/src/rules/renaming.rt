@@ -1,12 +1,17 @@
 //! `P [[from <- to, ..]]` does what `P` does, and each event as each of its images. A tick ends all.
 
+ghost use Rattle.std.specs.Prelude.{◌≡◌, ◌++◌, IfOk, OnOk, map};
 ghost use Rattle.csp_semantics.specs.Syntax.Process.{Renaming};
+ghost use Rattle.csp_semantics.specs.Meaning.Events.{or_itself};
 ghost use Rattle.csp_semantics.specs.Meaning.Substitution.{put};
+ghost use Rattle.csp_value.specs.Action.{action_of, event_of};
 ghost use Rattle.csp_expression.specs.Bindings.{bindings_of};
 ghost use Rattle.csp_event_sets.specs.Events.{renaming_pairs_of};
 ghost use Rattle.csp_term.specs.Script.{script_of};
 ghost use Rattle.csp_term.specs.Term.{process_of};
-ghost use Rattle.csp_fire.specs.Answering.{Answers};
+ghost use Rattle.csp_fire.specs.Answering.{Answers, answered_of, target_of};
+ghost use Rattle.csp_fire.specs.Composing.{each_answer, frame_of, image_answers, rename_answer, under_limits};
+ghost use Rattle.csp_fire.specs.Imaging.{PairsRise, found_images};
 
 use crate::composition::Frame;
 use crate::images::Images;
@@ -23,7 +28,9 @@ fn add_images<A: AllocHandle>(
     images: Vec<Event<A>, A>,
     target: &Target<A>,
     steps: &mut Vec<RuleStep<A>, A>,
-) -> Result<(), Memory> {
+) -> Result<(), Memory>
+    ensures { OnOk result (map answered_of steps.new.items ≡ map answered_of steps.old.items ++ image_answers (target_of target.now) (map event_of images.items)) }
+{
     for image in images {
         let target = target.try_copy(alloc)?;
         let action = Action::Event(image);
@@ -38,25 +45,30 @@ fn add_one<A: AllocHandle>(
     images: &Images<A>,
     of_body: RuleStep<A>,
     steps: &mut Vec<RuleStep<A>, A>,
-) -> Result<(), Memory> {
+) -> Result<(), Memory>
+    requires { PairsRise images.now }
+    ensures { OnOk result (map answered_of steps.new.items ≡ map answered_of steps.old.items ++ rename_answer (λ e. or_itself e (found_images images.now e)) (under_limits (frame_of frame.now)) (action_of of_body.action) (target_of of_body.target)) }
+{
     let RuleStep { action, target } = of_body;
     match action {
         Action::Tick => {
             let target = Target::omega(alloc)?;
             let action = Action::Tick;
             steps.push(RuleStep { action, target })?;
+            Ok(())
         }
         Action::Tau => {
             let target = frame.of(alloc, target)?;
             let action = Action::Tau;
             steps.push(RuleStep { action, target })?;
+            Ok(())
         }
         Action::Event(event) => {
             let target = frame.of(alloc, target)?;
-            add_images(alloc, images.of_event(alloc, event)?, &target, steps)?;
+            let images = images.of_event(alloc, event)?;
+            add_images(alloc, images, &target, steps)
         }
     }
-    Ok(())
 }
 
 #[cycle(steps)]
@@ -82,7 +94,10 @@ fn renamed<A: AllocHandle>(
     frame: &Frame<A>,
     images: &Images<A>,
     body: Vec<RuleStep<A>, A>,
-) -> Result<Vec<RuleStep<A>, A>, Memory> {
+) -> Result<Vec<RuleStep<A>, A>, Memory>
+    requires { PairsRise images.now }
+    ensures { IfOk result (λ steps. map answered_of steps.items ≡ each_answer (rename_answer (λ e. or_itself e (found_images images.now e)) (under_limits (frame_of frame.now))) (map answered_of body.items)) }
+{
     let mut steps = Vec::new(alloc);
     for of_body in body {
         add_one(alloc, frame, images, of_body, &mut steps)?;

@@ -42,6 +42,11 @@ use Rattle.csp_fire.proofs.Operating.{external_answered, interrupt_answered, seq
 use Rattle.csp_fire.proofs.Siding.{side_of_stuck, stuck_of_side}
 use Rattle.csp_fire.proofs.Smaller.{alphabetised_height, binary_height, branch_height, generalised_height, guard_height, height_of, hiding_height, renaming_height, replicated_height}
 use Rattle.csp_fire.proofs.Ruling.{guarded, closed, first_branch, second_branch, guard_stuck, if_stuck, ended, stopped}
+use Rattle.csp_semantics.specs.Meaning.Events.{renaming}
+use Rattle.csp_semantics.specs.Meaning.Substitution.{put_pairs}
+use Rattle.csp_fire.specs.Imaging.{AreMade}
+use Rattle.csp_fire.proofs.Changing.{renaming_rest}
+use Rattle.csp_fire.proofs.Imaged.{renaming_by, renaming_stuck}
 use Rattle.csp_fire.proofs.rules.+steps.Goals as goal
 
 nothing_in : {X : Type 0} (xs : List X) → length xs ≡ 0 → xs ≡ []
@@ -743,3 +748,40 @@ parallel::alphabetised-returns g t c =
 pub parallel::alphabetised-compose-requires : goal.parallel::alphabetised-compose-requires
 parallel::alphabetised-compose-requires g t c =
     (elim g.met.A.AllocHandle.small [ inl e ↦ rw (e.0, e.1) (lit< tt) | inr e ↦ rw (e.0, e.1) (lit< tt) ], (c.in_ok-of_left.ensures.1, c.in_ok-of_right.ensures.1))
+
+-- ---- renaming
+
+pub renaming::steps-returns-in_err-images : goal.renaming::steps-returns-in_err-images
+renaming::steps-returns-in_err-images g t c =
+    let script = script_of c.args.script.now in
+    let body = put (bindings_of c.args.bindings.now) (process_of c.args.body.now) in
+    let why = c.in_err-images.field-0.0 in
+    let P : List pure.RenamingPair → Type 0 = λ rs. Answers {A = g.row.A.Denot} script (pure.Renaming body rs) (Err why) in
+    let p = err_from_is_err_and c.from_residual-in_err-images.result c.from_residual-in_err-images.ensures.1 in
+    let Q : Result (Vec (RuleStep g.row.A.Denot) g.row.A.Denot) Stuck → Type 0 = λ r. Answers script (pure.Renaming body (put_pairs (bindings_of c.args.bindings.now) (renaming_pairs_of c.args.pairs.now))) r in
+    subst Q (sym (p.1 ∙ ap Err p.2)) (subst P (ap renaming_pairs_of c.deref.ensures.value ∙ c.in_ok-pairs.ensures) (renaming_stuck g.row.A.Denot script body (renaming_pairs_of c.deref.result.now) why c.in_err-images.ensures))
+
+pub renaming::steps-returns-in_err-body : goal.renaming::steps-returns-in_err-body
+renaming::steps-returns-in_err-body g t c =
+    let script = script_of c.args.script.now in
+    let body = put (bindings_of c.args.bindings.now) (process_of c.args.body.now) in
+    let rs = renaming_pairs_of c.deref.result.now in
+    let why = c.in_err-body.field-0.0 in
+    let P : List pure.RenamingPair → Type 0 = λ rs. Answers {A = g.row.A.Denot} script (pure.Renaming body rs) (Err why) in
+    let p = err_from_is_err_and c.from_residual-in_err-body.result c.from_residual-in_err-body.ensures.1 in
+    let Q : Result (Vec (RuleStep g.row.A.Denot) g.row.A.Denot) Stuck → Type 0 = λ r. Answers script (pure.Renaming body (put_pairs (bindings_of c.args.bindings.now) (renaming_pairs_of c.args.pairs.now))) r in
+    subst Q (sym (p.1 ∙ ap Err p.2))
+    (subst P (ap renaming_pairs_of c.deref.ensures.value ∙ c.in_ok-pairs.ensures) (stuck_by_only script body (pure.Renaming body rs) (renaming_rest script body rs (ap result_err c.in_ok-images.ensures.0.1)) g.row.A.Denot why c.in_err-body.ensures))
+
+pub renaming::steps-returns : goal.renaming::steps-returns
+renaming::steps-returns g t c =
+    let script = script_of c.args.script.now in
+    let body = put (bindings_of c.args.bindings.now) (process_of c.args.body.now) in
+    let rs = renaming_pairs_of c.in_ok-pairs.pairs.items in
+    let images = c.in_ok-images.images in
+    let M : List pure.RenamingPair → Type 0 = λ rs. AreMade images (renaming script rs) in
+    let made = subst M (ap renaming_pairs_of c.deref.ensures.value) c.in_ok-images.ensures.0 in
+    let all = renaming_by script body (map answered_of c.in_ok-body.body.items) c.in_ok-body.ensures rs images made in
+    let P : List pure.RenamingPair → Type 0 = λ rs. IsAnswered script (pure.Renaming body rs) (map answered_of c.in_ok-renamed.field-0.items) in
+    let Q : List Answered → Type 0 = λ ss. IsAnswered script (pure.Renaming body rs) ss in
+    subst P c.in_ok-pairs.ensures (subst Q (sym c.in_ok-renamed.ensures) all)
