@@ -31,9 +31,8 @@ use Rattle.csp_event_sets.specs.Events.{event_expression_of, renaming_pair_of, r
 use Rattle.csp_fire.specs.declared.images.Images.{Images}
 use Rattle.csp_fire.specs.declared.stuck.Stuck.{Stuck}
 use Rattle.csp_fire.specs.declared.stuck.Stuck.TheVariants as stuck
-use Rattle.csp_fire.specs.Testing.{AreSetsOf}
 use Rattle.csp_fire.specs.Imaging.{AreMade, IsImagesOf, Makes, MakesMore, channel_image, event_image, found_images}
-use Rattle.csp_fire.specs.Testing.{IsEventOf}
+use Rattle.csp_fire.specs.Testing.{AreSetsOf, IsEventOf}
 use Rattle.csp_fire.proofs.Alike.{alike_both, alike_by, alike_moved, alike_then, alike_turned}
 
 -- what a renaming makes of events

@@ -1,5 +1,5 @@
 -- What has the same steps, in whatever order and however often, is answered of the same term.
-use Rattle.std.proofs.Common.{◌≡◌, List, ◌++◌, map, Option, Contains, ◌∙◌, sym, subst, inl, inr, ⊎_elim}
+use Rattle.std.proofs.Common.{◌≡◌, List, ◌++◌, map, Option, Contains, sym, subst, ⊎_elim}
 use Rattle.std.proofs.lemmas.List.{append_assoc}
 use Rattle.std.proofs.lemmas.List.Elements.{Contains-append_cases, Contains-append_left, Contains-append_right}
 use Rattle.std.proofs.lemmas.List.Sorted.{IsPermutation-map, IsPermutation-sym, Contains-permutation}

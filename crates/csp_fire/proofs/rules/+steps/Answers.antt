@@ -668,7 +668,7 @@ parallel::generalised-returns g t c =
 
 pub parallel::generalised-compose-requires : goal.parallel::generalised-compose-requires
 parallel::generalised-compose-requires g t c =
-    (elim g.met.A.AllocHandle.small [ inl e ↦ rw (e.0, e.1) (lit< tt) | inr e ↦ rw (e.0, e.1) (lit< tt) ], c.in_ok-test.ensures.1)
+    c.in_ok-test.ensures.1
 
 pub parallel::alphabetised-returns-in_err-of_left : goal.parallel::alphabetised-returns-in_err-of_left
 parallel::alphabetised-returns-in_err-of_left g t c =
@@ -747,7 +747,7 @@ parallel::alphabetised-returns g t c =
 
 pub parallel::alphabetised-compose-requires : goal.parallel::alphabetised-compose-requires
 parallel::alphabetised-compose-requires g t c =
-    (elim g.met.A.AllocHandle.small [ inl e ↦ rw (e.0, e.1) (lit< tt) | inr e ↦ rw (e.0, e.1) (lit< tt) ], (c.in_ok-of_left.ensures.1, c.in_ok-of_right.ensures.1))
+    (c.in_ok-of_left.ensures.1, c.in_ok-of_right.ensures.1)
 
 -- ---- renaming
 
