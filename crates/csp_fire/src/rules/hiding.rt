@@ -1,0 +1,98 @@
+//! `P \ A` does what `P` does, and the events of `A` as tau. A tick ends all.
+
+ghost use Rattle.std.specs.Prelude.{◌≡◌, ◌∷◌, [], IfOk, cond, map};
+ghost use Rattle.csp_semantics.specs.Syntax.Process.{Hiding};
+ghost use Rattle.csp_semantics.specs.Syntax.Value.{Ev, Tau};
+ghost use Rattle.csp_semantics.specs.Meaning.Substitution.{put};
+ghost use Rattle.csp_value.specs.Action.{action_of, event_of};
+ghost use Rattle.csp_expression.specs.Bindings.{bindings_of};
+ghost use Rattle.csp_event_sets.specs.Events.{event_set_of};
+ghost use Rattle.csp_term.specs.Script.{script_of};
+ghost use Rattle.csp_term.specs.Term.{process_of};
+ghost use Rattle.csp_fire.specs.Answering.{Answers, answered_of, target_of};
+ghost use Rattle.csp_fire.specs.Composing.{each_answer, frame_of, hide_answer, under_limits};
+ghost use Rattle.csp_fire.specs.Testing.{AreSorted, listed_in, test_of};
+
+use crate::composition::Frame;
+use crate::event_test::EventTest;
+use crate::rule_step::{RuleStep, Target};
+use crate::rules;
+use crate::stuck::Stuck;
+use csp_event_sets::EventSet;
+use csp_expression::Binding;
+use csp_term::{Action, AllocHandle, Event, Memory, Script, Term};
+
+/// What is seen of the event.
+fn hidden_event<A: AllocHandle>(test: &EventTest<A>, event: Event<A>) -> Action<A>
+    requires { AreSorted (listed_in test.now) }
+    ensures { action_of result ≡ cond (test_of test.now (event_of event)) Tau (Ev (event_of event)) }
+{
+    if test.holds(&event) {
+        Action::Tau
+    } else {
+        Action::Event(event)
+    }
+}
+
+fn step<A: AllocHandle>(
+    alloc: A,
+    frame: &Frame<A>,
+    test: &EventTest<A>,
+    of_body: RuleStep<A>,
+) -> Result<RuleStep<A>, Memory>
+    requires { AreSorted (listed_in test.now) }
+    ensures { IfOk result (λ s. answered_of s ∷ [] ≡ hide_answer (test_of test.now) (under_limits (frame_of frame.now)) (action_of of_body.action) (target_of of_body.target)) }
+{
+    let RuleStep { action, target } = of_body;
+    match action {
+        Action::Tick => {
+            let target = Target::omega(alloc)?;
+            let action = Action::Tick;
+            Ok(RuleStep { action, target })
+        }
+        Action::Tau => {
+            let target = frame.of(alloc, target)?;
+            let action = Action::Tau;
+            Ok(RuleStep { action, target })
+        }
+        Action::Event(event) => {
+            let target = frame.of(alloc, target)?;
+            let action = hidden_event(test, event);
+            Ok(RuleStep { action, target })
+        }
+    }
+}
+
+#[cycle(steps)]
+pub(crate) fn steps<'v, A: AllocHandle>(
+    alloc: A,
+    script: &'v Script<A>,
+    bindings: &[Binding<'v, A>],
+    hidden: &'v EventSet<A>,
+    body: &'v Term<A>,
+) -> Result<Vec<RuleStep<A>, A>, Stuck>
+    ensures { Answers (script_of script.now) (put (bindings_of bindings.now) (Hiding (process_of body.now) (event_set_of hidden.now))) result }
+{
+    let hidden = hidden.put_in(bindings, alloc)?;
+    let test = EventTest::of(alloc, script, &hidden)?;
+    let body = rules::steps(alloc, script, bindings, body)?;
+    let frame = Frame::Hiding(hidden);
+    Ok(without(alloc, &frame, &test, body)?)
+}
+
+/// The steps by those of the body.
+fn without<A: AllocHandle>(
+    alloc: A,
+    frame: &Frame<A>,
+    test: &EventTest<A>,
+    body: Vec<RuleStep<A>, A>,
+) -> Result<Vec<RuleStep<A>, A>, Memory>
+    requires { AreSorted (listed_in test.now) }
+    ensures { IfOk result (λ steps. map answered_of steps.items ≡ each_answer (hide_answer (test_of test.now) (under_limits (frame_of frame.now))) (map answered_of body.items)) }
+{
+    let mut steps = Vec::new(alloc);
+    for of_body in body {
+        steps.push(step(alloc, frame, test, of_body)?)?;
+    }
+    Ok(steps)
+}
