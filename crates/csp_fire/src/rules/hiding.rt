@@ -34,6 +34,19 @@ fn hidden_event<A: AllocHandle>(test: &EventTest<A>, event: Event<A>) -> Action<
     }
 }
 
+/// The step of the body under the operator, with what is seen of its action.
+fn under<A: AllocHandle>(
+    alloc: A,
+    frame: &Frame<A>,
+    action: Action<A>,
+    target: Target<A>,
+) -> Result<RuleStep<A>, Memory>
+    ensures { IfOk result (λ s. answered_of s ≡ (action_of action, under_limits (frame_of frame.now) (target_of target))) }
+{
+    let target = frame.of(alloc, target)?;
+    Ok(RuleStep { action, target })
+}
+
 fn step<A: AllocHandle>(
     alloc: A,
     frame: &Frame<A>,
@@ -50,16 +63,8 @@ fn step<A: AllocHandle>(
             let action = Action::Tick;
             Ok(RuleStep { action, target })
         }
-        Action::Tau => {
-            let target = frame.of(alloc, target)?;
-            let action = Action::Tau;
-            Ok(RuleStep { action, target })
-        }
-        Action::Event(event) => {
-            let target = frame.of(alloc, target)?;
-            let action = hidden_event(test, event);
-            Ok(RuleStep { action, target })
-        }
+        Action::Tau => under(alloc, frame, Action::Tau, target),
+        Action::Event(event) => under(alloc, frame, hidden_event(test, event), target),
     }
 }
 

@@ -15,7 +15,7 @@ ghost use Rattle.csp_fire.specs.Imaging.{PairsRise, found_images};
 
 use crate::composition::Frame;
 use crate::images::Images;
-use crate::rule_step::{RuleStep, Target};
+use crate::rule_step::{RuleStep, Target, add_step};
 use crate::rules;
 use crate::stuck::Stuck;
 use csp_event_sets::{RenamingPair, put_in_pairs};
@@ -39,6 +39,23 @@ fn add_images<A: AllocHandle>(
     Ok(())
 }
 
+/// Adds the steps by the event's images.
+fn add_event<A: AllocHandle>(
+    alloc: A,
+    frame: &Frame<A>,
+    images: &Images<A>,
+    event: Event<A>,
+    target: Target<A>,
+    steps: &mut Vec<RuleStep<A>, A>,
+) -> Result<(), Memory>
+    requires { PairsRise images.now }
+    ensures { OnOk result (map answered_of steps.new.items ≡ map answered_of steps.old.items ++ image_answers (under_limits (frame_of frame.now) (target_of target)) (or_itself (event_of event) (found_images images.now (event_of event)))) }
+{
+    let target = frame.of(alloc, target)?;
+    let images = images.of_event(alloc, event)?;
+    add_images(alloc, images, &target, steps)
+}
+
 fn add_one<A: AllocHandle>(
     alloc: A,
     frame: &Frame<A>,
@@ -51,23 +68,9 @@ fn add_one<A: AllocHandle>(
 {
     let RuleStep { action, target } = of_body;
     match action {
-        Action::Tick => {
-            let target = Target::omega(alloc)?;
-            let action = Action::Tick;
-            steps.push(RuleStep { action, target })?;
-            Ok(())
-        }
-        Action::Tau => {
-            let target = frame.of(alloc, target)?;
-            let action = Action::Tau;
-            steps.push(RuleStep { action, target })?;
-            Ok(())
-        }
-        Action::Event(event) => {
-            let target = frame.of(alloc, target)?;
-            let images = images.of_event(alloc, event)?;
-            add_images(alloc, images, &target, steps)
-        }
+        Action::Tick => add_step(Action::Tick, Target::omega(alloc)?, steps),
+        Action::Tau => add_step(Action::Tau, frame.of(alloc, target)?, steps),
+        Action::Event(event) => add_event(alloc, frame, images, event, target, steps),
     }
 }
 
