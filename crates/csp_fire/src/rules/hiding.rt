@@ -1,6 +1,7 @@
 //! `P \ A` does what `P` does, and the events of `A` as tau. A tick ends all.
 
 ghost use Rattle.std.specs.Prelude.{◌≡◌, ◌∷◌, [], IfOk, cond, map};
+ghost use Rattle.csp_semantics.specs.Syntax.Process as pure;
 ghost use Rattle.csp_semantics.specs.Syntax.Process.{Hiding};
 ghost use Rattle.csp_semantics.specs.Syntax.Value.{Ev, Tau};
 ghost use Rattle.csp_semantics.specs.Meaning.Substitution.{put};
@@ -78,11 +79,27 @@ pub(crate) fn steps<'v, A: AllocHandle>(
 ) -> Result<Vec<RuleStep<A>, A>, Stuck>
     ensures { Answers (script_of script.now) (put (bindings_of bindings.now) (Hiding (process_of body.now) (event_set_of hidden.now))) result }
 {
+    let body = rules::steps(alloc, script, bindings, body);
     let hidden = hidden.put_in(bindings, alloc)?;
+    by_body(alloc, script, hidden, body)
+}
+
+/// The steps of `P \ A` by those of its body. A cause of the set comes before those of the body.
+fn by_body<A: AllocHandle>(
+    alloc: A,
+    script: &Script<A>,
+    hidden: EventSet<A>,
+    body: Result<Vec<RuleStep<A>, A>, Stuck>,
+) -> Result<Vec<RuleStep<A>, A>, Stuck>
+    ensures { (p : pure.Process) → Answers (script_of script.now) p body → Answers (script_of script.now) (Hiding p (event_set_of hidden)) result }
+{
     let test = EventTest::of(alloc, script, &hidden)?;
-    let body = rules::steps(alloc, script, bindings, body)?;
+    let body = body?;
     let frame = Frame::Hiding(hidden);
-    Ok(without(alloc, &frame, &test, body)?)
+    let steps = without(alloc, &frame, &test, body);
+    drop(frame);
+    drop(test);
+    Ok(steps?)
 }
 
 /// The steps by those of the body.

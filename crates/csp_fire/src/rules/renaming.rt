@@ -1,6 +1,7 @@
 //! `P [[from <- to, ..]]` does what `P` does, and each event as each of its images. A tick ends all.
 
 ghost use Rattle.std.specs.Prelude.{◌≡◌, ◌++◌, IfOk, OnOk, map};
+ghost use Rattle.csp_semantics.specs.Syntax.Process as pure;
 ghost use Rattle.csp_semantics.specs.Syntax.Process.{Renaming};
 ghost use Rattle.csp_semantics.specs.Meaning.Events.{or_itself};
 ghost use Rattle.csp_semantics.specs.Meaning.Substitution.{put};
@@ -84,11 +85,26 @@ pub(crate) fn steps<'v, A: AllocHandle>(
 ) -> Result<Vec<RuleStep<A>, A>, Stuck>
     ensures { Answers (script_of script.now) (put (bindings_of bindings.now) (Renaming (process_of body.now) (renaming_pairs_of pairs.now))) result }
 {
+    let body = rules::steps(alloc, script, bindings, body);
     let pairs = put_in_pairs(pairs, bindings, alloc)?;
+    by_body(alloc, script, pairs, body)
+}
+
+/// The steps of `P [[from <- to, ..]]` by those of its body. A cause of the pairs comes before those of the body.
+fn by_body<A: AllocHandle>(
+    alloc: A,
+    script: &Script<A>,
+    pairs: Vec<RenamingPair<A>, A>,
+    body: Result<Vec<RuleStep<A>, A>, Stuck>,
+) -> Result<Vec<RuleStep<A>, A>, Stuck>
+    ensures { (p : pure.Process) → Answers (script_of script.now) p body → Answers (script_of script.now) (Renaming p (renaming_pairs_of pairs.items)) result }
+{
     let images = Images::of(alloc, script, &pairs)?;
-    let body = rules::steps(alloc, script, bindings, body)?;
+    let body = body?;
     let frame = Frame::Renaming(pairs);
-    Ok(renamed(alloc, &frame, &images, body)?)
+    let steps = renamed(alloc, &frame, &images, body);
+    drop(frame);
+    Ok(steps?)
 }
 
 /// The steps by those of the body.
