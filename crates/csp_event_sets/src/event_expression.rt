@@ -17,7 +17,6 @@ pub struct EventExpression<A: Allocator> {
 
 impl<A: Allocator + Copy> EventExpression<A> {
     /// An equal event in the given allocator, or `Memory` where that has no room: the event with no value put in.
-    #[tactic(auto, using(csp_expression::proofs::Nothing::put_nothing_in_event))]
     pub fn try_copy(&self, alloc: A) -> Result<EventExpression<A>, Memory>
         ensures { IfOk result (λ copy. event_expression_of copy ≡ event_expression_of self.now) }
     {

@@ -17,7 +17,6 @@ pub struct RenamingPair<A: Allocator> {
 
 impl<A: Allocator + Copy> RenamingPair<A> {
     /// An equal pair in the given allocator, or `Memory` where that has no room: the pair with no value put in.
-    #[tactic(auto, using(crate::proofs::EventPutting::put_nothing_in_pair))]
     pub fn try_copy(&self, alloc: A) -> Result<RenamingPair<A>, Memory>
         ensures { IfOk result (λ copy. renaming_pair_of copy ≡ renaming_pair_of self.now) }
     {
