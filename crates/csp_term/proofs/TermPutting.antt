@@ -85,26 +85,41 @@ pub put_guard : {A : Type 0} (bs : Bindings) (e condition : Expr A) (p body : Te
     process_of_form {A = A} (views.Guard condition body) ≡ put bs (pure.Guard (expression_of e) (process_of p))
 put_guard {A} bs e condition p body done put_body = of_guard A condition body ∙ ap₂ pure.Guard done put_body
 
-pub put_conditional : {A : Type 0} (bs : Bindings) (self : TermForm A) (e condition : Expr A) (p first q second : Term A) → self ≡ views.If e p q → expression_of condition ≡ put_expression bs (expression_of e) →
-    process_of first ≡ put bs (process_of p) → process_of second ≡ put bs (process_of q) → process_of_form {A = A} (views.If condition first second) ≡ put bs (process_of_form self)
-put_conditional {A} bs self e condition p first q second is done put_first_branch put_second =
-    of_conditional A condition first second ∙ (λ i. pure.If (done i) (put_first_branch i) (put_second i)) ∙ ap (put bs) (sym (ap process_of_form is ∙ of_conditional A e p q))
+pub put_conditional : {A X : Type 0} (bs : Bindings) (self : TermForm A) (e : Expr A) (p first q : Term A) (r : Result (TermForm A) X) → self ≡ views.If e p q → process_of first ≡ put bs (process_of p) →
+    IfOk r (λ f. process_of_form f ≡ pure.If (put_expression bs (expression_of e)) (process_of first) (put bs (process_of q))) → IfOk r (λ f. process_of_form f ≡ put bs (process_of_form self))
+put_conditional {A} bs self e p first q r is put_first_branch done =
+    IfOk-weaker r _ _ (λ f made. made ∙ ap (λ t. pure.If (put_expression bs (expression_of e)) t (put bs (process_of q))) put_first_branch ∙ ap (put bs) (sym (ap process_of_form is ∙ of_conditional A e p q))) done
 
-pub put_binary : {A : Type 0} (bs : Bindings) (self : TermForm A) (op : ProcessOperator) (p left q right : Term A) → self ≡ views.Binary op p q → process_of left ≡ put bs (process_of p) → process_of right ≡ put bs (process_of q) →
-    process_of_form {A = A} (views.Binary op left right) ≡ put bs (process_of_form self)
-put_binary {A} bs self op p left q right is put_left put_right =
-    of_binary A op left right ∙ ap₂ (binary_process op) put_left put_right ∙ sym (binary_put bs op (process_of p) (process_of q)) ∙ ap (put bs) (sym (ap process_of_form is ∙ of_binary A op p q))
+pub put_binary : {A X : Type 0} (bs : Bindings) (self : TermForm A) (op : ProcessOperator) (p left q : Term A) (r : Result (TermForm A) X) → self ≡ views.Binary op p q → process_of left ≡ put bs (process_of p) →
+    IfOk r (λ f. process_of_form f ≡ binary_process op (process_of left) (put bs (process_of q))) → IfOk r (λ f. process_of_form f ≡ put bs (process_of_form self))
+put_binary {A} bs self op p left q r is put_left done =
+    IfOk-weaker r _ _ (λ f made. made ∙ ap (λ t. binary_process op t (put bs (process_of q))) put_left ∙ sym (binary_put bs op (process_of p) (process_of q)) ∙ ap (put bs) (sym (ap process_of_form is ∙ of_binary A op p q))) done
 
-pub put_generalised : {A : Type 0} (bs : Bindings) (self : TermForm A) (p left : Term A) (a shared : EventSet A) (q right : Term A) → self ≡ views.GeneralisedParallel p a q →
-    process_of left ≡ put bs (process_of p) → event_set_of shared ≡ put_event_set bs (event_set_of a) → process_of right ≡ put bs (process_of q) → process_of_form {A = A} (views.GeneralisedParallel left shared right) ≡ put bs (process_of_form self)
-put_generalised {A} bs self p left a shared q right is put_left put_shared put_right =
-    of_generalised A left shared right ∙ (λ i. pure.GeneralisedParallel (put_left i) (put_shared i) (put_right i)) ∙ ap (put bs) (sym (ap process_of_form is ∙ of_generalised A p a q))
+pub put_generalised : {A X : Type 0} (bs : Bindings) (self : TermForm A) (p left : Term A) (a : EventSet A) (q : Term A) (r : Result (TermForm A) X) → self ≡ views.GeneralisedParallel p a q → process_of left ≡ put bs (process_of p) →
+    IfOk r (λ f. process_of_form f ≡ pure.GeneralisedParallel (process_of left) (put_event_set bs (event_set_of a)) (put bs (process_of q))) → IfOk r (λ f. process_of_form f ≡ put bs (process_of_form self))
+put_generalised {A} bs self p left a q r is put_left done =
+    IfOk-weaker r _ _ (λ f made. made ∙ ap (λ t. pure.GeneralisedParallel t (put_event_set bs (event_set_of a)) (put bs (process_of q))) put_left ∙ ap (put bs) (sym (ap process_of_form is ∙ of_generalised A p a q))) done
 
-pub put_alphabetised : {A : Type 0} (bs : Bindings) (self : TermForm A) (p left : Term A) (a own b other : EventSet A) (q right : Term A) → self ≡ views.AlphabetisedParallel p a b q →
-    process_of left ≡ put bs (process_of p) → event_set_of own ≡ put_event_set bs (event_set_of a) → event_set_of other ≡ put_event_set bs (event_set_of b) → process_of right ≡ put bs (process_of q) →
-    process_of_form {A = A} (views.AlphabetisedParallel left own other right) ≡ put bs (process_of_form self)
-put_alphabetised {A} bs self p left a own b other q right is put_left put_own put_other put_right =
-    of_alphabetised A left own other right ∙ (λ i. pure.AlphabetisedParallel (put_left i) (put_own i) (put_other i) (put_right i)) ∙ ap (put bs) (sym (ap process_of_form is ∙ of_alphabetised A p a b q))
+pub put_alphabetised : {A X : Type 0} (bs : Bindings) (self : TermForm A) (p left : Term A) (a b : EventSet A) (q : Term A) (r : Result (TermForm A) X) → self ≡ views.AlphabetisedParallel p a b q → process_of left ≡ put bs (process_of p) →
+    IfOk r (λ f. process_of_form f ≡ pure.AlphabetisedParallel (process_of left) (put_event_set bs (event_set_of a)) (put_event_set bs (event_set_of b)) (put bs (process_of q))) → IfOk r (λ f. process_of_form f ≡ put bs (process_of_form self))
+put_alphabetised {A} bs self p left a b q r is put_left done =
+    IfOk-weaker r _ _ (λ f made. made ∙ ap (λ t. pure.AlphabetisedParallel t (put_event_set bs (event_set_of a)) (put_event_set bs (event_set_of b)) (put bs (process_of q))) put_left ∙ ap (put bs) (sym (ap process_of_form is ∙ of_alphabetised A p a b q))) done
+
+pub made_conditional : {A : Type 0} (bs : Bindings) (e condition : Expr A) (first q second : Term A) → expression_of condition ≡ put_expression bs (expression_of e) → process_of second ≡ put bs (process_of q) →
+    process_of_form {A = A} (views.If condition first second) ≡ pure.If (put_expression bs (expression_of e)) (process_of first) (put bs (process_of q))
+made_conditional {A} bs e condition first q second done put_second = of_conditional A condition first second ∙ ap₂ (λ x t. pure.If x (process_of first) t) done put_second
+
+pub made_binary : {A : Type 0} (bs : Bindings) (op : ProcessOperator) (left q right : Term A) → process_of right ≡ put bs (process_of q) → process_of_form {A = A} (views.Binary op left right) ≡ binary_process op (process_of left) (put bs (process_of q))
+made_binary {A} bs op left q right put_right = of_binary A op left right ∙ ap (binary_process op (process_of left)) put_right
+
+pub made_generalised : {A : Type 0} (bs : Bindings) (left : Term A) (a shared : EventSet A) (q right : Term A) → event_set_of shared ≡ put_event_set bs (event_set_of a) → process_of right ≡ put bs (process_of q) →
+    process_of_form {A = A} (views.GeneralisedParallel left shared right) ≡ pure.GeneralisedParallel (process_of left) (put_event_set bs (event_set_of a)) (put bs (process_of q))
+made_generalised {A} bs left a shared q right put_shared put_right = of_generalised A left shared right ∙ ap₂ (pure.GeneralisedParallel (process_of left)) put_shared put_right
+
+pub made_alphabetised : {A : Type 0} (bs : Bindings) (left : Term A) (a own b other : EventSet A) (q right : Term A) → event_set_of own ≡ put_event_set bs (event_set_of a) → event_set_of other ≡ put_event_set bs (event_set_of b) → process_of right ≡ put bs (process_of q) →
+    process_of_form {A = A} (views.AlphabetisedParallel left own other right) ≡ pure.AlphabetisedParallel (process_of left) (put_event_set bs (event_set_of a)) (put_event_set bs (event_set_of b)) (put bs (process_of q))
+made_alphabetised {A} bs left a own b other q right put_own put_other put_right =
+    of_alphabetised A left own other right ∙ (λ i. pure.AlphabetisedParallel (process_of left) (put_own i) (put_other i) (put_right i))
 
 pub put_hiding : {A : Type 0} (bs : Bindings) (p body : Term A) (a hidden : EventSet A) → process_of body ≡ put bs (process_of p) → event_set_of hidden ≡ put_event_set bs (event_set_of a) →
     process_of_form {A = A} (views.Hiding body hidden) ≡ put bs (pure.Hiding (process_of p) (event_set_of a))

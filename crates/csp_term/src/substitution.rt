@@ -14,6 +14,7 @@ ghost use Rattle.csp_term.specs.Term.{process_of, process_of_form};
 use crate::field::Field;
 use crate::hiding::{put_in_hiding, put_in_renaming};
 use crate::name::EquationId;
+use crate::operands::{put_in_alphabetised, put_in_binary, put_in_conditional, put_in_generalised};
 use crate::replicated::put_in_replicated;
 use crate::term::{Term, TermForm};
 use csp_expression::{Binding, Expr, Name, put_in_all};
@@ -146,24 +147,20 @@ impl<A: Allocator + Copy> TermForm<A> {
             }
             TermForm::Guard(condition, body) => put_in_guard(body, condition, bindings, alloc),
             TermForm::If(condition, first, second) => {
-                let condition = condition.put_in(bindings, alloc)?;
                 let first = first.put_in(bindings, alloc)?;
-                Ok(TermForm::If(condition, first, second.put_in(bindings, alloc)?))
+                put_in_conditional(second, first, condition, bindings, alloc)
             }
             TermForm::Binary(operator, left, right) => {
                 let left = left.put_in(bindings, alloc)?;
-                Ok(TermForm::Binary(*operator, left, right.put_in(bindings, alloc)?))
+                put_in_binary(*operator, right, left, bindings, alloc)
             }
             TermForm::GeneralisedParallel(left, shared, right) => {
                 let left = left.put_in(bindings, alloc)?;
-                let shared = shared.put_in(bindings, alloc)?;
-                Ok(TermForm::GeneralisedParallel(left, shared, right.put_in(bindings, alloc)?))
+                put_in_generalised(right, left, shared, bindings, alloc)
             }
             TermForm::AlphabetisedParallel(left, own, other, right) => {
                 let left = left.put_in(bindings, alloc)?;
-                let own = own.put_in(bindings, alloc)?;
-                let other = other.put_in(bindings, alloc)?;
-                Ok(TermForm::AlphabetisedParallel(left, own, other, right.put_in(bindings, alloc)?))
+                put_in_alphabetised(right, left, own, other, bindings, alloc)
             }
             TermForm::Hiding(body, hidden) => put_in_hiding(body, hidden, bindings, alloc),
             TermForm::Renaming(body, pairs) => put_in_renaming(body, pairs, bindings, alloc),
@@ -211,8 +208,8 @@ fn put_in_guard<A: Allocator + Copy>(
 ) -> Result<TermForm<A>, Memory>
     ensures { IfOk result (λ form. process_of_form form ≡ put (bindings_of bindings.now) (Guard (expression_of condition.now) (process_of body.now))) }
 {
-    let condition = condition.put_in(bindings, alloc)?;
-    Ok(TermForm::Guard(condition, body.put_in(bindings, alloc)?))
+    let body = body.put_in(bindings, alloc)?;
+    Ok(TermForm::Guard(condition.put_in(bindings, alloc)?, body))
 }
 
 impl<A: Allocator + Copy> Term<A> {
