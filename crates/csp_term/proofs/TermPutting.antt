@@ -1,6 +1,6 @@
 -- Values are put into the fields of a prefix in turn, and what the parts of a term make up.
-use Rattle.std.proofs.Common.{◌≡◌, ℕ, ◌+◌, ◌<◌, Result, IfOk, List, [], ◌∷◌, ◌++◌, length, drop, get_or, refl, sym, ◌∙◌, ap, ap₂}
-use Rattle.std.proofs.lemmas.List.{map-append, append_assoc, drop_more}
+use Rattle.std.proofs.Common.{◌≡◌, ℕ, ◌+◌, ◌<◌, ◌≤◌, Result, IfOk, List, [], ◌∷◌, ◌++◌, length, drop, get_or, append-nil, refl, sym, ◌∙◌, ap, ap₂}
+use Rattle.std.proofs.lemmas.List.{map-append, append_assoc, drop_all, drop_more}
 use Rattle.std.specs.declared.vec.Vec.{Vec}
 use Rattle.csp_semantics.specs.Syntax.Expression.{to_expressions}
 use Rattle.csp_semantics.specs.Syntax.Process as pure
@@ -67,6 +67,13 @@ module _ {A : Type 0} (bs : Bindings) (fs : List (Field A)) where
   left_behind left less i f within read is leaves =
       let rest = fields_of (drop (i + 1) fs) in
       ap (λ cs. behind cs rest) is ∙ sym (behind_first left (field_of f) rest) ∙ ap (λ gs. behind left (fields_of gs)) (cut fs i f within read) ∙ leaves
+
+  -- where all of them are behind
+  pub all_filled : (all : List (Field A)) (left : Bindings) (i : ℕ) → length fs ≤ i → Fills all left i → fields_of all ≡ put_fields bs (fields_of fs)
+  all_filled all left i past fills = sym (append-nil (fields_of all)) ∙ ap (λ gs. fields_of all ++ put_fields left (fields_of gs)) (sym (drop_all i fs past)) ∙ fills
+
+  pub all_behind : (left : Bindings) (i : ℕ) → length fs ≤ i → Leaves left i → left ≡ behind bs (fields_of fs)
+  all_behind left i past leaves = ap (λ gs. behind left (fields_of gs)) (sym (drop_all i fs past)) ∙ leaves
 
 -- ---- terms
 
