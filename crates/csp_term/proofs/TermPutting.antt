@@ -14,7 +14,7 @@ use Rattle.csp_event_sets.specs.declared.event_set.EventSet.{EventSet}
 use Rattle.csp_event_sets.specs.declared.renaming_pair.RenamingPair.{RenamingPair}
 use Rattle.csp_expression.specs.declared.expr.Expr.{Expr}
 use Rattle.csp_term.specs.declared.field.Field.{Field}
-use Rattle.csp_term.specs.declared.term.Term.{Term}
+use Rattle.csp_term.specs.declared.term.Term.{Term, out-Term}
 use Rattle.csp_term.specs.declared.term.TermForm.{TermForm}
 use Rattle.csp_term.specs.declared.term.TermForm.TheVariants as views
 use Rattle.csp_expression.specs.Bindings.{puts}
@@ -24,7 +24,7 @@ use Rattle.csp_term.specs.Field.{field_of, fields_of}
 use Rattle.csp_term.specs.Term.{binary_process, process_of, process_of_form, replicated_process}
 use Rattle.std.proofs.lemmas.Result.{IfOk-weaker}
 use Rattle.csp_expression.proofs.ExpressionPutting.{put_list}
-use Rattle.csp_term.proofs.Forms.{of_call, of_prefix, of_guard, of_conditional, of_binary, of_generalised, of_alphabetised, of_hiding, of_renaming, of_replicated}
+use Rattle.csp_term.proofs.Forms.{of_form, of_call, of_prefix, of_guard, of_conditional, of_binary, of_generalised, of_alphabetised, of_hiding, of_renaming, of_replicated}
 use Rattle.csp_term.proofs.OperatorForms.{binary_put, replicated_put}
 
 -- ---- fields, one and then the others
@@ -76,6 +76,11 @@ module _ {A : Type 0} (bs : Bindings) (fs : List (Field A)) where
   all_behind left i past leaves = ap (λ gs. behind left (fields_of gs)) (sym (drop_all i fs past)) ∙ leaves
 
 -- ---- terms
+
+-- a term that is made of a form
+pub put_form : {A X : Type 0} (bs : Bindings) (self : Term A) (f form : TermForm A) (r : Result (Term A) X) → f ≡ (out-Term A self).form.value → process_of_form form ≡ put bs (process_of_form f) → IfOk r (λ t. process_of t ≡ process_of_form form) →
+    IfOk r (λ t. process_of t ≡ put bs (process_of self))
+put_form {A} bs self f form r read done made = IfOk-weaker r _ _ (λ t is. is ∙ done ∙ ap (put bs) (ap process_of_form read ∙ sym (of_form A self))) made
 
 -- values that are put into the process that a form stands for are put into the form
 pub put_standing : {A X : Type 0} (bs : Bindings) (self : TermForm A) (p : pure.Process) (r : Result (TermForm A) X) → process_of_form self ≡ p → IfOk r (λ f. process_of_form f ≡ put bs p) → IfOk r (λ f. process_of_form f ≡ put bs (process_of_form self))

@@ -8,8 +8,8 @@ use Rattle.csp_expression.specs.Expression.{expressions_of}
 use Rattle.csp_event_sets.specs.Events.{renaming_pairs_of}
 use Rattle.csp_term.specs.Field.{fields_of}
 use Rattle.csp_term.specs.Term.{process_of, process_of_form}
-use Rattle.csp_term.proofs.Forms.{of_call, of_prefix, of_guard, of_hiding, of_renaming, of_replicated}
-use Rattle.csp_term.proofs.TermPutting.{made_conditional, made_binary, made_generalised, made_alphabetised, put_standing, put_prefix, put_guard, put_conditional, put_binary, put_generalised, put_alphabetised, put_hiding, put_renaming, put_replicated}
+use Rattle.csp_term.proofs.Forms.{of_stop, of_skip, of_omega_term, of_call, of_prefix, of_guard, of_hiding, of_renaming, of_replicated}
+use Rattle.csp_term.proofs.TermPutting.{put_form, made_conditional, made_binary, made_generalised, made_alphabetised, put_standing, put_prefix, put_guard, put_conditional, put_binary, put_generalised, put_alphabetised, put_hiding, put_renaming, put_replicated}
 use Rattle.csp_term.proofs.+put_term.Goals as goal
 
 pub operands::put_in_conditional-returns : goal.operands::put_in_conditional-returns
@@ -92,3 +92,19 @@ term::TermForm::put_in-returns-in-Renaming g t c =
 pub term::TermForm::put_in-returns-in-Replicated : goal.term::TermForm::put_in-returns-in-Replicated
 term::TermForm::put_in-returns-in-Replicated g t c =
     put_standing (bindings_of c.args.bindings.now) c.args.self.now _ c.put_in_replicated.result (ap process_of_form c.in-Replicated.is ∙ of_replicated g.row.A.Denot c.in-Replicated.operator c.in-Replicated.name c.in-Replicated.set c.in-Replicated.body) c.put_in_replicated.ensures
+
+pub term::Term::put_in-returns : goal.term::Term::put_in-returns
+term::Term::put_in-returns g t c =
+    put_form (bindings_of c.args.bindings.now) c.args.self.now c.deref.result.now c.in_ok-form.form c.new.result c.deref.ensures c.in_ok-form.ensures c.new.ensures
+
+pub term::TermForm::put_in-returns-in-Stop : goal.term::TermForm::put_in-returns-in-Stop
+term::TermForm::put_in-returns-in-Stop g t c =
+    of_stop g.row.A.Denot ∙ ap (put (bindings_of c.args.bindings.now)) (sym (ap process_of_form c.in-Stop.is ∙ of_stop g.row.A.Denot))
+
+pub term::TermForm::put_in-returns-in-Skip : goal.term::TermForm::put_in-returns-in-Skip
+term::TermForm::put_in-returns-in-Skip g t c =
+    of_skip g.row.A.Denot ∙ ap (put (bindings_of c.args.bindings.now)) (sym (ap process_of_form c.in-Skip.is ∙ of_skip g.row.A.Denot))
+
+pub term::TermForm::put_in-returns-in-Omega : goal.term::TermForm::put_in-returns-in-Omega
+term::TermForm::put_in-returns-in-Omega g t c =
+    of_omega_term g.row.A.Denot ∙ ap (put (bindings_of c.args.bindings.now)) (sym (ap process_of_form c.in-Omega.is ∙ of_omega_term g.row.A.Denot))
