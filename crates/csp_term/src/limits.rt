@@ -4,7 +4,7 @@ ghost use Rattle.std.specs.Prelude.{◌≡◌, ◌∷◌, [], ◌+◌, ◌-◌, 
 ghost use Rattle.std.specs.Option.{SomeIff};
 ghost use Rattle.csp_semantics.specs.Meaning.Limits.{size, depth, fields_depth, fields_size, fits};
 ghost use Rattle.csp_term.specs.Field.{field_of, fields_of};
-ghost use Rattle.csp_term.specs.Own.{own_size};
+ghost use Rattle.csp_term.specs.Own.{own_depth, own_size};
 ghost use Rattle.csp_term.specs.Term.{process_of, process_of_form};
 
 use crate::field::Field;
@@ -85,44 +85,46 @@ impl<A: Allocator + Copy> TermForm<A> {
 
     /// Whether the parts of the form are at most so deep.
     #[cycle(depth)]
-    #[tactic(auto, using(crate::proofs::OperatorForms::binary_depth, crate::proofs::OperatorForms::replicated_depth))]
     fn are_parts_within_depth(&self, most: u32) -> bool
         ensures { IsTrue result ↔ (depth (process_of_form self.now) ≤ 1 + most) }
     {
+        if !self.is_head_within_depth(most) {
+            return false;
+        }
         match self {
-            TermForm::Stop | TermForm::Skip | TermForm::Omega => true,
-            TermForm::Call(_, arguments) => are_within_depth(arguments, most),
-            TermForm::Prefix(_, fields, body) => {
-                are_fields_within_depth(fields, most) && body.is_within_depth(most)
-            }
-            TermForm::Guard(expression, body) | TermForm::Replicated(_, _, expression, body) => {
-                expression.is_within_depth(most) && body.is_within_depth(most)
-            }
-            TermForm::If(condition, first, second) => {
-                condition.is_within_depth(most)
-                    && first.is_within_depth(most)
-                    && second.is_within_depth(most)
-            }
-            TermForm::Binary(_, left, right) => {
+            TermForm::Stop | TermForm::Skip | TermForm::Omega | TermForm::Call(_, _) => true,
+            TermForm::Prefix(_, _, body)
+            | TermForm::Guard(_, body)
+            | TermForm::Hiding(body, _)
+            | TermForm::Renaming(body, _)
+            | TermForm::Replicated(_, _, _, body) => body.is_within_depth(most),
+            TermForm::If(_, left, right)
+            | TermForm::Binary(_, left, right)
+            | TermForm::GeneralisedParallel(left, _, right)
+            | TermForm::AlphabetisedParallel(left, _, _, right) => {
                 left.is_within_depth(most) && right.is_within_depth(most)
             }
-            TermForm::GeneralisedParallel(left, shared, right) => {
-                left.is_within_depth(most)
-                    && shared.is_within_depth(most)
-                    && right.is_within_depth(most)
+        }
+    }
+
+    /// Whether the parts of the form that are no terms are at most so deep.
+    fn is_head_within_depth(&self, most: u32) -> bool
+        ensures { IsTrue result ↔ (own_depth (process_of_form self.now) ≤ most) }
+    {
+        match self {
+            TermForm::Stop | TermForm::Skip | TermForm::Omega | TermForm::Binary(_, _, _) => true,
+            TermForm::Call(_, arguments) => are_within_depth(arguments, most),
+            TermForm::Prefix(_, fields, _) => are_fields_within_depth(fields, most),
+            TermForm::Guard(expression, _)
+            | TermForm::If(expression, _, _)
+            | TermForm::Replicated(_, _, expression, _) => expression.is_within_depth(most),
+            TermForm::GeneralisedParallel(_, events, _) | TermForm::Hiding(_, events) => {
+                events.is_within_depth(most)
             }
-            TermForm::AlphabetisedParallel(left, own, other, right) => {
-                left.is_within_depth(most)
-                    && own.is_within_depth(most)
-                    && other.is_within_depth(most)
-                    && right.is_within_depth(most)
+            TermForm::AlphabetisedParallel(_, own, other, _) => {
+                own.is_within_depth(most) && other.is_within_depth(most)
             }
-            TermForm::Hiding(body, hidden) => {
-                body.is_within_depth(most) && hidden.is_within_depth(most)
-            }
-            TermForm::Renaming(body, pairs) => {
-                body.is_within_depth(most) && are_pairs_within_depth(pairs, most)
-            }
+            TermForm::Renaming(_, pairs) => are_pairs_within_depth(pairs, most),
         }
     }
 }
