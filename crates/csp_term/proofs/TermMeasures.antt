@@ -18,7 +18,6 @@ use Rattle.csp_term.specs.declared.operator.ReplicatedOperator.{ReplicatedOperat
 use Rattle.csp_term.specs.declared.term.Term.{Term}
 use Rattle.csp_term.specs.declared.term.TermForm.{TermForm}
 use Rattle.csp_term.specs.declared.term.TermForm.TheVariants as views
-use Rattle.csp_expression.specs.Expression.{expression_of}
 use Rattle.csp_term.specs.Term.{process_of, process_of_form}
 use Rattle.csp_term.proofs.Forms.{of_alphabetised, of_binary, of_conditional, of_generalised, of_call, of_guard, of_hiding, of_omega_term, of_prefix, of_skip, of_stop, of_renaming, of_replicated}
 use Rattle.csp_term.proofs.OperatorForms.{binary_own_depth, binary_own_size, replicated_own_depth, replicated_own_size}
