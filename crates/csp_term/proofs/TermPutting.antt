@@ -93,9 +93,10 @@ pub put_prefix : {A : Type 0} (bs left : Bindings) (c : ChannelId) (fs : List (F
     process_of_form {A = A} (views.Prefix c all body) ≡ put bs (pure.Prefix c.0 (fields_of fs) (process_of p))
 put_prefix {A} bs left c fs all p body done rest put_body = of_prefix A c all body ∙ ap₂ (pure.Prefix c.0) done (put_body ∙ ap (λ cs. put cs (process_of p)) rest)
 
-pub put_guard : {A : Type 0} (bs : Bindings) (e condition : Expr A) (p body : Term A) → expression_of condition ≡ put_expression bs (expression_of e) → process_of body ≡ put bs (process_of p) →
-    process_of_form {A = A} (views.Guard condition body) ≡ put bs (pure.Guard (expression_of e) (process_of p))
-put_guard {A} bs e condition p body done put_body = of_guard A condition body ∙ ap₂ pure.Guard done put_body
+pub put_guard : {A X : Type 0} (bs : Bindings) (self : TermForm A) (e : Expr A) (p body : Term A) (r : Result (TermForm A) X) → self ≡ views.Guard e p → process_of body ≡ put bs (process_of p) →
+    IfOk r (λ f. process_of_form f ≡ pure.Guard (put_expression bs (expression_of e)) (process_of body)) → IfOk r (λ f. process_of_form f ≡ put bs (process_of_form self))
+put_guard {A} bs self e p body r is put_body done =
+    IfOk-weaker r _ _ (λ f made. made ∙ ap (pure.Guard (put_expression bs (expression_of e))) put_body ∙ ap (put bs) (sym (ap process_of_form is ∙ of_guard A e p))) done
 
 pub put_conditional : {A X : Type 0} (bs : Bindings) (self : TermForm A) (e : Expr A) (p first q : Term A) (r : Result (TermForm A) X) → self ≡ views.If e p q → process_of first ≡ put bs (process_of p) →
     IfOk r (λ f. process_of_form f ≡ pure.If (put_expression bs (expression_of e)) (process_of first) (put bs (process_of q))) → IfOk r (λ f. process_of_form f ≡ put bs (process_of_form self))
@@ -133,9 +134,10 @@ pub made_alphabetised : {A : Type 0} (bs : Bindings) (left : Term A) (a own b ot
 made_alphabetised {A} bs left a own b other q right put_own put_other put_right =
     of_alphabetised A left own other right ∙ (λ i. pure.AlphabetisedParallel (process_of left) (put_own i) (put_other i) (put_right i))
 
-pub put_hiding : {A : Type 0} (bs : Bindings) (p body : Term A) (a hidden : EventSet A) → process_of body ≡ put bs (process_of p) → event_set_of hidden ≡ put_event_set bs (event_set_of a) →
-    process_of_form {A = A} (views.Hiding body hidden) ≡ put bs (pure.Hiding (process_of p) (event_set_of a))
-put_hiding {A} bs p body a hidden put_body put_hidden = of_hiding A body hidden ∙ ap₂ pure.Hiding put_body put_hidden
+pub put_hiding : {A X : Type 0} (bs : Bindings) (self : TermForm A) (p body : Term A) (a : EventSet A) (r : Result (TermForm A) X) → self ≡ views.Hiding p a → process_of body ≡ put bs (process_of p) →
+    IfOk r (λ f. process_of_form f ≡ pure.Hiding (process_of body) (put_event_set bs (event_set_of a))) → IfOk r (λ f. process_of_form f ≡ put bs (process_of_form self))
+put_hiding {A} bs self p body a r is put_body done =
+    IfOk-weaker r _ _ (λ f made. made ∙ ap (λ t. pure.Hiding t (put_event_set bs (event_set_of a))) put_body ∙ ap (put bs) (sym (ap process_of_form is ∙ of_hiding A p a))) done
 
 pub put_renaming : {A : Type 0} (bs : Bindings) (p body : Term A) (rs : List (RenamingPair A)) (pairs : Vec (RenamingPair A) A) → process_of body ≡ put bs (process_of p) → renaming_pairs_of pairs.items ≡ put_pairs bs (renaming_pairs_of rs) →
     process_of_form {A = A} (views.Renaming body pairs) ≡ put bs (pure.Renaming (process_of p) (renaming_pairs_of rs))
