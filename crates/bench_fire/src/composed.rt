@@ -1,6 +1,6 @@
 //! Terms whose operators have much to do.
 
-use crate::{C, X, Y};
+use crate::{C, Y};
 use csp_event_sets::{EventExpression, EventSet, RenamingPair};
 use csp_expression::Expr;
 use csp_term::{ChannelId, Field, Memory, ProcessOperator, Term, TermForm};
@@ -73,9 +73,8 @@ pub(crate) fn renamed(alloc: Global) -> Result<Term<Global>, Memory> {
     Term::new(alloc, TermForm::Renaming(body, pairs))
 }
 
-/// `c?x?y -> STOP`, of whose events those are hidden whose first field is 32 or more.
-pub(crate) fn hidden(alloc: Global) -> Result<Term<Global>, Memory> {
-    let body = prefix(alloc, Field::Input(X))?;
+/// The body with those events hidden whose first field is 32 or more.
+pub(crate) fn hidden(alloc: Global, body: Term<Global>) -> Result<Term<Global>, Memory> {
     let hidden = beginnings(alloc, 32)?;
     Term::new(alloc, TermForm::Hiding(body, hidden))
 }

@@ -165,7 +165,7 @@ fn fire_all(rt: &HostRuntime) -> Result<()> {
     }
     let speed = fire_often(rt, &script, &renamed(alloc)?, 100, 1)?;
     eprintln!(rt; "renaming of 995 pairs: {speed:.0} firings a second")?;
-    let speed = fire_often(rt, &script, &hidden(alloc)?, 20, 4096)?;
+    let speed = fire_often(rt, &script, &hidden(alloc, exchange(alloc)?)?, 20, 4096)?;
     eprintln!(rt; "hiding over 4,096 events: {speed:.0} steps a second")?;
     Ok(())
 }

@@ -1,3 +1,4 @@
 pub mod Field
 pub mod Term
 pub mod Script
+pub mod Own

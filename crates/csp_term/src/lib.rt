@@ -11,6 +11,7 @@ mod hiding;
 pub mod laws;
 mod limits;
 mod name;
+mod operands;
 mod operator;
 mod replicated;
 mod script;
