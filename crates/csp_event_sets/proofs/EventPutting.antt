@@ -19,7 +19,6 @@ use Rattle.csp_expression.specs.Expression.{expressions_of}
 use Rattle.csp_event_sets.specs.Events.{combined, event_expression_of, event_expressions_of, event_set_of, renaming_pair_of, renaming_pairs_of}
 use Rattle.csp_event_sets.proofs.EventForms.{of_combined, of_enumeration, of_productions}
 use Rattle.csp_expression.proofs.ExpressionPutting.{put_list}
-use Rattle.csp_expression.proofs.Nothing.{put_nothing_in_event}
 
 pub put_fields_of : {A : Type 0} (bs : Bindings) (c : ChannelId) (es all : Vec (Expr A) A) (read : List (Expr A)) → read ≡ es.items → expressions_of all.items ≡ puts bs read →
     event_expression_of {A = A} (record { channel = c; fields = all }) ≡ put_event bs (event_expression_of {A = A} (record { channel = c; fields = es }))
@@ -35,13 +34,6 @@ put_each_event bs (e ∷ es) = ap (λ fs. put_event bs (event_expression_of e) �
 pub put_each_pair : {A : Type 0} (bs : Bindings) (rs : List (RenamingPair A)) → put_pairs bs (renaming_pairs_of rs) ≡ map (λ r. put_pair bs (renaming_pair_of r)) rs
 put_each_pair bs [] = refl
 put_each_pair bs (r ∷ rs) = ap (λ ss. put_pair bs (renaming_pair_of r) ∷ ss) (put_each_pair bs rs)
-
--- putting no value in changes nothing
-pub put_nothing_in_pair : (r : pure.RenamingPair) → put_pair [] r ≡ r
-put_nothing_in_pair r =
-    let from = put_nothing_in_event r.from in
-    let to = put_nothing_in_event r.to in
-    λ i. record { from = from i; to = to i }
 
 -- ---- sets
 

@@ -3,7 +3,7 @@
 ghost use Rattle.std.specs.Prelude.{◌≡◌, IfOk};
 ghost use Rattle.csp_event_sets.specs.Events.{event_expression_of};
 
-use csp_expression::Expr;
+use csp_expression::{Expr, copy_expressions};
 use csp_value::{ChannelId, Memory, TryCopy};
 use std::alloc::Allocator;
 
@@ -16,11 +16,15 @@ pub struct EventExpression<A: Allocator> {
 }
 
 impl<A: Allocator + Copy> EventExpression<A> {
-    /// An equal event in the given allocator, or `Memory` where that has no room: the event with no value put in.
+    /// An equal event in the given allocator, or `Memory` where that has no room.
     pub fn try_copy(&self, alloc: A) -> Result<EventExpression<A>, Memory>
         ensures { IfOk result (λ copy. event_expression_of copy ≡ event_expression_of self.now) }
     {
-        self.put_in(&[], alloc)
+        let fields = copy_expressions(&self.fields, alloc)?;
+        Ok(EventExpression {
+            channel: self.channel,
+            fields,
+        })
     }
 }
 

@@ -5,7 +5,7 @@ ghost use Rattle.csp_event_sets.specs.Events.{event_set_of};
 
 use crate::event_expression::EventExpression;
 use crate::operator::EventSetOperator;
-use csp_value::{Memory, TryCopy};
+use csp_value::{Memory, TryCopy, copy_all};
 use std::alloc::Allocator;
 
 /// A set of events as it is written. The order is that of the forms, then of the parts in turn.
@@ -21,12 +21,19 @@ pub enum EventSet<A: Allocator> {
 }
 
 impl<A: Allocator + Copy> EventSet<A> {
-    /// An equal set in the given allocator, or `Memory` where that has no room: the set with no value put in.
-    #[tactic(auto, using(csp_expression::proofs::Nothing::put_nothing_in_event_set))]
+    /// An equal set in the given allocator, or `Memory` where that has no room.
     pub fn try_copy(&self, alloc: A) -> Result<EventSet<A>, Memory>
         ensures { IfOk result (λ copy. event_set_of copy ≡ event_set_of self.now) }
     {
-        self.put_in(&[], alloc)
+        match self {
+            EventSet::Enumeration(events) => Ok(EventSet::Enumeration(copy_all(alloc, events)?)),
+            EventSet::Productions(events) => Ok(EventSet::Productions(copy_all(alloc, events)?)),
+            EventSet::Combine(operator, left, right) => {
+                let left = Box::new(alloc, left.try_copy(alloc)?)?;
+                let right = Box::new(alloc, right.try_copy(alloc)?)?;
+                Ok(EventSet::Combine(*operator, left, right))
+            }
+        }
     }
 }
 

@@ -16,11 +16,13 @@ pub struct RenamingPair<A: Allocator> {
 }
 
 impl<A: Allocator + Copy> RenamingPair<A> {
-    /// An equal pair in the given allocator, or `Memory` where that has no room: the pair with no value put in.
+    /// An equal pair in the given allocator, or `Memory` where that has no room.
     pub fn try_copy(&self, alloc: A) -> Result<RenamingPair<A>, Memory>
         ensures { IfOk result (λ copy. renaming_pair_of copy ≡ renaming_pair_of self.now) }
     {
-        self.put_in(&[], alloc)
+        let from = self.from.try_copy(alloc)?;
+        let to = self.to.try_copy(alloc)?;
+        Ok(RenamingPair { from, to })
     }
 }
 

@@ -29,14 +29,14 @@ nothing_behind (Given e ∷ fs) = nothing_behind fs
 nothing_behind (Input n ∷ fs) = nothing_behind fs
 nothing_behind (InputFrom n e ∷ fs) = nothing_behind fs
 
-pub put_nothing_in_event : (e : EventExpression) → put_event [] e ≡ e
+put_nothing_in_event : (e : EventExpression) → put_event [] e ≡ e
 put_nothing_in_event e = let fields = put_nothing_in_all e.fields in λ i. record { channel = e.channel; fields = fields i }
 
 put_nothing_in_events : (es : List EventExpression) → put_events [] es ≡ es
 put_nothing_in_events [] = refl
 put_nothing_in_events (e ∷ es) = ap₂ (λ f fs. f ∷ fs) (put_nothing_in_event e) (put_nothing_in_events es)
 
-pub put_nothing_in_event_set : (a : EventSet) → put_event_set [] a ≡ a
+put_nothing_in_event_set : (a : EventSet) → put_event_set [] a ≡ a
 put_nothing_in_event_set (Enumeration es) = ap Enumeration (put_nothing_in_events es)
 put_nothing_in_event_set (Productions es) = ap Productions (put_nothing_in_events es)
 put_nothing_in_event_set (EventUnion a b) = ap₂ EventUnion (put_nothing_in_event_set a) (put_nothing_in_event_set b)

@@ -56,12 +56,6 @@ only_reads expression.Intersection = false
 only_reads expression.Difference = false
 only_reads _ = true
 
--- the operator makes its value of its operand without a part of it
-abbrev pub only_reads_operand : expression.Unary → Bool
-only_reads_operand expression.Head = false
-only_reads_operand expression.Tail = false
-only_reads_operand _ = true
-
 -- so many numbers, from the first one on
 abbrev pub numbers_up : ℕ → ℕ → List ℕ
 numbers_up first zero = []

@@ -1,13 +1,12 @@
 //! The value of an expression.
 
-ghost use Rattle.csp_semantics.specs.Syntax.Expression as pure;
 ghost use Rattle.csp_semantics.specs.Syntax.Expression.{to_expressions};
-ghost use Rattle.csp_semantics.specs.Meaning.Evaluation.{apply, combine, range_of, value, values};
+ghost use Rattle.csp_semantics.specs.Meaning.Evaluation.{apply, combine, value, values};
 ghost use Rattle.csp_semantics.specs.Meaning.Substitution.{put_expression};
 ghost use Rattle.csp_expression.specs.Bindings.{bindings_of, puts};
 ghost use Rattle.std.specs.Prelude.{◌≡◌, true};
 ghost use Rattle.csp_value.specs.Value.{value_of};
-ghost use Rattle.csp_expression.specs.Evaluation.{Answers, AnswersAll, IsAnswer, Sees, only_reads, only_reads_operand, seen_value, table_of};
+ghost use Rattle.csp_expression.specs.Evaluation.{Answers, AnswersAll, IsAnswer, Sees, only_reads, seen_value, table_of};
 ghost use Rattle.csp_expression.specs.Expression.{binary_of, expression_of, unary_of};
 
 use crate::eval_fault::EvalFault;
@@ -72,7 +71,7 @@ impl<A: Allocator + Copy> Expr<A> {
             Expr::Range(from, to) => {
                 let from = from.look(types, bindings, alloc)?;
                 let to = to.look(types, bindings, alloc)?;
-                Ok(Seen::Made(range(from, to, alloc)?))
+                Ok(Seen::Made(ranges::range(from.value(), to.value(), alloc)?))
             }
             Expr::Booleans => Ok(Seen::Made(ranges::booleans(alloc)?)),
             Expr::Datatype(datatype) => Ok(Seen::Made(ranges::datatype(types, *datatype, alloc)?)),
@@ -99,17 +98,6 @@ fn look_at_all<'e, A: Allocator + Copy>(
     Ok(all)
 }
 
-/// `{e..f}`
-fn range<'e, A: Allocator + Copy>(
-    from: Seen<'e, A>,
-    to: Seen<'e, A>,
-    alloc: A,
-) -> Result<Value<A>, EvalFault>
-    ensures { Answers result (range_of (seen_value from.entry) (seen_value to.entry)) }
-{
-    ranges::range(from.value(), to.value(), alloc)
-}
-
 /// What the operator makes of the operand's value.
 fn apply<'e, A: Allocator + Copy>(
     operator: UnaryOperator,
@@ -119,35 +107,13 @@ fn apply<'e, A: Allocator + Copy>(
     ensures { Sees result (apply (unary_of operator) (seen_value operand.entry)) }
 {
     match operator {
+        UnaryOperator::Negate => Ok(Seen::Made(arithmetic::negate(operand.value())?)),
+        UnaryOperator::Not => Ok(Seen::Made(connectives::negation(operand.value())?)),
+        UnaryOperator::Length => Ok(Seen::Made(sequences::length(operand.value())?)),
         UnaryOperator::Head => Ok(sequences::head(operand)?),
-        UnaryOperator::Tail => tail(operand, alloc),
-        _ => Ok(Seen::Made(read_operand(operator, operand.value())?)),
-    }
-}
-
-/// `tail(e)`
-fn tail<'e, A: Allocator + Copy>(operand: Seen<'e, A>, alloc: A) -> Result<Seen<'e, A>, EvalFault>
-    ensures { Sees result (apply pure.Tail (seen_value operand.entry)) }
-{
-    let operand = operand.into_value(alloc)?;
-    Ok(Seen::Made(sequences::tail(operand)?))
-}
-
-/// What an operator makes of its operand's value that only reads it.
-fn read_operand<A: Allocator + Copy>(
-    operator: UnaryOperator,
-    operand: &Value<A>,
-) -> Result<Value<A>, EvalFault>
-    requires { only_reads_operand (unary_of operator) ≡ true }
-    ensures { Answers result (apply (unary_of operator) (value_of operand.now)) }
-{
-    match operator {
-        UnaryOperator::Negate => Ok(arithmetic::negate(operand)?),
-        UnaryOperator::Not => Ok(connectives::negation(operand)?),
-        UnaryOperator::Length => sequences::length(operand),
-        UnaryOperator::IsNull => Ok(sequences::is_null(operand)?),
-        UnaryOperator::Card => sets::card(operand),
-        _ => unreachable!(),
+        UnaryOperator::Tail => Ok(Seen::Made(sequences::tail(operand.into_value(alloc)?)?)),
+        UnaryOperator::IsNull => Ok(Seen::Made(sequences::is_null(operand.value())?)),
+        UnaryOperator::Card => Ok(Seen::Made(sets::card(operand.value())?)),
     }
 }
 
@@ -161,62 +127,20 @@ fn combine<'e, A: Allocator + Copy>(
     ensures { Answers result (combine (binary_of operator) (seen_value left.entry) (seen_value right.entry)) }
 {
     match operator {
-        BinaryOperator::Concatenate => concatenation(left, right, alloc),
-        BinaryOperator::Union => union(left, right, alloc),
-        BinaryOperator::Intersection => intersection(left, right, alloc),
-        BinaryOperator::Difference => difference(left, right, alloc),
+        BinaryOperator::Concatenate => {
+            let left = left.into_value(alloc)?;
+            sequences::concatenate(left, right.into_value(alloc)?)
+        }
+        BinaryOperator::Union => {
+            let left = left.into_value(alloc)?;
+            sets::union(left, right.into_value(alloc)?)
+        }
+        BinaryOperator::Intersection => {
+            Ok(sets::intersection(left.into_value(alloc)?, right.value())?)
+        }
+        BinaryOperator::Difference => Ok(sets::difference(left.into_value(alloc)?, right.value())?),
         _ => Ok(read(operator, left.value(), right.value())?),
     }
-}
-
-/// `e^f`
-fn concatenation<'e, A: Allocator + Copy>(
-    left: Seen<'e, A>,
-    right: Seen<'e, A>,
-    alloc: A,
-) -> Result<Value<A>, EvalFault>
-    ensures { Answers result (combine pure.Concatenate (seen_value left.entry) (seen_value right.entry)) }
-{
-    let left = left.into_value(alloc)?;
-    let right = right.into_value(alloc)?;
-    sequences::concatenate(left, right)
-}
-
-/// `union(e, f)`
-fn union<'e, A: Allocator + Copy>(
-    left: Seen<'e, A>,
-    right: Seen<'e, A>,
-    alloc: A,
-) -> Result<Value<A>, EvalFault>
-    ensures { Answers result (combine pure.Union (seen_value left.entry) (seen_value right.entry)) }
-{
-    let left = left.into_value(alloc)?;
-    let right = right.into_value(alloc)?;
-    sets::union(left, right)
-}
-
-/// `inter(e, f)`
-fn intersection<'e, A: Allocator + Copy>(
-    left: Seen<'e, A>,
-    right: Seen<'e, A>,
-    alloc: A,
-) -> Result<Value<A>, EvalFault>
-    ensures { Answers result (combine pure.Intersection (seen_value left.entry) (seen_value right.entry)) }
-{
-    let left = left.into_value(alloc)?;
-    Ok(sets::intersection(left, right.value())?)
-}
-
-/// `diff(e, f)`
-fn difference<'e, A: Allocator + Copy>(
-    left: Seen<'e, A>,
-    right: Seen<'e, A>,
-    alloc: A,
-) -> Result<Value<A>, EvalFault>
-    ensures { Answers result (combine pure.Difference (seen_value left.entry) (seen_value right.entry)) }
-{
-    let left = left.into_value(alloc)?;
-    Ok(sets::difference(left, right.value())?)
 }
 
 /// What an operator makes of its operands' values that only reads them.

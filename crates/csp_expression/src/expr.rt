@@ -1,7 +1,7 @@
 //! Expressions.
 
 ghost use Rattle.std.specs.Prelude.{◌≡◌, IfOk};
-ghost use Rattle.csp_expression.specs.Expression.{expression_of};
+ghost use Rattle.csp_expression.specs.Expression.{expression_of, expressions_of};
 
 use crate::name::{DatatypeId, Name, NametypeId};
 use crate::operator::{BinaryOperator, UnaryOperator};
@@ -36,12 +36,49 @@ pub enum Expr<A: Allocator> {
 
 impl<A: Allocator + Copy> Expr<A> {
     /// An equal expression in the given allocator, or `Memory` where that has no room.
-    #[tactic(auto, using(crate::proofs::Nothing::put_nothing))]
+    #[cycle(copy)]
     pub fn try_copy(&self, alloc: A) -> Result<Expr<A>, Memory>
         ensures { IfOk result (λ copy. expression_of copy ≡ expression_of self.now) }
     {
-        self.put_in(&[], alloc)
+        match self {
+            Expr::Literal(value) => Ok(Expr::Literal(value.try_copy(alloc)?)),
+            Expr::Name(name) => Ok(Expr::Name(*name)),
+            Expr::Apply(operator, operand) => {
+                let operand = operand.try_copy(alloc)?;
+                Ok(Expr::Apply(*operator, Box::new(alloc, operand)?))
+            }
+            Expr::Combine(operator, left, right) => {
+                let left = Box::new(alloc, left.try_copy(alloc)?)?;
+                let right = Box::new(alloc, right.try_copy(alloc)?)?;
+                Ok(Expr::Combine(*operator, left, right))
+            }
+            Expr::Sequence(items) => Ok(Expr::Sequence(copy_expressions(items, alloc)?)),
+            Expr::Set(members) => Ok(Expr::Set(copy_expressions(members, alloc)?)),
+            Expr::Range(from, to) => {
+                let from = Box::new(alloc, from.try_copy(alloc)?)?;
+                let to = Box::new(alloc, to.try_copy(alloc)?)?;
+                Ok(Expr::Range(from, to))
+            }
+            Expr::Booleans => Ok(Expr::Booleans),
+            Expr::Datatype(datatype) => Ok(Expr::Datatype(*datatype)),
+            Expr::Nametype(nametype) => Ok(Expr::Nametype(*nametype)),
+        }
     }
+}
+
+/// A copy of each expression, in order, or `Memory` where there is no room.
+#[cycle(copy)]
+pub fn copy_expressions<A: Allocator + Copy>(
+    expressions: &[Expr<A>],
+    alloc: A,
+) -> Result<Vec<Expr<A>, A>, Memory>
+    ensures { IfOk result (λ copies. expressions_of copies.items ≡ expressions_of expressions.now) }
+{
+    let mut copies = Vec::new(alloc);
+    for expression in expressions {
+        copies.push(expression.try_copy(alloc)?)?;
+    }
+    Ok(copies)
 }
 
 impl<A: Allocator + Copy> TryCopy<A> for Expr<A> {

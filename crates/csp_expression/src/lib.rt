@@ -25,7 +25,7 @@ mod substitution;
 mod types;
 
 pub use eval_fault::EvalFault;
-pub use expr::Expr;
+pub use expr::{Expr, copy_expressions};
 pub use fault::Fault;
 pub use limits::{are_within_depth, room_left_by};
 pub use name::{DatatypeId, Name, NametypeId};

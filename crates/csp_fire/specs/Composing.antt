@@ -1,6 +1,5 @@
 -- What is answered of composed terms, by what is answered of their parts.
 use Rattle.std.specs.Prelude.{◌≡◌, ⊤, Bool, true, false, ◌&&◌, ◌↔◌, Contains, List, [], ◌∷◌, ◌++◌, cond, map, Option, Some, None, Result, Ok, Err}
-use Rattle.std.specs.Option.{option_or}
 use Rattle.csp_semantics.specs.Syntax.Value.{Action, Event, Tau, Tick, Ev, event_eq}
 use Rattle.csp_semantics.specs.Syntax.Process.{Process, Omega, ExternalChoice, Sequential, Interrupt, AlphabetisedParallel, GeneralisedParallel, Hiding, Renaming, Script}
 use Rattle.csp_semantics.specs.Meaning.Faults.{cause_in}
@@ -84,30 +83,16 @@ IsSideOf s p (Ok side) = (target_of side.process ≡ within_limits p) × IsAnswe
 IsSideOf s p (Err (stuck.Fault c)) = cause_in s p ≡ Some (cause_of c)
 IsSideOf s p (Err stuck.Memory) = ⊤
 
--- Two processes with their rule steps, or the first cause of both, the first one's before the second's.
-abbrev pub AreSidesOf : {A : Type 0} → Script → Process → Process → Result (Side A × Side A) Stuck → Type 0
-AreSidesOf s p q (Ok sides) = IsSideOf s p (Ok sides.0) × IsSideOf s q (Ok sides.1)
-AreSidesOf s p q (Err (stuck.Fault c)) = option_or (cause_in s p) (cause_in s q) ≡ Some (cause_of c)
-AreSidesOf s p q (Err stuck.Memory) = ⊤
-
 -- ---- operators of two processes, by what is answered of each of them and of its steps
 
--- a visible action of either leaves the operator
-abbrev pub left_answers : (Process → Process → Process) → Option Process → List Answered → Option Process → List Answered → List Answered
-left_answers under o bs r cs = each_answer (leave_answer (λ t. under_both under t r)) bs ++ each_answer (leave_answer (λ u. under_both under o u)) cs
-
 abbrev pub external_answers : Option Process → List Answered → Option Process → List Answered → List Answered
-external_answers o bs r cs = left_answers ExternalChoice o bs r cs
+external_answers o bs r cs = each_answer (leave_answer (λ t. under_both ExternalChoice t r)) bs ++ each_answer (leave_answer (λ u. under_both ExternalChoice o u)) cs
 
 abbrev pub sequential_answers : List Answered → Option Process → List Answered
 sequential_answers bs r = each_answer (stay_answer always (λ t. under_both Sequential t r) ((Tau, r) ∷ [])) bs
 
--- the first stays under the operator and ends it, and a visible action of the second leaves it
-abbrev pub ended_or_left_answers : (Process → Process → Process) → Option Process → List Answered → Option Process → List Answered → List Answered
-ended_or_left_answers under o bs r cs = each_answer (stay_answer always (λ t. under_both under t r) ((Tick, Some Omega) ∷ [])) bs ++ each_answer (leave_answer (λ u. under_both under o u)) cs
-
 abbrev pub interrupt_answers : Option Process → List Answered → Option Process → List Answered → List Answered
-interrupt_answers o bs r cs = ended_or_left_answers Interrupt o bs r cs
+interrupt_answers o bs r cs = each_answer (stay_answer always (λ t. under_both Interrupt t r) ((Tick, Some Omega) ∷ [])) bs ++ each_answer (leave_answer (λ u. under_both Interrupt o u)) cs
 
 abbrev pub meet_answer : (Event → Bool) → (Process → Process → Process) → Action → Option Process → Action → Option Process → List Answered
 meet_answer shared under (Ev e) t (Ev f) u = cond (event_eq e f && shared e) ((Ev e, under_both under t u) ∷ []) []

@@ -1,12 +1,10 @@
 -- The test that an evaluated set of events is, and what it lists.
-use Rattle.std.specs.Prelude.{◌≡◌, ⊤, Bool, not, ◌&&◌, ◌||◌, List, [], ◌∷◌, ◌++◌, map, Some, Result, Ok, Err}
+use Rattle.std.specs.Prelude.{◌≡◌, ⊤, Bool, not, ◌&&◌, ◌||◌, List, [], ◌∷◌, ◌++◌, map, Result, Ok, Err}
 use Rattle.std.specs.Box.{box_value}
 use Rattle.std.specs.declared.boxed.Box.{Box}
 use Rattle.std.specs.List.{list_any}
 use Rattle.std.specs.List.Sorted.{IsSortedBy}
-use Rattle.std.specs.Option.{option_or}
 use Rattle.std.specs.Ordering.{is_lt}
-use Rattle.std.specs.Result.{result_err}
 use Rattle.smallvec.specs.SmallVec.{SmallVec}
 use denote.Ref.{Bor}
 use Rattle.csp_semantics.specs.Syntax.Value as pure
@@ -101,9 +99,3 @@ abbrev pub IsBoxedTestOf : {A : Type 0} → Result (Box (EventTest A) A) Stuck �
 IsBoxedTestOf (Ok t) r = (r ≡ Ok (test_of (box_value t))) × AreSorted (listed_in (box_value t))
 IsBoxedTestOf (Err (stuck.Fault c)) r = r ≡ Err (cause_of c)
 IsBoxedTestOf (Err stuck.Memory) r = ⊤
-
--- the tests of two sets, or the first cause of both, the first one's before the second's
-abbrev pub AreTestsOf : {A : Type 0} → Result (EventTest A × EventTest A) Stuck → Result (pure.Event → Bool) Cause → Result (pure.Event → Bool) Cause → Type 0
-AreTestsOf (Ok tests) r q = IsTestOf (Ok tests.0) r × IsTestOf (Ok tests.1) q
-AreTestsOf (Err (stuck.Fault c)) r q = option_or (result_err r) (result_err q) ≡ Some (cause_of c)
-AreTestsOf (Err stuck.Memory) r q = ⊤

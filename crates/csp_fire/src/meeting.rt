@@ -36,18 +36,10 @@ impl<'m, A: AllocHandle> Meeting<'m, A> {
     fn both(self, alloc: A, left: &RuleStep<A>, right: &RuleStep<A>) -> Result<RuleStep<A>, Memory>
         ensures { IfOk result (λ s. answered_of s ≡ (action_of left.now.action, under_both (composition_of self.entry.composition.now) (target_of left.now.target) (target_of right.now.target))) }
     {
-        let target = self.target(alloc, &left.target, &right.target)?;
         let action = left.action.try_copy(alloc)?;
+        let (to, beside) = (left.target.try_copy(alloc)?, right.target.try_copy(alloc)?);
+        let target = self.composition.of(alloc, to, beside)?;
         Ok(RuleStep { action, target })
-    }
-
-    /// Where both steps lead.
-    fn target(self, alloc: A, left: &Target<A>, right: &Target<A>) -> Result<Target<A>, Memory>
-        ensures { IfOk result (λ t. target_of t ≡ under_both (composition_of self.entry.composition.now) (target_of left.now) (target_of right.now)) }
-    {
-        let left = left.try_copy(alloc)?;
-        let right = right.try_copy(alloc)?;
-        self.composition.of(alloc, left, right)
     }
 
     /// Adds the steps that the right side does together with this one of the left.

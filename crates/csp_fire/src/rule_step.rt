@@ -1,6 +1,6 @@
 //! The steps that rules answer, which may lead past the limits.
 
-ghost use Rattle.std.specs.Prelude.{◌≡◌, ◌++◌, ◌∷◌, [], IfOk, OnOk, Some, map};
+ghost use Rattle.std.specs.Prelude.{◌≡◌, ◌∷◌, [], IfOk, Some, map};
 ghost use Rattle.csp_semantics.specs.Meaning.Substitution.{put};
 ghost use Rattle.csp_semantics.specs.Syntax.Process.{Omega};
 ghost use Rattle.csp_value.specs.Action.{action_of};
@@ -74,16 +74,4 @@ pub(crate) fn one_step<A: AllocHandle>(
     let mut steps = Vec::new(alloc);
     steps.push(RuleStep { action, target })?;
     Ok(steps)
-}
-
-/// Adds the step.
-pub(crate) fn add_step<A: AllocHandle>(
-    action: Action<A>,
-    target: Target<A>,
-    steps: &mut Vec<RuleStep<A>, A>,
-) -> Result<(), Memory>
-    ensures { OnOk result (map answered_of steps.new.items ≡ map answered_of steps.old.items ++ (action_of action, target_of target) ∷ []) }
-{
-    steps.push(RuleStep { action, target })?;
-    Ok(())
 }

@@ -5,7 +5,7 @@ use Rattle.std.specs.Ordering.{nat_cmp, ordering_then}
 use Rattle.csp_semantics.specs.Syntax.Expression.{Expression}
 use Rattle.csp_semantics.specs.Syntax.Process.{Process}
 use Rattle.csp_semantics.specs.Syntax.Order.{expression_cmp, process_cmp, process_place}
-use Rattle.csp_semantics.specs.Meaning.Limits.{depth, size}
+use Rattle.csp_semantics.specs.Meaning.Limits.{depth, expression_depth, expression_size, size}
 use Rattle.csp_semantics.specs.Meaning.Substitution.{Bindings, put, put_expression, without}
 use Rattle.csp_term.specs.declared.operator.ProcessOperator.{ProcessOperator}
 use Rattle.csp_term.specs.declared.operator.ProcessOperator.TheVariants as binary
@@ -13,7 +13,6 @@ use Rattle.csp_term.specs.declared.operator.ReplicatedOperator.{ReplicatedOperat
 use Rattle.csp_term.specs.declared.operator.ReplicatedOperator.TheVariants as replicated
 use Rattle.csp_term.specs.contracts.operator.ProcessOperatorOrd.TheImpl as binary_impl
 use Rattle.csp_term.specs.contracts.operator.ReplicatedOperatorOrd.TheImpl as replicated_impl
-use Rattle.csp_term.specs.Own.{own_depth, own_size}
 use Rattle.csp_term.specs.Term.{binary_process, replicated_process}
 
 -- ---- of two processes
@@ -43,19 +42,19 @@ binary_ordered binary.Interleaving binary.Interleaving p q r s = refl
 binary_ordered binary.Interrupt binary.Interrupt p q r s = refl
 binary_ordered _ _ p q r s = refl
 
-pub binary_own_size : (op : ProcessOperator) (p q : Process) → size (binary_process op p q) ≡ own_size (binary_process op p q) + (size p + size q)
-binary_own_size binary.ExternalChoice p q = refl
-binary_own_size binary.InternalChoice p q = refl
-binary_own_size binary.Sequential p q = refl
-binary_own_size binary.Interleaving p q = refl
-binary_own_size binary.Interrupt p q = refl
+pub binary_size : (op : ProcessOperator) (p q : Process) → size (binary_process op p q) ≡ 1 + (size p + size q)
+binary_size binary.ExternalChoice p q = refl
+binary_size binary.InternalChoice p q = refl
+binary_size binary.Sequential p q = refl
+binary_size binary.Interleaving p q = refl
+binary_size binary.Interrupt p q = refl
 
-pub binary_own_depth : (op : ProcessOperator) (p q : Process) → depth (binary_process op p q) ≡ 1 + max (own_depth (binary_process op p q)) (max (depth p) (depth q))
-binary_own_depth binary.ExternalChoice p q = omega arith
-binary_own_depth binary.InternalChoice p q = omega arith
-binary_own_depth binary.Sequential p q = omega arith
-binary_own_depth binary.Interleaving p q = omega arith
-binary_own_depth binary.Interrupt p q = omega arith
+pub binary_depth : (op : ProcessOperator) (p q : Process) → depth (binary_process op p q) ≡ 1 + max (depth p) (depth q)
+binary_depth binary.ExternalChoice p q = refl
+binary_depth binary.InternalChoice p q = refl
+binary_depth binary.Sequential p q = refl
+binary_depth binary.Interleaving p q = refl
+binary_depth binary.Interrupt p q = refl
 
 pub binary_put : (bs : Bindings) (op : ProcessOperator) (p q : Process) → put bs (binary_process op p q) ≡ binary_process op (put bs p) (put bs q)
 binary_put bs binary.ExternalChoice p q = refl
@@ -86,15 +85,15 @@ replicated_ordered replicated.InternalChoice replicated.InternalChoice m n e f p
 replicated_ordered replicated.Interleaving replicated.Interleaving m n e f p q = refl
 replicated_ordered _ _ m n e f p q = refl
 
-pub replicated_own_size : (op : ReplicatedOperator) (n : ℕ) (e : Expression) (p : Process) → size (replicated_process op n e p) ≡ own_size (replicated_process op n e p) + size p
-replicated_own_size replicated.ExternalChoice n e p = omega arith
-replicated_own_size replicated.InternalChoice n e p = omega arith
-replicated_own_size replicated.Interleaving n e p = omega arith
+pub replicated_size : (op : ReplicatedOperator) (n : ℕ) (e : Expression) (p : Process) → size (replicated_process op n e p) ≡ 1 + (expression_size e + size p)
+replicated_size replicated.ExternalChoice n e p = refl
+replicated_size replicated.InternalChoice n e p = refl
+replicated_size replicated.Interleaving n e p = refl
 
-pub replicated_own_depth : (op : ReplicatedOperator) (n : ℕ) (e : Expression) (p : Process) → depth (replicated_process op n e p) ≡ 1 + max (own_depth (replicated_process op n e p)) (depth p)
-replicated_own_depth replicated.ExternalChoice n e p = refl
-replicated_own_depth replicated.InternalChoice n e p = refl
-replicated_own_depth replicated.Interleaving n e p = refl
+pub replicated_depth : (op : ReplicatedOperator) (n : ℕ) (e : Expression) (p : Process) → depth (replicated_process op n e p) ≡ 1 + max (expression_depth e) (depth p)
+replicated_depth replicated.ExternalChoice n e p = refl
+replicated_depth replicated.InternalChoice n e p = refl
+replicated_depth replicated.Interleaving n e p = refl
 
 pub replicated_put : (bs : Bindings) (op : ReplicatedOperator) (n : ℕ) (e : Expression) (p : Process) → put bs (replicated_process op n e p) ≡ replicated_process op n (put_expression bs e) (put (without n bs) p)
 replicated_put bs replicated.ExternalChoice n e p = refl

@@ -1,4 +1,3 @@
 pub mod Field
 pub mod Term
 pub mod Script
-pub mod Own

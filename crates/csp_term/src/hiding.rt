@@ -2,7 +2,7 @@
 
 ghost use Rattle.std.specs.Prelude.{◌≡◌, IfOk};
 ghost use Rattle.csp_semantics.specs.Syntax.Process.{Hiding, Renaming};
-ghost use Rattle.csp_semantics.specs.Meaning.Substitution.{put, put_event_set};
+ghost use Rattle.csp_semantics.specs.Meaning.Substitution.{put};
 ghost use Rattle.csp_expression.specs.Bindings.{bindings_of};
 ghost use Rattle.csp_event_sets.specs.Events.{event_set_of, renaming_pairs_of};
 ghost use Rattle.csp_term.specs.Term.{process_of, process_of_form};
@@ -13,15 +13,17 @@ use csp_expression::Binding;
 use csp_value::Memory;
 use std::alloc::Allocator;
 
-/// The hiding with the values put in. They are in the body already.
+/// The hiding with the values put in.
+#[cycle(put_term)]
 pub(crate) fn put_in_hiding<A: Allocator + Copy>(
-    body: Term<A>,
+    body: &Term<A>,
     hidden: &EventSet<A>,
     bindings: &[Binding<'_, A>],
     alloc: A,
 ) -> Result<TermForm<A>, Memory>
-    ensures { IfOk result (λ form. process_of_form form ≡ Hiding (process_of body) (put_event_set (bindings_of bindings.now) (event_set_of hidden.now))) }
+    ensures { IfOk result (λ form. process_of_form form ≡ put (bindings_of bindings.now) (Hiding (process_of body.now) (event_set_of hidden.now))) }
 {
+    let body = body.put_in(bindings, alloc)?;
     Ok(TermForm::Hiding(body, hidden.put_in(bindings, alloc)?))
 }
 

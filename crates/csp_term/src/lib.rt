@@ -11,7 +11,6 @@ mod hiding;
 pub mod laws;
 mod limits;
 mod name;
-mod operands;
 mod operator;
 mod replicated;
 mod script;

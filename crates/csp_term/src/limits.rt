@@ -4,7 +4,6 @@ ghost use Rattle.std.specs.Prelude.{◌≡◌, ◌∷◌, [], ◌+◌, ◌-◌, 
 ghost use Rattle.std.specs.Option.{SomeIff};
 ghost use Rattle.csp_semantics.specs.Meaning.Limits.{size, depth, fields_depth, fields_size, fits};
 ghost use Rattle.csp_term.specs.Field.{field_of, fields_of};
-ghost use Rattle.csp_term.specs.Own.{own_depth, own_size};
 ghost use Rattle.csp_term.specs.Term.{process_of, process_of_form};
 
 use crate::field::Field;
@@ -29,23 +28,33 @@ impl<A: Allocator + Copy> Term<A> {
     }
 
     /// What the term leaves of the room for nodes, `None` where it has more.
+    #[tactic(auto, using(crate::proofs::OperatorForms::binary_size, crate::proofs::OperatorForms::replicated_size))]
     fn room_left(&self, room: u32) -> Option<u32>
         ensures { SomeIff result (size (process_of self.now) ≤ room) (room - size (process_of self.now)) }
     {
-        let rest = self.form.room_left_by_head(room)?;
+        let rest = room.checked_sub(1)?;
         match &*self.form {
-            TermForm::Stop | TermForm::Skip | TermForm::Omega | TermForm::Call(_, _) => Some(rest),
-            TermForm::Prefix(_, _, body)
-            | TermForm::Guard(_, body)
-            | TermForm::Hiding(body, _)
-            | TermForm::Renaming(body, _)
-            | TermForm::Replicated(_, _, _, body) => body.room_left(rest),
-            TermForm::If(_, left, right)
-            | TermForm::Binary(_, left, right)
-            | TermForm::GeneralisedParallel(left, _, right)
-            | TermForm::AlphabetisedParallel(left, _, _, right) => {
-                right.room_left(left.room_left(rest)?)
+            TermForm::Stop | TermForm::Skip | TermForm::Omega => Some(rest),
+            TermForm::Call(_, arguments) => room_left_by(arguments, rest),
+            TermForm::Prefix(_, fields, body) => body.room_left(room_left_by_fields(fields, rest)?),
+            TermForm::Guard(expression, body) | TermForm::Replicated(_, _, expression, body) => {
+                body.room_left(expression.room_left(rest)?)
             }
+            TermForm::If(condition, first, second) => {
+                let rest = condition.room_left(rest)?;
+                second.room_left(first.room_left(rest)?)
+            }
+            TermForm::Binary(_, left, right) => right.room_left(left.room_left(rest)?),
+            TermForm::GeneralisedParallel(left, shared, right) => {
+                let rest = left.room_left(rest)?;
+                right.room_left(shared.room_left(rest)?)
+            }
+            TermForm::AlphabetisedParallel(left, own, other, right) => {
+                let rest = other.room_left(own.room_left(left.room_left(rest)?)?)?;
+                right.room_left(rest)
+            }
+            TermForm::Hiding(body, hidden) => hidden.room_left(body.room_left(rest)?),
+            TermForm::Renaming(body, pairs) => room_left_by_pairs(pairs, body.room_left(rest)?),
         }
     }
 
@@ -59,72 +68,46 @@ impl<A: Allocator + Copy> Term<A> {
 }
 
 impl<A: Allocator + Copy> TermForm<A> {
-    /// What the form, without the terms in it, leaves of the room for nodes, `None` where it has more.
-    fn room_left_by_head(&self, room: u32) -> Option<u32>
-        ensures { SomeIff result (own_size (process_of_form self.now) ≤ room) (room - own_size (process_of_form self.now)) }
-    {
-        let rest = room.checked_sub(1)?;
-        match self {
-            TermForm::Stop | TermForm::Skip | TermForm::Omega | TermForm::Binary(_, _, _) => {
-                Some(rest)
-            }
-            TermForm::Call(_, arguments) => room_left_by(arguments, rest),
-            TermForm::Prefix(_, fields, _) => room_left_by_fields(fields, rest),
-            TermForm::Guard(expression, _)
-            | TermForm::If(expression, _, _)
-            | TermForm::Replicated(_, _, expression, _) => expression.room_left(rest),
-            TermForm::GeneralisedParallel(_, events, _) | TermForm::Hiding(_, events) => {
-                events.room_left(rest)
-            }
-            TermForm::AlphabetisedParallel(_, own, other, _) => {
-                other.room_left(own.room_left(rest)?)
-            }
-            TermForm::Renaming(_, pairs) => room_left_by_pairs(pairs, rest),
-        }
-    }
-
     /// Whether the parts of the form are at most so deep.
     #[cycle(depth)]
+    #[tactic(auto, using(crate::proofs::OperatorForms::binary_depth, crate::proofs::OperatorForms::replicated_depth))]
     fn are_parts_within_depth(&self, most: u32) -> bool
         ensures { IsTrue result ↔ (depth (process_of_form self.now) ≤ 1 + most) }
     {
-        if !self.is_head_within_depth(most) {
-            return false;
-        }
         match self {
-            TermForm::Stop | TermForm::Skip | TermForm::Omega | TermForm::Call(_, _) => true,
-            TermForm::Prefix(_, _, body)
-            | TermForm::Guard(_, body)
-            | TermForm::Hiding(body, _)
-            | TermForm::Renaming(body, _)
-            | TermForm::Replicated(_, _, _, body) => body.is_within_depth(most),
-            TermForm::If(_, left, right)
-            | TermForm::Binary(_, left, right)
-            | TermForm::GeneralisedParallel(left, _, right)
-            | TermForm::AlphabetisedParallel(left, _, _, right) => {
+            TermForm::Stop | TermForm::Skip | TermForm::Omega => true,
+            TermForm::Call(_, arguments) => are_within_depth(arguments, most),
+            TermForm::Prefix(_, fields, body) => {
+                are_fields_within_depth(fields, most) && body.is_within_depth(most)
+            }
+            TermForm::Guard(expression, body) | TermForm::Replicated(_, _, expression, body) => {
+                expression.is_within_depth(most) && body.is_within_depth(most)
+            }
+            TermForm::If(condition, first, second) => {
+                condition.is_within_depth(most)
+                    && first.is_within_depth(most)
+                    && second.is_within_depth(most)
+            }
+            TermForm::Binary(_, left, right) => {
                 left.is_within_depth(most) && right.is_within_depth(most)
             }
-        }
-    }
-
-    /// Whether the parts of the form that are no terms are at most so deep.
-    fn is_head_within_depth(&self, most: u32) -> bool
-        ensures { IsTrue result ↔ (own_depth (process_of_form self.now) ≤ most) }
-    {
-        match self {
-            TermForm::Stop | TermForm::Skip | TermForm::Omega | TermForm::Binary(_, _, _) => true,
-            TermForm::Call(_, arguments) => are_within_depth(arguments, most),
-            TermForm::Prefix(_, fields, _) => are_fields_within_depth(fields, most),
-            TermForm::Guard(expression, _)
-            | TermForm::If(expression, _, _)
-            | TermForm::Replicated(_, _, expression, _) => expression.is_within_depth(most),
-            TermForm::GeneralisedParallel(_, events, _) | TermForm::Hiding(_, events) => {
-                events.is_within_depth(most)
+            TermForm::GeneralisedParallel(left, shared, right) => {
+                left.is_within_depth(most)
+                    && shared.is_within_depth(most)
+                    && right.is_within_depth(most)
             }
-            TermForm::AlphabetisedParallel(_, own, other, _) => {
-                own.is_within_depth(most) && other.is_within_depth(most)
+            TermForm::AlphabetisedParallel(left, own, other, right) => {
+                left.is_within_depth(most)
+                    && own.is_within_depth(most)
+                    && other.is_within_depth(most)
+                    && right.is_within_depth(most)
             }
-            TermForm::Renaming(_, pairs) => are_pairs_within_depth(pairs, most),
+            TermForm::Hiding(body, hidden) => {
+                body.is_within_depth(most) && hidden.is_within_depth(most)
+            }
+            TermForm::Renaming(body, pairs) => {
+                body.is_within_depth(most) && are_pairs_within_depth(pairs, most)
+            }
         }
     }
 }

@@ -25,7 +25,7 @@ pub(crate) fn put_in_replicated<A: Allocator + Copy>(
 ) -> Result<TermForm<A>, Memory>
     ensures { IfOk result (λ form. process_of_form form ≡ put (bindings_of bindings.now) (replicated_process operator name.0 (expression_of set.now) (process_of body.now))) }
 {
+    let set = set.put_in(bindings, alloc)?;
     let left = without(name, bindings, alloc)?;
-    let body = body.put_in(&left, alloc)?;
-    Ok(TermForm::Replicated(operator, name, set.put_in(bindings, alloc)?, body))
+    Ok(TermForm::Replicated(operator, name, set, body.put_in(&left, alloc)?))
 }

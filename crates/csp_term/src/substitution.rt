@@ -3,7 +3,7 @@
 ghost use Rattle.std.specs.Prelude.{◌≡◌, ◌∷◌, [], IfOk, IsErrOf, IsFalse, IsTrue};
 ghost use Rattle.csp_semantics.specs.Syntax.Expression.{to_expressions};
 ghost use Rattle.csp_semantics.specs.Syntax.Process.{Call, Guard, Prefix};
-ghost use Rattle.csp_semantics.specs.Meaning.Substitution.{behind, bind, put, put_expression, put_fields, without};
+ghost use Rattle.csp_semantics.specs.Meaning.Substitution.{behind, bind, put, put_fields, without};
 ghost use Rattle.csp_semantics.specs.Meaning.Limits.{fits};
 ghost use Rattle.csp_value.specs.Value.{value_of};
 ghost use Rattle.csp_expression.specs.Bindings.{bindings_of};
@@ -14,7 +14,6 @@ ghost use Rattle.csp_term.specs.Term.{process_of, process_of_form};
 use crate::field::Field;
 use crate::hiding::{put_in_hiding, put_in_renaming};
 use crate::name::EquationId;
-use crate::operands::{put_in_alphabetised, put_in_binary, put_in_conditional, put_in_generalised};
 use crate::replicated::put_in_replicated;
 use crate::term::{Term, TermForm};
 use csp_expression::{Binding, Expr, Name, put_in_all};
@@ -145,28 +144,28 @@ impl<A: Allocator + Copy> TermForm<A> {
             TermForm::Prefix(channel, fields, body) => {
                 put_in_prefix(*channel, fields, body, bindings, alloc)
             }
-            TermForm::Guard(condition, body) => {
-                put_in_guard(condition, body.put_in(bindings, alloc)?, bindings, alloc)
-            }
+            TermForm::Guard(condition, body) => put_in_guard(body, condition, bindings, alloc),
             TermForm::If(condition, first, second) => {
+                let condition = condition.put_in(bindings, alloc)?;
                 let first = first.put_in(bindings, alloc)?;
-                put_in_conditional(second, first, condition, bindings, alloc)
+                Ok(TermForm::If(condition, first, second.put_in(bindings, alloc)?))
             }
             TermForm::Binary(operator, left, right) => {
                 let left = left.put_in(bindings, alloc)?;
-                put_in_binary(*operator, right, left, bindings, alloc)
+                Ok(TermForm::Binary(*operator, left, right.put_in(bindings, alloc)?))
             }
             TermForm::GeneralisedParallel(left, shared, right) => {
                 let left = left.put_in(bindings, alloc)?;
-                put_in_generalised(right, left, shared, bindings, alloc)
+                let shared = shared.put_in(bindings, alloc)?;
+                Ok(TermForm::GeneralisedParallel(left, shared, right.put_in(bindings, alloc)?))
             }
             TermForm::AlphabetisedParallel(left, own, other, right) => {
                 let left = left.put_in(bindings, alloc)?;
-                put_in_alphabetised(right, left, own, other, bindings, alloc)
+                let own = own.put_in(bindings, alloc)?;
+                let other = other.put_in(bindings, alloc)?;
+                Ok(TermForm::AlphabetisedParallel(left, own, other, right.put_in(bindings, alloc)?))
             }
-            TermForm::Hiding(body, hidden) => {
-                put_in_hiding(body.put_in(bindings, alloc)?, hidden, bindings, alloc)
-            }
+            TermForm::Hiding(body, hidden) => put_in_hiding(body, hidden, bindings, alloc),
             TermForm::Renaming(body, pairs) => put_in_renaming(body, pairs, bindings, alloc),
             TermForm::Replicated(operator, name, set, body) => {
                 put_in_replicated(*operator, *name, body, set, bindings, alloc)
@@ -202,16 +201,18 @@ fn put_in_prefix<A: Allocator + Copy>(
     Ok(TermForm::Prefix(channel, fields, body.put_in(&left, alloc)?))
 }
 
-/// The guarded process with the values put in. They are in the body already.
+/// The guarded process with the values put in.
+#[cycle(put_term)]
 fn put_in_guard<A: Allocator + Copy>(
+    body: &Term<A>,
     condition: &Expr<A>,
-    body: Term<A>,
     bindings: &[Binding<'_, A>],
     alloc: A,
 ) -> Result<TermForm<A>, Memory>
-    ensures { IfOk result (λ form. process_of_form form ≡ Guard (put_expression (bindings_of bindings.now) (expression_of condition.now)) (process_of body)) }
+    ensures { IfOk result (λ form. process_of_form form ≡ put (bindings_of bindings.now) (Guard (expression_of condition.now) (process_of body.now))) }
 {
-    Ok(TermForm::Guard(condition.put_in(bindings, alloc)?, body))
+    let condition = condition.put_in(bindings, alloc)?;
+    Ok(TermForm::Guard(condition, body.put_in(bindings, alloc)?))
 }
 
 impl<A: Allocator + Copy> Term<A> {

@@ -2,7 +2,6 @@
 //! and looks at neither side.
 
 ghost use Rattle.std.specs.Prelude.{◌≡◌, ◌∷◌, [], IfOk, map};
-ghost use Rattle.csp_semantics.specs.Syntax.Process as pure;
 ghost use Rattle.csp_semantics.specs.Syntax.Value.{Tau};
 ghost use Rattle.csp_semantics.specs.Syntax.Process.{ExternalChoice, InternalChoice};
 ghost use Rattle.csp_semantics.specs.Meaning.Substitution.{put};
@@ -10,11 +9,11 @@ ghost use Rattle.csp_expression.specs.Bindings.{bindings_of};
 ghost use Rattle.csp_term.specs.Script.{script_of};
 ghost use Rattle.csp_term.specs.Term.{process_of};
 ghost use Rattle.csp_fire.specs.Answering.{Answers, answered_of, target_of};
-ghost use Rattle.csp_fire.specs.Composing.{AreSidesOf, composition_of, external_answers, left_answers, side_answers, under_both};
+ghost use Rattle.csp_fire.specs.Composing.{external_answers, side_answers, under_both};
 
 use crate::composition::Composition;
 use crate::context::{Context, Hand};
-use crate::rule_step::{RuleStep, Target, add_step, one_step};
+use crate::rule_step::{RuleStep, Target, one_step};
 use crate::rules::leave;
 use crate::rules::side::Side;
 use crate::stuck::Stuck;
@@ -32,18 +31,8 @@ pub(crate) fn external<'v, A: AllocHandle>(
 ) -> Result<Vec<RuleStep<A>, A>, Stuck>
     ensures { Answers (script_of script.now) (put (bindings_of bindings.now) (ExternalChoice (process_of left.now) (process_of right.now))) result }
 {
-    let sides = Side::both(alloc, script, bindings, left, right);
-    by_sides(alloc, sides)
-}
-
-/// The steps of `P [] Q` by those of its sides.
-fn by_sides<A: AllocHandle>(
-    alloc: A,
-    sides: Result<(Side<A>, Side<A>), Stuck>,
-) -> Result<Vec<RuleStep<A>, A>, Stuck>
-    ensures { (s : pure.Script) (p q : pure.Process) → AreSidesOf s p q sides → Answers s (ExternalChoice p q) result }
-{
-    let (left, right) = sides?;
+    let left = Side::under(alloc, script, bindings, left)?;
+    let right = Side::under(alloc, script, bindings, right)?;
     Ok(between(alloc, left, right)?.steps)
 }
 
@@ -57,30 +46,15 @@ pub(crate) fn between<A: AllocHandle>(
     ensures steps { IfOk result (λ side. side_answers side ≡ external_answers (target_of left.process) (side_answers left) (target_of right.process) (side_answers right)) }
 {
     let composition = Composition::Operator(ProcessOperator::ExternalChoice);
-    let side = under(alloc, &composition, left, right);
-    drop(composition);
-    side
-}
-
-/// The operator that a visible action of a side leaves.
-fn under<A: AllocHandle>(
-    alloc: A,
-    composition: &Composition<A>,
-    left: Side<A>,
-    right: Side<A>,
-) -> Result<Side<A>, Memory>
-    ensures process { IfOk result (λ side. target_of side.process ≡ under_both (composition_of composition.now) (target_of left.process) (target_of right.process)) }
-    ensures steps { IfOk result (λ side. side_answers side ≡ left_answers (composition_of composition.now) (target_of left.process) (side_answers left) (target_of right.process) (side_answers right)) }
-{
     let mut steps = Vec::new(alloc);
     let context = Context {
-        composition,
+        composition: &composition,
         hand: Hand::Left,
         other: &right.process,
     };
     leave::add(alloc, context, left.steps, &mut steps)?;
     let context = Context {
-        composition,
+        composition: &composition,
         hand: Hand::Right,
         other: &left.process,
     };
@@ -114,6 +88,8 @@ pub(crate) fn taus<A: AllocHandle>(
     ensures { IfOk result (λ steps. map answered_of steps.items ≡ (Tau, target_of left) ∷ (Tau, target_of right) ∷ []) }
 {
     let mut steps = one_step(alloc, Action::Tau, left)?;
-    add_step(Action::Tau, right, &mut steps)?;
+    let action = Action::Tau;
+    let target = right;
+    steps.push(RuleStep { action, target })?;
     Ok(steps)
 }

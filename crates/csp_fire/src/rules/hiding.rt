@@ -1,7 +1,6 @@
 //! `P \ A` does what `P` does, and the events of `A` as tau. A tick ends all.
 
 ghost use Rattle.std.specs.Prelude.{◌≡◌, ◌∷◌, [], IfOk, cond, map};
-ghost use Rattle.csp_semantics.specs.Syntax.Process as pure;
 ghost use Rattle.csp_semantics.specs.Syntax.Process.{Hiding};
 ghost use Rattle.csp_semantics.specs.Syntax.Value.{Ev, Tau};
 ghost use Rattle.csp_semantics.specs.Meaning.Substitution.{put};
@@ -35,19 +34,6 @@ fn hidden_event<A: AllocHandle>(test: &EventTest<A>, event: Event<A>) -> Action<
     }
 }
 
-/// The step of the body under the operator, with what is seen of its action.
-fn under<A: AllocHandle>(
-    alloc: A,
-    frame: &Frame<A>,
-    action: Action<A>,
-    target: Target<A>,
-) -> Result<RuleStep<A>, Memory>
-    ensures { IfOk result (λ s. answered_of s ≡ (action_of action, under_limits (frame_of frame.now) (target_of target))) }
-{
-    let target = frame.of(alloc, target)?;
-    Ok(RuleStep { action, target })
-}
-
 fn step<A: AllocHandle>(
     alloc: A,
     frame: &Frame<A>,
@@ -64,8 +50,16 @@ fn step<A: AllocHandle>(
             let action = Action::Tick;
             Ok(RuleStep { action, target })
         }
-        Action::Tau => under(alloc, frame, Action::Tau, target),
-        Action::Event(event) => under(alloc, frame, hidden_event(test, event), target),
+        Action::Tau => {
+            let target = frame.of(alloc, target)?;
+            let action = Action::Tau;
+            Ok(RuleStep { action, target })
+        }
+        Action::Event(event) => {
+            let target = frame.of(alloc, target)?;
+            let action = hidden_event(test, event);
+            Ok(RuleStep { action, target })
+        }
     }
 }
 
@@ -79,27 +73,11 @@ pub(crate) fn steps<'v, A: AllocHandle>(
 ) -> Result<Vec<RuleStep<A>, A>, Stuck>
     ensures { Answers (script_of script.now) (put (bindings_of bindings.now) (Hiding (process_of body.now) (event_set_of hidden.now))) result }
 {
-    let body = rules::steps(alloc, script, bindings, body);
     let hidden = hidden.put_in(bindings, alloc)?;
-    by_body(alloc, script, hidden, body)
-}
-
-/// The steps of `P \ A` by those of its body. A cause of the set comes before those of the body.
-fn by_body<A: AllocHandle>(
-    alloc: A,
-    script: &Script<A>,
-    hidden: EventSet<A>,
-    body: Result<Vec<RuleStep<A>, A>, Stuck>,
-) -> Result<Vec<RuleStep<A>, A>, Stuck>
-    ensures { (p : pure.Process) → Answers (script_of script.now) p body → Answers (script_of script.now) (Hiding p (event_set_of hidden)) result }
-{
     let test = EventTest::of(alloc, script, &hidden)?;
-    let body = body?;
+    let body = rules::steps(alloc, script, bindings, body)?;
     let frame = Frame::Hiding(hidden);
-    let steps = without(alloc, &frame, &test, body);
-    drop(frame);
-    drop(test);
-    Ok(steps?)
+    Ok(without(alloc, &frame, &test, body)?)
 }
 
 /// The steps by those of the body.

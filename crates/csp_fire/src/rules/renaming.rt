@@ -1,7 +1,6 @@
 //! `P [[from <- to, ..]]` does what `P` does, and each event as each of its images. A tick ends all.
 
 ghost use Rattle.std.specs.Prelude.{◌≡◌, ◌++◌, IfOk, OnOk, map};
-ghost use Rattle.csp_semantics.specs.Syntax.Process as pure;
 ghost use Rattle.csp_semantics.specs.Syntax.Process.{Renaming};
 ghost use Rattle.csp_semantics.specs.Meaning.Events.{or_itself};
 ghost use Rattle.csp_semantics.specs.Meaning.Substitution.{put};
@@ -16,7 +15,7 @@ ghost use Rattle.csp_fire.specs.Imaging.{PairsRise, found_images};
 
 use crate::composition::Frame;
 use crate::images::Images;
-use crate::rule_step::{RuleStep, Target, add_step};
+use crate::rule_step::{RuleStep, Target};
 use crate::rules;
 use crate::stuck::Stuck;
 use csp_event_sets::{RenamingPair, put_in_pairs};
@@ -40,23 +39,6 @@ fn add_images<A: AllocHandle>(
     Ok(())
 }
 
-/// Adds the steps by the event's images.
-fn add_event<A: AllocHandle>(
-    alloc: A,
-    frame: &Frame<A>,
-    images: &Images<A>,
-    event: Event<A>,
-    target: Target<A>,
-    steps: &mut Vec<RuleStep<A>, A>,
-) -> Result<(), Memory>
-    requires { PairsRise images.now }
-    ensures { OnOk result (map answered_of steps.new.items ≡ map answered_of steps.old.items ++ image_answers (under_limits (frame_of frame.now) (target_of target)) (or_itself (event_of event) (found_images images.now (event_of event)))) }
-{
-    let target = frame.of(alloc, target)?;
-    let images = images.of_event(alloc, event)?;
-    add_images(alloc, images, &target, steps)
-}
-
 fn add_one<A: AllocHandle>(
     alloc: A,
     frame: &Frame<A>,
@@ -69,9 +51,23 @@ fn add_one<A: AllocHandle>(
 {
     let RuleStep { action, target } = of_body;
     match action {
-        Action::Tick => add_step(Action::Tick, Target::omega(alloc)?, steps),
-        Action::Tau => add_step(Action::Tau, frame.of(alloc, target)?, steps),
-        Action::Event(event) => add_event(alloc, frame, images, event, target, steps),
+        Action::Tick => {
+            let target = Target::omega(alloc)?;
+            let action = Action::Tick;
+            steps.push(RuleStep { action, target })?;
+            Ok(())
+        }
+        Action::Tau => {
+            let target = frame.of(alloc, target)?;
+            let action = Action::Tau;
+            steps.push(RuleStep { action, target })?;
+            Ok(())
+        }
+        Action::Event(event) => {
+            let target = frame.of(alloc, target)?;
+            let images = images.of_event(alloc, event)?;
+            add_images(alloc, images, &target, steps)
+        }
     }
 }
 
@@ -85,26 +81,11 @@ pub(crate) fn steps<'v, A: AllocHandle>(
 ) -> Result<Vec<RuleStep<A>, A>, Stuck>
     ensures { Answers (script_of script.now) (put (bindings_of bindings.now) (Renaming (process_of body.now) (renaming_pairs_of pairs.now))) result }
 {
-    let body = rules::steps(alloc, script, bindings, body);
     let pairs = put_in_pairs(pairs, bindings, alloc)?;
-    by_body(alloc, script, pairs, body)
-}
-
-/// The steps of `P [[from <- to, ..]]` by those of its body. A cause of the pairs comes before those of the body.
-fn by_body<A: AllocHandle>(
-    alloc: A,
-    script: &Script<A>,
-    pairs: Vec<RenamingPair<A>, A>,
-    body: Result<Vec<RuleStep<A>, A>, Stuck>,
-) -> Result<Vec<RuleStep<A>, A>, Stuck>
-    ensures { (p : pure.Process) → Answers (script_of script.now) p body → Answers (script_of script.now) (Renaming p (renaming_pairs_of pairs.items)) result }
-{
     let images = Images::of(alloc, script, &pairs)?;
-    let body = body?;
+    let body = rules::steps(alloc, script, bindings, body)?;
     let frame = Frame::Renaming(pairs);
-    let steps = renamed(alloc, &frame, &images, body);
-    drop(frame);
-    Ok(steps?)
+    Ok(renamed(alloc, &frame, &images, body)?)
 }
 
 /// The steps by those of the body.

@@ -89,9 +89,7 @@ fn either<A: AllocHandle>(alloc: A, left: Target<A>, right: Target<A>) -> Result
     ensures { IfOk result (λ t. target_of t ≡ under_both InternalChoice (target_of left) (target_of right)) }
 {
     let composition = Composition::Operator(ProcessOperator::InternalChoice);
-    let target = composition.of(alloc, left, right);
-    drop(composition);
-    target
+    composition.of(alloc, left, right)
 }
 
 /// The name and the process of a replicated operator, under the bindings around it.

@@ -1,7 +1,6 @@
 //! `P ; Q` does what `P` does until `P` ends, and goes on as `Q` by tau.
 
 ghost use Rattle.std.specs.Prelude.{◌≡◌, IfOk, map};
-ghost use Rattle.csp_semantics.specs.Syntax.Process as pure;
 ghost use Rattle.csp_semantics.specs.Syntax.Process.{Sequential};
 ghost use Rattle.csp_semantics.specs.Meaning.Substitution.{put};
 ghost use Rattle.csp_expression.specs.Bindings.{bindings_of};
@@ -30,20 +29,7 @@ pub(crate) fn steps<'v, A: AllocHandle>(
 ) -> Result<Vec<RuleStep<A>, A>, Stuck>
     ensures { Answers (script_of script.now) (put (bindings_of bindings.now) (Sequential (process_of left.now) (process_of right.now))) result }
 {
-    let left = rules::steps(alloc, script, bindings, left);
-    by_left(alloc, bindings, left, right)
-}
-
-/// The steps of `P ; Q` by those of its left side.
-fn by_left<A: AllocHandle>(
-    alloc: A,
-    bindings: &[Binding<'_, A>],
-    left: Result<Vec<RuleStep<A>, A>, Stuck>,
-    right: &Term<A>,
-) -> Result<Vec<RuleStep<A>, A>, Stuck>
-    ensures { (s : pure.Script) (p : pure.Process) → Answers s p left → Answers s (Sequential p (put (bindings_of bindings.now) (process_of right.now))) result }
-{
-    let left = left?;
+    let left = rules::steps(alloc, script, bindings, left)?;
     let right = Target::put_in(right, bindings, alloc)?;
     Ok(before(alloc, left, &right)?)
 }
@@ -64,9 +50,6 @@ fn before<A: AllocHandle>(
         other: right,
     };
     let mut steps = Vec::new(alloc);
-    let added = stay::add(alloc, context, &sharing, AfterTick::Other, left, &mut steps);
-    drop(sharing);
-    drop(composition);
-    added?;
+    stay::add(alloc, context, &sharing, AfterTick::Other, left, &mut steps)?;
     Ok(steps)
 }

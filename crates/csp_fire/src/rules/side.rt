@@ -4,7 +4,7 @@ ghost use Rattle.csp_semantics.specs.Meaning.Substitution.{put};
 ghost use Rattle.csp_expression.specs.Bindings.{bindings_of};
 ghost use Rattle.csp_term.specs.Script.{script_of};
 ghost use Rattle.csp_term.specs.Term.{process_of};
-ghost use Rattle.csp_fire.specs.Composing.{AreSidesOf, IsSideOf};
+ghost use Rattle.csp_fire.specs.Composing.{IsSideOf};
 
 use crate::rule_step::{RuleStep, Target};
 use crate::rules;
@@ -33,21 +33,5 @@ impl<A: AllocHandle> Side<A> {
         let steps = rules::steps(alloc, script, bindings, term)?;
         let process = Target::put_in(term, bindings, alloc)?;
         Ok(Side { process, steps })
-    }
-
-    /// Both sides of an operator, or why one of them has no steps: the left one's reason before the right one's.
-    #[cycle(steps)]
-    pub(crate) fn both<'v>(
-        alloc: A,
-        script: &'v Script<A>,
-        bindings: &[Binding<'v, A>],
-        left: &'v Term<A>,
-        right: &'v Term<A>,
-    ) -> Result<(Side<A>, Side<A>), Stuck>
-        ensures { AreSidesOf (script_of script.now) (put (bindings_of bindings.now) (process_of left.now)) (put (bindings_of bindings.now) (process_of right.now)) result }
-    {
-        let left = Side::under(alloc, script, bindings, left)?;
-        let right = Side::under(alloc, script, bindings, right)?;
-        Ok((left, right))
     }
 }

@@ -8,7 +8,7 @@ ghost use Rattle.csp_fire.specs.Composing.{around_of, each_answer, stay_answer};
 ghost use Rattle.csp_fire.specs.Sharing.{IsSearchable, ended_by, is_free};
 
 use crate::context::Context;
-use crate::rule_step::{RuleStep, Target, add_step};
+use crate::rule_step::{RuleStep, Target};
 use crate::sharing::Sharing;
 use csp_term::{Action, AllocHandle, Memory};
 
@@ -49,33 +49,6 @@ fn after_tick<A: AllocHandle>(
     }
 }
 
-/// Adds what follows the tick of the side that moves.
-fn add_end<A: AllocHandle>(
-    alloc: A,
-    context: Context<'_, A>,
-    after: AfterTick,
-    steps: &mut Vec<RuleStep<A>, A>,
-) -> Result<(), Memory>
-    ensures { OnOk result (map answered_of steps.new.items ≡ map answered_of steps.old.items ++ ended_by after context.entry) }
-{
-    steps.push(after_tick(alloc, context, after)?)?;
-    Ok(())
-}
-
-/// Adds the step of the side that moves, which stays in the composition.
-fn add_around<A: AllocHandle>(
-    alloc: A,
-    context: Context<'_, A>,
-    action: Action<A>,
-    target: Target<A>,
-    steps: &mut Vec<RuleStep<A>, A>,
-) -> Result<(), Memory>
-    ensures { OnOk result (map answered_of steps.new.items ≡ map answered_of steps.old.items ++ (action_of action, around_of context.entry (target_of target)) ∷ []) }
-{
-    let target = context.around(alloc, target)?;
-    add_step(action, target, steps)
-}
-
 /// Adds the step that the composition does by one of the side that moves, where the side does that alone.
 fn add_one<A: AllocHandle>(
     alloc: A,
@@ -90,16 +63,21 @@ fn add_one<A: AllocHandle>(
 {
     let RuleStep { action, target } = step;
     match action {
-        Action::Tick => add_end(alloc, context, after, steps),
-        Action::Tau => add_around(alloc, context, Action::Tau, target, steps),
+        Action::Tick => steps.push(after_tick(alloc, context, after)?)?,
+        Action::Tau => {
+            let target = context.around(alloc, target)?;
+            let action = Action::Tau;
+            steps.push(RuleStep { action, target })?;
+        }
         Action::Event(event) => {
             if sharing.is_free(context.hand, &event) {
-                add_around(alloc, context, Action::Event(event), target, steps)
-            } else {
-                Ok(())
+                let target = context.around(alloc, target)?;
+                let action = Action::Event(event);
+                steps.push(RuleStep { action, target })?;
             }
         }
     }
+    Ok(())
 }
 
 /// Adds the steps of the side that moves.

@@ -1,6 +1,9 @@
 -- Each form is answered as its rule says, and each call is of less.
 use Rattle.std.proofs.Common.{◌≡◌, ℕ, suc, ◌<◌, Result, Ok, Err, Some, List, refl, sym, ◌∙◌, ap, ap₂, subst, arith, inl, inr, lit<, max, ◌*◌, ◌+◌, [], ◌∷◌, ◌++◌, length, map, take, drop}
 use Rattle.std.proofs.lemmas.List.{map-append}
+use Rattle.csp_semantics.proofs.Causes.{interleaving_cause}
+use Rattle.csp_fire.proofs.Joining.{alphabetised_rest, generalised_rest}
+use Rattle.csp_fire.proofs.Sided.{alphabetised_by, generalised_by, generalised_stuck, interleaving_by, other_stuck, own_stuck}
 use Rattle.std.proofs.Math.Nat.{le-max_left, le-max_right}
 use Rattle.std.proofs.lemmas.Result.{err_from_is_err_and}
 use Rattle.std.specs.declared.vec.Vec.{Vec}
@@ -10,12 +13,13 @@ use Rattle.csp_term.specs.Field.{fields_of}
 use Rattle.csp_term.specs.declared.operator.ProcessOperator.{ProcessOperator}
 use Rattle.csp_term.proofs.Forms.{of_alphabetised, of_binary, of_call, of_conditional, of_generalised, of_guard, of_hiding, of_omega_term, of_prefix, of_renaming, of_replicated, of_skip, of_stop}
 use Rattle.csp_semantics.specs.Syntax.Expression.{to_expressions}
+use Rattle.std.specs.Result.{result_err}
 use Rattle.csp_semantics.specs.Syntax.Process.{EventSet, Process}
 use Rattle.csp_semantics.specs.Meaning.Evaluation.{IllKinded, value}
 use Rattle.csp_semantics.specs.Meaning.Events.{members_of}
 use Rattle.csp_semantics.specs.Meaning.Faults.{cause_in}
 use Rattle.csp_semantics.specs.Meaning.Transitions.{chain, left_grouped}
-use Rattle.csp_semantics.specs.Meaning.Substitution.{put, put_expression, without}
+use Rattle.csp_semantics.specs.Meaning.Substitution.{put, put_event_set, put_expression, without}
 use Rattle.csp_value.specs.declared.value.Value.{Value}
 use Rattle.csp_value.specs.Value.{value_of, values_of}
 use Rattle.csp_term.specs.declared.operator.ReplicatedOperator.{ReplicatedOperator}
@@ -25,16 +29,24 @@ use Rattle.csp_term.specs.Script.{script_of}
 use Rattle.csp_term.specs.Term.{binary_process, process_of, process_of_form, replicated_process}
 use Rattle.csp_fire.specs.declared.rule_step.RuleStep.{RuleStep}
 use Rattle.csp_fire.specs.declared.stuck.Stuck.{Stuck}
+use Rattle.csp_semantics.proofs.Causes.{external_cause, interrupt_cause, sequential_cause}
 use Rattle.csp_fire.specs.declared.rules.side.Side.{Side}
-use Rattle.csp_fire.specs.Answering.{Answers, IsAnswered, answered_of, stuck_by_value}
-use Rattle.csp_fire.specs.Composing.{AreSidesOf, IsSideOf}
+use Rattle.csp_fire.specs.Answering.{Answered, Answers, IsAnswered, answered_of, stuck_by_value, target_of}
+use Rattle.csp_fire.specs.Composing.{IsSideOf, side_answers}
 use Rattle.csp_fire.specs.Replicating.{AnswersChoices, instance_of, instances_of, looking_process}
+use Rattle.csp_fire.specs.Testing.{test_of}
 use Rattle.csp_fire.proofs.Members.{no_members}
 use Rattle.csp_fire.proofs.Replicating.{external_by_chain, grouped_more, instances_are, interleaving_by_chain, internal_by_chain, last_choice, mapped_more, mapped_split, no_set, put_replicated, seen_elements, set_stuck, stuck_at_first, stuck_behind, two_sides}
-use Rattle.csp_fire.proofs.Siding.{side_of_stuck, stuck_at_first_side, stuck_at_second_side, stuck_of_side}
+use Rattle.csp_fire.proofs.Changing.{hiding_by, hiding_rest, hiding_stuck}
+use Rattle.csp_fire.proofs.Operating.{external_answered, interrupt_answered, sequential_answered, stuck_by_first, stuck_by_only, stuck_by_second}
+use Rattle.csp_fire.proofs.Siding.{side_of_stuck, stuck_of_side}
 use Rattle.csp_fire.proofs.Smaller.{alphabetised_height, binary_height, branch_height, generalised_height, guard_height, height_of, hiding_height, renaming_height, replicated_height}
 use Rattle.csp_fire.proofs.Ruling.{guarded, closed, first_branch, second_branch, guard_stuck, if_stuck, ended, stopped}
 use Rattle.csp_semantics.specs.Meaning.Events.{renaming}
+use Rattle.csp_semantics.specs.Meaning.Substitution.{put_pairs}
+use Rattle.csp_fire.specs.Imaging.{AreMade}
+use Rattle.csp_fire.proofs.Changing.{renaming_rest}
+use Rattle.csp_fire.proofs.Imaged.{renaming_by, renaming_stuck}
 use Rattle.csp_fire.proofs.rules.+steps.Goals as goal
 
 nothing_in : {X : Type 0} (xs : List X) → length xs ≡ 0 → xs ≡ []
@@ -224,6 +236,119 @@ side::Side::under-returns-in_err-steps g t c =
     let p = err_from_is_err_and c.from_residual.result c.from_residual.ensures.1 in
     let P : Result (Side g.row.A.Denot) Stuck → Type 0 = λ r. IsSideOf script whole r in
     subst P (sym (p.1 ∙ ap Err p.2)) (side_of_stuck g.row.A.Denot script whole c.in_err-steps.field-0.0 c.in_err-steps.ensures)
+
+pub choice::external-returns-in_err-left : goal.choice::external-returns-in_err-left
+choice::external-returns-in_err-left g t c =
+    let script = script_of c.args.script.now in
+    let left = put (bindings_of c.args.bindings.now) (process_of c.args.left.now) in
+    let right = put (bindings_of c.args.bindings.now) (process_of c.args.right.now) in
+    let p = err_from_is_err_and c.from_residual.result c.from_residual.ensures.1 in
+    let P : Result (Vec (RuleStep g.row.A.Denot) g.row.A.Denot) Stuck → Type 0 = λ r. Answers script (pure.ExternalChoice left right) r in
+    let why = c.in_err-left.field-0.0 in
+    subst P (sym (p.1 ∙ ap Err p.2)) (stuck_by_first script left right (pure.ExternalChoice left right) (external_cause script left right) g.row.A.Denot why (stuck_of_side g.row.A.Denot script left why c.in_err-left.ensures))
+
+pub choice::external-returns-in_err-right : goal.choice::external-returns-in_err-right
+choice::external-returns-in_err-right g t c =
+    let script = script_of c.args.script.now in
+    let left = put (bindings_of c.args.bindings.now) (process_of c.args.left.now) in
+    let right = put (bindings_of c.args.bindings.now) (process_of c.args.right.now) in
+    let p = err_from_is_err_and c.from_residual-in_err-right.result c.from_residual-in_err-right.ensures.1 in
+    let P : Result (Vec (RuleStep g.row.A.Denot) g.row.A.Denot) Stuck → Type 0 = λ r. Answers script (pure.ExternalChoice left right) r in
+    let why = c.in_err-right.field-0.0 in
+    subst P (sym (p.1 ∙ ap Err p.2))
+    (stuck_by_second script left right (pure.ExternalChoice left right) (external_cause script left right) c.in_ok-left.ensures.1.no_cause g.row.A.Denot why (stuck_of_side g.row.A.Denot script right why c.in_err-right.ensures))
+
+pub choice::external-returns : goal.choice::external-returns
+choice::external-returns g t c =
+    let script = script_of c.args.script.now in
+    let left = put (bindings_of c.args.bindings.now) (process_of c.args.left.now) in
+    let right = put (bindings_of c.args.bindings.now) (process_of c.args.right.now) in
+    let first = c.in_ok-left.left in
+    let second = c.in_ok-right.right in
+    let all = external_answered script left (side_answers first) right (side_answers second) (target_of first.process) (target_of second.process) c.in_ok-left.ensures.0 c.in_ok-right.ensures.0 c.in_ok-left.ensures.1 c.in_ok-right.ensures.1 in
+    let P : List Answered → Type 0 = λ ss. IsAnswered script (pure.ExternalChoice left right) ss in
+    subst P (sym c.in_ok-between.ensures.steps) all
+
+pub interrupt::steps-returns-in_err-left : goal.interrupt::steps-returns-in_err-left
+interrupt::steps-returns-in_err-left g t c =
+    let script = script_of c.args.script.now in
+    let left = put (bindings_of c.args.bindings.now) (process_of c.args.left.now) in
+    let right = put (bindings_of c.args.bindings.now) (process_of c.args.right.now) in
+    let p = err_from_is_err_and c.from_residual.result c.from_residual.ensures.1 in
+    let P : Result (Vec (RuleStep g.row.A.Denot) g.row.A.Denot) Stuck → Type 0 = λ r. Answers script (pure.Interrupt left right) r in
+    let why = c.in_err-left.field-0.0 in
+    subst P (sym (p.1 ∙ ap Err p.2)) (stuck_by_first script left right (pure.Interrupt left right) (interrupt_cause script left right) g.row.A.Denot why (stuck_of_side g.row.A.Denot script left why c.in_err-left.ensures))
+
+pub interrupt::steps-returns-in_err-right : goal.interrupt::steps-returns-in_err-right
+interrupt::steps-returns-in_err-right g t c =
+    let script = script_of c.args.script.now in
+    let left = put (bindings_of c.args.bindings.now) (process_of c.args.left.now) in
+    let right = put (bindings_of c.args.bindings.now) (process_of c.args.right.now) in
+    let p = err_from_is_err_and c.from_residual-in_err-right.result c.from_residual-in_err-right.ensures.1 in
+    let P : Result (Vec (RuleStep g.row.A.Denot) g.row.A.Denot) Stuck → Type 0 = λ r. Answers script (pure.Interrupt left right) r in
+    let why = c.in_err-right.field-0.0 in
+    subst P (sym (p.1 ∙ ap Err p.2))
+    (stuck_by_second script left right (pure.Interrupt left right) (interrupt_cause script left right) c.in_ok-left.ensures.1.no_cause g.row.A.Denot why (stuck_of_side g.row.A.Denot script right why c.in_err-right.ensures))
+
+pub interrupt::steps-returns : goal.interrupt::steps-returns
+interrupt::steps-returns g t c =
+    let script = script_of c.args.script.now in
+    let left = put (bindings_of c.args.bindings.now) (process_of c.args.left.now) in
+    let right = put (bindings_of c.args.bindings.now) (process_of c.args.right.now) in
+    let first = c.in_ok-left.left in
+    let second = c.in_ok-right.right in
+    let all = interrupt_answered script left (side_answers first) right (side_answers second) (target_of first.process) (target_of second.process) c.in_ok-left.ensures.0 c.in_ok-right.ensures.0 c.in_ok-left.ensures.1 c.in_ok-right.ensures.1 in
+    let P : List Answered → Type 0 = λ ss. IsAnswered script (pure.Interrupt left right) ss in
+    subst P (sym c.in_ok-between.ensures) all
+
+pub sequential::steps-returns-in_err-left : goal.sequential::steps-returns-in_err-left
+sequential::steps-returns-in_err-left g t c =
+    let script = script_of c.args.script.now in
+    let left = put (bindings_of c.args.bindings.now) (process_of c.args.left.now) in
+    let right = put (bindings_of c.args.bindings.now) (process_of c.args.right.now) in
+    let p = err_from_is_err_and c.from_residual.result c.from_residual.ensures.1 in
+    let P : Result (Vec (RuleStep g.row.A.Denot) g.row.A.Denot) Stuck → Type 0 = λ r. Answers script (pure.Sequential left right) r in
+    subst P (sym (p.1 ∙ ap Err p.2)) (stuck_by_only script left (pure.Sequential left right) (sequential_cause script left right) g.row.A.Denot c.in_err-left.field-0.0 c.in_err-left.ensures)
+
+pub sequential::steps-returns : goal.sequential::steps-returns
+sequential::steps-returns g t c =
+    let script = script_of c.args.script.now in
+    let left = put (bindings_of c.args.bindings.now) (process_of c.args.left.now) in
+    let right = put (bindings_of c.args.bindings.now) (process_of c.args.right.now) in
+    let all = sequential_answered script left (map answered_of c.in_ok-left.left.items) right (target_of c.in_ok-right.right) c.in_ok-right.ensures c.in_ok-left.ensures in
+    let P : List Answered → Type 0 = λ ss. IsAnswered script (pure.Sequential left right) ss in
+    subst P (sym c.in_ok-before.ensures) all
+
+pub hiding::steps-returns-in_err-test : goal.hiding::steps-returns-in_err-test
+hiding::steps-returns-in_err-test g t c =
+    let script = script_of c.args.script.now in
+    let body = put (bindings_of c.args.bindings.now) (process_of c.args.body.now) in
+    let P : EventSet → Type 0 = λ a. Answers {A = g.row.A.Denot} script (pure.Hiding body a) (Err c.in_err-test.field-0.0) in
+    let p = err_from_is_err_and c.from_residual-in_err-test.result c.from_residual-in_err-test.ensures.1 in
+    let Q : Result (Vec (RuleStep g.row.A.Denot) g.row.A.Denot) Stuck → Type 0 = λ r. Answers script (pure.Hiding body (put_event_set (bindings_of c.args.bindings.now) (event_set_of c.args.hidden.now))) r in
+    subst Q (sym (p.1 ∙ ap Err p.2)) (subst P c.in_ok-hidden.ensures (hiding_stuck g.row.A.Denot script body (event_set_of c.in_ok-hidden.hidden) c.in_err-test.field-0.0 c.in_err-test.ensures))
+
+pub hiding::steps-returns-in_err-body : goal.hiding::steps-returns-in_err-body
+hiding::steps-returns-in_err-body g t c =
+    let script = script_of c.args.script.now in
+    let body = put (bindings_of c.args.bindings.now) (process_of c.args.body.now) in
+    let a = event_set_of c.in_ok-hidden.hidden in
+    let why = c.in_err-body.field-0.0 in
+    let P : EventSet → Type 0 = λ a. Answers {A = g.row.A.Denot} script (pure.Hiding body a) (Err why) in
+    let p = err_from_is_err_and c.from_residual-in_err-body.result c.from_residual-in_err-body.ensures.1 in
+    let Q : Result (Vec (RuleStep g.row.A.Denot) g.row.A.Denot) Stuck → Type 0 = λ r. Answers script (pure.Hiding body (put_event_set (bindings_of c.args.bindings.now) (event_set_of c.args.hidden.now))) r in
+    subst Q (sym (p.1 ∙ ap Err p.2)) (subst P c.in_ok-hidden.ensures (stuck_by_only script body (pure.Hiding body a) (hiding_rest script body a (ap result_err c.in_ok-test.ensures.0)) g.row.A.Denot why c.in_err-body.ensures))
+
+pub hiding::steps-returns : goal.hiding::steps-returns
+hiding::steps-returns g t c =
+    let script = script_of c.args.script.now in
+    let body = put (bindings_of c.args.bindings.now) (process_of c.args.body.now) in
+    let a = event_set_of c.in_ok-hidden.hidden in
+    let test = c.in_ok-test.test in
+    let all = hiding_by script body (map answered_of c.in_ok-body.body.items) c.in_ok-body.ensures a (test_of test) c.in_ok-test.ensures.0 in
+    let P : EventSet → Type 0 = λ a. IsAnswered script (pure.Hiding body a) (map answered_of c.in_ok-without.field-0.items) in
+    let Q : List Answered → Type 0 = λ ss. IsAnswered script (pure.Hiding body a) ss in
+    subst P c.in_ok-hidden.ensures (subst Q (sym c.in_ok-without.ensures) all)
 
 pub steps-returns-in-GeneralisedParallel : goal.steps-returns-in-GeneralisedParallel
 steps-returns-in-GeneralisedParallel g t c =
@@ -453,73 +578,210 @@ replicated::Instances::internal-returns-in_ok-choose-in-Some-split_first g t c =
 
 -- ---- parallel compositions
 
-pub side::Side::both-returns : goal.side::Side::both-returns
-side::Side::both-returns g t c = (c.in_ok-left.ensures, c.in_ok-right.ensures)
-
-pub side::Side::both-returns-in_err-left : goal.side::Side::both-returns-in_err-left
-side::Side::both-returns-in_err-left g t c =
+pub parallel::interleaving-returns-in_err-left : goal.parallel::interleaving-returns-in_err-left
+parallel::interleaving-returns-in_err-left g t c =
     let script = script_of c.args.script.now in
-    let left = put (bindings_of c.args.bindings.now) (process_of c.args.left.now) in
-    let right = put (bindings_of c.args.bindings.now) (process_of c.args.right.now) in
+    let bs = bindings_of c.args.bindings.now in
+    let left = put bs (process_of c.args.left.now) in
+    let right = put bs (process_of c.args.right.now) in
+    let why = c.in_err-left.field-0.0 in
     let p = err_from_is_err_and c.from_residual.result c.from_residual.ensures.1 in
-    let P : Result (Side g.row.A.Denot × Side g.row.A.Denot) Stuck → Type 0 = λ r. AreSidesOf script left right r in
-    subst P (sym (p.1 ∙ ap Err p.2)) (stuck_at_first_side g.row.A.Denot script left right c.in_err-left.field-0.0 c.in_err-left.ensures)
+    let Q : Result (Vec (RuleStep g.row.A.Denot) g.row.A.Denot) Stuck → Type 0 = λ r. Answers script (pure.Interleaving left right) r in
+    subst Q (sym (p.1 ∙ ap Err p.2)) (stuck_by_first script left right (pure.Interleaving left right) (interleaving_cause script left right) g.row.A.Denot why (stuck_of_side g.row.A.Denot script left why c.in_err-left.ensures))
 
-pub side::Side::both-returns-in_err-right : goal.side::Side::both-returns-in_err-right
-side::Side::both-returns-in_err-right g t c =
+pub parallel::interleaving-returns-in_err-right : goal.parallel::interleaving-returns-in_err-right
+parallel::interleaving-returns-in_err-right g t c =
     let script = script_of c.args.script.now in
-    let left = put (bindings_of c.args.bindings.now) (process_of c.args.left.now) in
-    let right = put (bindings_of c.args.bindings.now) (process_of c.args.right.now) in
+    let bs = bindings_of c.args.bindings.now in
+    let left = put bs (process_of c.args.left.now) in
+    let right = put bs (process_of c.args.right.now) in
+    let why = c.in_err-right.field-0.0 in
     let p = err_from_is_err_and c.from_residual-in_err-right.result c.from_residual-in_err-right.ensures.1 in
-    let P : Result (Side g.row.A.Denot × Side g.row.A.Denot) Stuck → Type 0 = λ r. AreSidesOf script left right r in
-    subst P (sym (p.1 ∙ ap Err p.2)) (stuck_at_second_side g.row.A.Denot script left right c.in_ok-left.ensures.1.no_cause c.in_err-right.field-0.0 c.in_err-right.ensures)
-
-pub choice::external-returns : goal.choice::external-returns
-choice::external-returns g t c =
-    let bs = bindings_of c.args.bindings.now in
-    c.by_sides.ensures (script_of c.args.script.now) (put bs (process_of c.args.left.now)) (put bs (process_of c.args.right.now)) c.both-sides.ensures
-
-pub interrupt::steps-returns : goal.interrupt::steps-returns
-interrupt::steps-returns g t c =
-    let bs = bindings_of c.args.bindings.now in
-    c.by_sides.ensures (script_of c.args.script.now) (put bs (process_of c.args.left.now)) (put bs (process_of c.args.right.now)) c.both-sides.ensures
-
-pub sequential::steps-returns : goal.sequential::steps-returns
-sequential::steps-returns g t c = c.by_left.ensures (script_of c.args.script.now) (put (bindings_of c.args.bindings.now) (process_of c.args.left.now)) c.steps-left.ensures
+    let Q : Result (Vec (RuleStep g.row.A.Denot) g.row.A.Denot) Stuck → Type 0 = λ r. Answers script (pure.Interleaving left right) r in
+    subst Q (sym (p.1 ∙ ap Err p.2)) (stuck_by_second script left right (pure.Interleaving left right) (interleaving_cause script left right) c.in_ok-left.ensures.1.no_cause g.row.A.Denot why (stuck_of_side g.row.A.Denot script right why c.in_err-right.ensures))
 
 pub parallel::interleaving-returns : goal.parallel::interleaving-returns
 parallel::interleaving-returns g t c =
+    let script = script_of c.args.script.now in
     let bs = bindings_of c.args.bindings.now in
-    c.interleaving_by_sides.ensures (script_of c.args.script.now) (put bs (process_of c.args.left.now)) (put bs (process_of c.args.right.now)) c.both-sides.ensures
+    let left = put bs (process_of c.args.left.now) in
+    let right = put bs (process_of c.args.right.now) in
+    let first = c.in_ok-left.left in
+    let second = c.in_ok-right.right in
+    interleaving_by script left right (target_of first.process) (target_of second.process) (side_answers first) (side_answers second) c.in_ok-left.ensures.0 c.in_ok-right.ensures.0 c.in_ok-left.ensures.1 c.in_ok-right.ensures.1 (side_answers c.in_ok-interleave.field-0) c.in_ok-interleave.ensures.steps
+
+pub parallel::generalised-returns-in_err-test : goal.parallel::generalised-returns-in_err-test
+parallel::generalised-returns-in_err-test g t c =
+    let script = script_of c.args.script.now in
+    let bs = bindings_of c.args.bindings.now in
+    let left = put bs (process_of c.args.left.now) in
+    let right = put bs (process_of c.args.right.now) in
+    let why = c.in_err-test.field-0.0 in
+    let a = event_set_of c.in_ok-shared.shared in
+    let same = ap (λ a. pure.GeneralisedParallel left a right) c.in_ok-shared.ensures in
+    let p = err_from_is_err_and c.from_residual-in_err-test.result c.from_residual-in_err-test.ensures.1 in
+    let Q : Result (Vec (RuleStep g.row.A.Denot) g.row.A.Denot) Stuck → Type 0 = λ r. Answers script (pure.GeneralisedParallel left (put_event_set bs (event_set_of c.args.shared.now)) right) r in
+    let P : pure.Process → Type 0 = λ w. Answers {A = g.row.A.Denot} script w (Err why) in
+    subst Q (sym (p.1 ∙ ap Err p.2)) (subst P same (generalised_stuck g.row.A.Denot script left right a why c.in_err-test.ensures))
+
+pub parallel::generalised-returns-in_err-left : goal.parallel::generalised-returns-in_err-left
+parallel::generalised-returns-in_err-left g t c =
+    let script = script_of c.args.script.now in
+    let bs = bindings_of c.args.bindings.now in
+    let left = put bs (process_of c.args.left.now) in
+    let right = put bs (process_of c.args.right.now) in
+    let why = c.in_err-left.field-0.0 in
+    let a = event_set_of c.in_ok-shared.shared in
+    let same = ap (λ a. pure.GeneralisedParallel left a right) c.in_ok-shared.ensures in
+    let p = err_from_is_err_and c.from_residual-in_err-left.result c.from_residual-in_err-left.ensures.1 in
+    let Q : Result (Vec (RuleStep g.row.A.Denot) g.row.A.Denot) Stuck → Type 0 = λ r. Answers script (pure.GeneralisedParallel left (put_event_set bs (event_set_of c.args.shared.now)) right) r in
+    let P : pure.Process → Type 0 = λ w. Answers {A = g.row.A.Denot} script w (Err why) in
+    subst Q (sym (p.1 ∙ ap Err p.2)) (subst P same (stuck_by_first script left right (pure.GeneralisedParallel left a right) (generalised_rest script left right a (ap result_err c.in_ok-test.ensures.0)) g.row.A.Denot why (stuck_of_side g.row.A.Denot script left why c.in_err-left.ensures)))
+
+pub parallel::generalised-returns-in_err-right : goal.parallel::generalised-returns-in_err-right
+parallel::generalised-returns-in_err-right g t c =
+    let script = script_of c.args.script.now in
+    let bs = bindings_of c.args.bindings.now in
+    let left = put bs (process_of c.args.left.now) in
+    let right = put bs (process_of c.args.right.now) in
+    let why = c.in_err-right.field-0.0 in
+    let a = event_set_of c.in_ok-shared.shared in
+    let same = ap (λ a. pure.GeneralisedParallel left a right) c.in_ok-shared.ensures in
+    let p = err_from_is_err_and c.from_residual-in_err-right.result c.from_residual-in_err-right.ensures.1 in
+    let Q : Result (Vec (RuleStep g.row.A.Denot) g.row.A.Denot) Stuck → Type 0 = λ r. Answers script (pure.GeneralisedParallel left (put_event_set bs (event_set_of c.args.shared.now)) right) r in
+    let P : pure.Process → Type 0 = λ w. Answers {A = g.row.A.Denot} script w (Err why) in
+    subst Q (sym (p.1 ∙ ap Err p.2)) (subst P same (stuck_by_second script left right (pure.GeneralisedParallel left a right) (generalised_rest script left right a (ap result_err c.in_ok-test.ensures.0)) c.in_ok-left.ensures.1.no_cause g.row.A.Denot why (stuck_of_side g.row.A.Denot script right why c.in_err-right.ensures)))
 
 pub parallel::generalised-returns : goal.parallel::generalised-returns
 parallel::generalised-returns g t c =
+    let script = script_of c.args.script.now in
     let bs = bindings_of c.args.bindings.now in
     let left = put bs (process_of c.args.left.now) in
     let right = put bs (process_of c.args.right.now) in
-    let P : EventSet → Type 0 = λ a. Answers (script_of c.args.script.now) (pure.GeneralisedParallel left a right) c.generalised_by_sides.result in
-    subst P c.in_ok-shared.ensures (c.generalised_by_sides.ensures left right c.both-sides.ensures)
+    let first = c.in_ok-left.left in
+    let second = c.in_ok-right.right in
+    let a = event_set_of c.in_ok-shared.shared in
+    let same = ap (λ a. pure.GeneralisedParallel left a right) c.in_ok-shared.ensures in
+    let all = side_answers c.in_ok-compose.field-0 in
+    let P : pure.Process → Type 0 = λ w. IsAnswered script w all in
+    subst P same (generalised_by script left right (target_of first.process) (target_of second.process) (side_answers first) (side_answers second) c.in_ok-left.ensures.0 c.in_ok-right.ensures.0 c.in_ok-left.ensures.1 c.in_ok-right.ensures.1 all a c.in_ok-test.test c.in_ok-test.ensures.0 c.in_ok-compose.ensures.steps)
+
+pub parallel::generalised-compose-requires : goal.parallel::generalised-compose-requires
+parallel::generalised-compose-requires g t c =
+    c.in_ok-test.ensures.1
+
+pub parallel::alphabetised-returns-in_err-of_left : goal.parallel::alphabetised-returns-in_err-of_left
+parallel::alphabetised-returns-in_err-of_left g t c =
+    let script = script_of c.args.script.now in
+    let bs = bindings_of c.args.bindings.now in
+    let left = put bs (process_of c.args.left.now) in
+    let right = put bs (process_of c.args.right.now) in
+    let why = c.in_err-of_left.field-0.0 in
+    let a = event_set_of c.in_ok-own.own in
+    let b = event_set_of c.in_ok-other.other in
+    let same = ap₂ (λ a b. pure.AlphabetisedParallel left a b right) c.in_ok-own.ensures c.in_ok-other.ensures in
+    let p = err_from_is_err_and c.from_residual-in_err-of_left.result c.from_residual-in_err-of_left.ensures.1 in
+    let Q : Result (Vec (RuleStep g.row.A.Denot) g.row.A.Denot) Stuck → Type 0 = λ r. Answers script (pure.AlphabetisedParallel left (put_event_set bs (event_set_of c.args.own.now)) (put_event_set bs (event_set_of c.args.other.now)) right) r in
+    let P : pure.Process → Type 0 = λ w. Answers {A = g.row.A.Denot} script w (Err why) in
+    subst Q (sym (p.1 ∙ ap Err p.2)) (subst P same (own_stuck g.row.A.Denot script left right a b why c.in_err-of_left.ensures))
+
+pub parallel::alphabetised-returns-in_err-of_right : goal.parallel::alphabetised-returns-in_err-of_right
+parallel::alphabetised-returns-in_err-of_right g t c =
+    let script = script_of c.args.script.now in
+    let bs = bindings_of c.args.bindings.now in
+    let left = put bs (process_of c.args.left.now) in
+    let right = put bs (process_of c.args.right.now) in
+    let why = c.in_err-of_right.field-0.0 in
+    let a = event_set_of c.in_ok-own.own in
+    let b = event_set_of c.in_ok-other.other in
+    let same = ap₂ (λ a b. pure.AlphabetisedParallel left a b right) c.in_ok-own.ensures c.in_ok-other.ensures in
+    let p = err_from_is_err_and c.from_residual-in_err-of_right.result c.from_residual-in_err-of_right.ensures.1 in
+    let Q : Result (Vec (RuleStep g.row.A.Denot) g.row.A.Denot) Stuck → Type 0 = λ r. Answers script (pure.AlphabetisedParallel left (put_event_set bs (event_set_of c.args.own.now)) (put_event_set bs (event_set_of c.args.other.now)) right) r in
+    let P : pure.Process → Type 0 = λ w. Answers {A = g.row.A.Denot} script w (Err why) in
+    subst Q (sym (p.1 ∙ ap Err p.2)) (subst P same (other_stuck g.row.A.Denot script left right a b (ap result_err c.in_ok-of_left.ensures.0) why c.in_err-of_right.ensures))
+
+pub parallel::alphabetised-returns-in_err-left : goal.parallel::alphabetised-returns-in_err-left
+parallel::alphabetised-returns-in_err-left g t c =
+    let script = script_of c.args.script.now in
+    let bs = bindings_of c.args.bindings.now in
+    let left = put bs (process_of c.args.left.now) in
+    let right = put bs (process_of c.args.right.now) in
+    let why = c.in_err-left.field-0.0 in
+    let a = event_set_of c.in_ok-own.own in
+    let b = event_set_of c.in_ok-other.other in
+    let same = ap₂ (λ a b. pure.AlphabetisedParallel left a b right) c.in_ok-own.ensures c.in_ok-other.ensures in
+    let p = err_from_is_err_and c.from_residual-in_err-left.result c.from_residual-in_err-left.ensures.1 in
+    let Q : Result (Vec (RuleStep g.row.A.Denot) g.row.A.Denot) Stuck → Type 0 = λ r. Answers script (pure.AlphabetisedParallel left (put_event_set bs (event_set_of c.args.own.now)) (put_event_set bs (event_set_of c.args.other.now)) right) r in
+    let P : pure.Process → Type 0 = λ w. Answers {A = g.row.A.Denot} script w (Err why) in
+    subst Q (sym (p.1 ∙ ap Err p.2)) (subst P same (stuck_by_first script left right (pure.AlphabetisedParallel left a b right) (alphabetised_rest script left right a b (ap result_err c.in_ok-of_left.ensures.0) (ap result_err c.in_ok-of_right.ensures.0)) g.row.A.Denot why (stuck_of_side g.row.A.Denot script left why c.in_err-left.ensures)))
+
+pub parallel::alphabetised-returns-in_err-right : goal.parallel::alphabetised-returns-in_err-right
+parallel::alphabetised-returns-in_err-right g t c =
+    let script = script_of c.args.script.now in
+    let bs = bindings_of c.args.bindings.now in
+    let left = put bs (process_of c.args.left.now) in
+    let right = put bs (process_of c.args.right.now) in
+    let why = c.in_err-right.field-0.0 in
+    let a = event_set_of c.in_ok-own.own in
+    let b = event_set_of c.in_ok-other.other in
+    let same = ap₂ (λ a b. pure.AlphabetisedParallel left a b right) c.in_ok-own.ensures c.in_ok-other.ensures in
+    let p = err_from_is_err_and c.from_residual-in_err-right.result c.from_residual-in_err-right.ensures.1 in
+    let Q : Result (Vec (RuleStep g.row.A.Denot) g.row.A.Denot) Stuck → Type 0 = λ r. Answers script (pure.AlphabetisedParallel left (put_event_set bs (event_set_of c.args.own.now)) (put_event_set bs (event_set_of c.args.other.now)) right) r in
+    let P : pure.Process → Type 0 = λ w. Answers {A = g.row.A.Denot} script w (Err why) in
+    subst Q (sym (p.1 ∙ ap Err p.2)) (subst P same (stuck_by_second script left right (pure.AlphabetisedParallel left a b right) (alphabetised_rest script left right a b (ap result_err c.in_ok-of_left.ensures.0) (ap result_err c.in_ok-of_right.ensures.0)) c.in_ok-left.ensures.1.no_cause g.row.A.Denot why (stuck_of_side g.row.A.Denot script right why c.in_err-right.ensures)))
 
 pub parallel::alphabetised-returns : goal.parallel::alphabetised-returns
 parallel::alphabetised-returns g t c =
+    let script = script_of c.args.script.now in
     let bs = bindings_of c.args.bindings.now in
     let left = put bs (process_of c.args.left.now) in
     let right = put bs (process_of c.args.right.now) in
+    let first = c.in_ok-left.left in
+    let second = c.in_ok-right.right in
+    let a = event_set_of c.in_ok-own.own in
+    let b = event_set_of c.in_ok-other.other in
     let same = ap₂ (λ a b. pure.AlphabetisedParallel left a b right) c.in_ok-own.ensures c.in_ok-other.ensures in
-    let P : Process → Type 0 = λ p. Answers (script_of c.args.script.now) p c.alphabetised_by_sides.result in
-    subst P same (c.alphabetised_by_sides.ensures left right c.both-sides.ensures)
+    let all = side_answers c.in_ok-compose.field-0 in
+    let P : pure.Process → Type 0 = λ w. IsAnswered script w all in
+    subst P same (alphabetised_by script left right (target_of first.process) (target_of second.process) (side_answers first) (side_answers second) c.in_ok-left.ensures.0 c.in_ok-right.ensures.0 c.in_ok-left.ensures.1 c.in_ok-right.ensures.1 all a b c.in_ok-of_left.of_left c.in_ok-of_right.of_right c.in_ok-of_left.ensures.0 c.in_ok-of_right.ensures.0 c.in_ok-compose.ensures.steps)
 
-pub hiding::steps-returns : goal.hiding::steps-returns
-hiding::steps-returns g t c =
+pub parallel::alphabetised-compose-requires : goal.parallel::alphabetised-compose-requires
+parallel::alphabetised-compose-requires g t c =
+    (c.in_ok-of_left.ensures.1, c.in_ok-of_right.ensures.1)
+
+-- ---- renaming
+
+pub renaming::steps-returns-in_err-images : goal.renaming::steps-returns-in_err-images
+renaming::steps-returns-in_err-images g t c =
+    let script = script_of c.args.script.now in
     let body = put (bindings_of c.args.bindings.now) (process_of c.args.body.now) in
-    let P : EventSet → Type 0 = λ a. Answers (script_of c.args.script.now) (pure.Hiding body a) c.by_body.result in
-    subst P c.in_ok-hidden.ensures (c.by_body.ensures body c.steps-body.ensures)
+    let why = c.in_err-images.field-0.0 in
+    let P : List pure.RenamingPair → Type 0 = λ rs. Answers {A = g.row.A.Denot} script (pure.Renaming body rs) (Err why) in
+    let p = err_from_is_err_and c.from_residual-in_err-images.result c.from_residual-in_err-images.ensures.1 in
+    let Q : Result (Vec (RuleStep g.row.A.Denot) g.row.A.Denot) Stuck → Type 0 = λ r. Answers script (pure.Renaming body (put_pairs (bindings_of c.args.bindings.now) (renaming_pairs_of c.args.pairs.now))) r in
+    subst Q (sym (p.1 ∙ ap Err p.2)) (subst P (ap renaming_pairs_of c.deref.ensures.value ∙ c.in_ok-pairs.ensures) (renaming_stuck g.row.A.Denot script body (renaming_pairs_of c.deref.result.now) why c.in_err-images.ensures))
+
+pub renaming::steps-returns-in_err-body : goal.renaming::steps-returns-in_err-body
+renaming::steps-returns-in_err-body g t c =
+    let script = script_of c.args.script.now in
+    let body = put (bindings_of c.args.bindings.now) (process_of c.args.body.now) in
+    let rs = renaming_pairs_of c.deref.result.now in
+    let why = c.in_err-body.field-0.0 in
+    let P : List pure.RenamingPair → Type 0 = λ rs. Answers {A = g.row.A.Denot} script (pure.Renaming body rs) (Err why) in
+    let p = err_from_is_err_and c.from_residual-in_err-body.result c.from_residual-in_err-body.ensures.1 in
+    let Q : Result (Vec (RuleStep g.row.A.Denot) g.row.A.Denot) Stuck → Type 0 = λ r. Answers script (pure.Renaming body (put_pairs (bindings_of c.args.bindings.now) (renaming_pairs_of c.args.pairs.now))) r in
+    subst Q (sym (p.1 ∙ ap Err p.2))
+    (subst P (ap renaming_pairs_of c.deref.ensures.value ∙ c.in_ok-pairs.ensures) (stuck_by_only script body (pure.Renaming body rs) (renaming_rest script body rs (ap result_err c.in_ok-images.ensures.0.1)) g.row.A.Denot why c.in_err-body.ensures))
 
 pub renaming::steps-returns : goal.renaming::steps-returns
 renaming::steps-returns g t c =
+    let script = script_of c.args.script.now in
     let body = put (bindings_of c.args.bindings.now) (process_of c.args.body.now) in
-    let P : List pure.RenamingPair → Type 0 = λ rs. Answers (script_of c.args.script.now) (pure.Renaming body rs) c.by_body.result in
-    subst P c.in_ok-pairs.ensures (c.by_body.ensures body c.steps-body.ensures)
-
-pub side::Side::both-drop-left-requires-in_err-right-room-T-Destruct : goal.side::Side::both-drop-left-requires-in_err-right-room-T-Destruct
-side::Side::both-drop-left-requires-in_err-right-room-T-Destruct g t c κs within = elim g.met.A.AllocHandle.small [ inl e ↦ rw (e.0, e.1) (lit< tt) | inr e ↦ rw (e.0, e.1) (lit< tt) ]
+    let rs = renaming_pairs_of c.in_ok-pairs.pairs.items in
+    let images = c.in_ok-images.images in
+    let M : List pure.RenamingPair → Type 0 = λ rs. AreMade images (renaming script rs) in
+    let made = subst M (ap renaming_pairs_of c.deref.ensures.value) c.in_ok-images.ensures.0 in
+    let all = renaming_by script body (map answered_of c.in_ok-body.body.items) c.in_ok-body.ensures rs images made in
+    let P : List pure.RenamingPair → Type 0 = λ rs. IsAnswered script (pure.Renaming body rs) (map answered_of c.in_ok-renamed.field-0.items) in
+    let Q : List Answered → Type 0 = λ ss. IsAnswered script (pure.Renaming body rs) ss in
+    subst P c.in_ok-pairs.ensures (subst Q (sym c.in_ok-renamed.ensures) all)

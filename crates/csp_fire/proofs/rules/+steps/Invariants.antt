@@ -16,29 +16,26 @@ decreases-guard::steps g l = 1 + 6 * height_of l.body.now
 abbrev pub decreases-side::Side::under : goal.decreases-side::Side::under
 decreases-side::Side::under g l = 1 + 6 * height_of l.term.now
 
-abbrev pub decreases-side::Side::both : goal.decreases-side::Side::both
-decreases-side::Side::both g l = 2 + 6 * max (height_of l.left.now) (height_of l.right.now)
-
 abbrev pub decreases-binary : goal.decreases-binary
-decreases-binary g l = 4 + 6 * max (height_of l.left.now) (height_of l.right.now)
+decreases-binary g l = 3 + 6 * max (height_of l.left.now) (height_of l.right.now)
 
 abbrev pub decreases-choice::external : goal.decreases-choice::external
-decreases-choice::external g l = 3 + 6 * max (height_of l.left.now) (height_of l.right.now)
+decreases-choice::external g l = 2 + 6 * max (height_of l.left.now) (height_of l.right.now)
 
 abbrev pub decreases-sequential::steps : goal.decreases-sequential::steps
-decreases-sequential::steps g l = 3 + 6 * max (height_of l.left.now) (height_of l.right.now)
+decreases-sequential::steps g l = 2 + 6 * max (height_of l.left.now) (height_of l.right.now)
 
 abbrev pub decreases-interrupt::steps : goal.decreases-interrupt::steps
-decreases-interrupt::steps g l = 3 + 6 * max (height_of l.left.now) (height_of l.right.now)
+decreases-interrupt::steps g l = 2 + 6 * max (height_of l.left.now) (height_of l.right.now)
 
 abbrev pub decreases-parallel::interleaving : goal.decreases-parallel::interleaving
-decreases-parallel::interleaving g l = 3 + 6 * max (height_of l.left.now) (height_of l.right.now)
+decreases-parallel::interleaving g l = 2 + 6 * max (height_of l.left.now) (height_of l.right.now)
 
 abbrev pub decreases-parallel::generalised : goal.decreases-parallel::generalised
-decreases-parallel::generalised g l = 3 + 6 * max (height_of l.left.now) (height_of l.right.now)
+decreases-parallel::generalised g l = 2 + 6 * max (height_of l.left.now) (height_of l.right.now)
 
 abbrev pub decreases-parallel::alphabetised : goal.decreases-parallel::alphabetised
-decreases-parallel::alphabetised g l = 3 + 6 * max (height_of l.left.now) (height_of l.right.now)
+decreases-parallel::alphabetised g l = 2 + 6 * max (height_of l.left.now) (height_of l.right.now)
 
 abbrev pub decreases-hiding::steps : goal.decreases-hiding::steps
 decreases-hiding::steps g l = 1 + 6 * height_of l.body.now
