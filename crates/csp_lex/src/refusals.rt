@@ -7,7 +7,7 @@ use std::fmt;
 use thiserror::Error;
 
 /// What is wrong with a text that has no tokens.
-#[derive(Clone, Copy, Debug, PartialEq, Eq)]
+#[derive(Clone, Copy, Debug, PartialEq, Eq, PartialOrd, Ord, Hash)]
 pub enum TextFault {
     /// a character that begins no token
     NoToken,

@@ -12,7 +12,7 @@ pub struct Domain<'a, A: Allocator> {
 }
 
 /// What an assertion compares.
-#[derive(Clone, Copy)]
+#[derive(Clone, Copy, Debug, PartialEq, Eq)]
 pub enum Model {
     /// `[T=`
     Traces,

@@ -263,7 +263,8 @@ impl<'t, 'a, A: Allocator + Copy> Parser<'t, 'a, A> {
             let fields = self.fields()?;
             self.sign(Sign::Arrow)?;
             let body = self.operand()?;
-            return Start::prefix(self.alloc, name, fields, body);
+            let prefix = Process::prefix(self.alloc, name, fields, body)?;
+            return Ok(Start::Operand(prefix));
         }
         self.start_from_name(name)
     }
@@ -289,16 +290,8 @@ impl<'t, 'a, A: Allocator + Copy> Parser<'t, 'a, A> {
         if !self.is_at_operator() && !self.is_at(Sign::Guard) {
             return Ok(Start::Name(name));
         }
-        let expression = self.expression_of_name(name)?;
+        let expression = self.expression_from(Expression::Use(name))?;
         self.guarded(expression)
-    }
-
-    /// The expression that begins with a name, perhaps in brackets.
-    fn expression_of_name(&mut self, name: Name<'a>) -> Result<Expression<'a, A>, Refused>
-        ensures continues { IfOk result (λ e. (before : Standing) → ReadsName before (standing_of self.old) (name_of name.entry) → Reads IsExpression before (standing_of self.new) (expression_of e)) }
-        ensures not_longer { IfOk result (λ _. length (left_of self.new) ≤ length (left_of self.old)) }
-    {
-        self.expression_from(Expression::Use(name))
     }
 
     /// What begins with an opening bracket, which is next.
@@ -368,7 +361,8 @@ impl<'t, 'a, A: Allocator + Copy> Parser<'t, 'a, A> {
         }
         self.sign(Sign::Guard)?;
         let body = self.operand()?;
-        Start::guard(self.alloc, expression, body)
+        let guard = Process::guard(self.alloc, expression, body)?;
+        Ok(Start::Operand(guard))
     }
 
     /// The fields of a prefix.

@@ -1,15 +1,14 @@
 //! The limits on the size and the depth of a term.
 
-ghost use Rattle.std.specs.Prelude.{◌≡◌, ◌∷◌, [], ◌+◌, ◌-◌, ◌≤◌, ◌↔◌, IsTrue};
+ghost use Rattle.std.specs.Prelude.{◌≡◌, ◌∷◌, [], ◌-◌, ◌≤◌, ◌↔◌, IsTrue};
 ghost use Rattle.std.specs.Option.{SomeIff};
 ghost use Rattle.csp_semantics.specs.Meaning.Limits.{size, depth, fields_depth, fields_size, fits};
 ghost use Rattle.csp_term.specs.Field.{field_of, fields_of};
-ghost use Rattle.csp_term.specs.Term.{process_of, process_of_form};
+ghost use Rattle.csp_term.specs.Term.{process_of};
 
+use crate::expression::{are_within_depth, room_left_by};
 use crate::field::Field;
 use crate::term::{Term, TermForm};
-use csp_event_sets::{are_pairs_within_depth, room_left_by_pairs};
-use csp_expression::{are_within_depth, room_left_by};
 use std::alloc::Allocator;
 
 /// The most nodes of a term within the limits.
@@ -28,7 +27,6 @@ impl<A: Allocator + Copy> Term<A> {
     }
 
     /// What the term leaves of the room for nodes, `None` where it has more.
-    #[tactic(auto, using(crate::proofs::OperatorForms::binary_size, crate::proofs::OperatorForms::replicated_size))]
     fn room_left(&self, room: u32) -> Option<u32>
         ensures { SomeIff result (size (process_of self.now) ≤ room) (room - size (process_of self.now)) }
     {
@@ -37,76 +35,35 @@ impl<A: Allocator + Copy> Term<A> {
             TermForm::Stop | TermForm::Skip | TermForm::Omega => Some(rest),
             TermForm::Call(_, arguments) => room_left_by(arguments, rest),
             TermForm::Prefix(_, fields, body) => body.room_left(room_left_by_fields(fields, rest)?),
-            TermForm::Guard(expression, body) | TermForm::Replicated(_, _, expression, body) => {
-                body.room_left(expression.room_left(rest)?)
-            }
+            TermForm::Guard(condition, body) => body.room_left(condition.room_left(rest)?),
             TermForm::If(condition, first, second) => {
                 let rest = condition.room_left(rest)?;
                 second.room_left(first.room_left(rest)?)
             }
-            TermForm::Binary(_, left, right) => right.room_left(left.room_left(rest)?),
-            TermForm::GeneralisedParallel(left, shared, right) => {
-                let rest = left.room_left(rest)?;
-                right.room_left(shared.room_left(rest)?)
-            }
-            TermForm::AlphabetisedParallel(left, own, other, right) => {
-                let rest = other.room_left(own.room_left(left.room_left(rest)?)?)?;
-                right.room_left(rest)
-            }
-            TermForm::Hiding(body, hidden) => hidden.room_left(body.room_left(rest)?),
-            TermForm::Renaming(body, pairs) => room_left_by_pairs(pairs, body.room_left(rest)?),
         }
     }
 
     /// Whether the term is at most so deep.
-    #[cycle(depth)]
     fn is_within_depth(&self, most: u32) -> bool
         ensures { IsTrue result ↔ (depth (process_of self.now) ≤ most) }
     {
-        most != 0 && self.form.are_parts_within_depth(most - 1)
-    }
-}
-
-impl<A: Allocator + Copy> TermForm<A> {
-    /// Whether the parts of the form are at most so deep.
-    #[cycle(depth)]
-    #[tactic(auto, using(crate::proofs::OperatorForms::binary_depth, crate::proofs::OperatorForms::replicated_depth))]
-    fn are_parts_within_depth(&self, most: u32) -> bool
-        ensures { IsTrue result ↔ (depth (process_of_form self.now) ≤ 1 + most) }
-    {
-        match self {
+        if most == 0 {
+            return false;
+        }
+        let most = most - 1;
+        match &*self.form {
             TermForm::Stop | TermForm::Skip | TermForm::Omega => true,
             TermForm::Call(_, arguments) => are_within_depth(arguments, most),
             TermForm::Prefix(_, fields, body) => {
                 are_fields_within_depth(fields, most) && body.is_within_depth(most)
             }
-            TermForm::Guard(expression, body) | TermForm::Replicated(_, _, expression, body) => {
-                expression.is_within_depth(most) && body.is_within_depth(most)
+            TermForm::Guard(condition, body) => {
+                condition.is_within_depth(most) && body.is_within_depth(most)
             }
             TermForm::If(condition, first, second) => {
                 condition.is_within_depth(most)
                     && first.is_within_depth(most)
                     && second.is_within_depth(most)
-            }
-            TermForm::Binary(_, left, right) => {
-                left.is_within_depth(most) && right.is_within_depth(most)
-            }
-            TermForm::GeneralisedParallel(left, shared, right) => {
-                left.is_within_depth(most)
-                    && shared.is_within_depth(most)
-                    && right.is_within_depth(most)
-            }
-            TermForm::AlphabetisedParallel(left, own, other, right) => {
-                left.is_within_depth(most)
-                    && own.is_within_depth(most)
-                    && other.is_within_depth(most)
-                    && right.is_within_depth(most)
-            }
-            TermForm::Hiding(body, hidden) => {
-                body.is_within_depth(most) && hidden.is_within_depth(most)
-            }
-            TermForm::Renaming(body, pairs) => {
-                body.is_within_depth(most) && are_pairs_within_depth(pairs, most)
             }
         }
     }

@@ -4,14 +4,15 @@ ghost use Rattle.std.specs.Prelude.{◌≡◌};
 ghost use Rattle.std.specs.String.{string_bytes};
 
 use crate::assertion::Assertion;
+use crate::expression::TypeTable;
+use crate::name::Name;
 use crate::term::Term;
-use csp_expression::{Name, TypeTable};
 use csp_value::{FieldSet, Memory, TryCopy, copy_all};
 use std::alloc::Allocator;
 
 /// A channel with its spelling, and the set of the values of each of its fields.
 #[derive(Drop)]
-#[derive_where(PartialEq, Eq)]
+#[derive_where(PartialEq, Eq, PartialOrd, Ord, Hash)]
 pub struct Channel<A: Allocator> {
     pub spelling: String<A>,
     pub fields: Vec<FieldSet<A>, A>,
@@ -19,14 +20,14 @@ pub struct Channel<A: Allocator> {
 
 /// A constructor of a datatype with its spelling.
 #[derive(Drop)]
-#[derive_where(PartialEq, Eq)]
+#[derive_where(PartialEq, Eq, PartialOrd, Ord, Hash)]
 pub struct Constructor<A: Allocator> {
     pub spelling: String<A>,
 }
 
 /// `name(parameters) = body`
 #[derive(Drop)]
-#[derive_where(PartialEq, Eq)]
+#[derive_where(PartialEq, Eq, PartialOrd, Ord, Hash)]
 pub struct Equation<A: Allocator> {
     pub parameters: Vec<Name, A>,
     pub body: Term<A>,
@@ -34,7 +35,7 @@ pub struct Equation<A: Allocator> {
 
 /// A script, each part in the order of the text.
 #[derive(Drop)]
-#[derive_where(PartialEq, Eq)]
+#[derive_where(PartialEq, Eq, PartialOrd, Ord, Hash)]
 pub struct Script<A: Allocator> {
     pub types: TypeTable<A>,
     /// The constructors of all datatypes, by their numbers.

@@ -1,7 +1,7 @@
 -- What one more field leaves of the room.
 use Rattle.std.proofs.Common.{refl}
 use Rattle.csp_value.proofs.Walking.{one_less, one_too_many}
-use Rattle.csp_term.proofs.FieldMeasures.{field_size, field_sizes, field_sizes_step}
+use Rattle.csp_term.proofs.Measures.{field_size, field_sizes, field_sizes_step}
 use Rattle.csp_term.proofs.limits.room_left_by_fields.Goals as goal
 
 pub returns-in_err-rest : goal.returns-in_err-rest

@@ -1,7 +1,7 @@
 -- Values are put into one more field, and what it hides is taken out.
 use Rattle.std.proofs.Common.{[], ◌∷◌, ◌∙◌, ap}
 use Rattle.csp_semantics.specs.Meaning.Substitution.{put_fields}
-use Rattle.csp_expression.specs.Bindings.{bindings_of}
+use Rattle.csp_term.specs.Bindings.{bindings_of}
 use Rattle.csp_term.specs.Field.{field_of}
 use Rattle.csp_term.proofs.TermPutting.{filled, left_behind}
 use Rattle.csp_term.proofs.substitution.put_in_fields.Goals as goal

@@ -10,6 +10,7 @@ use Rattle.csp_parse.specs.Processes.{infix_of, replicator_of}
 use Rattle.csp_parse.specs.Reading.{standing_of}
 use Rattle.csp_parse.specs.Starts.{ReadsStart, ReadsInner}
 use Rattle.csp_parse.proofs.Operations.{extended}
+use Rattle.csp_parse.proofs.Trees.{tree_of_use}
 use Rattle.csp_parse.proofs.Passing.{renamed}
 use Rattle.csp_parse.proofs.Processing.{read_as, hidden_process, stop_read, skip_read, name_read, call_read, prefix_read, guard_read, expression_in_brackets, process_in_brackets, name_in_brackets, conditional_read, replicated_read, generalised_read, alphabetised_read, two_read, longer_read}
 use Rattle.csp_parse.proofs.parsers.Parser.+process.Goals as goal
@@ -108,8 +109,7 @@ start_of_name-returns-then-is_at-clause-reads g t c =
 
 pub start_of_name-returns-then-is_at_field-clause-reads : goal.start_of_name-returns-then-is_at_field-clause-reads
 start_of_name-returns-then-is_at_field-clause-reads g t c =
-    IfOk-weaker c.prefix.result _ _
-    (λ s k. k (standing_of c.args.self.now) _ (prefix_read c.in_ok-name.ensures.reads c.in_ok-fields.ensures.reads c.in_ok-sign.ensures.passes c.in_ok-body.ensures.reads)) c.prefix.ensures
+    renamed _ _ c.in_ok-prefix.ensures (prefix_read c.in_ok-name.ensures.reads c.in_ok-fields.ensures.reads c.in_ok-sign.ensures.passes c.in_ok-body.ensures.reads)
 
 pub start_of_name-returns-clause-reads : goal.start_of_name-returns-clause-reads
 start_of_name-returns-clause-reads g t c =
@@ -117,7 +117,8 @@ start_of_name-returns-clause-reads g t c =
 
 pub start_from_name-returns-clause-continues : goal.start_from_name-returns-clause-continues
 start_from_name-returns-clause-continues g t c =
-    IfOk-weaker c.guarded.result _ _ (λ s k before r. k before (c.in_ok-expression.ensures.continues before r)) c.guarded.ensures.continues
+    IfOk-weaker c.guarded.result _ _
+    (λ s k before r. k before (extended IsAtom IsAtom IsExpression (λ ts h. h) (renamed _ _ (tree_of_use g.row.A.Denot c.args.name) r.atom) c.in_ok-expression.ensures.extends)) c.guarded.ensures.continues
 
 pub start_of_brackets-returns-in-Name-clause-reads : goal.start_of_brackets-returns-in-Name-clause-reads
 start_of_brackets-returns-in-Name-clause-reads g t c =
@@ -142,7 +143,7 @@ guarded-returns-then-not-is_at-clause-continues g t c =
 
 pub guarded-returns-clause-continues : goal.guarded-returns-clause-continues
 guarded-returns-clause-continues g t c =
-    IfOk-weaker c.guard.result _ _ (λ s k before r. k before _ (guard_read r c.in_ok-sign.ensures.passes c.in_ok-body.ensures.reads)) c.guard.ensures
+    λ before r. renamed _ _ c.in_ok-guard.ensures (guard_read r c.in_ok-sign.ensures.passes c.in_ok-body.ensures.reads)
 
 pub chain-returns-clause-continues : goal.chain-returns-clause-continues
 chain-returns-clause-continues g t c = λ before r. read_as (λ ts h. grammar.chain h) (c.loop-operator.invariant.continues before r)

@@ -3,9 +3,7 @@ use Rattle.std.proofs.Common.{◌+◌, sym, ◌∙◌, ap}
 use Rattle.csp_semantics.specs.Meaning.Limits.{size}
 use Rattle.csp_term.specs.Term.{process_of, process_of_form}
 use Rattle.csp_term.proofs.Forms.{of_form, of_call, of_prefix}
-use Rattle.csp_expression.proofs.Measures.{one_size, sizes, size_left, size_past, size_left_behind}
-use Rattle.csp_term.proofs.FieldMeasures.{field_sizes}
-use Rattle.csp_term.proofs.TermMeasures.{over_expression_size}
+use Rattle.csp_term.proofs.Measures.{sizes, field_sizes, size_left, size_past, size_left_behind}
 use Rattle.csp_term.proofs.term.Term.+room_left.Goals as goal
 
 pub returns-in-Call : goal.returns-in-Call
@@ -28,15 +26,3 @@ returns-in_ok-room_left_by_fields-in-Prefix g t c =
     in
     size_left_behind c.room_left.result (field_sizes c.deref-in-Prefix.result.now) (size (process_of c.in-Prefix.body)) (size (process_of c.args.self.now)) c.in_ok-rest.rest c.in_ok-room_left_by_fields-in-Prefix.field-0 c.args.room
     is c.in_ok-rest.ensures.0 c.in_ok-rest.ensures.1 c.in_ok-room_left_by_fields-in-Prefix.ensures.0 c.in_ok-room_left_by_fields-in-Prefix.ensures.1 c.room_left.ensures
-
-pub returns-in_err-room_left-in-Guard : goal.returns-in_err-room_left-in-Guard
-returns-in_err-room_left-in-Guard g t c =
-    let is = ap size (of_form g.row.A.Denot c.args.self.now ∙ ap process_of_form (sym c.deref.ensures)) ∙ over_expression_size c.deref.result.now c.in-Guard.expression c.in-Guard.body c.in-Guard.is in
-    rw c.from_residual-in_err-room_left-in-Guard.ensures
-    (size_past (one_size c.in-Guard.expression) (size (process_of c.in-Guard.body)) (size (process_of c.args.self.now)) c.in_ok-rest.rest c.args.room is c.in_ok-rest.ensures.0 c.in_ok-rest.ensures.1 c.in_err-room_left-in-Guard.ensures)
-
-pub returns-in_ok-room_left-in-Guard : goal.returns-in_ok-room_left-in-Guard
-returns-in_ok-room_left-in-Guard g t c =
-    let is = ap size (of_form g.row.A.Denot c.args.self.now ∙ ap process_of_form (sym c.deref.ensures)) ∙ over_expression_size c.deref.result.now c.in-Guard.expression c.in-Guard.body c.in-Guard.is in
-    size_left_behind c.room_left-in-Guard-2.result (one_size c.in-Guard.expression) (size (process_of c.in-Guard.body)) (size (process_of c.args.self.now)) c.in_ok-rest.rest c.in_ok-room_left-in-Guard.field-0 c.args.room
-    is c.in_ok-rest.ensures.0 c.in_ok-rest.ensures.1 c.in_ok-room_left-in-Guard.ensures.0 c.in_ok-room_left-in-Guard.ensures.1 c.room_left-in-Guard-2.ensures

@@ -1,4 +1,0 @@
-pub mod Bindings
-pub mod Evaluation
-pub mod Expression
-pub mod Fault
