@@ -1,25 +1,28 @@
-//! Fires a prefix over a channel of 4,096 events, and puts a value into a term of 2,000 nodes, many times each, and says
-//! on standard error how many steps and how many terms a second that is.
+//! Fires a prefix over a channel of 4,096 events, parallel compositions of 8 and of 16 components, a renaming of as many
+//! pairs as a term holds, and a hiding over 4,096 events, and puts a value into a term of 2,000 nodes, many times each. It
+//! says on standard error how many steps and how many terms a second that is.
 #![tactic(auto)]
 
+mod composed;
+
+use crate::composed::{components, hidden, renamed};
 use anyhow::{Result, ensure};
+use csp_expression::{BinaryOperator, Binding, Expr, TypeTable};
 use csp_fire::{Form, fire};
-use csp_term::expression::{BinaryOperator, Binding, Expr, TypeTable};
 use csp_term::{Channel, ChannelId, Field, Memory, Name, Script, Term, TermForm};
 use csp_value::{FieldSet, Value};
 use std::alloc::Global;
 use std::time::Instant;
 
+/// The channel that has fields.
 const C: ChannelId = ChannelId(0);
 
 const X: Name = Name(0);
 
 const Y: Name = Name(1);
 
-const FIRINGS: u32 = 100;
-
-/// The steps of all firings.
-const STEPS: f64 = 409600.0;
+/// How many channels there are behind `c`, which have no fields.
+const PLAIN: u32 = 1000;
 
 const SUBSTITUTIONS: u32 = 4000;
 
@@ -46,9 +49,21 @@ fn channel(alloc: Global) -> Result<Channel<Global>, Memory> {
     })
 }
 
-fn script(alloc: Global) -> Result<Script<Global>, Memory> {
+/// `c`, and the channels that have no fields.
+fn channels(alloc: Global) -> Result<Vec<Channel<Global>, Global>, Memory> {
     let mut channels = Vec::new(alloc);
     channels.push(channel(alloc)?)?;
+    for _ in 0..PLAIN {
+        channels.push(Channel {
+            spelling: String::from_str(alloc, "plain")?,
+            fields: Vec::new(alloc),
+        })?;
+    }
+    Ok(channels)
+}
+
+fn script(alloc: Global) -> Result<Script<Global>, Memory> {
+    let channels = channels(alloc)?;
     Ok(Script {
         types: TypeTable {
             datatypes: Vec::new(alloc),
@@ -107,14 +122,22 @@ fn steps_of(form: &Form<Global>) -> usize {
     }
 }
 
-fn fire_often(alloc: Global) -> Result<()> {
-    let script = script(alloc)?;
-    let term = exchange(alloc)?;
-    for _ in 0..FIRINGS {
-        let expansion = fire(alloc, &script, &term)?;
-        ensure!(steps_of(expansion.form()) == 4096, "not all steps");
+/// Fires the term as often as that, each time with so many steps, and says how many steps a second that is.
+fn fire_often(
+    rt: &HostRuntime,
+    script: &Script<Global>,
+    term: &Term<Global>,
+    firings: u32,
+    steps: u32,
+) -> Result<f64> {
+    let start = Instant::now(rt)?;
+    let wanted = usize::try_from(steps)?;
+    for _ in 0..firings {
+        let expansion = fire(rt.alloc(), script, term)?;
+        ensure!(steps_of(expansion.form()) == wanted, "not all steps");
     }
-    Ok(())
+    let all = f64::from(firings) * f64::from(steps);
+    Ok(all / start.elapsed(rt)?.as_secs_f64())
 }
 
 fn substitute_often(alloc: Global) -> Result<()> {
@@ -131,11 +154,24 @@ fn substitute_often(alloc: Global) -> Result<()> {
     Ok(())
 }
 
+fn fire_all(rt: &HostRuntime) -> Result<()> {
+    let alloc = rt.alloc();
+    let script = script(alloc)?;
+    let speed = fire_often(rt, &script, &exchange(alloc)?, 100, 4096)?;
+    eprintln!(rt; "prefix over 4,096 events: {speed:.0} steps a second")?;
+    for (count, steps) in [(8, 576), (16, 1088)] {
+        let speed = fire_often(rt, &script, &components(alloc, count)?, 20, steps)?;
+        eprintln!(rt; "{count} components: {speed:.0} steps a second")?;
+    }
+    let speed = fire_often(rt, &script, &renamed(alloc)?, 100, 1)?;
+    eprintln!(rt; "renaming of 995 pairs: {speed:.0} firings a second")?;
+    let speed = fire_often(rt, &script, &hidden(alloc, exchange(alloc)?)?, 20, 4096)?;
+    eprintln!(rt; "hiding over 4,096 events: {speed:.0} steps a second")?;
+    Ok(())
+}
+
 fn main(rt: HostRuntime) -> Result<()> {
-    let start = Instant::now(&rt)?;
-    fire_often(rt.alloc())?;
-    let speed = STEPS / start.elapsed(&rt)?.as_secs_f64();
-    eprintln!(rt; "{speed:.0} steps a second")?;
+    fire_all(&rt)?;
     let start = Instant::now(&rt)?;
     substitute_often(rt.alloc())?;
     let speed = TERMS / start.elapsed(&rt)?.as_secs_f64();

@@ -66,7 +66,7 @@ same_answer false true to back = back refl
 same_answer false false to back = refl
 
 -- `==` of actions is that of the definitions
-eq_of : {X : Type 0} {test : X → X → Bool} {meaning : X → Action} → Tells test meaning → (x y : X) → action_eq (meaning x) (meaning y) ≡ test x y
+pub eq_of : {X : Type 0} {test : X → X → Bool} {meaning : X → Action} → Tells test meaning → (x y : X) → action_eq (meaning x) (meaning y) ≡ test x y
 eq_of {X} {test} {meaning} told x y =
     same_answer (action_eq (meaning x) (meaning y)) (test x y)
     (λ e. told.complete x y (action_same (meaning x) (meaning y) e))

@@ -1,23 +1,20 @@
 -- What a call goes to, by the values of its arguments, its equation and the bindings of its parameters.
-use Rattle.std.proofs.Common.{◌≡◌, ℕ, true, false, List, [], ◌∷◌, ◌↔◌, slice_get, Some, None, Result, Ok, Err, ok_or, refl, sym, ◌∙◌, ap, subst}
-use Rattle.std.specs.List.{list_all}
+use Rattle.std.proofs.Common.{◌≡◌, ℕ, List, [], ◌∷◌, ◌↔◌, slice_get, Some, None, Result, Ok, Err, ok_or, ◌∙◌, ap, subst}
 use Rattle.std.specs.Result.{result_err}
 use Rattle.csp_semantics.specs.Syntax.Value.{Action, Tau, Value}
 use Rattle.csp_semantics.specs.Syntax.Expression.{Expressions}
 use Rattle.csp_semantics.specs.Syntax.Process.{Call, Equation, Process, Script}
 use Rattle.csp_semantics.specs.Meaning.Evaluation.{Cause, IllKinded, ◌and_then◌, values}
 use Rattle.csp_semantics.specs.Meaning.Events.{called, parameter_bindings}
-use Rattle.csp_semantics.specs.Meaning.Limits.{fits}
-use Rattle.csp_semantics.specs.Meaning.Stepping.{Steps, call_steps}
+use Rattle.csp_semantics.specs.Meaning.Stepping.{call_steps}
 use Rattle.csp_semantics.specs.Meaning.Substitution.{Bindings, put}
-use Rattle.csp_semantics.specs.Meaning.Transitions.{RuleStep, call}
-use Rattle.csp_semantics.specs.Laws.Statements.{IsOneOf, StepsAre}
+use Rattle.csp_semantics.specs.Meaning.Transitions.{RuleStep}
+use Rattle.csp_semantics.specs.Laws.Statements.{IsOneOf}
 use Rattle.csp_semantics.proofs.Stepping.{exact}
-use Rattle.csp_term.specs.declared.substitution.TermFault.{TermFault}
-use Rattle.csp_term.specs.declared.substitution.TermFault.TheVariants as term
 use Rattle.csp_fire.specs.declared.stuck.Stuck.{Stuck}
 use Rattle.csp_fire.specs.declared.stuck.Stuck.TheVariants as stuck
-use Rattle.csp_fire.specs.Answering.{AllFit, Answers, Binds, SeesAll, stuck_by_term}
+use Rattle.csp_fire.specs.Answering.{Answers, Binds, IsAnswered, SeesAll, within_limits}
+use Rattle.csp_fire.proofs.Answered.{answered_by}
 
 module _ (s : Script) (n : ℕ) (es : Expressions) where
   module _ (A : Type 0) where
@@ -25,7 +22,6 @@ module _ (s : Script) (n : ℕ) (es : Expressions) where
     pub values_stuck : (why : Stuck) → SeesAll {A = A} (Err why) (values s.types es) → Answers {A = A} s (Call n es) (Err why)
     values_stuck (stuck.Fault c) none =
         ap (λ r. result_err (r and_then λ vs. ok_or (slice_get s.equations n) IllKinded and_then λ equation. parameter_bindings equation.parameters vs and_then λ bs. Ok (put bs equation.body))) none
-    values_stuck stuck.TooLarge none = absurd none
     values_stuck stuck.Memory none = tt
 
   module _ (vs : List Value) (seen : values s.types es ≡ Ok vs) where
@@ -43,7 +39,6 @@ module _ (s : Script) (n : ℕ) (es : Expressions) where
       -- not as many arguments as parameters
       pub bindings_stuck : (A : Type 0) (why : Stuck) → Binds {A = A} (Err why) (parameter_bindings equation.parameters vs) → Answers {A = A} s (Call n es) (Err why)
       bindings_stuck A (stuck.Fault c) none = ap result_err (bound_of ∙ ap (λ r. r and_then λ bs. Ok (put bs equation.body)) none)
-      bindings_stuck A stuck.TooLarge none = absurd none
       bindings_stuck A stuck.Memory none = tt
 
       pub goes_to : (bs : Bindings) → parameter_bindings equation.parameters vs ≡ Ok bs → called s n es ≡ Ok (put bs equation.body)
@@ -51,13 +46,7 @@ module _ (s : Script) (n : ℕ) (es : Expressions) where
 
   module _ (t : Process) (goes : called s n es ≡ Ok t) where
     -- the one step of a call
-    pub one_call : (ss : Steps) → ss ≡ (Tau, t) ∷ [] → fits t ≡ true → (result_err (called s n es) ≡ None) × StepsAre s (Call n es) ss × AllFit ss
-    one_call ss is within =
-        let P : Steps → Type 0 = λ us. (result_err (called s n es) ≡ None) × StepsAre s (Call n es) us × AllFit us in
+    pub one_call : IsAnswered s (Call n es) ((Tau, within_limits t) ∷ [])
+    one_call =
         let Q : Action → Process → Result Process Cause → Type 0 = λ x u r. RuleStep s (Call n es) x u ↔ IsOneOf (call_steps r) x u in
-        subst P (sym is) (ap result_err goes, λ x u. subst (Q x u) goes (exact s (Call n es) x u), ap (λ b. list_all (λ c. c) (b ∷ [])) within)
-
-    -- or it leads past the limits
-    pub call_stuck : (A : Type 0) (fault : TermFault) → (fault ≡ term.TooLarge → fits t ≡ false) → Answers {A = A} s (Call n es) (Err (stuck_by_term fault))
-    call_stuck A term.Memory past = tt
-    call_stuck A term.TooLarge past = (ap result_err goes, (Tau, t, call goes, past refl))
+        answered_by s (Call n es) ((Tau, t) ∷ []) (ap result_err goes) (λ x u. subst (Q x u) goes (exact s (Call n es) x u))

@@ -1,7 +1,8 @@
 -- From the steps of a term, sorted and each once, to its form.
-use Rattle.std.proofs.Common.{◌≡◌, ℕ, zero, suc, nat_eq, Bool, true, false, ◌&&◌, ◌||◌, cond, List, [], ◌∷◌, ◌++◌, length, refl, sym, ◌∙◌, ap, subst, inl, inr, ◌⊎◌, ⊎_elim, Contains, None, arith, IsTrue, ◌↔◌}
+use Rattle.std.proofs.Common.{◌≡◌, ℕ, zero, suc, nat_eq, Bool, true, false, ◌&&◌, ◌||◌, cond, List, [], ◌∷◌, ◌++◌, length, map, refl, sym, ◌∙◌, ap, subst, inl, inr, ◌⊎◌, ⊎_elim, Contains, Option, Some, None, arith, IsTrue, ◌↔◌}
 use Rattle.std.proofs.lemmas.Bool.{eqb-true}
-use Rattle.std.specs.List.{list_all, list_any}
+use Rattle.std.specs.List.{list_any}
+use Rattle.std.specs.Option.{option_map}
 use Rattle.std.specs.Ordering.{is_lt}
 use Rattle.csp_semantics.specs.Syntax.Value.{Action, Tau, Tick, Ev, Event, action_eq, has_action}
 use Rattle.csp_semantics.specs.Syntax.Process.{Process, Script}
@@ -10,11 +11,12 @@ use Rattle.csp_semantics.specs.Meaning.Expansions.{Form, IsFired, IsFormOf, offe
 use Rattle.csp_semantics.specs.Meaning.Faults.{cause_in}
 use Rattle.csp_semantics.specs.Meaning.Offers.{IsRising, RisesBy, CanDo, IsAllThat, IsAcceptance, of_stable, of_tick}
 use Rattle.csp_semantics.specs.Meaning.Stepping.{Steps}
-use Rattle.csp_semantics.specs.Meaning.Transitions.{IsNotStuck, RuleStep}
+use Rattle.csp_semantics.specs.Meaning.Transitions.{IsNotStuck, RuleStep, by_step}
 use Rattle.csp_semantics.specs.Laws.Statements.{IsOneOf, StepsAre}
 use Rattle.csp_semantics.proofs.Rising.{all_that_is_one}
-use Rattle.csp_fire.specs.Answering.{AllFit}
-use Rattle.csp_fire.specs.Offering.{IsFormBySteps, actions_of, has_tau, has_tick, is_tau, is_tick, offers_of}
+use Rattle.csp_fire.specs.Answering.{Answered, IsAnswered, all_within, within_limits}
+use Rattle.csp_fire.specs.Offering.{IsFormByAnswer, IsFormBySteps, IsFormWithin, actions_of, has_tau, has_tick, is_tau, is_tick, offers_of}
+use Rattle.csp_fire.proofs.Answered.{among_steps, step_among}
 use Rattle.csp_fire.proofs.Acting.{acts_from, acts_has, acts_rise, contains_one_of, one_of_contains, or_cases, or_first, or_second}
 
 -- ---- steps by one action
@@ -174,26 +176,83 @@ module _ (s : Script) (t : Process) (ss : Steps) (free : IsNotStuck s t) (each :
         offers_rise = offers.1;
       }
 
--- ---- the form of a term by its rule steps
+-- ---- what is answered, by whether it is all within the limits
 
-and_first : (a b : Bool) → a && b ≡ true → a ≡ true
-and_first true b e = refl
-and_first false b e = e
+-- a step that is within the limits
+abbrev marked : Action × Process → Answered
+marked s = (s.0, Some s.1)
 
-and_second : (a b : Bool) → a && b ≡ true → b ≡ true
-and_second true b e = e
-and_second false b e = absurd (cc e)
+some_kept : (u v : Process) → Some v ≡ within_limits u → (v ≡ u) × (fits u ≡ true)
+some_kept u v e = by_test (fits u) refl e
+  where
+    by_test : (b : Bool) → fits u ≡ b → Some v ≡ cond b (Some u) None → (v ≡ u) × (fits u ≡ true)
+    by_test true is same = (let k : Some v ≡ Some u = same in cc k, is)
+    by_test false is same = absurd (cc same)
 
-all_fit : (ss : Steps) → AllFit ss → (x : Action) (u : Process) → IsOneOf ss x u → fits u ≡ true
-all_fit [] all x u h = absurd h
-all_fit (s ∷ ss) all x u (inl e) = ap fits e.1 ∙ and_first (fits s.1) (list_all (λ s. fits s.1) ss) all
-all_fit (s ∷ ss) all x u (inr h) = all_fit ss (and_second (fits s.1) (list_all (λ s. fits s.1) ss) all) x u h
+none_kept : (u : Process) → None ≡ within_limits u → fits u ≡ false
+none_kept u e = by_test (fits u) refl e
+  where
+    by_test : (b : Bool) → fits u ≡ b → None ≡ cond b (Some u) None → fits u ≡ false
+    by_test true is same = absurd (cc same)
+    by_test false is same = is
 
-pub form_by_steps : (s : Script) (t : Process) (ss : Steps) (f : Form) → IsTrue (fits t) → cause_in s t ≡ None → StepsAre s t ss → AllFit ss → IsFormBySteps ss f → IsFormOf s t f
-form_by_steps s t ss f within clear are all by =
-    let free : IsNotStuck s t = record { within = within; no_cause = clear; targets = λ x u step. all_fit ss all x u ((are x u).0 step) } in
-    let each : (x : Action) (u : Process) → RuleStep s t x u ↔ IsOneOf by.sorted x u = λ x u. (
-      λ step. one_of_contains by.sorted x u ((by.each (x, u)).0 (contains_one_of ss x u ((are x u).0 step))),
-      λ h. (are x u).1 (one_of_contains ss x u ((by.each (x, u)).1 (contains_one_of by.sorted x u h))),
-    ) in
-    subst (λ g. IsFormOf s t g) (sym by.is) (fired s t by.sorted free each by.rise)
+all_marked : (answers : List Answered) (ss : Steps) → all_within answers ≡ Some ss → answers ≡ map marked ss
+all_marked [] ss e = let k : Some [] ≡ Some ss = e in let j : [] ≡ ss = cc k in ap (map marked) j
+all_marked ((x, None) ∷ answers) ss e = absurd (cc e)
+all_marked ((x, Some u) ∷ answers) ss e = by_rest (all_within answers) refl e (all_marked answers)
+  where
+    by_rest : (r : Option Steps) → all_within answers ≡ r → option_map (λ us. (x, u) ∷ us) r ≡ Some ss → ((us : Steps) → all_within answers ≡ Some us → answers ≡ map marked us) → (x, Some u) ∷ answers ≡ map marked ss
+    by_rest None is e rest = absurd (cc e)
+    by_rest (Some us) is e rest =
+        let whole : Steps = (x, u) ∷ us in
+        let k : Some whole ≡ Some ss = e in
+        let j : whole ≡ ss = cc k in
+        let one : Answered = (x, Some u) in ap (λ zs. one ∷ zs) (rest us is) ∙ ap (map marked) j
+
+past_among : (answers : List Answered) → all_within answers ≡ None → (x : Action) × Contains answers (x, None)
+past_among [] e = absurd (cc e)
+past_among ((x, None) ∷ answers) e = (x, first {X = Answered} (x, None) answers)
+past_among ((x, Some u) ∷ answers) e = by_rest (all_within answers) refl e (past_among answers)
+  where
+    by_rest : (r : Option Steps) → all_within answers ≡ r → option_map (λ us. (x, u) ∷ us) r ≡ None → (all_within answers ≡ None → (y : Action) × Contains answers (y, None)) → (y : Action) × Contains {X = Answered} ((x, Some u) ∷ answers) (y, None)
+    by_rest None is e rest = let r = rest is in let h = r.1 in (r.0, (suc h.0, omega (arith, h.1), h.2))
+    by_rest (Some us) is e rest = absurd (cc e)
+
+-- ---- the form of a term by what is answered of it
+
+module _ (s : Script) (t : Process) (within : IsTrue (fits t)) where
+  form_by_steps : (ss : Steps) (f : Form) → cause_in s t ≡ None → StepsAre s t ss → ((x : Action) (u : Process) → IsOneOf ss x u → fits u ≡ true) → IsFormBySteps ss f → IsFormOf s t f
+  form_by_steps ss f clear are all by =
+      let free : IsNotStuck s t = record { within = within; no_cause = clear; targets = λ x u step. all x u ((are x u).0 step) } in
+      let each : (x : Action) (u : Process) → RuleStep s t x u ↔ IsOneOf by.sorted x u = λ x u. (
+        λ step. one_of_contains by.sorted x u ((by.each (x, u)).0 (contains_one_of ss x u ((are x u).0 step))),
+        λ h. (are x u).1 (one_of_contains ss x u ((by.each (x, u)).1 (contains_one_of by.sorted x u h))),
+      ) in
+      subst (λ g. IsFormOf s t g) (sym by.is) (fired s t by.sorted free each by.rise)
+
+  module _ (answers : List Answered) (answered : IsAnswered s t answers) where
+    -- each step of those that are all within the limits
+    answered_steps : (ss : Steps) → answers ≡ map marked ss → (f : Form) → IsFormBySteps ss f → IsFormOf s t f
+    answered_steps ss are f by =
+        let P : Action → Option Process → List Answered → Type 0 = λ x t rs. Contains rs (x, t) in
+        let sound : (x : Action) (u : Process) → IsOneOf ss x u → RuleStep s t x u × (fits u ≡ true) = λ x u h.
+        let r = answered.sound x (Some u) (subst (P x (Some u)) (sym are) (step_among Some x ss u h)) in
+        let k = some_kept r.0 u r.2 in
+        let Q : Process → Type 0 = λ v. RuleStep s t x v × (fits v ≡ true) in subst Q (sym k.0) (r.1, k.1)
+        in
+        let complete : (x : Action) (u : Process) → RuleStep s t x u → IsOneOf ss x u = λ x u step.
+        let r = among_steps Some x ss (within_limits u) (subst (P x (within_limits u)) are (answered.complete x u step)) in
+        let k = some_kept u r.0 (sym r.2) in
+        let Q : Process → Type 0 = λ v. IsOneOf ss x v in subst Q k.0 r.1
+        in form_by_steps ss f answered.no_cause (λ x u. (complete x u, λ h. (sound x u h).0)) (λ x u h. (sound x u h).1) by
+
+    -- the form is by what is answered
+    pub form_by_answer : (f : Form) → IsFormByAnswer answers f → IsFormOf s t f
+    form_by_answer f by = by_all (all_within answers) refl by
+      where
+        by_all : (r : Option Steps) → all_within answers ≡ r → IsFormWithin r f → IsFormOf s t f
+        by_all (Some ss) is h = answered_steps ss (all_marked answers ss is) f h
+        by_all None is h =
+            let l = past_among answers is in
+            let r = answered.sound l.0 None l.1 in
+            subst (λ g. IsFormOf s t g) (sym h) (by_step answered.no_cause (l.0, r.0, r.1, none_kept r.0 r.2))

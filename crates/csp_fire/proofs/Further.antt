@@ -1,33 +1,19 @@
 -- What is found along the communications of a list of values, one after the other.
-use Rattle.std.proofs.Common.{◌≡◌, ℕ, Bool, true, false, not, ◌||◌, List, [], ◌∷◌, ◌++◌, map, Result, Ok, Err, refl, sym, ◌∙◌, ap, ap₂, subst}
-use Rattle.std.proofs.lemmas.List.{append-nil, append_assoc}
+use Rattle.std.proofs.Common.{◌≡◌, ℕ, List, [], ◌∷◌, ◌++◌, map, Result, Ok, Err, refl, sym, ◌∙◌, ap, ap₂, subst}
+use Rattle.std.proofs.lemmas.List.{append-nil, append_assoc, map-append}
+use Rattle.std.specs.declared.vec.Vec.{Vec}
 use Rattle.csp_semantics.specs.Syntax.Value as pure
 use Rattle.csp_semantics.specs.Syntax.Process.{Process}
 use Rattle.csp_semantics.specs.Meaning.Evaluation.{Cause, ◌and_then◌}
 use Rattle.csp_semantics.specs.Meaning.Events.{Communication, each_list, with_value}
-use Rattle.csp_semantics.specs.Meaning.Limits.{fits}
 use Rattle.csp_semantics.specs.Meaning.Stepping.{communication_steps}
 use Rattle.csp_semantics.specs.Meaning.Substitution.{put}
-use Rattle.csp_fire.specs.declared.rules.communications.Found.{Found}
+use Rattle.csp_fire.specs.declared.rule_step.RuleStep.{RuleStep}
 use Rattle.csp_fire.specs.declared.stuck.Stuck.{Stuck}
 use Rattle.csp_fire.specs.declared.stuck.Stuck.TheVariants as stuck
-use Rattle.csp_fire.specs.Answering.{Finds, IsFurther, behind_values, some_large}
-use Rattle.csp_fire.specs.Form.{step_of}
-use Rattle.csp_fire.proofs.Reaching.{or_false}
+use Rattle.csp_fire.specs.Answering.{Finds, IsFurther, answered_of, behind_values, kept}
 
 -- ---- two lists of communications
-
-or_or : (a b c : Bool) → a || (b || c) ≡ (a || b) || c
-or_or true b c = refl
-or_or false b c = refl
-
-neither : (a b : Bool) → a || b ≡ false → a ≡ false
-neither true b e = absurd (cc e)
-neither false b e = refl
-
-large_both : (p : Process) (ms ns : List Communication) → some_large p (ms ++ ns) ≡ some_large p ms || some_large p ns
-large_both p [] ns = refl
-large_both p (m ∷ ms) ns = ap (λ b. not (fits (put m.bindings p)) || b) (large_both p ms ns) ∙ or_or (not (fits (put m.bindings p))) (some_large p ms) (some_large p ns)
 
 steps_both : (c : ℕ) (p : Process) (ms ns : List Communication) → communication_steps c p (ms ++ ns) ≡ communication_steps c p ms ++ communication_steps c p ns
 steps_both c p [] ns = refl
@@ -42,27 +28,21 @@ behind_one vs v [] = refl
 behind_one vs v (m ∷ ms) = ap₂ (λ ws ls. record { values = ws; bindings = m.bindings } ∷ ls) (append_assoc vs (v ∷ []) m.values) (behind_one vs v ms)
 
 module _ {A : Type 0} (c : ℕ) (p : Process) where
-  nothing_found : (before : Found A) → IsFurther c p before before []
-  nothing_found before = record { large = or_false before.large; steps = λ _. sym (append-nil (map step_of before.steps.items)) }
+  nothing_found : (before : Vec (RuleStep A) A) → IsFurther c p before before []
+  nothing_found before = sym (append-nil (map answered_of before.items))
 
-  one_then_other : (before mid after : Found A) (ms ns : List Communication) → IsFurther c p before mid ms → IsFurther c p mid after ns → IsFurther c p before after (ms ++ ns)
-  one_then_other before mid after ms ns first second = record {
-    large = second.large ∙ ap (λ b. b || some_large p ns) first.large ∙ sym (or_or before.large (some_large p ms) (some_large p ns)) ∙ ap (λ b. before.large || b) (sym (large_both p ms ns));
-    steps = λ none.
-        second.steps none
-        ∙ ap (λ ss. ss ++ communication_steps c p ns) (first.steps (neither mid.large (some_large p ns) (sym second.large ∙ none)))
-        ∙ append_assoc (map step_of before.steps.items) (communication_steps c p ms) (communication_steps c p ns)
-        ∙ ap (λ ss. map step_of before.steps.items ++ ss) (sym (steps_both c p ms ns));
-  }
+  one_then_other : (before mid after : Vec (RuleStep A) A) (ms ns : List Communication) → IsFurther c p before mid ms → IsFurther c p mid after ns → IsFurther c p before after (ms ++ ns)
+  one_then_other before mid after ms ns first second =
+      second ∙ ap (λ ss. ss ++ map kept (communication_steps c p ns)) first ∙ append_assoc (map answered_of before.items) (map kept (communication_steps c p ms)) (map kept (communication_steps c p ns))
+      ∙ ap (λ ss. map answered_of before.items ++ ss) (sym (map-append kept (communication_steps c p ms) (communication_steps c p ns)) ∙ ap (map kept) (sym (steps_both c p ms ns)))
 
-  module _ (vs : List pure.Value) (v : pure.Value) (r : Result (List Communication) Cause) (before : Found A) where
+  module _ (vs : List pure.Value) (v : pure.Value) (r : Result (List Communication) Cause) (before : Vec (RuleStep A) A) where
     -- with one more value before the later ones
-    pub with_one : (result : Result (Found A) Stuck) → Finds c p (vs ++ v ∷ []) before r result → Finds c p vs before (r and_then λ ms. Ok (with_value v ms)) result
+    pub with_one : (result : Result (Vec (RuleStep A) A) Stuck) → Finds c p (vs ++ v ∷ []) before r result → Finds c p vs before (r and_then λ ms. Ok (with_value v ms)) result
     with_one (Ok after) (ms, is, further) =
         let P : List Communication → Type 0 = λ ls. IsFurther c p before after ls in
         (with_value v ms, ap (λ q. q and_then λ ls. Ok (with_value v ls)) is, subst P (behind_one vs v ms) further)
     with_one (Err (stuck.Fault e)) is = ap (λ q. q and_then λ ls. Ok (with_value v ls)) is
-    with_one (Err stuck.TooLarge) is = absurd is
     with_one (Err stuck.Memory) is = tt
 
 -- ---- a list of values in turn
@@ -90,17 +70,17 @@ module _ (f : pure.Value → Result (List Communication) Cause) where
       by_first (Ok ls) rest = ap (λ r. r and_then λ ks. Ok (ls ++ ks)) rest ∙ by_rest ls (each_list f xs)
       by_first (Err c) rest = refl
 
-  module _ {A : Type 0} (c : ℕ) (p : Process) (vs : List pure.Value) (before : Found A) where
+  module _ {A : Type 0} (c : ℕ) (p : Process) (vs : List pure.Value) (before : Vec (RuleStep A) A) where
     -- what was found by the values so far
-    abbrev pub FoundSoFar : List pure.Value → Found A → Type 0
+    abbrev pub FoundSoFar : List pure.Value → Vec (RuleStep A) A → Type 0
     FoundSoFar xs now = Finds c p vs before (each_list f xs) (Ok now)
 
     pub none_so_far : FoundSoFar [] before
     none_so_far = ([], refl, nothing_found c p before)
 
-    module _ (xs : List pure.Value) (mid : Found A) (so_far : FoundSoFar xs mid) (v : pure.Value) where
+    module _ (xs : List pure.Value) (mid : Vec (RuleStep A) A) (so_far : FoundSoFar xs mid) (v : pure.Value) where
       -- and by one more
-      pub one_further : (after : Found A) → Finds c p vs mid (f v) (Ok after) → FoundSoFar (xs ++ v ∷ []) after
+      pub one_further : (after : Vec (RuleStep A) A) → Finds c p vs mid (f v) (Ok after) → FoundSoFar (xs ++ v ∷ []) after
       one_further after (ns, is, further) =
           let ms = so_far.0 in
           let P : List Communication → Type 0 = λ ls. IsFurther c p before after ls in
@@ -115,5 +95,4 @@ module _ (f : pure.Value → Result (List Communication) Cause) where
       stopped_at ys (stuck.Fault e) is =
           over_both xs (v ∷ ys) ∙ ap (λ r. r and_then λ ls. each_list f (v ∷ ys) and_then λ ks. Ok (ls ++ ks)) so_far.1
           ∙ ap (λ r. (r and_then λ ls. each_list f ys and_then λ ks. Ok (ls ++ ks)) and_then λ ks. Ok (so_far.0 ++ ks)) is
-      stopped_at ys stuck.TooLarge is = absurd is
       stopped_at ys stuck.Memory is = tt

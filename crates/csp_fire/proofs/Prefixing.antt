@@ -1,82 +1,59 @@
 -- The steps of a prefix by what was found of its fields.
-use Rattle.std.proofs.Common.{◌≡◌, ℕ, Bool, true, false, not, ◌||◌, ◌&&◌, List, [], ◌∷◌, ◌++◌, map, ◌↔◌, slice_get, Some, None, Result, Ok, Err, ok_or, refl, sym, ◌∙◌, ap, subst, inl, inr}
-use Rattle.std.specs.List.{list_all}
+use Rattle.std.proofs.Common.{◌≡◌, ℕ, List, [], ◌∷◌, ◌++◌, map, ◌↔◌, slice_get, Some, None, Result, Ok, Err, ok_or, refl, sym, ◌∙◌, ap, subst}
 use Rattle.std.specs.Result.{result_err}
+use Rattle.std.specs.declared.vec.Vec.{Vec}
 use Rattle.csp_semantics.specs.Syntax.Value as pure
 use Rattle.csp_semantics.specs.Syntax.Process.{Field, Prefix, Process, Script}
 use Rattle.csp_semantics.specs.Meaning.Evaluation.{Cause, IllKinded, ◌and_then◌}
 use Rattle.csp_semantics.specs.Meaning.Events.{Communication, communications, prefix_communications}
-use Rattle.csp_semantics.specs.Meaning.Limits.{fits}
-use Rattle.csp_semantics.specs.Meaning.Stepping.{Steps, communication_steps, prefix_steps}
-use Rattle.csp_semantics.specs.Meaning.Substitution.{put}
-use Rattle.csp_semantics.specs.Meaning.Transitions.{LeadsPastLimits, RuleStep}
-use Rattle.csp_semantics.specs.Laws.Statements.{IsOneOf, StepsAre}
+use Rattle.csp_semantics.specs.Meaning.Stepping.{communication_steps, prefix_steps}
+use Rattle.csp_semantics.specs.Meaning.Substitution.{Bindings, behind, put, put_fields}
+use Rattle.csp_semantics.specs.Meaning.Transitions as rule
+use Rattle.csp_expression.specs.Fault.{cause_of}
+use Rattle.csp_semantics.specs.Laws.Statements.{IsOneOf}
 use Rattle.csp_semantics.proofs.Stepping.{exact}
-use Rattle.csp_fire.specs.declared.rules.communications.Found.{Found}
+use Rattle.csp_fire.specs.declared.rule_step.RuleStep.{RuleStep}
 use Rattle.csp_fire.specs.declared.stuck.Stuck.{Stuck}
 use Rattle.csp_fire.specs.declared.stuck.Stuck.TheVariants as stuck
-use Rattle.csp_fire.specs.Answering.{AllFit, Answers, Finds, behind_values, some_large}
-use Rattle.csp_fire.specs.Form.{step_of}
+use Rattle.csp_fire.specs.Answering.{Answered, Answers, Finds, IsAnswered, answered_of, behind_values, kept}
+use Rattle.csp_fire.proofs.Answered.{answered_by}
+use Rattle.csp_fire.proofs.Beginning.{reaching, same_cause, same_communications, same_steps}
+use Rattle.csp_fire.proofs.Twice.{both_nothing}
 
 behind_nothing : (ms : List Communication) → behind_values [] ms ≡ ms
 behind_nothing [] = refl
 behind_nothing (m ∷ ms) = ap (λ ns. m ∷ ns) (behind_nothing ms)
-
--- no communication leads past the limits
-all_fit : (c : ℕ) (p : Process) (ms : List Communication) → some_large p ms ≡ false → list_all (λ s. fits s.1) (communication_steps c p ms) ≡ true
-all_fit c p [] none = refl
-all_fit c p (m ∷ ms) none = by_test (fits (put m.bindings p)) none (all_fit c p ms)
-  where
-    by_test : (b : Bool) → not b || some_large p ms ≡ false → (some_large p ms ≡ false → list_all (λ s. fits s.1) (communication_steps c p ms) ≡ true) → b && list_all (λ s. fits s.1) (communication_steps c p ms) ≡ true
-    by_test true is rest = rest is
-    by_test false is rest = absurd (cc is)
-
--- or some communication does
-one_large : (c : ℕ) (p : Process) (ms : List Communication) → some_large p ms ≡ true → (x : pure.Action) × (u : Process) × IsOneOf (communication_steps c p ms) x u × (fits u ≡ false)
-one_large c p [] some = absurd (cc some)
-one_large c p (m ∷ ms) some = by_test (fits (put m.bindings p)) refl some (one_large c p ms)
-  where
-    by_test : (b : Bool) → fits (put m.bindings p) ≡ b → not b || some_large p ms ≡ true → (some_large p ms ≡ true → (x : pure.Action) × (u : Process) × IsOneOf (communication_steps c p ms) x u × (fits u ≡ false)) →
-        (x : pure.Action) × (u : Process) × IsOneOf (communication_steps c p (m ∷ ms)) x u × (fits u ≡ false)
-    by_test true is rest later = let r = later rest in (r.0, r.1, inr r.2, r.3)
-    by_test false is rest later = (pure.Ev (record { channel = c; fields = m.values }), put m.bindings p, inl (refl, refl), is)
 
 module _ (s : Script) (c : ℕ) (fs : List Field) (p : Process) where
   -- a prefix of what is no channel
   pub no_channel : slice_get s.channels c ≡ None → result_err (prefix_communications s c fs) ≡ Some IllKinded
   no_channel none = ap (λ o. result_err (ok_or o IllKinded and_then λ sets. communications s.types [] fs sets)) none
 
-  module _ {A : Type 0} (sets : List (List pure.Value)) (at : slice_get s.channels c ≡ Some sets) (nothing : Found A) where
-    over_sets : prefix_communications s c fs ≡ communications s.types [] fs sets
-    over_sets = ap (λ o. ok_or o IllKinded and_then λ ss. communications s.types [] fs ss) at
+-- what is found over the bindings answers the prefix with their values put in
+module _ (s : Script) (c : ℕ) (fs : List Field) (p : Process) (bs : Bindings) {A : Type 0} (sets : List (List pure.Value)) (at : slice_get s.channels c ≡ Some sets) (nothing : Vec (RuleStep A) A) where
+  abbrev gs : List Field
+  gs = put_fields bs fs
 
-    -- a field has no value
-    pub fields_stuck : (why : Stuck) → Finds c p [] nothing (communications s.types [] fs sets) (Err why) → Answers {A = A} s (Prefix c fs p) (Err why)
-    fields_stuck (stuck.Fault e) is = ap result_err (over_sets ∙ is)
-    fields_stuck stuck.TooLarge is = absurd is
-    fields_stuck stuck.Memory is = tt
+  abbrev q : Process
+  q = put (behind bs fs) p
 
-    module _ (empty : nothing.steps.items ≡ []) (small : nothing.large ≡ false) (after : Found A) (found : Finds c p [] nothing (communications s.types [] fs sets) (Ok after)) where
-      allowed_are : prefix_communications s c fs ≡ Ok found.0
-      allowed_are = over_sets ∙ found.1
+  over_sets : prefix_communications s c gs ≡ communications s.types [] gs sets
+  over_sets = ap (λ o. ok_or o IllKinded and_then λ ss. communications s.types [] gs ss) at
 
-      large_is : after.large ≡ some_large p found.0
-      large_is = found.2.large ∙ ap (λ b. b || some_large p (behind_values [] found.0)) small ∙ ap (some_large p) (behind_nothing found.0)
+  same_reached : reaching q (communications s.types [] gs sets) ≡ reaching p (communications s.types bs fs sets)
+  same_reached = same_communications s.types bs [] bs (both_nothing bs) fs sets p
 
-      steps_exact : StepsAre s (Prefix c fs p) (communication_steps c p found.0)
-      steps_exact x u = let Q : Result (List Communication) Cause → Type 0 = λ r. RuleStep s (Prefix c fs p) x u ↔ IsOneOf (prefix_steps c p r) x u in subst Q allowed_are (exact s (Prefix c fs p) x u)
+  steps_found : nothing.items ≡ [] → (after : Vec (RuleStep A) A) → Finds c p [] nothing (communications s.types bs fs sets) (Ok after) → IsAnswered s (Prefix c gs q) (map answered_of after.items)
+  steps_found empty after found =
+      let m = same_steps c q p (communications s.types [] gs sets) found.0 (same_reached ∙ ap (reaching p) found.1) in
+      let allowed : prefix_communications s c gs ≡ Ok m.0 = over_sets ∙ m.1 in
+      let are : map answered_of after.items ≡ map kept (communication_steps c q m.0) =
+      found.2 ∙ ap (λ ss. map answered_of ss ++ map kept (communication_steps c p (behind_values [] found.0))) empty ∙ ap (λ ms. map kept (communication_steps c p ms)) (behind_nothing found.0) ∙ ap (map kept) (sym m.2) in
+      let Q : pure.Action → Process → Result (List Communication) Cause → Type 0 = λ x u r. rule.RuleStep s (Prefix c gs q) x u ↔ IsOneOf (prefix_steps c q r) x u in
+      let P : List Answered → Type 0 = λ ss. IsAnswered s (Prefix c gs q) ss in
+      subst P (sym are) (answered_by s (Prefix c gs q) (communication_steps c q m.0) (ap result_err allowed) (λ x u. subst (Q x u) allowed (exact s (Prefix c gs q) x u)))
 
-      -- no step leads past the limits
-      pub steps_found : after.large ≡ false → (result_err (prefix_communications s c fs) ≡ None) × StepsAre s (Prefix c fs p) (map step_of after.steps.items) × AllFit (map step_of after.steps.items)
-      steps_found none =
-          let are : map step_of after.steps.items ≡ communication_steps c p found.0 =
-          found.2.steps none ∙ ap (λ ss. map step_of ss ++ communication_steps c p (behind_values [] found.0)) empty ∙ ap (communication_steps c p) (behind_nothing found.0) in
-          let P : Steps → Type 0 = λ ss. StepsAre s (Prefix c fs p) ss × AllFit ss in
-          let both = subst P (sym are) (steps_exact, all_fit c p found.0 (sym large_is ∙ none)) in
-          (ap result_err allowed_are, both.0, both.1)
-
-      -- some step does
-      pub large_found : after.large ≡ true → (result_err (prefix_communications s c fs) ≡ None) × LeadsPastLimits s (Prefix c fs p)
-      large_found some =
-          let l = one_large c p found.0 (sym large_is ∙ some) in
-          (ap result_err allowed_are, (l.0, l.1, (steps_exact l.0 l.1).1 l.2, l.3))
+  pub answered_fields : nothing.items ≡ [] → (r : Result (Vec (RuleStep A) A) Stuck) → Finds c p [] nothing (communications s.types bs fs sets) r → Answers s (Prefix c gs q) r
+  answered_fields empty (Ok after) found = steps_found empty after found
+  answered_fields empty (Err (stuck.Fault e)) is = ap result_err (over_sets ∙ same_cause c q p (communications s.types [] gs sets) (cause_of e) (same_reached ∙ ap (reaching p) is))
+  answered_fields empty (Err stuck.Memory) is = tt

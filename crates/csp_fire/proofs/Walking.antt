@@ -10,10 +10,11 @@ use Rattle.csp_semantics.specs.Meaning.Events.{Communication, communications, ea
 use Rattle.csp_semantics.specs.Meaning.Substitution.{Bindings, bind, put_expression}
 use Rattle.csp_value.specs.declared.value.Value.{Value}
 use Rattle.csp_value.specs.Value.{value_of, values_of}
-use Rattle.csp_term.specs.declared.expression.fault.EvalFault.{EvalFault}
-use Rattle.csp_term.specs.declared.expression.fault.EvalFault.TheVariants as eval
-use Rattle.csp_term.specs.Evaluation.{Sees}
-use Rattle.csp_fire.specs.declared.rules.communications.Found.{Found}
+use Rattle.csp_expression.specs.declared.eval_fault.EvalFault.{EvalFault}
+use Rattle.csp_expression.specs.declared.eval_fault.EvalFault.TheVariants as eval
+use Rattle.csp_expression.specs.Evaluation.{Sees}
+use Rattle.csp_fire.specs.declared.rule_step.RuleStep.{RuleStep}
+use Rattle.std.specs.declared.vec.Vec.{Vec}
 use Rattle.csp_fire.specs.Answering.{Finds, stuck_by_value}
 
 module _ (types : Types) (bs : Bindings) (fs : List Field) (set : List pure.Value) (sets : List (List pure.Value)) where
@@ -21,7 +22,7 @@ module _ (types : Types) (bs : Bindings) (fs : List Field) (set : List pure.Valu
   abbrev pub behind_input : ℕ → pure.Value → Result (List Communication) Cause
   behind_input n v = communications types (bind n v bs) fs sets and_then λ ms. Ok (with_value v ms)
 
-  module _ (A : Type 0) (c : ℕ) (p : Process) (vs : List pure.Value) (before : Found A) (e : Expression) (why : EvalFault) (none : Sees {A = A} (Err why) (value types (put_expression bs e))) where
+  module _ (A : Type 0) (c : ℕ) (p : Process) (vs : List pure.Value) (before : Vec (RuleStep A) A) (e : Expression) (why : EvalFault) (none : Sees {A = A} (Err why) (value types (put_expression bs e))) where
     -- a given value that does not exist
     pub given_stuck : Finds c p vs before (communications types bs (Given e ∷ fs) (set ∷ sets)) (Err (stuck_by_value why))
     given_stuck = by_fault why none

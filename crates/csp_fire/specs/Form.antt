@@ -4,7 +4,7 @@ use Rattle.csp_semantics.specs.Syntax.Value as pure
 use Rattle.csp_semantics.specs.Syntax.Process.{Process}
 use Rattle.csp_semantics.specs.Meaning.Expansions as meaning
 use Rattle.csp_value.specs.Action.{action_of}
-use Rattle.csp_term.specs.Fault.{cause_of}
+use Rattle.csp_expression.specs.Fault.{cause_of}
 use Rattle.csp_term.specs.Term.{process_of}
 use Rattle.csp_fire.specs.declared.form.Step.{Step}
 use Rattle.csp_fire.specs.declared.form.Form.{Form}

@@ -1,11 +1,12 @@
 -- The acceptances of a term by its steps, which are sorted, each once.
-use Rattle.std.specs.Prelude.{◌≡◌, ◌↔◌, Contains, Bool, true, false, ◌&&◌, ◌||◌, nat_eq, cond, List, [], ◌∷◌, ◌++◌, length, map}
+use Rattle.std.specs.Prelude.{◌≡◌, ◌↔◌, Contains, Bool, true, false, ◌&&◌, ◌||◌, nat_eq, cond, List, [], ◌∷◌, ◌++◌, length, map, Option, Some, None}
 use Rattle.std.specs.List.{list_any}
 use Rattle.csp_semantics.specs.Syntax.Value.{Action, Tau, Tick, action_eq}
 use Rattle.csp_semantics.specs.Syntax.Process.{Process}
-use Rattle.csp_semantics.specs.Meaning.Expansions.{Form, Fired, step_cmp}
+use Rattle.csp_semantics.specs.Meaning.Expansions.{Form, Fired, FiredLarge, step_cmp}
 use Rattle.csp_semantics.specs.Meaning.Offers.{RisesBy}
 use Rattle.csp_semantics.specs.Meaning.Stepping.{Steps}
+use Rattle.csp_fire.specs.Answering.{Answered, all_within}
 
 abbrev pub is_tau : Action → Bool
 is_tau Tau = true
@@ -52,3 +53,11 @@ pub record IsFormBySteps (ss : Steps) (form : Form) : Type 0 where
   pub is : form ≡ Fired sorted (offers_of sorted)
   pub rise : RisesBy step_cmp sorted
   pub each : (s : Action × Process) → Contains ss s ↔ Contains sorted s
+
+-- The form is by the steps that are answered, or large, where one leads past the limits.
+abbrev pub IsFormWithin : Option Steps → Form → Type 0
+IsFormWithin (Some ss) form = IsFormBySteps ss form
+IsFormWithin None form = form ≡ FiredLarge
+
+abbrev pub IsFormByAnswer : List Answered → Form → Type 0
+IsFormByAnswer steps form = IsFormWithin (all_within steps) form

@@ -5,11 +5,14 @@ ghost use Rattle.csp_semantics.specs.Meaning.Expansions.{IsFormOf, IsExpansion};
 ghost use Rattle.csp_term.specs.Term.{process_of};
 ghost use Rattle.csp_term.specs.Script.{script_of};
 ghost use Rattle.csp_fire.specs.Form.{form_of, step_of};
-ghost use Rattle.csp_fire.specs.Offering.{IsFormBySteps};
+ghost use Rattle.std.specs.Option.{option_map};
+ghost use Rattle.csp_fire.specs.Answering.{all_within, answered_of};
+ghost use Rattle.csp_fire.specs.Offering.{IsFormByAnswer, IsFormBySteps};
 
 use crate::expansion::Expansion;
 use crate::form::{Form, Step};
 use crate::offers::offers;
+use crate::rule_step::{RuleStep, Target};
 use crate::rules::steps;
 use crate::stuck::Stuck;
 use csp_term::{AllocHandle, Memory, Script, Term};
@@ -29,6 +32,7 @@ pub fn fire<'s, A: AllocHandle>(
     Ok(Expansion { script, term, form })
 }
 
+#[tactic(auto, using(csp_semantics::proofs::Putting::put_nothing))]
 fn form_of_term<A: AllocHandle>(
     alloc: A,
     script: &Script<A>,
@@ -39,12 +43,42 @@ fn form_of_term<A: AllocHandle>(
     if !term.fits() {
         return Ok(Form::Large);
     }
-    match steps(alloc, script, term) {
-        Ok(steps) => form_by_steps(alloc, steps),
+    match steps(alloc, script, &[], term) {
+        Ok(answered) => form_by_answer(alloc, answered),
         Err(Stuck::Memory) => Err(Memory),
         Err(Stuck::Fault(cause)) => Ok(Form::Faulty(cause)),
-        Err(Stuck::TooLarge) => Ok(Form::Large),
     }
+}
+
+/// The form of the term that is answered so: large, where a step leads past the limits.
+fn form_by_answer<A: AllocHandle>(
+    alloc: A,
+    answered: Vec<RuleStep<A>, A>,
+) -> Result<Form<A>, Memory>
+    ensures { IfOk result (λ f. IsFormByAnswer (map answered_of answered.items) (form_of f)) }
+{
+    match steps_within(alloc, answered)? {
+        Some(steps) => form_by_steps(alloc, steps),
+        None => Ok(Form::Large),
+    }
+}
+
+/// The steps, where none leads past the limits.
+fn steps_within<A: AllocHandle>(
+    alloc: A,
+    answered: Vec<RuleStep<A>, A>,
+) -> Result<Option<Vec<Step<A>, A>>, Memory>
+    ensures { IfOk result (λ steps. option_map (λ ss. map step_of ss.items) steps ≡ all_within (map answered_of answered.items)) }
+{
+    let mut steps = Vec::new(alloc);
+    for step in answered {
+        let RuleStep { action, target } = step;
+        match target {
+            Target::Within(target) => steps.push(Step { action, target })?,
+            Target::Past => return Ok(None),
+        }
+    }
+    Ok(Some(steps))
 }
 
 /// The form of the term that has these steps, of which none leads past the limits.

@@ -2,8 +2,8 @@
 
 ghost use Rattle.std.specs.Prelude.{◌≡◌};
 
-use csp_term::expression::EvalFault;
-use csp_term::{Fault, Memory, TermFault};
+use csp_expression::EvalFault;
+use csp_term::{Fault, Memory};
 use std::alloc::AllocFailed;
 
 /// Why the steps of a term are not answered.
@@ -12,8 +12,6 @@ pub(crate) enum Stuck {
     Memory,
     /// A rule needs a value that does not exist.
     Fault(Fault),
-    /// A step leads past the limits.
-    TooLarge,
 }
 
 impl From<Memory> for Stuck {
@@ -45,19 +43,6 @@ impl From<EvalFault> for Stuck {
         match fault {
             EvalFault::Memory => Stuck::Memory,
             EvalFault::Fault(cause) => Stuck::Fault(cause),
-        }
-    }
-}
-
-impl From<TermFault> for Stuck {
-    ghost use Rattle.csp_fire.specs.Answering.{stuck_by_term};
-
-    ghost from_gives = { λ fault e. e ≡ stuck_by_term fault };
-
-    fn from(fault: TermFault) -> Stuck {
-        match fault {
-            TermFault::Memory => Stuck::Memory,
-            TermFault::TooLarge => Stuck::TooLarge,
         }
     }
 }

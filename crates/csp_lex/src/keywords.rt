@@ -4,7 +4,7 @@ ghost use Rattle.std.specs.Str.{chars};
 use std::fmt;
 
 /// A word that is no name.
-#[derive(Clone, Copy, Debug, PartialEq, Eq, PartialOrd, Ord, Hash)]
+#[derive(Clone, Copy, PartialEq, Eq)]
 pub enum Keyword {
     Datatype,
     Nametype,

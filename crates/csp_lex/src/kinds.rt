@@ -4,7 +4,7 @@ use crate::signs::Sign;
 use std::alloc::Allocator;
 
 /// What a token is. A name is known by its text.
-#[derive(Clone, Copy, Debug, PartialEq, Eq, Hash)]
+#[derive(Clone, Copy, PartialEq, Eq)]
 pub enum TokenKind {
     Keyword(Keyword),
     Sign(Sign),
@@ -14,7 +14,7 @@ pub enum TokenKind {
 }
 
 /// A token of a text, with the slice of the text that it is.
-#[derive(Clone, Copy, Debug)]
+#[derive(Clone, Copy)]
 pub struct Token<'a> {
     pub kind: TokenKind,
     pub text: &'a str,

@@ -7,7 +7,7 @@ use std::fmt;
 use thiserror::Error;
 
 /// What is wrong with a text that has no tokens.
-#[derive(Clone, Copy, Debug, PartialEq, Eq, PartialOrd, Ord, Hash)]
+#[derive(Clone, Copy, Debug, PartialEq, Eq)]
 pub enum TextFault {
     /// a character that begins no token
     NoToken,

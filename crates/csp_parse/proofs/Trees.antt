@@ -1,14 +1,18 @@
 -- The tree of each form of expression.
 use Rattle.std.proofs.Common.{◌≡◌, ◌∙◌, ℕ, Bool, sym, ap}
-use Rattle.csp_semantics.specs.Text.Raw.{RawExpression, RawNumber, RawTruth, RawBooleans, RawUse, RawSequence, RawSet}
+use Rattle.csp_semantics.specs.Text.Raw.{RawExpression, RawNumber, RawTruth, RawBooleans, RawUse, RawCombine, RawSequence, RawSet}
 use Rattle.csp_parse.specs.declared.expressions.Expression.TheOpen as layer
 use Rattle.csp_parse.specs.declared.expressions.Expression.TheFolds.{fold-roll-Expression}
 use Rattle.csp_parse.specs.declared.expressions.Expression.TheVariants as views
 use Rattle.csp_parse.specs.declared.expressions.Expression.{Expression}
 use Rattle.csp_parse.specs.declared.names.Name.{Name}
+use Rattle.csp_parse.specs.declared.operators.BinaryOperator.{BinaryOperator}
+use Rattle.std.specs.Box.{box_value}
+use Rattle.std.specs.declared.boxed.Box.{Box}
 use Rattle.std.specs.declared.vec.Vec.{Vec}
 use Rattle.csp_parse.specs.Expressions.{expression_step, expression_of, expressions_of}
 use Rattle.csp_parse.specs.Names.{name_of}
+use Rattle.csp_parse.specs.Operators.{binary_of}
 
 module _ (A : Type 0) where
   pub tree_of_number : (n : ℕ) → expression_of {A = A} (views.Number n) ≡ RawNumber n
@@ -22,6 +26,9 @@ module _ (A : Type 0) where
 
   pub tree_of_use : (n : Name) → expression_of {A = A} (views.Use n) ≡ RawUse (name_of n)
   tree_of_use n = ap (expression_of {A = A}) (sym (views.rolls-Use n)) ∙ fold-roll-Expression A RawExpression expression_step (layer.Use n)
+
+  pub tree_of_combine : (o : BinaryOperator) (e f : Box (Expression A) A) → expression_of {A = A} (views.Combine o e f) ≡ RawCombine (binary_of o) (expression_of (box_value e)) (expression_of (box_value f))
+  tree_of_combine o e f = ap (expression_of {A = A}) (sym (views.rolls-Combine o e f)) ∙ fold-roll-Expression A RawExpression expression_step (layer.Combine o e f)
 
   pub tree_of_sequence : (es : Vec (Expression A) A) → expression_of {A = A} (views.Sequence es) ≡ RawSequence (expressions_of es.items)
   tree_of_sequence es = ap (expression_of {A = A}) (sym (views.rolls-Sequence es)) ∙ fold-roll-Expression A RawExpression expression_step (layer.Sequence es)

@@ -1,12 +1,12 @@
 -- The levels of expressions, as the definitions have them.
 use Rattle.std.specs.Prelude.{◌≡◌, ℕ, List, ◌∷◌, ◌++◌}
 use Rattle.csp_semantics.specs.Syntax.Expression as pure
-use Rattle.csp_semantics.specs.Text.Token.{PlacedToken, AndWord, OrWord, CommaSign, OpenRoundSign, CloseRoundSign}
-use Rattle.csp_semantics.specs.Text.Raw.{RawExpression, RawExpressions, RawDomain, no_raw_expressions, raw_expression_and}
+use Rattle.csp_semantics.specs.Text.Token.{PlacedToken, Sign, AndWord, OrWord, CommaSign, OpenRoundSign, CloseRoundSign}
+use Rattle.csp_semantics.specs.Text.Raw.{RawExpression, RawApply, RawCombine, RawExpressions, RawDomain, no_raw_expressions, raw_expression_and}
 use Rattle.csp_semantics.specs.Text.Grammar.{IsWord, IsSign, IsAdding, IsMultiplying, IsExpression, IsConjunction, IsNegation, IsComparison, IsSum, IsProduct, IsAtom}
 use Rattle.csp_parse.specs.declared.levels.Level.{Level}
 use Rattle.csp_parse.specs.declared.levels.Level.TheVariants as level
-use Rattle.csp_parse.specs.Reading.{Standing, Passes, Reads}
+use Rattle.csp_parse.specs.Reading.{Standing, PassesOne, Passes, Reads, ReadsBehind}
 
 -- the tokens are an expression of this level
 abbrev pub IsAt : Level → List PlacedToken → RawExpression → Type 0
@@ -54,6 +54,20 @@ rank level.Atom = 0
 pub data AreListed (l : Level) : List PlacedToken → RawExpressions → Type 0 where
   one : (a : List PlacedToken) (e : RawExpression) → IsAt l a e → AreListed l a (raw_expression_and e no_raw_expressions)
   more : (a : List PlacedToken) {b c : List PlacedToken} (e : RawExpression) {es : RawExpressions} → IsAt l a e → IsSign CommaSign b → AreListed l c es → AreListed l (a ++ b ++ c) (raw_expression_and e es)
+
+-- A sign and an atom are read, and the expression is this operator on that atom.
+pub record ReadsSigned (s : Sign) (o : pure.Unary) (before after : Standing) (e : RawExpression) : Type 0 where
+  pub operand : RawExpression
+  pub reads : ReadsBehind (IsSign s) IsAtom before after operand
+  pub is : e ≡ RawApply o operand
+
+-- A token and an operand of this level are read, and the expression is this operator on d and that operand.
+pub record ReadsOperation (l : Level) (o : pure.Binary) (d : RawExpression) (before after : Standing) (e : RawExpression) : Type 0 where
+  pub between : Standing
+  pub operand : RawExpression
+  pub passes : PassesOne before between
+  pub reads : Reads (IsAt l) between after operand
+  pub is : e ≡ RawCombine o d operand
 
 -- An expression is read with brackets around it.
 pub record ReadsBracketed (before after : Standing) (e : RawExpression) : Type 0 where

@@ -71,6 +71,12 @@ pub record Reads {X : Type 0} (Is : List PlacedToken → X → Type 0) (before a
   pub splits : Splits before front after
   pub is : Is front x
 
+-- Tokens of the first form are passed, and tokens of the second form are read behind them.
+pub record ReadsBehind {X : Type 0} (First : List PlacedToken → Type 0) (Is : List PlacedToken → X → Type 0) (before after : Standing) (x : X) : Type 0 where
+  pub between : Standing
+  pub passes : Passes First before between
+  pub reads : Reads Is between after x
+
 -- Tokens are read that, behind any tokens of the first form for x, make tokens of the second form for y.
 pub record Extends {X Y : Type 0} (Is : List PlacedToken → X → Type 0) (Becomes : List PlacedToken → Y → Type 0) (before after : Standing) (x : X) (y : Y) : Type 0 where
   pub front : List PlacedToken

@@ -12,7 +12,7 @@ pub struct Domain<'a, A: Allocator> {
 }
 
 /// What an assertion compares.
-#[derive(Clone, Copy, Debug, PartialEq, Eq)]
+#[derive(Clone, Copy)]
 pub enum Model {
     /// `[T=`
     Traces,

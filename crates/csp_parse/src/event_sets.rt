@@ -2,7 +2,7 @@ use crate::events::Event;
 use std::alloc::Allocator;
 
 /// How two sets of events are joined.
-#[derive(Clone, Copy, Debug, PartialEq, Eq)]
+#[derive(Clone, Copy)]
 pub enum SetOperator {
     /// `union`
     Union,

@@ -8,7 +8,7 @@ use crate::operators::{BinaryOperator, UnaryOperator};
 use csp_lex::{Keyword, Sign, TokenKind};
 
 /// How strongly an expression holds together, the weakest first.
-#[derive(Clone, Copy, Debug, PartialEq, Eq)]
+#[derive(Clone, Copy)]
 pub(crate) enum Level {
     /// a chain of `or`
     Disjunction,

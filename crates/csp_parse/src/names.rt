@@ -1,7 +1,7 @@
 use csp_lex::Place;
 
 /// A name as it is written, with the place of its token.
-#[derive(Clone, Copy, Debug)]
+#[derive(Clone, Copy)]
 pub struct Name<'a> {
     pub text: &'a str,
     pub place: Place,

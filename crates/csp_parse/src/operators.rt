@@ -1,5 +1,5 @@
 /// An operator of expressions with one operand.
-#[derive(Clone, Copy, Debug, PartialEq, Eq)]
+#[derive(Clone, Copy)]
 pub enum UnaryOperator {
     /// `-`
     Negate,
@@ -18,7 +18,7 @@ pub enum UnaryOperator {
 }
 
 /// An operator of expressions with two operands.
-#[derive(Clone, Copy, Debug, PartialEq, Eq)]
+#[derive(Clone, Copy)]
 pub enum BinaryOperator {
     /// `+`
     Add,

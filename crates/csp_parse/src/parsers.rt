@@ -29,7 +29,7 @@ pub(crate) struct Parser<'t, 'a, A: Allocator> {
 impl<'t, 'a, A: Allocator + Copy> Parser<'t, 'a, A> {
     ghost use Rattle.csp_semantics.specs.Text.Height.{nest_height, greatest_height};
     ghost use Rattle.csp_parse.specs.Nests.{start, nest_of};
-    ghost use Rattle.csp_parse.specs.Reading.{left_of, standing_of, CountsFirst, IsFirst, IsNext, PassesOne, Passes, Reads};
+    ghost use Rattle.csp_parse.specs.Reading.{left_of, standing_of, CountsFirst, IsFirst, IsNext, PassesOne, Passes, Reads, ReadsBehind};
 
     /// A reader at the first of the tokens.
     pub(crate) fn new<B: Allocator>(alloc: A, list: &'t TokenList<'a, B>) -> Parser<'t, 'a, A>
@@ -172,6 +172,15 @@ impl<'t, 'a, A: Allocator + Copy> Parser<'t, 'a, A> {
             text: token.text,
             place: token.place,
         })
+    }
+
+    /// This sign, and a name behind it.
+    pub(crate) fn name_behind(&mut self, sign: Sign) -> Result<Name<'a>, Refused>
+        ensures reads { IfOk result (λ name. ReadsBehind (IsSign (sign_of sign)) IsName (standing_of self.old) (standing_of self.new) (name_of name)) }
+        ensures shorter { IfOk result (λ _. length (left_of self.new) < length (left_of self.old)) }
+    {
+        self.sign(sign)?;
+        self.name()
     }
 }
 

@@ -21,7 +21,7 @@ pub enum Field<'a, A: Allocator> {
 }
 
 /// An operator between processes that chains.
-#[derive(Clone, Copy, Debug, PartialEq, Eq)]
+#[derive(Clone, Copy)]
 pub enum Infix {
     /// `[]`
     ExternalChoice,
@@ -54,7 +54,7 @@ impl Infix {
 }
 
 /// An operator over a set.
-#[derive(Clone, Copy, Debug, PartialEq, Eq)]
+#[derive(Clone, Copy)]
 pub enum Replicator {
     /// `[]`
     ExternalChoice,

@@ -16,7 +16,7 @@ use csp_lex::{Keyword, Sign, TokenKind};
 use std::alloc::Allocator;
 
 impl<'t, 'a, A: Allocator + Copy> Parser<'t, 'a, A> {
-    ghost use Rattle.csp_parse.specs.Reading.{left_of, standing_of, Reads};
+    ghost use Rattle.csp_parse.specs.Reading.{left_of, standing_of, Standing, Reads};
 
     /// All declarations that are left.
     pub(crate) fn script(&mut self) -> Result<Raw<'a, A>, Refused>
@@ -93,20 +93,26 @@ impl<'t, 'a, A: Allocator + Copy> Parser<'t, 'a, A> {
         ensures shorter { IfOk result (λ _. length (left_of self.new) < length (left_of self.old)) }
     {
         let name = self.name()?;
-        if !self.is_at(Sign::OpenRound) {
-            self.sign(Sign::Equals)?;
-            let body = self.process()?;
-            return Ok(Declaration::Equation {
-                name,
-                parameters: Vec::new(self.alloc),
-                body,
-            });
+        if self.is_at(Sign::OpenRound) {
+            return self.equation_with(name);
         }
+        let body = self.process_behind(Sign::Equals)?;
+        Ok(Declaration::Equation {
+            name,
+            parameters: Vec::new(self.alloc),
+            body,
+        })
+    }
+
+    /// The rest of an equation, behind its name, whose parameters are next.
+    fn equation_with(&mut self, name: Name<'a>) -> Result<Declaration<'a, A>, Refused>
+        ensures continues { IfOk result (λ r. (before : Standing) → Reads IsName before (standing_of self.old) (name_of name.entry) → Reads IsDeclaration before (standing_of self.new) (declaration_of r)) }
+        ensures not_longer { IfOk result (λ _. length (left_of self.new) ≤ length (left_of self.old)) }
+    {
         self.sign(Sign::OpenRound)?;
         let parameters = self.names(Sign::Comma)?;
         self.sign(Sign::CloseRound)?;
-        self.sign(Sign::Equals)?;
-        let body = self.process()?;
+        let body = self.process_behind(Sign::Equals)?;
         Ok(Declaration::Equation {
             name,
             parameters,
@@ -155,8 +161,7 @@ impl<'t, 'a, A: Allocator + Copy> Parser<'t, 'a, A> {
         let first = self.name()?;
         names.push(first)?;
         while self.is_at(between) {
-            self.sign(between)?;
-            let name = self.name()?;
+            let name = self.name_behind(between)?;
             names.push(name)?;
         }
         Ok(names)

@@ -1,8 +1,8 @@
 ghost use Rattle.std.specs.Prelude.{◌≡◌, ◌<◌, ◌≤◌, IfOk, length, map};
 ghost use Rattle.std.specs.Option.{option_map};
-ghost use Rattle.csp_semantics.specs.Text.Grammar.{AreDotted, IsEvent, AreEvents, ArePairs, IsEventSet};
+ghost use Rattle.csp_semantics.specs.Text.Grammar.{IsSign, AreDotted, IsEvent, AreEvents, ArePairs, IsEventSet};
 ghost use Rattle.csp_semantics.specs.Text.Raw.{RawEnumeration, RawProductions};
-ghost use Rattle.csp_lex.specs.Tokens.{keyword_of};
+ghost use Rattle.csp_lex.specs.Tokens.{keyword_of, sign_of};
 ghost use Rattle.csp_parse.specs.Events.{event_of, pair_of};
 ghost use Rattle.csp_parse.specs.EventSets.{event_set_of, operator_of};
 ghost use Rattle.csp_parse.specs.Expressions.{expressions_of};
@@ -19,7 +19,7 @@ use csp_lex::{Keyword, Sign, TokenKind};
 use std::alloc::Allocator;
 
 impl<'t, 'a, A: Allocator + Copy> Parser<'t, 'a, A> {
-    ghost use Rattle.csp_parse.specs.Reading.{left_of, standing_of, Reads};
+    ghost use Rattle.csp_parse.specs.Reading.{left_of, standing_of, Reads, ReadsBehind};
 
     /// Atoms with a dot before each.
     fn dotted(&mut self) -> Result<Vec<Expression<'a, A>, A>, Refused>
@@ -28,8 +28,7 @@ impl<'t, 'a, A: Allocator + Copy> Parser<'t, 'a, A> {
     {
         let mut fields = Vec::new(self.alloc);
         while self.is_at(Sign::Dot) {
-            self.sign(Sign::Dot)?;
-            let field = self.expression(Level::Atom)?;
+            let field = self.expression_behind(Sign::Dot, Level::Atom)?;
             fields.push(field)?;
         }
         Ok(fields)
@@ -99,6 +98,16 @@ impl<'t, 'a, A: Allocator + Copy> Parser<'t, 'a, A> {
         }
     }
 
+    /// This sign, and a set of events behind it.
+    #[cycle(event_set)]
+    pub(crate) fn event_set_behind(&mut self, sign: Sign) -> Result<EventSet<'a, A>, Refused>
+        ensures reads { IfOk result (λ r. ReadsBehind (IsSign (sign_of sign)) IsEventSet (standing_of self.old) (standing_of self.new) (event_set_of r)) }
+        ensures shorter { IfOk result (λ _. length (left_of self.new) < length (left_of self.old)) }
+    {
+        self.sign(sign)?;
+        self.event_set()
+    }
+
     /// `{|`, events and `|}`.
     fn productions(&mut self) -> Result<EventSet<'a, A>, Refused>
         ensures reads { IfOk result (λ r. Reads IsEventSet (standing_of self.old) (standing_of self.new) (event_set_of r)) }
@@ -135,10 +144,8 @@ impl<'t, 'a, A: Allocator + Copy> Parser<'t, 'a, A> {
             return Err(self.refused());
         };
         self.word(keyword)?;
-        self.sign(Sign::OpenRound)?;
-        let left = self.event_set()?;
-        self.sign(Sign::Comma)?;
-        let right = self.event_set()?;
+        let left = self.event_set_behind(Sign::OpenRound)?;
+        let right = self.event_set_behind(Sign::Comma)?;
         self.sign(Sign::CloseRound)?;
         joined(self.alloc, operator, left, right)
     }

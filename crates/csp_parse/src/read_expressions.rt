@@ -1,8 +1,10 @@
 ghost use Rattle.std.specs.Prelude.{◌≡◌, ◌<◌, ◌≤◌, IfOk, length};
-ghost use Rattle.csp_semantics.specs.Text.Grammar.{IsExpression, IsNegation, IsComparison, IsSum, IsAtom};
+ghost use Rattle.csp_semantics.specs.Text.Token.{OpenBraceSign};
+ghost use Rattle.csp_semantics.specs.Text.Grammar.{IsSign, IsExpression, IsNegation, IsComparison, IsSum, IsAtom};
 ghost use Rattle.csp_semantics.specs.Text.Raw.{RawApply, RawCombine, RawRange};
 ghost use Rattle.csp_parse.specs.Expressions.{expression_of, expressions_of};
-ghost use Rattle.csp_parse.specs.Levels.{IsAt, AreListed, ReadsBracketed, ReadsTwo};
+ghost use Rattle.csp_lex.specs.Tokens.{sign_of};
+ghost use Rattle.csp_parse.specs.Levels.{IsAt, stronger, AreListed, ReadsSigned, ReadsOperation, ReadsBracketed, ReadsTwo};
 ghost use Rattle.csp_parse.specs.Operators.{unary_of, binary_of};
 
 use crate::expressions::Expression;
@@ -14,7 +16,7 @@ use csp_lex::{Keyword, Sign, TokenKind};
 use std::alloc::Allocator;
 
 impl<'t, 'a, A: Allocator + Copy> Parser<'t, 'a, A> {
-    ghost use Rattle.csp_parse.specs.Reading.{left_of, standing_of, Reads, Extends};
+    ghost use Rattle.csp_parse.specs.Reading.{left_of, standing_of, Standing, Passes, Reads, ReadsBehind, Extends};
 
     /// An expression of a level.
     #[cycle(expression)]
@@ -29,23 +31,35 @@ impl<'t, 'a, A: Allocator + Copy> Parser<'t, 'a, A> {
                 let first = self.expression(Level::Sum)?;
                 self.compared(first)
             }
-            Level::Disjunction => {
-                let first = self.expression(Level::Conjunction)?;
-                self.chained(Level::Disjunction, first)
-            }
-            Level::Conjunction => {
-                let first = self.expression(Level::Negation)?;
-                self.chained(Level::Conjunction, first)
-            }
-            Level::Sum => {
-                let first = self.expression(Level::Product)?;
-                self.chained(Level::Sum, first)
-            }
-            Level::Product => {
-                let first = self.expression(Level::Atom)?;
-                self.chained(Level::Product, first)
-            }
+            Level::Disjunction => self.chain_of(Level::Disjunction, Level::Conjunction),
+            Level::Conjunction => self.chain_of(Level::Conjunction, Level::Negation),
+            Level::Sum => self.chain_of(Level::Sum, Level::Product),
+            Level::Product => self.chain_of(Level::Product, Level::Atom),
         }
+    }
+
+    /// This sign, and an expression of a level behind it.
+    #[cycle(expression)]
+    pub(crate) fn expression_behind(
+        &mut self,
+        sign: Sign,
+        level: Level,
+    ) -> Result<Expression<'a, A>, Refused>
+        ensures reads { IfOk result (λ e. ReadsBehind (IsSign (sign_of sign)) (IsAt level) (standing_of self.old) (standing_of self.new) (expression_of e)) }
+        ensures shorter { IfOk result (λ _. length (left_of self.new) < length (left_of self.old)) }
+    {
+        self.sign(sign)?;
+        self.expression(level)
+    }
+
+    /// A chain of a level, whose operands are of the next stronger one.
+    #[cycle(expression)]
+    fn chain_of(&mut self, level: Level, operands: Level) -> Result<Expression<'a, A>, Refused>
+        ensures reads { IfOk result (λ e. operands ≡ stronger level → Reads (IsAt level) (standing_of self.old) (standing_of self.new) (expression_of e)) }
+        ensures shorter { IfOk result (λ _. length (left_of self.new) < length (left_of self.old)) }
+    {
+        let first = self.expression(operands)?;
+        self.chained(level, first)
     }
 
     /// The rest of a chain, behind its first operand.
@@ -63,9 +77,7 @@ impl<'t, 'a, A: Allocator + Copy> Parser<'t, 'a, A> {
             let Some(operator) = level.operator(kind) else {
                 break;
             };
-            self.pass()?;
-            let operand = self.expression(level.stronger())?;
-            chain = combined(self.alloc, operator, chain, operand)?;
+            chain = self.operation(operator, chain, level.stronger())?;
         }
         Ok(chain)
     }
@@ -85,8 +97,22 @@ impl<'t, 'a, A: Allocator + Copy> Parser<'t, 'a, A> {
         let Some(operator) = comparison(kind) else {
             return Ok(first);
         };
+        self.operation(operator, first, Level::Sum)
+    }
+
+    /// An operation with the operator that the next token is, behind its first operand.
+    #[cycle(expression)]
+    fn operation(
+        &mut self,
+        operator: BinaryOperator,
+        first: Expression<'a, A>,
+        level: Level,
+    ) -> Result<Expression<'a, A>, Refused>
+        ensures reads { IfOk result (λ e. ReadsOperation level (binary_of operator) (expression_of first.entry) (standing_of self.old) (standing_of self.new) (expression_of e)) }
+        ensures shorter { IfOk result (λ _. length (left_of self.new) < length (left_of self.old)) }
+    {
         self.pass()?;
-        let second = self.expression(Level::Sum)?;
+        let second = self.expression(level)?;
         combined(self.alloc, operator, first, second)
     }
 
@@ -171,8 +197,7 @@ impl<'t, 'a, A: Allocator + Copy> Parser<'t, 'a, A> {
         ensures reads { IfOk result (λ e. ReadsBracketed (standing_of self.old) (standing_of self.new) (expression_of e)) }
         ensures shorter { IfOk result (λ _. length (left_of self.new) < length (left_of self.old)) }
     {
-        self.sign(Sign::OpenRound)?;
-        let inner = self.expression(Level::Disjunction)?;
+        let inner = self.expression_behind(Sign::OpenRound, Level::Disjunction)?;
         self.sign(Sign::CloseRound)?;
         Ok(inner)
     }
@@ -183,10 +208,8 @@ impl<'t, 'a, A: Allocator + Copy> Parser<'t, 'a, A> {
         ensures reads { IfOk result (λ r. ReadsTwo (standing_of self.old) (standing_of self.new) (expression_of r.0) (expression_of r.1)) }
         ensures shorter { IfOk result (λ _. length (left_of self.new) < length (left_of self.old)) }
     {
-        self.sign(Sign::OpenRound)?;
-        let first = self.expression(Level::Disjunction)?;
-        self.sign(Sign::Comma)?;
-        let second = self.expression(Level::Disjunction)?;
+        let first = self.expression_behind(Sign::OpenRound, Level::Disjunction)?;
+        let second = self.expression_behind(Sign::Comma, Level::Disjunction)?;
         self.sign(Sign::CloseRound)?;
         Ok((first, second))
     }
@@ -198,21 +221,23 @@ impl<'t, 'a, A: Allocator + Copy> Parser<'t, 'a, A> {
         ensures shorter { IfOk result (λ _. length (left_of self.new) < length (left_of self.old)) }
     {
         match sign {
-            Sign::Minus => {
-                self.sign(Sign::Minus)?;
-                let operand = self.atom()?;
-                applied(self.alloc, UnaryOperator::Negate, operand)
-            }
-            Sign::Hash => {
-                self.sign(Sign::Hash)?;
-                let operand = self.atom()?;
-                applied(self.alloc, UnaryOperator::Length, operand)
-            }
+            Sign::Minus => self.signed(Sign::Minus, UnaryOperator::Negate),
+            Sign::Hash => self.signed(Sign::Hash, UnaryOperator::Length),
             Sign::OpenRound => self.bracketed(),
             Sign::Less => self.sequence(),
             Sign::OpenBrace => self.set(),
             _ => Err(self.refused()),
         }
+    }
+
+    /// This sign, and an atom behind it that the sign's operator is applied to.
+    #[cycle(expression)]
+    fn signed(&mut self, sign: Sign, operator: UnaryOperator) -> Result<Expression<'a, A>, Refused>
+        ensures reads { IfOk result (λ e. ReadsSigned (sign_of sign) (unary_of operator) (standing_of self.old) (standing_of self.new) (expression_of e)) }
+        ensures shorter { IfOk result (λ _. length (left_of self.new) < length (left_of self.old)) }
+    {
+        let operand = self.expression_behind(sign, Level::Atom)?;
+        applied(self.alloc, operator, operand)
     }
 
     /// A sequence.
@@ -239,20 +264,37 @@ impl<'t, 'a, A: Allocator + Copy> Parser<'t, 'a, A> {
         ensures shorter { IfOk result (λ _. length (left_of self.new) < length (left_of self.old)) }
     {
         self.sign(Sign::OpenBrace)?;
-        if self.is_at(Sign::CloseBrace) {
-            self.sign(Sign::CloseBrace)?;
-            return Ok(Expression::Set(Vec::new(self.alloc)));
+        if !self.is_at(Sign::CloseBrace) {
+            return self.members();
         }
+        self.sign(Sign::CloseBrace)?;
+        Ok(Expression::Set(Vec::new(self.alloc)))
+    }
+
+    /// What stands behind the opening brace of a set that is not empty.
+    #[cycle(expression)]
+    fn members(&mut self) -> Result<Expression<'a, A>, Refused>
+        ensures continues { IfOk result (λ e. (before : Standing) → Passes (IsSign OpenBraceSign) before (standing_of self.old) → Reads IsAtom before (standing_of self.new) (expression_of e)) }
+        ensures shorter { IfOk result (λ _. length (left_of self.new) < length (left_of self.old)) }
+    {
         let first = self.expression(Level::Disjunction)?;
         if self.is_at(Sign::Range) {
-            self.sign(Sign::Range)?;
-            let last = self.expression(Level::Disjunction)?;
-            self.sign(Sign::CloseBrace)?;
-            return ranged(self.alloc, first, last);
+            return self.range(first);
         }
         let members = self.listed(Level::Disjunction, first)?;
         self.sign(Sign::CloseBrace)?;
         Ok(Expression::Set(members))
+    }
+
+    /// The rest of a set from one number to another, behind the first one.
+    #[cycle(expression)]
+    fn range(&mut self, first: Expression<'a, A>) -> Result<Expression<'a, A>, Refused>
+        ensures continues { IfOk result (λ e. (before behind : Standing) → Passes (IsSign OpenBraceSign) before behind → Reads IsExpression behind (standing_of self.old) (expression_of first.entry) → Reads IsAtom before (standing_of self.new) (expression_of e)) }
+        ensures not_longer { IfOk result (λ _. length (left_of self.new) ≤ length (left_of self.old)) }
+    {
+        let last = self.expression_behind(Sign::Range, Level::Disjunction)?;
+        self.sign(Sign::CloseBrace)?;
+        ranged(self.alloc, first, last)
     }
 
     /// A list of expressions of a level, behind its first one.
@@ -268,8 +310,7 @@ impl<'t, 'a, A: Allocator + Copy> Parser<'t, 'a, A> {
         let mut items = Vec::new(self.alloc);
         items.push(first)?;
         while self.is_at(Sign::Comma) {
-            self.sign(Sign::Comma)?;
-            let item = self.expression(level)?;
+            let item = self.expression_behind(Sign::Comma, level)?;
             items.push(item)?;
         }
         Ok(items)

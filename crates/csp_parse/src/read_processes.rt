@@ -1,11 +1,12 @@
 ghost use Rattle.std.specs.Prelude.{◌≡◌, ◌<◌, ◌≤◌, ℕ, List, IfOk, IfSome, length, map};
-ghost use Rattle.csp_semantics.specs.Text.Grammar.{IsExpression, AreLaterFields, AreFields, IsRenamed, IsHidden, IsBase, IsOperand, IsProcess};
-ghost use Rattle.csp_semantics.specs.Text.Token.{PlacedToken};
+ghost use Rattle.csp_semantics.specs.Text.Grammar.{IsSign, IsWord, IsName, IsAtom, IsExpression, AreLaterFields, AreFields, IsRenamed, IsHidden, IsBase, IsOperand, IsProcess};
+ghost use Rattle.csp_semantics.specs.Text.Token.{PlacedToken, IfWord};
+ghost use Rattle.csp_lex.specs.Tokens.{keyword_of, sign_of};
 ghost use Rattle.csp_parse.specs.EventSets.{event_set_of};
 ghost use Rattle.csp_parse.specs.Expressions.{expression_of, expressions_of};
 ghost use Rattle.csp_parse.specs.Names.{name_of};
 ghost use Rattle.csp_parse.specs.Processes.{field_of, infix_of, replicator_of, process_in};
-ghost use Rattle.csp_parse.specs.Starts.{ReadsName, ReadsStart, ReadsInner, ReadsArguments, IsLaterField, IsRenamedBase, IsHiddenBase};
+ghost use Rattle.csp_parse.specs.Starts.{ReadsName, ReadsStart, ReadsInner, ReadsInBrackets, ReadsArguments, IsLaterField, IsRenamedBase, IsHiddenBase};
 
 use crate::event_sets::EventSet;
 use crate::expressions::Expression;
@@ -19,7 +20,7 @@ use csp_lex::{Keyword, Sign, TokenKind};
 use std::alloc::Allocator;
 
 impl<'t, 'a, A: Allocator + Copy> Parser<'t, 'a, A> {
-    ghost use Rattle.csp_parse.specs.Reading.{left_of, standing_of, Standing, Reads, Continues};
+    ghost use Rattle.csp_parse.specs.Reading.{left_of, standing_of, Standing, Reads, ReadsBehind, Continues};
 
     /// A process.
     #[cycle(process)]
@@ -43,13 +44,39 @@ impl<'t, 'a, A: Allocator + Copy> Parser<'t, 'a, A> {
         ensures reads { IfOk result (λ r. Reads IsProcess (standing_of self.old) (standing_of self.new) (process_in r)) }
         ensures shorter { IfOk result (λ _. length (left_of self.new) < length (left_of self.old)) }
     {
-        self.word(Keyword::If)?;
-        let condition = self.expression(Level::Disjunction)?;
-        self.word(Keyword::Then)?;
-        let first = self.process()?;
-        self.word(Keyword::Else)?;
-        let second = self.process()?;
+        let condition = self.condition()?;
+        let first = self.process_behind_word(Keyword::Then)?;
+        let second = self.process_behind_word(Keyword::Else)?;
         Process::conditional(self.alloc, condition, first, second)
+    }
+
+    /// `if`, and an expression behind it.
+    fn condition(&mut self) -> Result<Expression<'a, A>, Refused>
+        ensures reads { IfOk result (λ e. ReadsBehind (IsWord IfWord) IsExpression (standing_of self.old) (standing_of self.new) (expression_of e)) }
+        ensures shorter { IfOk result (λ _. length (left_of self.new) < length (left_of self.old)) }
+    {
+        self.word(Keyword::If)?;
+        self.expression(Level::Disjunction)
+    }
+
+    /// This keyword, and a process behind it.
+    #[cycle(process)]
+    fn process_behind_word(&mut self, keyword: Keyword) -> Result<Box<Process<'a, A>, A>, Refused>
+        ensures reads { IfOk result (λ r. ReadsBehind (IsWord (keyword_of keyword)) IsProcess (standing_of self.old) (standing_of self.new) (process_in r)) }
+        ensures shorter { IfOk result (λ _. length (left_of self.new) < length (left_of self.old)) }
+    {
+        self.word(keyword)?;
+        self.process()
+    }
+
+    /// This sign, and a process behind it.
+    #[cycle(process)]
+    pub(crate) fn process_behind(&mut self, sign: Sign) -> Result<Box<Process<'a, A>, A>, Refused>
+        ensures reads { IfOk result (λ r. ReadsBehind (IsSign (sign_of sign)) IsProcess (standing_of self.old) (standing_of self.new) (process_in r)) }
+        ensures shorter { IfOk result (λ _. length (left_of self.new) < length (left_of self.old)) }
+    {
+        self.sign(sign)?;
+        self.process()
     }
 
     /// A replicated process, whose operator is next.
@@ -59,12 +86,9 @@ impl<'t, 'a, A: Allocator + Copy> Parser<'t, 'a, A> {
         ensures shorter { IfOk result (λ _. length (left_of self.new) < length (left_of self.old)) }
     {
         let written = replicator.sign();
-        self.sign(written)?;
-        let name = self.name()?;
-        self.sign(Sign::Colon)?;
-        let set = self.expression(Level::Atom)?;
-        self.sign(Sign::At)?;
-        let body = self.process()?;
+        let name = self.name_behind(written)?;
+        let set = self.expression_behind(Sign::Colon, Level::Atom)?;
+        let body = self.process_behind(Sign::At)?;
         Process::replicated(self.alloc, replicator, name, set, body)
     }
 
@@ -123,8 +147,7 @@ impl<'t, 'a, A: Allocator + Copy> Parser<'t, 'a, A> {
     {
         let mut process = renamed;
         while self.is_at(Sign::Hiding) {
-            self.sign(Sign::Hiding)?;
-            let set = self.event_set()?;
+            let set = self.event_set_behind(Sign::Hiding)?;
             process = Process::hiding(self.alloc, process, set)?;
         }
         Ok(process)
@@ -160,10 +183,8 @@ impl<'t, 'a, A: Allocator + Copy> Parser<'t, 'a, A> {
         ensures continues { IfOk result (λ r. Continues IsOperand IsProcess (standing_of self.old) (standing_of self.new) (process_in left.entry) (process_in r)) }
         ensures not_longer { IfOk result (λ _. length (left_of self.new) ≤ length (left_of self.old)) }
     {
-        self.sign(Sign::OpenShared)?;
-        let shared = self.event_set()?;
-        self.sign(Sign::CloseShared)?;
-        let right = self.operand()?;
+        let shared = self.event_set_behind(Sign::OpenShared)?;
+        let right = self.operand_behind(Sign::CloseShared)?;
         Process::generalised(self.alloc, left, shared, right)
     }
 
@@ -176,12 +197,9 @@ impl<'t, 'a, A: Allocator + Copy> Parser<'t, 'a, A> {
         ensures continues { IfOk result (λ r. Continues IsOperand IsProcess (standing_of self.old) (standing_of self.new) (process_in left.entry) (process_in r)) }
         ensures not_longer { IfOk result (λ _. length (left_of self.new) ≤ length (left_of self.old)) }
     {
-        self.sign(Sign::OpenSquare)?;
-        let of_left = self.event_set()?;
-        self.sign(Sign::DoubleBar)?;
-        let of_right = self.event_set()?;
-        self.sign(Sign::CloseSquare)?;
-        let right = self.operand()?;
+        let of_left = self.event_set_behind(Sign::OpenSquare)?;
+        let of_right = self.event_set_behind(Sign::DoubleBar)?;
+        let right = self.operand_behind(Sign::CloseSquare)?;
         Process::alphabetised(self.alloc, left, of_left, of_right, right)
     }
 
@@ -196,12 +214,10 @@ impl<'t, 'a, A: Allocator + Copy> Parser<'t, 'a, A> {
         ensures not_longer { IfOk result (λ _. length (left_of self.new) ≤ length (left_of self.old)) }
     {
         let written = operator.sign();
-        self.sign(written)?;
-        let second = self.operand()?;
+        let second = self.operand_behind(written)?;
         let mut chain = Process::joined(self.alloc, operator, first, second)?;
         while self.is_at(written) {
-            self.sign(written)?;
-            let operand = self.operand()?;
+            let operand = self.operand_behind(written)?;
             chain = Process::joined(self.alloc, operator, chain, operand)?;
         }
         Ok(chain)
@@ -221,6 +237,16 @@ impl<'t, 'a, A: Allocator + Copy> Parser<'t, 'a, A> {
         }
     }
 
+    /// This sign, and an operand behind it.
+    #[cycle(process)]
+    fn operand_behind(&mut self, sign: Sign) -> Result<Box<Process<'a, A>, A>, Refused>
+        ensures reads { IfOk result (λ r. ReadsBehind (IsSign (sign_of sign)) IsOperand (standing_of self.old) (standing_of self.new) (process_in r)) }
+        ensures shorter { IfOk result (λ _. length (left_of self.new) < length (left_of self.old)) }
+    {
+        self.sign(sign)?;
+        self.operand()
+    }
+
     /// An operand, or an expression without a guard sign behind it.
     #[cycle(process)]
     fn start(&mut self) -> Result<Start<'a, A>, Refused>
@@ -228,23 +254,42 @@ impl<'t, 'a, A: Allocator + Copy> Parser<'t, 'a, A> {
         ensures shorter { IfOk result (λ _. length (left_of self.new) < length (left_of self.old)) }
     {
         match self.kind() {
-            Some(TokenKind::Keyword(Keyword::Stop)) => {
-                self.word(Keyword::Stop)?;
-                let stop = Process::stop(self.alloc)?;
-                Ok(Start::Base(stop))
-            }
-            Some(TokenKind::Keyword(Keyword::Skip)) => {
-                self.word(Keyword::Skip)?;
-                let skip = Process::skip(self.alloc)?;
-                Ok(Start::Base(skip))
-            }
+            Some(TokenKind::Keyword(Keyword::Stop)) => self.stop(),
+            Some(TokenKind::Keyword(Keyword::Skip)) => self.skip(),
             Some(TokenKind::Name) => self.start_of_name(),
             Some(TokenKind::Sign(Sign::OpenRound)) => self.start_of_brackets(),
-            _ => {
-                let expression = self.expression(Level::Disjunction)?;
-                self.guarded(expression)
-            }
+            _ => self.start_of_expression(),
         }
+    }
+
+    /// `STOP`
+    fn stop(&mut self) -> Result<Start<'a, A>, Refused>
+        ensures reads { IfOk result (λ r. ReadsStart (standing_of self.old) (standing_of self.new) r) }
+        ensures shorter { IfOk result (λ _. length (left_of self.new) < length (left_of self.old)) }
+    {
+        self.word(Keyword::Stop)?;
+        let stop = Process::stop(self.alloc)?;
+        Ok(Start::Base(stop))
+    }
+
+    /// `SKIP`
+    fn skip(&mut self) -> Result<Start<'a, A>, Refused>
+        ensures reads { IfOk result (λ r. ReadsStart (standing_of self.old) (standing_of self.new) r) }
+        ensures shorter { IfOk result (λ _. length (left_of self.new) < length (left_of self.old)) }
+    {
+        self.word(Keyword::Skip)?;
+        let skip = Process::skip(self.alloc)?;
+        Ok(Start::Base(skip))
+    }
+
+    /// What begins with an expression.
+    #[cycle(process)]
+    fn start_of_expression(&mut self) -> Result<Start<'a, A>, Refused>
+        ensures reads { IfOk result (λ r. ReadsStart (standing_of self.old) (standing_of self.new) r) }
+        ensures shorter { IfOk result (λ _. length (left_of self.new) < length (left_of self.old)) }
+    {
+        let expression = self.expression(Level::Disjunction)?;
+        self.guarded(expression)
     }
 
     /// What begins with a name, which is next.
@@ -255,18 +300,33 @@ impl<'t, 'a, A: Allocator + Copy> Parser<'t, 'a, A> {
     {
         let name = self.name()?;
         if self.is_at(Sign::OpenRound) {
-            let arguments = self.arguments()?;
-            let call = Process::call(self.alloc, name, arguments)?;
-            return Ok(Start::Base(call));
+            return self.call_of(name);
         }
         if self.is_at_field() || self.is_at(Sign::Arrow) {
-            let fields = self.fields()?;
-            self.sign(Sign::Arrow)?;
-            let body = self.operand()?;
-            let prefix = Process::prefix(self.alloc, name, fields, body)?;
-            return Ok(Start::Operand(prefix));
+            return self.prefix_of(name);
         }
         self.start_from_name(name)
+    }
+
+    /// The call of this name, whose arguments are next.
+    fn call_of(&mut self, name: Name<'a>) -> Result<Start<'a, A>, Refused>
+        ensures continues { IfOk result (λ r. (before : Standing) → Reads IsName before (standing_of self.old) (name_of name.entry) → ReadsStart before (standing_of self.new) r) }
+        ensures not_longer { IfOk result (λ _. length (left_of self.new) ≤ length (left_of self.old)) }
+    {
+        let arguments = self.arguments()?;
+        let call = Process::call(self.alloc, name, arguments)?;
+        Ok(Start::Base(call))
+    }
+
+    /// The prefix of this channel, whose fields are next.
+    #[cycle(process)]
+    fn prefix_of(&mut self, channel: Name<'a>) -> Result<Start<'a, A>, Refused>
+        ensures continues { IfOk result (λ r. (before : Standing) → Reads IsName before (standing_of self.old) (name_of channel.entry) → ReadsStart before (standing_of self.new) r) }
+        ensures not_longer { IfOk result (λ _. length (left_of self.new) ≤ length (left_of self.old)) }
+    {
+        let fields = self.fields()?;
+        let body = self.operand_behind(Sign::Arrow)?;
+        Start::prefix(self.alloc, channel, fields, body)
     }
 
     /// The arguments of a call, in brackets.
@@ -274,8 +334,7 @@ impl<'t, 'a, A: Allocator + Copy> Parser<'t, 'a, A> {
         ensures reads { IfOk result (λ r. ReadsArguments (standing_of self.old) (standing_of self.new) (expressions_of r.items)) }
         ensures shorter { IfOk result (λ _. length (left_of self.new) < length (left_of self.old)) }
     {
-        self.sign(Sign::OpenRound)?;
-        let first = self.expression(Level::Disjunction)?;
+        let first = self.expression_behind(Sign::OpenRound, Level::Disjunction)?;
         let arguments = self.listed(Level::Disjunction, first)?;
         self.sign(Sign::CloseRound)?;
         Ok(arguments)
@@ -290,8 +349,16 @@ impl<'t, 'a, A: Allocator + Copy> Parser<'t, 'a, A> {
         if !self.is_at_operator() && !self.is_at(Sign::Guard) {
             return Ok(Start::Name(name));
         }
-        let expression = self.expression_from(Expression::Use(name))?;
+        let expression = self.expression_of_name(name)?;
         self.guarded(expression)
+    }
+
+    /// The expression that begins with a name, perhaps in brackets.
+    fn expression_of_name(&mut self, name: Name<'a>) -> Result<Expression<'a, A>, Refused>
+        ensures continues { IfOk result (λ e. (before : Standing) → ReadsName before (standing_of self.old) (name_of name.entry) → Reads IsExpression before (standing_of self.new) (expression_of e)) }
+        ensures not_longer { IfOk result (λ _. length (left_of self.new) ≤ length (left_of self.old)) }
+    {
+        self.expression_from(Expression::Use(name))
     }
 
     /// What begins with an opening bracket, which is next.
@@ -300,17 +367,34 @@ impl<'t, 'a, A: Allocator + Copy> Parser<'t, 'a, A> {
         ensures reads { IfOk result (λ r. ReadsStart (standing_of self.old) (standing_of self.new) r) }
         ensures shorter { IfOk result (λ _. length (left_of self.new) < length (left_of self.old)) }
     {
+        let inner = self.bracketed_inner()?;
+        match inner {
+            Inner::Name(name) => self.start_from_name(name),
+            Inner::Expression(atom) => self.start_from_atom(atom),
+            Inner::Process(process) => Ok(Start::Base(process)),
+        }
+    }
+
+    /// What stands in brackets, and the brackets.
+    #[cycle(process)]
+    fn bracketed_inner(&mut self) -> Result<Inner<'a, A>, Refused>
+        ensures reads { IfOk result (λ r. ReadsInBrackets (standing_of self.old) (standing_of self.new) r) }
+        ensures shorter { IfOk result (λ _. length (left_of self.new) < length (left_of self.old)) }
+    {
         self.sign(Sign::OpenRound)?;
         let inner = self.inner()?;
         self.sign(Sign::CloseRound)?;
-        match inner {
-            Inner::Name(name) => self.start_from_name(name),
-            Inner::Expression(atom) => {
-                let expression = self.expression_from(atom)?;
-                self.guarded(expression)
-            }
-            Inner::Process(process) => Ok(Start::Base(process)),
-        }
+        Ok(inner)
+    }
+
+    /// What begins with an atom.
+    #[cycle(process)]
+    fn start_from_atom(&mut self, atom: Expression<'a, A>) -> Result<Start<'a, A>, Refused>
+        ensures continues { IfOk result (λ r. (before : Standing) → Reads IsAtom before (standing_of self.old) (expression_of atom.entry) → ReadsStart before (standing_of self.new) r) }
+        ensures not_longer { IfOk result (λ _. length (left_of self.new) ≤ length (left_of self.old)) }
+    {
+        let expression = self.expression_from(atom)?;
+        self.guarded(expression)
     }
 
     /// What stands behind an opening bracket.
@@ -326,15 +410,19 @@ impl<'t, 'a, A: Allocator + Copy> Parser<'t, 'a, A> {
         match self.start()? {
             Start::Name(name) => self.inner_from_name(name),
             Start::Expression(expression) => Ok(Inner::Expression(expression)),
-            Start::Base(base) => {
-                let process = self.process_from_base(base)?;
-                Ok(Inner::Process(process))
-            }
-            Start::Operand(operand) => {
-                let process = self.process_from_operand(operand)?;
-                Ok(Inner::Process(process))
-            }
+            Start::Base(base) => self.inner_process(Start::Base(base)),
+            Start::Operand(operand) => self.inner_process(Start::Operand(operand)),
         }
+    }
+
+    /// The process behind an opening bracket that begins so.
+    #[cycle(process)]
+    fn inner_process(&mut self, start: Start<'a, A>) -> Result<Inner<'a, A>, Refused>
+        ensures continues { IfOk result (λ r. (before : Standing) → ReadsStart before (standing_of self.old) start.entry → ReadsInner before (standing_of self.new) r) }
+        ensures not_longer { IfOk result (λ _. length (left_of self.new) ≤ length (left_of self.old)) }
+    {
+        let process = self.process_from(start)?;
+        Ok(Inner::Process(process))
     }
 
     /// What stands behind an opening bracket and begins with a name, perhaps in brackets.
@@ -346,8 +434,7 @@ impl<'t, 'a, A: Allocator + Copy> Parser<'t, 'a, A> {
         if self.is_at(Sign::CloseRound) {
             return Ok(Inner::Name(name));
         }
-        let process = self.process_from(Start::Name(name))?;
-        Ok(Inner::Process(process))
+        self.inner_process(Start::Name(name))
     }
 
     /// An expression, or with `&` behind it the process that it guards.
@@ -359,10 +446,8 @@ impl<'t, 'a, A: Allocator + Copy> Parser<'t, 'a, A> {
         if !self.is_at(Sign::Guard) {
             return Ok(Start::Expression(expression));
         }
-        self.sign(Sign::Guard)?;
-        let body = self.operand()?;
-        let guard = Process::guard(self.alloc, expression, body)?;
-        Ok(Start::Operand(guard))
+        let body = self.operand_behind(Sign::Guard)?;
+        Start::guard(self.alloc, expression, body)
     }
 
     /// The fields of a prefix.
@@ -372,8 +457,7 @@ impl<'t, 'a, A: Allocator + Copy> Parser<'t, 'a, A> {
     {
         let mut fields = Vec::new(self.alloc);
         while self.is_at(Sign::Dot) {
-            self.sign(Sign::Dot)?;
-            let value = self.expression(Level::Atom)?;
+            let value = self.expression_behind(Sign::Dot, Level::Atom)?;
             fields.push(Field::Given(value))?;
         }
         while self.is_at(Sign::Output) || self.is_at(Sign::Input) {
@@ -389,17 +473,14 @@ impl<'t, 'a, A: Allocator + Copy> Parser<'t, 'a, A> {
         ensures shorter { IfOk result (λ _. length (left_of self.new) < length (left_of self.old)) }
     {
         if self.is_at(Sign::Output) {
-            self.sign(Sign::Output)?;
-            let value = self.expression(Level::Atom)?;
+            let value = self.expression_behind(Sign::Output, Level::Atom)?;
             return Ok(Field::Given(value));
         }
-        self.sign(Sign::Input)?;
-        let name = self.name()?;
+        let name = self.name_behind(Sign::Input)?;
         if !self.is_at(Sign::Colon) {
             return Ok(Field::Input(name));
         }
-        self.sign(Sign::Colon)?;
-        let set = self.expression(Level::Atom)?;
+        let set = self.expression_behind(Sign::Colon, Level::Atom)?;
         Ok(Field::InputFrom(name, set))
     }
 

@@ -1,6 +1,16 @@
+ghost use Rattle.std.specs.Prelude.{IfOk, map};
+ghost use Rattle.csp_semantics.specs.Text.Grammar.{IsOperand};
+ghost use Rattle.csp_semantics.specs.Text.Raw.{RawPrefix, RawGuard};
+ghost use Rattle.csp_parse.specs.Expressions.{expression_of};
+ghost use Rattle.csp_parse.specs.Names.{name_of};
+ghost use Rattle.csp_parse.specs.Processes.{field_of, process_in};
+ghost use Rattle.csp_parse.specs.Reading.{Standing, Reads};
+ghost use Rattle.csp_parse.specs.Starts.{ReadsStart};
+
 use crate::expressions::Expression;
 use crate::names::Name;
-use crate::processes::Process;
+use crate::processes::{Field, Process};
+use crate::refusals::Refused;
 use std::alloc::Allocator;
 
 /// What stands where an operand or an expression begins.
@@ -14,6 +24,33 @@ pub(crate) enum Start<'a, A: Allocator> {
     Base(Box<Process<'a, A>, A>),
     /// a prefix, or a process with a guard
     Operand(Box<Process<'a, A>, A>),
+}
+
+impl<'a, A: Allocator + Copy> Start<'a, A> {
+    /// A prefix, which is no base: renamings and hidings follow it in brackets only.
+    pub(crate) fn prefix(
+        alloc: A,
+        channel: Name<'a>,
+        fields: Vec<Field<'a, A>, A>,
+        body: Box<Process<'a, A>, A>,
+    ) -> Result<Start<'a, A>, Refused>
+        ensures { IfOk result (λ s. (before after : Standing) → Reads IsOperand before after (RawPrefix (name_of channel.entry) (map field_of fields.entry.items) (process_in body.entry)) → ReadsStart before after s) }
+    {
+        let prefix = Process::prefix(alloc, channel, fields, body)?;
+        Ok(Start::Operand(prefix))
+    }
+
+    /// A process with a guard, which is no base either.
+    pub(crate) fn guard(
+        alloc: A,
+        condition: Expression<'a, A>,
+        body: Box<Process<'a, A>, A>,
+    ) -> Result<Start<'a, A>, Refused>
+        ensures { IfOk result (λ s. (before after : Standing) → Reads IsOperand before after (RawGuard (expression_of condition.entry) (process_in body.entry)) → ReadsStart before after s) }
+    {
+        let guard = Process::guard(alloc, condition, body)?;
+        Ok(Start::Operand(guard))
+    }
 }
 
 /// What stands in brackets where an operand or an expression begins.

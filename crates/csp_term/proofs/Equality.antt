@@ -2,7 +2,7 @@
 use denote.RattleType
 use mir.Syntax
 use lib.Pointwise.{pointwise}
-use Rattle.std.proofs.Common.{◌≡◌, ℕ, zero, suc, Bool, true, ◌&&◌, nat_eq, List, [], ◌∷◌, map, refl, sym, ap, ap₂, ◌∙◌}
+use Rattle.std.proofs.Common.{◌≡◌, ℕ, zero, suc, Bool, true, ◌&&◌, nat_eq, List, map, refl, sym, ap, ap₂, ◌∙◌}
 use Rattle.std.specs.declared.alloc.Allocator as allocator
 use Rattle.std.specs.String.{string_bytes}
 use Rattle.std.specs.Ordering.{is_eq}
@@ -13,10 +13,10 @@ use Rattle.csp_semantics.proofs.ProcessOrder.{process_same, process_refl}
 use Rattle.csp_value.specs.declared.set.SetOf.{SetOf}
 use Rattle.csp_value.specs.Value.{members_of}
 use Rattle.csp_value.proofs.Equality.{set_eq, set_tells}
-use Rattle.csp_term.specs.declared.expression.types.Constructors.{Constructors}
-use Rattle.csp_term.specs.declared.expression.types.TypeTable.{TypeTable}
+use Rattle.csp_expression.specs.declared.types.Constructors.{Constructors}
+use Rattle.csp_expression.specs.declared.types.TypeTable.{TypeTable}
 use Rattle.csp_term.specs.declared.script.Constructor.{Constructor}
-use Rattle.csp_term.specs.declared.name.Name.{Name}
+use Rattle.csp_expression.specs.declared.name.Name.{Name}
 use Rattle.csp_term.specs.declared.assertion.Model.{Model}
 use Rattle.csp_term.specs.declared.assertion.Model.TheVariants as model
 use Rattle.csp_term.specs.declared.assertion.Assertion.{Assertion}
@@ -28,8 +28,8 @@ use Rattle.csp_term.specs.declared.script.Script.{Script}
 use Rattle.csp_term.specs.declared.term.Term.{Term}
 use Rattle.csp_term.specs.contracts.assertion.ModelPartialEq.TheImpl as model_impl
 use Rattle.csp_term.specs.contracts.assertion.AssertionPartialEq.TheImpl as assertion_impl
-use Rattle.csp_term.specs.contracts.expression.types.ConstructorsPartialEq.TheImpl as constructors_impl
-use Rattle.csp_term.specs.contracts.expression.types.TypeTablePartialEq.TheImpl as table_impl
+use Rattle.csp_expression.specs.contracts.types.ConstructorsPartialEq.TheImpl as constructors_impl
+use Rattle.csp_expression.specs.contracts.types.TypeTablePartialEq.TheImpl as table_impl
 use Rattle.csp_term.specs.contracts.script.ChannelPartialEq.TheImpl as channel_impl
 use Rattle.csp_term.specs.contracts.script.ConstructorPartialEq.TheImpl as constructor_impl
 use Rattle.csp_term.specs.contracts.script.EquationPartialEq.TheImpl as equation_impl
@@ -37,12 +37,12 @@ use Rattle.csp_term.specs.contracts.script.ScriptPartialEq.TheImpl as script_imp
 use Rattle.csp_term.specs.contracts.term.TermPartialEq.TheImpl as term_impl
 use Rattle.csp_term.specs.contracts.term.TermOrd.TheImpl.Laws as term_laws
 use Rattle.csp_term.specs.Term.{process_of}
-use Rattle.csp_term.specs.Evaluation.{constructors_of, members_listed, numbers_up, table_of}
+use Rattle.csp_expression.specs.Evaluation.{constructors_of, members_listed, numbers_up, table_of}
 use Rattle.csp_term.specs.Script.{model_of, assertion_of, channel_of, equation_of, field_values, script_of}
 use Rattle.csp_term.proofs.Channels.{same_channels, same_names, same_sets}
-use Rattle.csp_term.proofs.Forming.{unlisted}
+use Rattle.csp_expression.proofs.Forming.{unlisted}
 use Rattle.csp_term.proofs.TermOrder.{cmp, ordered}
-use Rattle.csp_term.proofs.Sameness.{Tells, and_first, and_second, both, nat_tells, text_tells, lists_tell}
+use Rattle.csp_expression.proofs.Sameness.{Tells, and_first, and_second, both, nat_tells, text_tells, lists_tell}
 
 abbrev pub model_eq : Model → Model → Bool
 model_eq = model_impl.ghosts.eq

@@ -1,7 +1,7 @@
 -- The derived order of fields is the order of what they stand for.
 use denote.RattleType
 use mir.Syntax
-use Rattle.std.proofs.Common.{◌≡◌, List, [], ◌∷◌, map, refl, ap, ap₂}
+use Rattle.std.proofs.Common.{◌≡◌, List, [], ◌∷◌, refl, ap, ap₂}
 use Rattle.std.specs.declared.alloc.Allocator as allocator
 use Rattle.std.specs.declared.cmp.Ordering.{Ordering}
 use Rattle.std.specs.Ordering.{nat_cmp, ordering_then}
@@ -11,7 +11,7 @@ use Rattle.csp_term.specs.declared.field.Field.{Field}
 use Rattle.csp_term.specs.declared.field.Field.TheVariants as variant
 use Rattle.csp_term.specs.contracts.field.FieldOrd.TheImpl as impl
 use Rattle.csp_term.specs.Field.{field_of, fields_of}
-use Rattle.csp_term.proofs.ExpressionOrder.{ordered}
+use Rattle.csp_expression.proofs.ExpressionOrder.{ordered}
 
 module _ (R : RattleType.RattleType) (A : allocator.Ghosts R.Denot) (ad dd : Syntax.Dict) where
   abbrev pub field_order : Field R.Denot → Field R.Denot → Ordering

@@ -1,5 +1,5 @@
 -- When a term that is not too deep is within the limits.
-use Rattle.std.proofs.Common.{◌≡◌, ◌≤◌, ◌-◌, ℕ, Option, rules, arith}
+use Rattle.std.proofs.Common.{◌≡◌, ◌≤◌, ◌-◌, ℕ, Option, rules}
 use Rattle.std.specs.Option.{SomeIff, is_some}
 use Rattle.csp_semantics.specs.Syntax.Process.{Process}
 use Rattle.csp_semantics.specs.Meaning.Limits.{size, depth, fits}

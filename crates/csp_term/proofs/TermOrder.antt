@@ -3,15 +3,25 @@ use denote.RattleType
 use mir.Syntax
 use denote.Enum.Declared
 use denote.Hole.Holds
-use Rattle.std.proofs.Common.{◌≡◌, refl, sym, ◌∙◌, ap, ap₂, subst, inl, inr}
+use Rattle.std.proofs.Common.{◌≡◌, refl, sym, ◌∙◌, ap, ap₂, subst, arith, inl, inr}
+use Rattle.std.specs.Prelude.{⊤}
 use Rattle.std.specs.declared.alloc.Allocator as allocator
 use Rattle.std.specs.declared.vec.Vec.{Vec}
 use Rattle.std.specs.declared.cmp.Ordering.{Ordering}
+use Rattle.std.specs.declared.cmp.Ordering.TheVariants.{Equal}
 use Rattle.std.specs.Ordering.{nat_cmp, ordering_then}
+use Rattle.std.specs.Cmp.Lexicographic.{slice_cmp}
+use Rattle.csp_semantics.specs.Syntax.Expression.{to_expressions}
+use Rattle.csp_semantics.specs.Syntax.Process as pure
 use Rattle.csp_semantics.specs.Syntax.Order.{process_cmp}
 use Rattle.csp_value.specs.declared.name.ChannelId.{ChannelId}
 use Rattle.csp_term.specs.declared.name.EquationId.{EquationId}
-use Rattle.csp_term.specs.declared.expression.expr.Expr.{Expr}
+use Rattle.csp_expression.specs.declared.name.Name.{Name}
+use Rattle.csp_term.specs.declared.operator.ProcessOperator.{ProcessOperator}
+use Rattle.csp_term.specs.declared.operator.ReplicatedOperator.{ReplicatedOperator}
+use Rattle.csp_event_sets.specs.declared.event_set.EventSet.{EventSet}
+use Rattle.csp_event_sets.specs.declared.renaming_pair.RenamingPair.{RenamingPair}
+use Rattle.csp_expression.specs.declared.expr.Expr.{Expr}
 use Rattle.csp_term.specs.declared.field.Field.{Field}
 use Rattle.csp_term.specs.declared.term.Term.{Term, out-Term, roll-Term, out-roll-Term}
 use Rattle.csp_term.specs.declared.term.TermForm.{TermForm, roll-TermForm}
@@ -24,10 +34,17 @@ use Rattle.csp_term.specs.contracts.term.TermOrd.TheImpl.Laws as term_laws
 use Rattle.csp_term.specs.contracts.term.TermFormOrd.TheImpl as form_impl
 use Rattle.csp_term.specs.contracts.term.TermFormOrd.TheImpl.Laws as laws
 use Rattle.csp_term.specs.contracts.term.TermForm as contract
-use Rattle.csp_term.specs.Term.{process_of, process_of_form}
-use Rattle.csp_term.proofs.ExpressionOrder.{ordered as expression_ordered, lists_ordered as expressions_ordered}
-use Rattle.csp_term.proofs.FieldOrder.{fields_ordered}
-use Rattle.csp_term.proofs.Forms.{of_form, of_stop, of_skip, of_omega_term, of_call, of_prefix, of_guard, of_conditional}
+use Rattle.csp_event_sets.specs.Events.{event_set_of, renaming_pairs_of}
+use Rattle.csp_expression.specs.Expression.{expression_of, expressions_of}
+use Rattle.csp_term.specs.Field.{fields_of}
+use Rattle.csp_term.specs.Term.{binary_process, process_of, process_of_form, replicated_process}
+use Rattle.csp_event_sets.proofs.Apart.{processes}
+use Rattle.csp_event_sets.proofs.EventOrder.{cmp as event_set_order, ordered as event_set_ordered, pair_order, pairs_ordered}
+use Rattle.csp_expression.proofs.ExpressionOrder.{cmp as expression_order, ordered as expression_ordered, lists_ordered as expressions_ordered}
+use Rattle.csp_term.proofs.FieldOrder.{field_order, fields_ordered}
+use Rattle.csp_term.proofs.Forms.{of_form, of_stop, of_skip, of_omega_term, of_call, of_prefix, of_guard, of_conditional, of_binary, of_generalised, of_alphabetised, of_hiding, of_renaming, of_replicated}
+use Rattle.csp_term.proofs.OperatorForms.{binary_below, binary_cmp, binary_from, binary_ordered, replicated_below, replicated_cmp, replicated_from, replicated_ordered}
+use Rattle.csp_expression.proofs.Variants.{Ranks, first_or, no_more, none, one_more, one_at, either, either_holds}
 
 module _ (R : RattleType.RattleType) (A : allocator.Ghosts R.Denot) (ad dd : Syntax.Dict) where
   abbrev pub cmp : Term R.Denot → Term R.Denot → Ordering
@@ -45,162 +62,254 @@ module _ (R : RattleType.RattleType) (A : allocator.Ghosts R.Denot) (ad dd : Syn
   abbrev IsOrderedForm : TermForm R.Denot → Type 0
   IsOrderedForm a = (b : TermForm R.Denot) → Agrees a b
 
-  abbrev Condition : Type 0
-  Condition = Expr R.Denot
-
-  abbrev Expressions : Type 0
-  Expressions = Vec (Expr R.Denot) R.Denot
-
-  abbrev Fields : Type 0
-  Fields = Vec (Field R.Denot) R.Denot
-
-  abbrev stop : TermForm R.Denot
-  stop = views.Stop
-
-  abbrev skip : TermForm R.Denot
-  skip = views.Skip
-
-  abbrev omega_term : TermForm R.Denot
-  omega_term = views.Omega
-
-  abbrev call : EquationId → Expressions → TermForm R.Denot
-  call n es = views.Call n es
-
-  abbrev prefix : ChannelId → Fields → Term R.Denot → TermForm R.Denot
-  prefix c fs p = views.Prefix c fs p
-
-  abbrev guard : Condition → Term R.Denot → TermForm R.Denot
-  guard e p = views.Guard e p
-
-  abbrev conditional : Condition → Term R.Denot → Term R.Denot → TermForm R.Denot
-  conditional e p q = views.If e p q
-
-  -- ---- a form and its parts
-
   abbrev Parts : Type 0
   Parts = Declared.Choice (contract.the_parts R A)
 
   abbrev make : Parts → TermForm R.Denot
   make = contract.the_make R A
 
-  by_parts : (P : TermForm R.Denot → Type 0) → ((v : Parts) → P (make v)) → (e : TermForm R.Denot) → P e
-  by_parts P made e = subst P (contract.the_eta R A e) (made (contract.as_values R A e))
+  -- ---- the parts of each form, their order, and what they stand for
 
-  -- ---- two of one form
+  abbrev expression_cmp : Expr R.Denot → Expr R.Denot → Ordering
+  expression_cmp = expression_order R A ad dd
 
-  both_stop : Agrees stop stop
-  both_stop = laws.is R A ad dd stop stop ∙ rw (of_stop R.Denot) refl
+  abbrev event_set_cmp : EventSet R.Denot → EventSet R.Denot → Ordering
+  event_set_cmp = event_set_order R A ad dd
 
-  both_skip : Agrees skip skip
-  both_skip = laws.is R A ad dd skip skip ∙ rw (of_skip R.Denot) refl
+  abbrev Nothing : Type 0
+  Nothing = Unit {0}
 
-  both_omega_term : Agrees omega_term omega_term
-  both_omega_term = laws.is R A ad dd omega_term omega_term ∙ rw (of_omega_term R.Denot) refl
+  abbrev nothing_cmp : Nothing → Nothing → Ordering
+  nothing_cmp x y = Equal
 
-  both_call : (n : EquationId) (es : Expressions) → (n' : EquationId) (es' : Expressions) → Agrees (call n es) (call n' es')
-  both_call n es n' es' = laws.is R A ad dd (call n es) (call n' es') ∙ rw (of_call R.Denot n es, of_call R.Denot n' es') (ap (ordering_then (nat_cmp n.0 n'.0)) (expressions_ordered R A ad dd es.items es'.items))
+  abbrev stop : Nothing → pure.Process
+  stop x = pure.Stop
 
-  both_prefix : (c : ChannelId) (fs : Fields) (p : Term R.Denot) → (c' : ChannelId) (fs' : Fields) (p' : Term R.Denot) → IsOrdered p → Agrees (prefix c fs p) (prefix c' fs' p')
-  both_prefix c fs p c' fs' p' same_p = laws.is R A ad dd (prefix c fs p) (prefix c' fs' p') ∙ rw (of_prefix R.Denot c fs p, of_prefix R.Denot c' fs' p') (ap (ordering_then (nat_cmp c.0 c'.0)) (ap₂ ordering_then (fields_ordered R A ad dd fs.items fs'.items) (same_p p')))
+  abbrev skip : Nothing → pure.Process
+  skip x = pure.Skip
 
-  both_guard : (e : Condition) (p : Term R.Denot) → (e' : Condition) (p' : Term R.Denot) → IsOrdered p → Agrees (guard e p) (guard e' p')
-  both_guard e p e' p' same_p = laws.is R A ad dd (guard e p) (guard e' p') ∙ rw (of_guard R.Denot e p, of_guard R.Denot e' p') (ap₂ ordering_then (expression_ordered R A ad dd e e') (same_p p'))
+  abbrev omega_term : Nothing → pure.Process
+  omega_term x = pure.Omega
 
-  both_conditional : (e : Condition) (p : Term R.Denot) (q : Term R.Denot) → (e' : Condition) (p' : Term R.Denot) (q' : Term R.Denot) → IsOrdered p → IsOrdered q → Agrees (conditional e p q) (conditional e' p' q')
-  both_conditional e p q e' p' q' same_p same_q = laws.is R A ad dd (conditional e p q) (conditional e' p' q') ∙ rw (of_conditional R.Denot e p q, of_conditional R.Denot e' p' q') (ap₂ ordering_then (expression_ordered R A ad dd e e') (ap₂ ordering_then (same_p p') (same_q q')))
+  abbrev OfNothing : Nothing → Type 0
+  OfNothing x = ⊤
 
-  -- ---- each form beside any other
+  abbrev Call : Type 0
+  Call = EquationId × (Vec (Expr R.Denot) R.Denot × Unit {0})
 
-  at_stop : IsOrderedForm stop
-  at_stop =
-      by_parts (Agrees stop) (λ v. elim v as (λ v. Agrees stop (make v)) [
-        | inl w ↦ both_stop
-        | inr (inl w) ↦ laws.is R A ad dd stop skip ∙ rw (of_stop R.Denot, of_skip R.Denot) refl
-        | inr (inr (inl w)) ↦ laws.is R A ad dd stop omega_term ∙ rw (of_stop R.Denot, of_omega_term R.Denot) refl
-        | inr (inr (inr (inl w))) ↦ laws.is R A ad dd stop (call w.0 w.1.0) ∙ rw (of_stop R.Denot, of_call R.Denot w.0 w.1.0) refl
-        | inr (inr (inr (inr (inl w)))) ↦ laws.is R A ad dd stop (prefix w.0 w.1.0 w.1.1.0) ∙ rw (of_stop R.Denot, of_prefix R.Denot w.0 w.1.0 w.1.1.0) refl
-        | inr (inr (inr (inr (inr (inl w))))) ↦ laws.is R A ad dd stop (guard w.0 w.1.0) ∙ rw (of_stop R.Denot, of_guard R.Denot w.0 w.1.0) refl
-        | inr (inr (inr (inr (inr (inr (inl w)))))) ↦ laws.is R A ad dd stop (conditional w.0 w.1.0 w.1.1.0) ∙ rw (of_stop R.Denot, of_conditional R.Denot w.0 w.1.0 w.1.1.0) refl
-        | inr (inr (inr (inr (inr (inr (inr w)))))) ↦ absurd w
-      ])
+  abbrev call_cmp : Call → Call → Ordering
+  call_cmp x y = ordering_then (nat_cmp x.0.0 y.0.0) (slice_cmp expression_cmp x.1.0.items y.1.0.items)
 
-  at_skip : IsOrderedForm skip
-  at_skip =
-      by_parts (Agrees skip) (λ v. elim v as (λ v. Agrees skip (make v)) [
-        | inl w ↦ laws.is R A ad dd skip stop ∙ rw (of_skip R.Denot, of_stop R.Denot) refl
-        | inr (inl w) ↦ both_skip
-        | inr (inr (inl w)) ↦ laws.is R A ad dd skip omega_term ∙ rw (of_skip R.Denot, of_omega_term R.Denot) refl
-        | inr (inr (inr (inl w))) ↦ laws.is R A ad dd skip (call w.0 w.1.0) ∙ rw (of_skip R.Denot, of_call R.Denot w.0 w.1.0) refl
-        | inr (inr (inr (inr (inl w)))) ↦ laws.is R A ad dd skip (prefix w.0 w.1.0 w.1.1.0) ∙ rw (of_skip R.Denot, of_prefix R.Denot w.0 w.1.0 w.1.1.0) refl
-        | inr (inr (inr (inr (inr (inl w))))) ↦ laws.is R A ad dd skip (guard w.0 w.1.0) ∙ rw (of_skip R.Denot, of_guard R.Denot w.0 w.1.0) refl
-        | inr (inr (inr (inr (inr (inr (inl w)))))) ↦ laws.is R A ad dd skip (conditional w.0 w.1.0 w.1.1.0) ∙ rw (of_skip R.Denot, of_conditional R.Denot w.0 w.1.0 w.1.1.0) refl
-        | inr (inr (inr (inr (inr (inr (inr w)))))) ↦ absurd w
-      ])
+  abbrev call : Call → pure.Process
+  call x = pure.Call x.0.0 (to_expressions (expressions_of x.1.0.items))
 
-  at_omega_term : IsOrderedForm omega_term
-  at_omega_term =
-      by_parts (Agrees omega_term) (λ v. elim v as (λ v. Agrees omega_term (make v)) [
-        | inl w ↦ laws.is R A ad dd omega_term stop ∙ rw (of_omega_term R.Denot, of_stop R.Denot) refl
-        | inr (inl w) ↦ laws.is R A ad dd omega_term skip ∙ rw (of_omega_term R.Denot, of_skip R.Denot) refl
-        | inr (inr (inl w)) ↦ both_omega_term
-        | inr (inr (inr (inl w))) ↦ laws.is R A ad dd omega_term (call w.0 w.1.0) ∙ rw (of_omega_term R.Denot, of_call R.Denot w.0 w.1.0) refl
-        | inr (inr (inr (inr (inl w)))) ↦ laws.is R A ad dd omega_term (prefix w.0 w.1.0 w.1.1.0) ∙ rw (of_omega_term R.Denot, of_prefix R.Denot w.0 w.1.0 w.1.1.0) refl
-        | inr (inr (inr (inr (inr (inl w))))) ↦ laws.is R A ad dd omega_term (guard w.0 w.1.0) ∙ rw (of_omega_term R.Denot, of_guard R.Denot w.0 w.1.0) refl
-        | inr (inr (inr (inr (inr (inr (inl w)))))) ↦ laws.is R A ad dd omega_term (conditional w.0 w.1.0 w.1.1.0) ∙ rw (of_omega_term R.Denot, of_conditional R.Denot w.0 w.1.0 w.1.1.0) refl
-        | inr (inr (inr (inr (inr (inr (inr w)))))) ↦ absurd w
-      ])
+  abbrev OfCall : Call → Type 0
+  OfCall x = ⊤
 
-  at_call : (n : EquationId) (es : Expressions) → IsOrderedForm (call n es)
-  at_call n es =
-      by_parts (Agrees (call n es)) (λ v. elim v as (λ v. Agrees (call n es) (make v)) [
-        | inl w ↦ laws.is R A ad dd (call n es) stop ∙ rw (of_call R.Denot n es, of_stop R.Denot) refl
-        | inr (inl w) ↦ laws.is R A ad dd (call n es) skip ∙ rw (of_call R.Denot n es, of_skip R.Denot) refl
-        | inr (inr (inl w)) ↦ laws.is R A ad dd (call n es) omega_term ∙ rw (of_call R.Denot n es, of_omega_term R.Denot) refl
-        | inr (inr (inr (inl w))) ↦ both_call n es w.0 w.1.0
-        | inr (inr (inr (inr (inl w)))) ↦ laws.is R A ad dd (call n es) (prefix w.0 w.1.0 w.1.1.0) ∙ rw (of_call R.Denot n es, of_prefix R.Denot w.0 w.1.0 w.1.1.0) refl
-        | inr (inr (inr (inr (inr (inl w))))) ↦ laws.is R A ad dd (call n es) (guard w.0 w.1.0) ∙ rw (of_call R.Denot n es, of_guard R.Denot w.0 w.1.0) refl
-        | inr (inr (inr (inr (inr (inr (inl w)))))) ↦ laws.is R A ad dd (call n es) (conditional w.0 w.1.0 w.1.1.0) ∙ rw (of_call R.Denot n es, of_conditional R.Denot w.0 w.1.0 w.1.1.0) refl
-        | inr (inr (inr (inr (inr (inr (inr w)))))) ↦ absurd w
-      ])
+  call_agrees : (x y : Call) → OfCall x → call_cmp x y ≡ process_cmp (call x) (call y)
+  call_agrees x y h =
+      ap (ordering_then (nat_cmp x.0.0 y.0.0)) (expressions_ordered R A ad dd x.1.0.items y.1.0.items)
 
-  at_prefix : (c : ChannelId) (fs : Fields) (p : Term R.Denot) → IsOrdered p → IsOrderedForm (prefix c fs p)
-  at_prefix c fs p same_p =
-      by_parts (Agrees (prefix c fs p)) (λ v. elim v as (λ v. Agrees (prefix c fs p) (make v)) [
-        | inl w ↦ laws.is R A ad dd (prefix c fs p) stop ∙ rw (of_prefix R.Denot c fs p, of_stop R.Denot) refl
-        | inr (inl w) ↦ laws.is R A ad dd (prefix c fs p) skip ∙ rw (of_prefix R.Denot c fs p, of_skip R.Denot) refl
-        | inr (inr (inl w)) ↦ laws.is R A ad dd (prefix c fs p) omega_term ∙ rw (of_prefix R.Denot c fs p, of_omega_term R.Denot) refl
-        | inr (inr (inr (inl w))) ↦ laws.is R A ad dd (prefix c fs p) (call w.0 w.1.0) ∙ rw (of_prefix R.Denot c fs p, of_call R.Denot w.0 w.1.0) refl
-        | inr (inr (inr (inr (inl w)))) ↦ both_prefix c fs p w.0 w.1.0 w.1.1.0 same_p
-        | inr (inr (inr (inr (inr (inl w))))) ↦ laws.is R A ad dd (prefix c fs p) (guard w.0 w.1.0) ∙ rw (of_prefix R.Denot c fs p, of_guard R.Denot w.0 w.1.0) refl
-        | inr (inr (inr (inr (inr (inr (inl w)))))) ↦ laws.is R A ad dd (prefix c fs p) (conditional w.0 w.1.0 w.1.1.0) ∙ rw (of_prefix R.Denot c fs p, of_conditional R.Denot w.0 w.1.0 w.1.1.0) refl
-        | inr (inr (inr (inr (inr (inr (inr w)))))) ↦ absurd w
-      ])
+  abbrev Prefix : Type 0
+  Prefix = ChannelId × (Vec (Field R.Denot) R.Denot × (Term R.Denot × Unit {0}))
 
-  at_guard : (e : Condition) (p : Term R.Denot) → IsOrdered p → IsOrderedForm (guard e p)
-  at_guard e p same_p =
-      by_parts (Agrees (guard e p)) (λ v. elim v as (λ v. Agrees (guard e p) (make v)) [
-        | inl w ↦ laws.is R A ad dd (guard e p) stop ∙ rw (of_guard R.Denot e p, of_stop R.Denot) refl
-        | inr (inl w) ↦ laws.is R A ad dd (guard e p) skip ∙ rw (of_guard R.Denot e p, of_skip R.Denot) refl
-        | inr (inr (inl w)) ↦ laws.is R A ad dd (guard e p) omega_term ∙ rw (of_guard R.Denot e p, of_omega_term R.Denot) refl
-        | inr (inr (inr (inl w))) ↦ laws.is R A ad dd (guard e p) (call w.0 w.1.0) ∙ rw (of_guard R.Denot e p, of_call R.Denot w.0 w.1.0) refl
-        | inr (inr (inr (inr (inl w)))) ↦ laws.is R A ad dd (guard e p) (prefix w.0 w.1.0 w.1.1.0) ∙ rw (of_guard R.Denot e p, of_prefix R.Denot w.0 w.1.0 w.1.1.0) refl
-        | inr (inr (inr (inr (inr (inl w))))) ↦ both_guard e p w.0 w.1.0 same_p
-        | inr (inr (inr (inr (inr (inr (inl w)))))) ↦ laws.is R A ad dd (guard e p) (conditional w.0 w.1.0 w.1.1.0) ∙ rw (of_guard R.Denot e p, of_conditional R.Denot w.0 w.1.0 w.1.1.0) refl
-        | inr (inr (inr (inr (inr (inr (inr w)))))) ↦ absurd w
-      ])
+  abbrev prefix_cmp : Prefix → Prefix → Ordering
+  prefix_cmp x y = ordering_then (nat_cmp x.0.0 y.0.0) (ordering_then (slice_cmp (field_order R A ad dd) x.1.0.items y.1.0.items) (cmp x.1.1.0 y.1.1.0))
 
-  at_conditional : (e : Condition) (p : Term R.Denot) (q : Term R.Denot) → IsOrdered p → IsOrdered q → IsOrderedForm (conditional e p q)
-  at_conditional e p q same_p same_q =
-      by_parts (Agrees (conditional e p q)) (λ v. elim v as (λ v. Agrees (conditional e p q) (make v)) [
-        | inl w ↦ laws.is R A ad dd (conditional e p q) stop ∙ rw (of_conditional R.Denot e p q, of_stop R.Denot) refl
-        | inr (inl w) ↦ laws.is R A ad dd (conditional e p q) skip ∙ rw (of_conditional R.Denot e p q, of_skip R.Denot) refl
-        | inr (inr (inl w)) ↦ laws.is R A ad dd (conditional e p q) omega_term ∙ rw (of_conditional R.Denot e p q, of_omega_term R.Denot) refl
-        | inr (inr (inr (inl w))) ↦ laws.is R A ad dd (conditional e p q) (call w.0 w.1.0) ∙ rw (of_conditional R.Denot e p q, of_call R.Denot w.0 w.1.0) refl
-        | inr (inr (inr (inr (inl w)))) ↦ laws.is R A ad dd (conditional e p q) (prefix w.0 w.1.0 w.1.1.0) ∙ rw (of_conditional R.Denot e p q, of_prefix R.Denot w.0 w.1.0 w.1.1.0) refl
-        | inr (inr (inr (inr (inr (inl w))))) ↦ laws.is R A ad dd (conditional e p q) (guard w.0 w.1.0) ∙ rw (of_conditional R.Denot e p q, of_guard R.Denot w.0 w.1.0) refl
-        | inr (inr (inr (inr (inr (inr (inl w)))))) ↦ both_conditional e p q w.0 w.1.0 w.1.1.0 same_p same_q
-        | inr (inr (inr (inr (inr (inr (inr w)))))) ↦ absurd w
-      ])
+  abbrev prefix : Prefix → pure.Process
+  prefix x = pure.Prefix x.0.0 (fields_of x.1.0.items) (process_of x.1.1.0)
+
+  abbrev OfPrefix : Prefix → Type 0
+  OfPrefix x = IsOrdered x.1.1.0
+
+  prefix_agrees : (x y : Prefix) → OfPrefix x → prefix_cmp x y ≡ process_cmp (prefix x) (prefix y)
+  prefix_agrees x y h =
+      ap (ordering_then (nat_cmp x.0.0 y.0.0)) (ap₂ ordering_then (fields_ordered R A ad dd x.1.0.items y.1.0.items) (h y.1.1.0))
+
+  abbrev Guard : Type 0
+  Guard = Expr R.Denot × (Term R.Denot × Unit {0})
+
+  abbrev guard_cmp : Guard → Guard → Ordering
+  guard_cmp x y = ordering_then (expression_cmp x.0 y.0) (cmp x.1.0 y.1.0)
+
+  abbrev guard : Guard → pure.Process
+  guard x = pure.Guard (expression_of x.0) (process_of x.1.0)
+
+  abbrev OfGuard : Guard → Type 0
+  OfGuard x = IsOrdered x.1.0
+
+  guard_agrees : (x y : Guard) → OfGuard x → guard_cmp x y ≡ process_cmp (guard x) (guard y)
+  guard_agrees x y h =
+      ap₂ ordering_then (expression_ordered R A ad dd x.0 y.0) (h y.1.0)
+
+  abbrev Conditional : Type 0
+  Conditional = Expr R.Denot × (Term R.Denot × (Term R.Denot × Unit {0}))
+
+  abbrev conditional_cmp : Conditional → Conditional → Ordering
+  conditional_cmp x y = ordering_then (expression_cmp x.0 y.0) (ordering_then (cmp x.1.0 y.1.0) (cmp x.1.1.0 y.1.1.0))
+
+  abbrev conditional : Conditional → pure.Process
+  conditional x = pure.If (expression_of x.0) (process_of x.1.0) (process_of x.1.1.0)
+
+  abbrev OfConditional : Conditional → Type 0
+  OfConditional x = IsOrdered x.1.0 × IsOrdered x.1.1.0
+
+  conditional_agrees : (x y : Conditional) → OfConditional x → conditional_cmp x y ≡ process_cmp (conditional x) (conditional y)
+  conditional_agrees x y h =
+      ap₂ ordering_then (expression_ordered R A ad dd x.0 y.0) (ap₂ ordering_then (h.0 y.1.0) (h.1 y.1.1.0))
+
+  abbrev Composed : Type 0
+  Composed = ProcessOperator × (Term R.Denot × (Term R.Denot × Unit {0}))
+
+  abbrev composed_cmp : Composed → Composed → Ordering
+  composed_cmp x y = ordering_then (binary_cmp x.0 y.0) (ordering_then (cmp x.1.0 y.1.0) (cmp x.1.1.0 y.1.1.0))
+
+  abbrev composed : Composed → pure.Process
+  composed x = binary_process x.0 (process_of x.1.0) (process_of x.1.1.0)
+
+  abbrev OfComposed : Composed → Type 0
+  OfComposed x = IsOrdered x.1.0 × IsOrdered x.1.1.0
+
+  composed_agrees : (x y : Composed) → OfComposed x → composed_cmp x y ≡ process_cmp (composed x) (composed y)
+  composed_agrees x y h =
+      ap (ordering_then (binary_cmp x.0 y.0)) (ap₂ ordering_then (h.0 y.1.0) (h.1 y.1.1.0))
+      ∙ binary_ordered x.0 y.0 (process_of x.1.0) (process_of x.1.1.0) (process_of y.1.0) (process_of y.1.1.0)
+
+  abbrev Generalised : Type 0
+  Generalised = Term R.Denot × (EventSet R.Denot × (Term R.Denot × Unit {0}))
+
+  abbrev generalised_cmp : Generalised → Generalised → Ordering
+  generalised_cmp x y = ordering_then (cmp x.0 y.0) (ordering_then (event_set_cmp x.1.0 y.1.0) (cmp x.1.1.0 y.1.1.0))
+
+  abbrev generalised : Generalised → pure.Process
+  generalised x = pure.GeneralisedParallel (process_of x.0) (event_set_of x.1.0) (process_of x.1.1.0)
+
+  abbrev OfGeneralised : Generalised → Type 0
+  OfGeneralised x = IsOrdered x.0 × IsOrdered x.1.1.0
+
+  generalised_agrees : (x y : Generalised) → OfGeneralised x → generalised_cmp x y ≡ process_cmp (generalised x) (generalised y)
+  generalised_agrees x y h =
+      ap₂ ordering_then (h.0 y.0) (ap₂ ordering_then (event_set_ordered R A ad dd x.1.0 y.1.0) (h.1 y.1.1.0))
+
+  abbrev Alphabetised : Type 0
+  Alphabetised = Term R.Denot × (EventSet R.Denot × (EventSet R.Denot × (Term R.Denot × Unit {0})))
+
+  abbrev alphabetised_cmp : Alphabetised → Alphabetised → Ordering
+  alphabetised_cmp x y = ordering_then (cmp x.0 y.0) (ordering_then (event_set_cmp x.1.0 y.1.0) (ordering_then (event_set_cmp x.1.1.0 y.1.1.0) (cmp x.1.1.1.0 y.1.1.1.0)))
+
+  abbrev alphabetised : Alphabetised → pure.Process
+  alphabetised x = pure.AlphabetisedParallel (process_of x.0) (event_set_of x.1.0) (event_set_of x.1.1.0) (process_of x.1.1.1.0)
+
+  abbrev OfAlphabetised : Alphabetised → Type 0
+  OfAlphabetised x = IsOrdered x.0 × IsOrdered x.1.1.1.0
+
+  alphabetised_agrees : (x y : Alphabetised) → OfAlphabetised x → alphabetised_cmp x y ≡ process_cmp (alphabetised x) (alphabetised y)
+  alphabetised_agrees x y h =
+      ap₂ ordering_then (h.0 y.0) (ap₂ ordering_then (event_set_ordered R A ad dd x.1.0 y.1.0) (ap₂ ordering_then (event_set_ordered R A ad dd x.1.1.0 y.1.1.0) (h.1 y.1.1.1.0)))
+
+  abbrev Hidden : Type 0
+  Hidden = Term R.Denot × (EventSet R.Denot × Unit {0})
+
+  abbrev hiding_cmp : Hidden → Hidden → Ordering
+  hiding_cmp x y = ordering_then (cmp x.0 y.0) (event_set_cmp x.1.0 y.1.0)
+
+  abbrev hiding : Hidden → pure.Process
+  hiding x = pure.Hiding (process_of x.0) (event_set_of x.1.0)
+
+  abbrev OfHidden : Hidden → Type 0
+  OfHidden x = IsOrdered x.0
+
+  hiding_agrees : (x y : Hidden) → OfHidden x → hiding_cmp x y ≡ process_cmp (hiding x) (hiding y)
+  hiding_agrees x y h =
+      ap₂ ordering_then (h y.0) (event_set_ordered R A ad dd x.1.0 y.1.0)
+
+  abbrev Renamed : Type 0
+  Renamed = Term R.Denot × (Vec (RenamingPair R.Denot) R.Denot × Unit {0})
+
+  abbrev renaming_cmp : Renamed → Renamed → Ordering
+  renaming_cmp x y = ordering_then (cmp x.0 y.0) (slice_cmp (pair_order R A ad dd) x.1.0.items y.1.0.items)
+
+  abbrev renaming : Renamed → pure.Process
+  renaming x = pure.Renaming (process_of x.0) (renaming_pairs_of x.1.0.items)
+
+  abbrev OfRenamed : Renamed → Type 0
+  OfRenamed x = IsOrdered x.0
+
+  renaming_agrees : (x y : Renamed) → OfRenamed x → renaming_cmp x y ≡ process_cmp (renaming x) (renaming y)
+  renaming_agrees x y h =
+      ap₂ ordering_then (h y.0) (pairs_ordered R A ad dd x.1.0.items y.1.0.items)
+
+  abbrev Indexed : Type 0
+  Indexed = ReplicatedOperator × (Name × (Expr R.Denot × (Term R.Denot × Unit {0})))
+
+  abbrev indexed_cmp : Indexed → Indexed → Ordering
+  indexed_cmp x y = ordering_then (replicated_cmp x.0 y.0) (ordering_then (nat_cmp x.1.0.0 y.1.0.0) (ordering_then (expression_cmp x.1.1.0 y.1.1.0) (cmp x.1.1.1.0 y.1.1.1.0)))
+
+  abbrev indexed : Indexed → pure.Process
+  indexed x = replicated_process x.0 x.1.0.0 (expression_of x.1.1.0) (process_of x.1.1.1.0)
+
+  abbrev OfIndexed : Indexed → Type 0
+  OfIndexed x = IsOrdered x.1.1.1.0
+
+  indexed_agrees : (x y : Indexed) → OfIndexed x → indexed_cmp x y ≡ process_cmp (indexed x) (indexed y)
+  indexed_agrees x y h =
+      ap (ordering_then (replicated_cmp x.0 y.0)) (ap (ordering_then (nat_cmp x.1.0.0 y.1.0.0)) (ap₂ ordering_then (expression_ordered R A ad dd x.1.1.0 y.1.1.0) (h y.1.1.1.0)))
+      ∙ replicated_ordered x.0 y.0 x.1.0.0 y.1.0.0 (expression_of x.1.1.0) (expression_of y.1.1.0) (process_of x.1.1.1.0) (process_of y.1.1.1.0)
+
+  -- ---- all forms
+
+  abbrev derived : Parts → Parts → Ordering
+  derived = first_or nothing_cmp (first_or nothing_cmp (first_or nothing_cmp (first_or call_cmp (first_or prefix_cmp (first_or guard_cmp (first_or conditional_cmp (first_or composed_cmp (first_or generalised_cmp (first_or alphabetised_cmp (first_or hiding_cmp (first_or renaming_cmp (first_or indexed_cmp no_more))))))))))))
+
+  abbrev meaning : Parts → pure.Process
+  meaning = either stop (either skip (either omega_term (either call (either prefix (either guard (either conditional (either composed (either generalised (either alphabetised (either hiding (either renaming (either indexed (λ v. absurd v)))))))))))))
+
+  abbrev OrderedParts : Parts → Type 0
+  OrderedParts = either_holds OfNothing (either_holds OfNothing (either_holds OfNothing (either_holds OfCall (either_holds OfPrefix (either_holds OfGuard (either_holds OfConditional (either_holds OfComposed (either_holds OfGeneralised (either_holds OfAlphabetised (either_holds OfHidden (either_holds OfRenamed (either_holds OfIndexed (λ v. ⊥)))))))))))))
+
+  ranks : Ranks processes derived meaning OrderedParts 0
+  ranks =
+      one_at processes nothing_cmp stop OfNothing 0 (λ x. refl) (λ x y h. refl)
+      (one_at processes nothing_cmp skip OfNothing 1 (λ x. refl) (λ x y h. refl)
+      (one_at processes nothing_cmp omega_term OfNothing 2 (λ x. refl) (λ x y h. refl)
+      (one_at processes call_cmp call OfCall 3 (λ x. refl) call_agrees
+      (one_at processes prefix_cmp prefix OfPrefix 4 (λ x. refl) prefix_agrees
+      (one_at processes guard_cmp guard OfGuard 5 (λ x. refl) guard_agrees
+      (one_at processes conditional_cmp conditional OfConditional 6 (λ x. refl) conditional_agrees
+      (one_more processes composed_cmp composed OfComposed 7 12 (λ x. binary_from x.0 (process_of x.1.0) (process_of x.1.1.0)) (λ x. binary_below x.0 (process_of x.1.0) (process_of x.1.1.0)) (omega arith) composed_agrees
+      (one_at processes generalised_cmp generalised OfGeneralised 12 (λ x. refl) generalised_agrees
+      (one_at processes alphabetised_cmp alphabetised OfAlphabetised 13 (λ x. refl) alphabetised_agrees
+      (one_at processes hiding_cmp hiding OfHidden 14 (λ x. refl) hiding_agrees
+      (one_at processes renaming_cmp renaming OfRenamed 15 (λ x. refl) renaming_agrees
+      (one_more processes indexed_cmp indexed OfIndexed 16 19 (λ x. replicated_from x.0 x.1.0.0 (expression_of x.1.1.0) (process_of x.1.1.1.0)) (λ x. replicated_below x.0 x.1.0.0 (expression_of x.1.1.0) (process_of x.1.1.1.0)) (omega arith) indexed_agrees
+      (none processes 19)))))))))))))
+
+  stands : (v : Parts) → process_of_form (make v) ≡ meaning v
+  stands v =
+      elim v as (λ v. process_of_form (make v) ≡ meaning v) [
+        | inl w ↦ of_stop R.Denot
+        | inr (inl w) ↦ of_skip R.Denot
+        | inr (inr (inl w)) ↦ of_omega_term R.Denot
+        | inr (inr (inr (inl w))) ↦ of_call R.Denot w.0 w.1.0
+        | inr (inr (inr (inr (inl w)))) ↦ of_prefix R.Denot w.0 w.1.0 w.1.1.0
+        | inr (inr (inr (inr (inr (inl w))))) ↦ of_guard R.Denot w.0 w.1.0
+        | inr (inr (inr (inr (inr (inr (inl w)))))) ↦ of_conditional R.Denot w.0 w.1.0 w.1.1.0
+        | inr (inr (inr (inr (inr (inr (inr (inl w))))))) ↦ of_binary R.Denot w.0 w.1.0 w.1.1.0
+        | inr (inr (inr (inr (inr (inr (inr (inr (inl w)))))))) ↦ of_generalised R.Denot w.0 w.1.0 w.1.1.0
+        | inr (inr (inr (inr (inr (inr (inr (inr (inr (inl w))))))))) ↦ of_alphabetised R.Denot w.0 w.1.0 w.1.1.0 w.1.1.1.0
+        | inr (inr (inr (inr (inr (inr (inr (inr (inr (inr (inl w)))))))))) ↦ of_hiding R.Denot w.0 w.1.0
+        | inr (inr (inr (inr (inr (inr (inr (inr (inr (inr (inr (inl w))))))))))) ↦ of_renaming R.Denot w.0 w.1.0
+        | inr (inr (inr (inr (inr (inr (inr (inr (inr (inr (inr (inr (inl w)))))))))))) ↦ of_replicated R.Denot w.0 w.1.0 w.1.1.0 w.1.1.1.0
+        | inr (inr (inr (inr (inr (inr (inr (inr (inr (inr (inr (inr (inr w)))))))))))) ↦ absurd w
+      ]
+
+  unfolds : (v w : Parts) → form_cmp (make v) (make w) ≡ derived v w
+  unfolds v w = laws.is R A ad dd (make v) (make w) ∙ ap₂ derived (contract.the_beta R A v) (contract.the_beta R A w)
+
+  of_parts : (v : Parts) → OrderedParts v → IsOrderedForm (make v)
+  of_parts v parts b =
+      subst (Agrees (make v)) (contract.the_eta R A b)
+      (let w = contract.as_values R A b in unfolds v w ∙ ranks.ordered v w parts ∙ sym (ap₂ process_cmp (stands v) (stands w)))
 
   -- ---- all together
 
@@ -218,13 +327,19 @@ module _ (R : RattleType.RattleType) (A : allocator.Ghosts R.Denot) (ad dd : Syn
   IsOrderedLayer x = IsOrderedForm (roll-TermForm R.Denot x)
 
   step : (x : Layer) (y : layer.TermForm-F R.Denot FormPart Part) → map-TermForm R.Denot FormPart Part (TermForm R.Denot) (Term R.Denot) (λ e. e.0) (λ e. e.0) y ≡ x → IsOrderedLayer x
-  step x layer.Stop is = subst IsOrderedLayer is (subst IsOrderedForm (sym views.rolls-Stop) at_stop)
-  step x layer.Skip is = subst IsOrderedLayer is (subst IsOrderedForm (sym views.rolls-Skip) at_skip)
-  step x layer.Omega is = subst IsOrderedLayer is (subst IsOrderedForm (sym views.rolls-Omega) at_omega_term)
-  step x (layer.Call n es) is = subst IsOrderedLayer is (subst IsOrderedForm (sym (views.rolls-Call n es)) (at_call n es))
-  step x (layer.Prefix c fs p) is = subst IsOrderedLayer is (subst IsOrderedForm (sym (views.rolls-Prefix c fs p.0)) (at_prefix c fs p.0 p.1))
-  step x (layer.Guard e p) is = subst IsOrderedLayer is (subst IsOrderedForm (sym (views.rolls-Guard e p.0)) (at_guard e p.0 p.1))
-  step x (layer.If e p q) is = subst IsOrderedLayer is (subst IsOrderedForm (sym (views.rolls-If e p.0 q.0)) (at_conditional e p.0 q.0 p.1 q.1))
+  step x layer.Stop is = subst IsOrderedLayer is (subst IsOrderedForm (sym views.rolls-Stop) (of_parts (inl tt) tt))
+  step x layer.Skip is = subst IsOrderedLayer is (subst IsOrderedForm (sym views.rolls-Skip) (of_parts (inr (inl tt)) tt))
+  step x layer.Omega is = subst IsOrderedLayer is (subst IsOrderedForm (sym views.rolls-Omega) (of_parts (inr (inr (inl tt))) tt))
+  step x (layer.Call n es) is = subst IsOrderedLayer is (subst IsOrderedForm (sym (views.rolls-Call n es)) (of_parts (inr (inr (inr (inl (n, (es, tt)))))) tt))
+  step x (layer.Prefix c fs p) is = subst IsOrderedLayer is (subst IsOrderedForm (sym (views.rolls-Prefix c fs p.0)) (of_parts (inr (inr (inr (inr (inl (c, (fs, (p.0, tt)))))))) p.1))
+  step x (layer.Guard e p) is = subst IsOrderedLayer is (subst IsOrderedForm (sym (views.rolls-Guard e p.0)) (of_parts (inr (inr (inr (inr (inr (inl (e, (p.0, tt)))))))) p.1))
+  step x (layer.If e p q) is = subst IsOrderedLayer is (subst IsOrderedForm (sym (views.rolls-If e p.0 q.0)) (of_parts (inr (inr (inr (inr (inr (inr (inl (e, (p.0, (q.0, tt)))))))))) (p.1, q.1)))
+  step x (layer.Binary op p q) is = subst IsOrderedLayer is (subst IsOrderedForm (sym (views.rolls-Binary op p.0 q.0)) (of_parts (inr (inr (inr (inr (inr (inr (inr (inl (op, (p.0, (q.0, tt))))))))))) (p.1, q.1)))
+  step x (layer.GeneralisedParallel p a q) is = subst IsOrderedLayer is (subst IsOrderedForm (sym (views.rolls-GeneralisedParallel p.0 a q.0)) (of_parts (inr (inr (inr (inr (inr (inr (inr (inr (inl (p.0, (a, (q.0, tt)))))))))))) (p.1, q.1)))
+  step x (layer.AlphabetisedParallel p a b q) is = subst IsOrderedLayer is (subst IsOrderedForm (sym (views.rolls-AlphabetisedParallel p.0 a b q.0)) (of_parts (inr (inr (inr (inr (inr (inr (inr (inr (inr (inl (p.0, (a, (b, (q.0, tt)))))))))))))) (p.1, q.1)))
+  step x (layer.Hiding p a) is = subst IsOrderedLayer is (subst IsOrderedForm (sym (views.rolls-Hiding p.0 a)) (of_parts (inr (inr (inr (inr (inr (inr (inr (inr (inr (inr (inl (p.0, (a, tt))))))))))))) p.1))
+  step x (layer.Renaming p rs) is = subst IsOrderedLayer is (subst IsOrderedForm (sym (views.rolls-Renaming p.0 rs)) (of_parts (inr (inr (inr (inr (inr (inr (inr (inr (inr (inr (inr (inl (p.0, (rs, tt)))))))))))))) p.1))
+  step x (layer.Replicated op n e p) is = subst IsOrderedLayer is (subst IsOrderedForm (sym (views.rolls-Replicated op n e p.0)) (of_parts (inr (inr (inr (inr (inr (inr (inr (inr (inr (inr (inr (inr (inl (op, (n, (e, (p.0, tt))))))))))))))))) p.1))
 
   abbrev TermLayer : Type 0
   TermLayer = layer.Term-F R.Denot (TermForm R.Denot) (Term R.Denot)

@@ -3,7 +3,7 @@ use Rattle.std.specs.Prelude.{List, map}
 use Rattle.csp_semantics.specs.Syntax.Process as pure
 use Rattle.csp_term.specs.declared.field.Field.{Field}
 use Rattle.csp_term.specs.declared.field.Field.TheVariants as variant
-use Rattle.csp_term.specs.Expression.{expression_of}
+use Rattle.csp_expression.specs.Expression.{expression_of}
 
 abbrev pub field_of : {A : Type 0} → Field A → pure.Field
 field_of (variant.Given e) = pure.Given (expression_of e)

@@ -11,7 +11,7 @@ use Rattle.csp_term.specs.declared.assertion.Assertion.{Assertion}
 use Rattle.csp_term.specs.declared.script.Channel.{Channel}
 use Rattle.csp_term.specs.declared.script.Equation.{Equation}
 use Rattle.csp_term.specs.declared.script.Script.{Script}
-use Rattle.csp_term.specs.Evaluation.{table_of}
+use Rattle.csp_expression.specs.Evaluation.{table_of}
 use Rattle.csp_term.specs.Term.{process_of}
 
 abbrev pub model_of : Model → pure.Model

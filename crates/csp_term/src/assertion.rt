@@ -7,7 +7,7 @@ use csp_value::{Memory, TryCopy};
 use std::alloc::Allocator;
 
 /// What a refinement compares (FDR manual).
-#[derive(Clone, Copy, Debug, PartialEq, Eq, PartialOrd, Ord, Hash)]
+#[derive(Clone, Copy, PartialEq, Eq)]
 pub enum Model {
     /// `[T=`: the traces.
     Traces,
@@ -17,7 +17,7 @@ pub enum Model {
 
 /// That the implementation refines the specification in the model.
 #[derive(Drop)]
-#[derive_where(PartialEq, Eq, PartialOrd, Ord, Hash)]
+#[derive_where(PartialEq, Eq)]
 pub struct Assertion<A: Allocator> {
     pub model: Model,
     pub specification: Term<A>,

@@ -1,10 +1,9 @@
 //! Fields of prefixes.
 
 ghost use Rattle.std.specs.Prelude.{◌≡◌, IfOk};
-ghost use Rattle.csp_term.specs.Field.{field_of, fields_of};
+ghost use Rattle.csp_term.specs.Field.{field_of};
 
-use crate::expression::Expr;
-use crate::name::Name;
+use csp_expression::{Expr, Name};
 use csp_value::{Memory, TryCopy};
 use std::alloc::Allocator;
 
@@ -31,20 +30,6 @@ impl<A: Allocator + Copy> Field<A> {
             Field::InputFrom(name, set) => Ok(Field::InputFrom(*name, set.try_copy(alloc)?)),
         }
     }
-}
-
-/// A copy of each field, in order, or `Memory` where there is no room.
-pub(crate) fn copy_fields<A: Allocator + Copy>(
-    fields: &[Field<A>],
-    alloc: A,
-) -> Result<Vec<Field<A>, A>, Memory>
-    ensures { IfOk result (λ copies. fields_of copies.items ≡ fields_of fields.now) }
-{
-    let mut copies = Vec::new(alloc);
-    for field in fields {
-        copies.push(field.try_copy(alloc)?)?;
-    }
-    Ok(copies)
 }
 
 impl<A: Allocator + Copy> TryCopy<A> for Field<A> {

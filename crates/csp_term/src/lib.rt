@@ -3,26 +3,27 @@
 //! A term stands for a process of the definitions, by `process_of`, and every call here is stated over that process:
 //! a copy stands for the same process, values are put in as the definitions say, the limits are decided exactly, and
 //! `==`, the order and the hash of two terms are those of their processes, whichever allocator holds them.
-//!
-//! Expressions stand in `expression`, with their evaluation.
 #![tactic(auto)]
 
 mod assertion;
-pub mod expression;
-mod fault;
 mod field;
+mod hiding;
 pub mod laws;
 mod limits;
 mod name;
+mod operands;
+mod operator;
+mod replicated;
 mod script;
 mod substitution;
 mod term;
 
 pub use assertion::{Assertion, Model};
+pub use csp_expression::{DatatypeId, Fault, Name, NametypeId};
 pub use csp_value::{Action, AllocHandle, ChannelId, Event, Memory, TryCopy, copy_all};
-pub use fault::Fault;
 pub use field::Field;
-pub use name::{DatatypeId, EquationId, Name, NametypeId};
+pub use name::EquationId;
+pub use operator::{ProcessOperator, ReplicatedOperator};
 pub use script::{Channel, Constructor, Equation, Script};
 pub use substitution::{TermFault, bind};
 pub use term::{Term, TermForm};

@@ -1,14 +1,16 @@
 //! The limits on the size and the depth of a term.
 
-ghost use Rattle.std.specs.Prelude.{◌≡◌, ◌∷◌, [], ◌-◌, ◌≤◌, ◌↔◌, IsTrue};
+ghost use Rattle.std.specs.Prelude.{◌≡◌, ◌∷◌, [], ◌+◌, ◌-◌, ◌≤◌, ◌↔◌, IsTrue};
 ghost use Rattle.std.specs.Option.{SomeIff};
 ghost use Rattle.csp_semantics.specs.Meaning.Limits.{size, depth, fields_depth, fields_size, fits};
 ghost use Rattle.csp_term.specs.Field.{field_of, fields_of};
-ghost use Rattle.csp_term.specs.Term.{process_of};
+ghost use Rattle.csp_term.specs.Own.{own_depth, own_size};
+ghost use Rattle.csp_term.specs.Term.{process_of, process_of_form};
 
-use crate::expression::{are_within_depth, room_left_by};
 use crate::field::Field;
 use crate::term::{Term, TermForm};
+use csp_event_sets::{are_pairs_within_depth, room_left_by_pairs};
+use csp_expression::{are_within_depth, room_left_by};
 use std::alloc::Allocator;
 
 /// The most nodes of a term within the limits.
@@ -30,41 +32,99 @@ impl<A: Allocator + Copy> Term<A> {
     fn room_left(&self, room: u32) -> Option<u32>
         ensures { SomeIff result (size (process_of self.now) ≤ room) (room - size (process_of self.now)) }
     {
-        let rest = room.checked_sub(1)?;
+        let rest = self.form.room_left_by_head(room)?;
         match &*self.form {
-            TermForm::Stop | TermForm::Skip | TermForm::Omega => Some(rest),
-            TermForm::Call(_, arguments) => room_left_by(arguments, rest),
-            TermForm::Prefix(_, fields, body) => body.room_left(room_left_by_fields(fields, rest)?),
-            TermForm::Guard(condition, body) => body.room_left(condition.room_left(rest)?),
-            TermForm::If(condition, first, second) => {
-                let rest = condition.room_left(rest)?;
-                second.room_left(first.room_left(rest)?)
+            TermForm::Stop | TermForm::Skip | TermForm::Omega | TermForm::Call(_, _) => Some(rest),
+            TermForm::Prefix(_, _, body)
+            | TermForm::Guard(_, body)
+            | TermForm::Hiding(body, _)
+            | TermForm::Renaming(body, _)
+            | TermForm::Replicated(_, _, _, body) => body.room_left(rest),
+            TermForm::If(_, left, right)
+            | TermForm::Binary(_, left, right)
+            | TermForm::GeneralisedParallel(left, _, right)
+            | TermForm::AlphabetisedParallel(left, _, _, right) => {
+                right.room_left(left.room_left(rest)?)
             }
         }
     }
 
     /// Whether the term is at most so deep.
+    #[cycle(depth)]
     fn is_within_depth(&self, most: u32) -> bool
         ensures { IsTrue result ↔ (depth (process_of self.now) ≤ most) }
     {
-        if most == 0 {
+        most != 0 && self.form.are_parts_within_depth(most - 1)
+    }
+}
+
+impl<A: Allocator + Copy> TermForm<A> {
+    /// What the form, without the terms in it, leaves of the room for nodes, `None` where it has more.
+    fn room_left_by_head(&self, room: u32) -> Option<u32>
+        ensures { SomeIff result (own_size (process_of_form self.now) ≤ room) (room - own_size (process_of_form self.now)) }
+    {
+        let rest = room.checked_sub(1)?;
+        match self {
+            TermForm::Stop | TermForm::Skip | TermForm::Omega | TermForm::Binary(_, _, _) => {
+                Some(rest)
+            }
+            TermForm::Call(_, arguments) => room_left_by(arguments, rest),
+            TermForm::Prefix(_, fields, _) => room_left_by_fields(fields, rest),
+            TermForm::Guard(expression, _)
+            | TermForm::If(expression, _, _)
+            | TermForm::Replicated(_, _, expression, _) => expression.room_left(rest),
+            TermForm::GeneralisedParallel(_, events, _) | TermForm::Hiding(_, events) => {
+                events.room_left(rest)
+            }
+            TermForm::AlphabetisedParallel(_, own, other, _) => {
+                other.room_left(own.room_left(rest)?)
+            }
+            TermForm::Renaming(_, pairs) => room_left_by_pairs(pairs, rest),
+        }
+    }
+
+    /// Whether the parts of the form are at most so deep.
+    #[cycle(depth)]
+    fn are_parts_within_depth(&self, most: u32) -> bool
+        ensures { IsTrue result ↔ (depth (process_of_form self.now) ≤ 1 + most) }
+    {
+        if !self.is_head_within_depth(most) {
             return false;
         }
-        let most = most - 1;
-        match &*self.form {
-            TermForm::Stop | TermForm::Skip | TermForm::Omega => true,
+        match self {
+            TermForm::Stop | TermForm::Skip | TermForm::Omega | TermForm::Call(_, _) => true,
+            TermForm::Prefix(_, _, body)
+            | TermForm::Guard(_, body)
+            | TermForm::Hiding(body, _)
+            | TermForm::Renaming(body, _)
+            | TermForm::Replicated(_, _, _, body) => body.is_within_depth(most),
+            TermForm::If(_, left, right)
+            | TermForm::Binary(_, left, right)
+            | TermForm::GeneralisedParallel(left, _, right)
+            | TermForm::AlphabetisedParallel(left, _, _, right) => {
+                left.is_within_depth(most) && right.is_within_depth(most)
+            }
+        }
+    }
+
+    /// Whether the parts of the form that are no terms are at most so deep.
+    fn is_head_within_depth(&self, most: u32) -> bool
+        ensures { IsTrue result ↔ (own_depth (process_of_form self.now) ≤ most) }
+    {
+        match self {
+            TermForm::Stop | TermForm::Skip | TermForm::Omega | TermForm::Binary(_, _, _) => true,
             TermForm::Call(_, arguments) => are_within_depth(arguments, most),
-            TermForm::Prefix(_, fields, body) => {
-                are_fields_within_depth(fields, most) && body.is_within_depth(most)
+            TermForm::Prefix(_, fields, _) => are_fields_within_depth(fields, most),
+            TermForm::Guard(expression, _)
+            | TermForm::If(expression, _, _)
+            | TermForm::Replicated(_, _, expression, _) => expression.is_within_depth(most),
+            TermForm::GeneralisedParallel(_, events, _) | TermForm::Hiding(_, events) => {
+                events.is_within_depth(most)
             }
-            TermForm::Guard(condition, body) => {
-                condition.is_within_depth(most) && body.is_within_depth(most)
+            TermForm::AlphabetisedParallel(_, own, other, _) => {
+                own.is_within_depth(most) && other.is_within_depth(most)
             }
-            TermForm::If(condition, first, second) => {
-                condition.is_within_depth(most)
-                    && first.is_within_depth(most)
-                    && second.is_within_depth(most)
-            }
+            TermForm::Renaming(_, pairs) => are_pairs_within_depth(pairs, most),
         }
     }
 }

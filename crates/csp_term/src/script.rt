@@ -4,15 +4,14 @@ ghost use Rattle.std.specs.Prelude.{◌≡◌};
 ghost use Rattle.std.specs.String.{string_bytes};
 
 use crate::assertion::Assertion;
-use crate::expression::TypeTable;
-use crate::name::Name;
 use crate::term::Term;
+use csp_expression::{Name, TypeTable};
 use csp_value::{FieldSet, Memory, TryCopy, copy_all};
 use std::alloc::Allocator;
 
 /// A channel with its spelling, and the set of the values of each of its fields.
 #[derive(Drop)]
-#[derive_where(PartialEq, Eq, PartialOrd, Ord, Hash)]
+#[derive_where(PartialEq, Eq)]
 pub struct Channel<A: Allocator> {
     pub spelling: String<A>,
     pub fields: Vec<FieldSet<A>, A>,
@@ -20,14 +19,14 @@ pub struct Channel<A: Allocator> {
 
 /// A constructor of a datatype with its spelling.
 #[derive(Drop)]
-#[derive_where(PartialEq, Eq, PartialOrd, Ord, Hash)]
+#[derive_where(PartialEq, Eq)]
 pub struct Constructor<A: Allocator> {
     pub spelling: String<A>,
 }
 
 /// `name(parameters) = body`
 #[derive(Drop)]
-#[derive_where(PartialEq, Eq, PartialOrd, Ord, Hash)]
+#[derive_where(PartialEq, Eq)]
 pub struct Equation<A: Allocator> {
     pub parameters: Vec<Name, A>,
     pub body: Term<A>,
@@ -35,7 +34,7 @@ pub struct Equation<A: Allocator> {
 
 /// A script, each part in the order of the text.
 #[derive(Drop)]
-#[derive_where(PartialEq, Eq, PartialOrd, Ord, Hash)]
+#[derive_where(PartialEq, Eq)]
 pub struct Script<A: Allocator> {
     pub types: TypeTable<A>,
     /// The constructors of all datatypes, by their numbers.

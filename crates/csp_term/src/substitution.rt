@@ -1,18 +1,24 @@
 //! Putting values in for names. Nothing is evaluated.
 
 ghost use Rattle.std.specs.Prelude.{◌≡◌, ◌∷◌, [], IfOk, IsErrOf, IsFalse, IsTrue};
-ghost use Rattle.csp_semantics.specs.Meaning.Substitution.{behind, bind, put, put_fields, without};
+ghost use Rattle.csp_semantics.specs.Syntax.Expression.{to_expressions};
+ghost use Rattle.csp_semantics.specs.Syntax.Process.{Call, Guard, Prefix};
+ghost use Rattle.csp_semantics.specs.Meaning.Substitution.{behind, bind, put, put_expression, put_fields, without};
 ghost use Rattle.csp_semantics.specs.Meaning.Limits.{fits};
 ghost use Rattle.csp_value.specs.Value.{value_of};
-ghost use Rattle.csp_term.specs.Bindings.{bindings_of};
+ghost use Rattle.csp_expression.specs.Bindings.{bindings_of};
+ghost use Rattle.csp_expression.specs.Expression.{expression_of, expressions_of};
 ghost use Rattle.csp_term.specs.Field.{field_of, fields_of};
-ghost use Rattle.csp_term.specs.Term.{process_of};
+ghost use Rattle.csp_term.specs.Term.{process_of, process_of_form};
 
-use crate::expression::{Binding, put_in_all};
 use crate::field::Field;
-use crate::name::Name;
+use crate::hiding::{put_in_hiding, put_in_renaming};
+use crate::name::EquationId;
+use crate::operands::{put_in_alphabetised, put_in_binary, put_in_conditional, put_in_generalised};
+use crate::replicated::put_in_replicated;
 use crate::term::{Term, TermForm};
-use csp_value::{Memory, Value};
+use csp_expression::{Binding, Expr, Name, put_in_all};
+use csp_value::{ChannelId, Memory, Value};
 use std::alloc::Allocator;
 use thiserror::Error;
 
@@ -68,6 +74,19 @@ fn take_out<A: Allocator + Copy>(name: Name, bindings: &mut Vec<Binding<'_, A>, 
     bindings.retain(|binding| binding.name != name);
 }
 
+/// The bindings without those of the name.
+pub(crate) fn without<'v, A: Allocator + Copy>(
+    name: Name,
+    bindings: &[Binding<'v, A>],
+    alloc: A,
+) -> Result<Vec<Binding<'v, A>, A>, Memory>
+    ensures { IfOk result (λ left. bindings_of left.items ≡ without name.0 (bindings_of bindings.now)) }
+{
+    let mut left = Vec::from_slice(alloc, bindings)?;
+    take_out(name, &mut left);
+    Ok(left)
+}
+
 /// The bindings with the name's value given anew.
 pub fn bind<'v, A: Allocator + Copy>(
     name: Name,
@@ -77,8 +96,7 @@ pub fn bind<'v, A: Allocator + Copy>(
 ) -> Result<Vec<Binding<'v, A>, A>, Memory>
     ensures { IfOk result (λ bound. bindings_of bound.items ≡ bind name.0 (value_of value.now) (bindings_of bindings.now)) }
 {
-    let mut bound = Vec::from_slice(alloc, bindings)?;
-    take_out(name, &mut bound);
+    let mut bound = without(name, bindings, alloc)?;
     bound.insert(0, Binding { name, value })?;
     Ok(bound)
 }
@@ -102,37 +120,98 @@ fn put_in_fields<'v, A: Allocator + Copy>(
 }
 
 impl<A: Allocator + Copy> Term<A> {
-    /// The term with the values put in, whatever its size. A name that an input binds hides an outer one. `Memory` where
-    /// there is no room.
+    /// The term with the values put in, whatever its size. A name that an input or a replicated operator binds hides an
+    /// outer one. `Memory` where there is no room.
+    #[cycle(put_term)]
     pub fn put_in(&self, bindings: &[Binding<'_, A>], alloc: A) -> Result<Term<A>, Memory>
         ensures { IfOk result (λ t. process_of t ≡ put (bindings_of bindings.now) (process_of self.now)) }
     {
-        match &*self.form {
-            TermForm::Stop => Term::new(alloc, TermForm::Stop),
-            TermForm::Skip => Term::new(alloc, TermForm::Skip),
-            TermForm::Omega => Term::new(alloc, TermForm::Omega),
-            TermForm::Call(equation, arguments) => {
-                let arguments = put_in_all(arguments, bindings, alloc)?;
-                Term::new(alloc, TermForm::Call(*equation, arguments))
-            }
+        let form = (*self.form).put_in(bindings, alloc)?;
+        Term::new(alloc, form)
+    }
+}
+
+impl<A: Allocator + Copy> TermForm<A> {
+    /// The form with the values put in.
+    #[cycle(put_term)]
+    fn put_in(&self, bindings: &[Binding<'_, A>], alloc: A) -> Result<TermForm<A>, Memory>
+        ensures { IfOk result (λ form. process_of_form form ≡ put (bindings_of bindings.now) (process_of_form self.now)) }
+    {
+        match self {
+            TermForm::Stop => Ok(TermForm::Stop),
+            TermForm::Skip => Ok(TermForm::Skip),
+            TermForm::Omega => Ok(TermForm::Omega),
+            TermForm::Call(called, arguments) => put_in_call(*called, arguments, bindings, alloc),
             TermForm::Prefix(channel, fields, body) => {
-                let (fields, left) = put_in_fields(fields, bindings, alloc)?;
-                let body = body.put_in(&left, alloc)?;
-                Term::new(alloc, TermForm::Prefix(*channel, fields, body))
+                put_in_prefix(*channel, fields, body, bindings, alloc)
             }
             TermForm::Guard(condition, body) => {
-                let condition = condition.put_in(bindings, alloc)?;
-                let body = body.put_in(bindings, alloc)?;
-                Term::new(alloc, TermForm::Guard(condition, body))
+                put_in_guard(condition, body.put_in(bindings, alloc)?, bindings, alloc)
             }
             TermForm::If(condition, first, second) => {
-                let condition = condition.put_in(bindings, alloc)?;
                 let first = first.put_in(bindings, alloc)?;
-                let second = second.put_in(bindings, alloc)?;
-                Term::new(alloc, TermForm::If(condition, first, second))
+                put_in_conditional(second, first, condition, bindings, alloc)
+            }
+            TermForm::Binary(operator, left, right) => {
+                let left = left.put_in(bindings, alloc)?;
+                put_in_binary(*operator, right, left, bindings, alloc)
+            }
+            TermForm::GeneralisedParallel(left, shared, right) => {
+                let left = left.put_in(bindings, alloc)?;
+                put_in_generalised(right, left, shared, bindings, alloc)
+            }
+            TermForm::AlphabetisedParallel(left, own, other, right) => {
+                let left = left.put_in(bindings, alloc)?;
+                put_in_alphabetised(right, left, own, other, bindings, alloc)
+            }
+            TermForm::Hiding(body, hidden) => {
+                put_in_hiding(body.put_in(bindings, alloc)?, hidden, bindings, alloc)
+            }
+            TermForm::Renaming(body, pairs) => put_in_renaming(body, pairs, bindings, alloc),
+            TermForm::Replicated(operator, name, set, body) => {
+                put_in_replicated(*operator, *name, body, set, bindings, alloc)
             }
         }
     }
+}
+
+/// The call with the values put into its arguments.
+fn put_in_call<A: Allocator + Copy>(
+    equation: EquationId,
+    arguments: &[Expr<A>],
+    bindings: &[Binding<'_, A>],
+    alloc: A,
+) -> Result<TermForm<A>, Memory>
+    ensures { IfOk result (λ form. process_of_form form ≡ put (bindings_of bindings.now) (Call equation.0 (to_expressions (expressions_of arguments.now)))) }
+{
+    Ok(TermForm::Call(equation, put_in_all(arguments, bindings, alloc)?))
+}
+
+/// The prefix with the values put in. What an input binds hides an outer name in the fields behind it and in the body.
+#[cycle(put_term)]
+fn put_in_prefix<A: Allocator + Copy>(
+    channel: ChannelId,
+    fields: &[Field<A>],
+    body: &Term<A>,
+    bindings: &[Binding<'_, A>],
+    alloc: A,
+) -> Result<TermForm<A>, Memory>
+    ensures { IfOk result (λ form. process_of_form form ≡ put (bindings_of bindings.now) (Prefix channel.0 (fields_of fields.now) (process_of body.now))) }
+{
+    let (fields, left) = put_in_fields(fields, bindings, alloc)?;
+    Ok(TermForm::Prefix(channel, fields, body.put_in(&left, alloc)?))
+}
+
+/// The guarded process with the values put in. They are in the body already.
+fn put_in_guard<A: Allocator + Copy>(
+    condition: &Expr<A>,
+    body: Term<A>,
+    bindings: &[Binding<'_, A>],
+    alloc: A,
+) -> Result<TermForm<A>, Memory>
+    ensures { IfOk result (λ form. process_of_form form ≡ Guard (put_expression (bindings_of bindings.now) (expression_of condition.now)) (process_of body)) }
+{
+    Ok(TermForm::Guard(condition.put_in(bindings, alloc)?, body))
 }
 
 impl<A: Allocator + Copy> Term<A> {

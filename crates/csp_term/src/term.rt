@@ -3,9 +3,11 @@
 ghost use Rattle.std.specs.Prelude.{◌≡◌, IfOk};
 ghost use Rattle.csp_term.specs.Term.{process_of, process_of_form};
 
-use crate::expression::{Expr, copy_expressions};
-use crate::field::{Field, copy_fields};
+use crate::field::Field;
 use crate::name::EquationId;
+use crate::operator::{ProcessOperator, ReplicatedOperator};
+use csp_event_sets::{EventSet, RenamingPair};
+use csp_expression::{Expr, Name};
 use csp_value::{ChannelId, Memory};
 use std::alloc::Allocator;
 
@@ -37,6 +39,18 @@ pub enum TermForm<A: Allocator> {
     Guard(Expr<A>, Term<A>),
     /// `if e then P else Q`
     If(Expr<A>, Term<A>, Term<A>),
+    /// An operator with its left and its right operand.
+    Binary(ProcessOperator, Term<A>, Term<A>),
+    /// `P [| S |] Q`, which do the events of the set together, and all others alone.
+    GeneralisedParallel(Term<A>, EventSet<A>, Term<A>),
+    /// `P [S || T] Q`, of which each does the events of its set, and both do those of both sets together.
+    AlphabetisedParallel(Term<A>, EventSet<A>, EventSet<A>, Term<A>),
+    /// `P \ S`, where no one sees the events of the set.
+    Hiding(Term<A>, EventSet<A>),
+    /// `P [[from <- to, ..]]`, which does what a pair names under its new name.
+    Renaming(Term<A>, Vec<RenamingPair<A>, A>),
+    /// An operator with the name that stands for each value of the set in turn, and the process for it.
+    Replicated(ReplicatedOperator, Name, Expr<A>, Term<A>),
 }
 
 impl<A: Allocator> Term<A> {
@@ -57,34 +71,11 @@ impl<A: Allocator> Term<A> {
 }
 
 impl<A: Allocator + Copy> Term<A> {
-    /// An equal term in the given allocator, or `Memory` where that has no room.
+    /// An equal term in the given allocator, or `Memory` where that has no room: the term with no value put in.
+    #[tactic(auto, using(csp_expression::proofs::Nothing::put_nothing_in_process))]
     pub fn try_copy(&self, alloc: A) -> Result<Term<A>, Memory>
         ensures { IfOk result (λ copy. process_of copy ≡ process_of self.now) }
     {
-        match &*self.form {
-            TermForm::Stop => Term::new(alloc, TermForm::Stop),
-            TermForm::Skip => Term::new(alloc, TermForm::Skip),
-            TermForm::Omega => Term::new(alloc, TermForm::Omega),
-            TermForm::Call(equation, arguments) => {
-                let arguments = copy_expressions(arguments, alloc)?;
-                Term::new(alloc, TermForm::Call(*equation, arguments))
-            }
-            TermForm::Prefix(channel, fields, body) => {
-                let fields = copy_fields(fields, alloc)?;
-                let body = body.try_copy(alloc)?;
-                Term::new(alloc, TermForm::Prefix(*channel, fields, body))
-            }
-            TermForm::Guard(condition, body) => {
-                let condition = condition.try_copy(alloc)?;
-                let body = body.try_copy(alloc)?;
-                Term::new(alloc, TermForm::Guard(condition, body))
-            }
-            TermForm::If(condition, first, second) => {
-                let condition = condition.try_copy(alloc)?;
-                let first = first.try_copy(alloc)?;
-                let second = second.try_copy(alloc)?;
-                Term::new(alloc, TermForm::If(condition, first, second))
-            }
-        }
+        self.put_in(&[], alloc)
     }
 }

@@ -17,8 +17,8 @@ ghost use Rattle.csp_semantics.specs.Text.Part.{IsAssertionOf, IsPlain, IsProces
 ghost use Rattle.refcheck.specs.Reading.{AreBare, Declares, IsOutside, names_of};
 
 use crate::reader::ReadFault;
+use csp_expression::TypeTable;
 use csp_parse::{Declaration, Name, Process, Raw};
-use csp_term::expression::TypeTable;
 use csp_term::{Assertion, Channel, ChannelId, Model, Script, Term, TermForm};
 use std::alloc::Allocator;
 

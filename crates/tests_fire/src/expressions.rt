@@ -1,93 +1,106 @@
-//! Expressions that tests put together from parts.
+//! Expressions of texts.
 
-use csp_term::expression::{BinaryOperator, Expr, UnaryOperator};
-use csp_term::{Memory, Name};
+use crate::literals::named;
+use crate::names::{DATATYPES, NAMETYPES, bound, place};
+use csp_expression::{BinaryOperator, DatatypeId, Expr, NametypeId, UnaryOperator};
+use csp_parse::{BinaryOperator as Infix, Expression, Name, UnaryOperator as Prefix};
 use csp_value::Value;
 use std::alloc::Allocator;
+use std::test::Fail;
 
-/// A part of an expression. Parts are put together in turn, each operator behind its operands.
-#[derive(Clone, Copy)]
-pub(crate) enum Part {
-    Number(i32),
-    Truth(bool),
-    Name(Name),
-    /// `<>`
-    Nothing,
-    /// `{}`
-    NoMembers,
-    Apply(UnaryOperator),
-    Combine(BinaryOperator),
-    /// The set of the part before it alone.
-    Single,
-    /// The numbers from the part before the last up to the last.
-    Range,
-}
-
-/// `head(<>)`
-pub(crate) const HEAD_OF_NOTHING: [Part; 2] = [Part::Nothing, Part::Apply(UnaryOperator::Head)];
-
-/// `1 % 0`
-pub(crate) const REMAINDER_BY_NOTHING: [Part; 3] = [
-    Part::Number(1),
-    Part::Number(0),
-    Part::Combine(BinaryOperator::Modulus),
-];
-
-/// The expression of the parts.
-pub(crate) fn expression<A: Allocator + Copy>(alloc: A, parts: &[Part]) -> Result<Expr<A>, Memory> {
-    let mut made = Vec::new(alloc);
-    for part in parts {
-        let next = from_part(alloc, *part, &mut made)?;
-        made.push(next)?;
+fn unary(operator: Prefix) -> UnaryOperator {
+    match operator {
+        Prefix::Negate => UnaryOperator::Negate,
+        Prefix::Not => UnaryOperator::Not,
+        Prefix::Length => UnaryOperator::Length,
+        Prefix::Head => UnaryOperator::Head,
+        Prefix::Tail => UnaryOperator::Tail,
+        Prefix::IsNull => UnaryOperator::IsNull,
+        Prefix::Card => UnaryOperator::Card,
     }
-    Ok(last(&mut made))
 }
 
-fn from_part<A: Allocator + Copy>(
+fn binary(operator: Infix) -> BinaryOperator {
+    match operator {
+        Infix::Add => BinaryOperator::Add,
+        Infix::Subtract => BinaryOperator::Subtract,
+        Infix::Multiply => BinaryOperator::Multiply,
+        Infix::Modulus => BinaryOperator::Modulus,
+        Infix::Concatenate => BinaryOperator::Concatenate,
+        Infix::Equals => BinaryOperator::Equals,
+        Infix::Differs => BinaryOperator::Differs,
+        Infix::LessThan => BinaryOperator::LessThan,
+        Infix::AtMost => BinaryOperator::AtMost,
+        Infix::GreaterThan => BinaryOperator::GreaterThan,
+        Infix::AtLeast => BinaryOperator::AtLeast,
+        Infix::And => BinaryOperator::And,
+        Infix::Or => BinaryOperator::Or,
+        Infix::IsElement => BinaryOperator::IsElement,
+        Infix::IsMember => BinaryOperator::IsMember,
+        Infix::Union => BinaryOperator::Union,
+        Infix::Intersection => BinaryOperator::Intersection,
+        Infix::Difference => BinaryOperator::Difference,
+    }
+}
+
+/// A value, a set or what is bound, by its name.
+fn used<A: Allocator + Copy>(alloc: A, name: Name<'_>) -> Result<Expr<A>, Fail> {
+    if let Some(value) = named(alloc, name.text)? {
+        return Ok(Expr::Literal(value));
+    }
+    if let Some(datatype) = place(&DATATYPES, name.text) {
+        return Ok(Expr::Datatype(DatatypeId(datatype)));
+    }
+    if let Some(nametype) = place(&NAMETYPES, name.text) {
+        return Ok(Expr::Nametype(NametypeId(nametype)));
+    }
+    Ok(Expr::Name(bound(name)?))
+}
+
+#[cycle(expression)]
+fn boxed<A: Allocator + Copy, B: Allocator>(
     alloc: A,
-    part: Part,
-    made: &mut Vec<Expr<A>, A>,
-) -> Result<Expr<A>, Memory> {
-    match part {
-        Part::Number(number) => Ok(Expr::Literal(Value::Int(number))),
-        Part::Truth(truth) => Ok(Expr::Literal(Value::Bool(truth))),
-        Part::Name(name) => Ok(Expr::Name(name)),
-        Part::Nothing => Ok(Expr::Sequence(Vec::new(alloc))),
-        Part::NoMembers => Ok(Expr::Set(Vec::new(alloc))),
-        Part::Apply(operator) => Ok(Expr::Apply(operator, Box::new(alloc, last(made))?)),
-        Part::Combine(operator) => {
-            let right = Box::new(alloc, last(made))?;
-            let left = Box::new(alloc, last(made))?;
-            Ok(Expr::Combine(operator, left, right))
-        }
-        Part::Single => {
-            let mut members = Vec::new(alloc);
-            members.push(last(made))?;
-            Ok(Expr::Set(members))
-        }
-        Part::Range => {
-            let to = Box::new(alloc, last(made))?;
-            let from = Box::new(alloc, last(made))?;
-            Ok(Expr::Range(from, to))
-        }
-    }
+    raw: &Expression<'_, B>,
+) -> Result<Box<Expr<A>, A>, Fail> {
+    Ok(Box::new(alloc, expression(alloc, raw)?)?)
 }
 
-fn last<A: Allocator>(made: &mut Vec<Expr<A>, A>) -> Expr<A> {
-    match made.pop() {
-        Some(expression) => expression,
-        None => Expr::Booleans,
+/// The expression as it is written.
+#[cycle(expression)]
+pub(crate) fn expression<A: Allocator + Copy, B: Allocator>(
+    alloc: A,
+    raw: &Expression<'_, B>,
+) -> Result<Expr<A>, Fail> {
+    match raw {
+        Expression::Number(number) => Ok(Expr::Literal(Value::Int(i32::try_from(*number)?))),
+        Expression::Truth(truth) => Ok(Expr::Literal(Value::Bool(*truth))),
+        Expression::Booleans => Ok(Expr::Booleans),
+        Expression::Use(name) => used(alloc, *name),
+        Expression::Apply(operator, operand) => {
+            Ok(Expr::Apply(unary(*operator), boxed(alloc, operand)?))
+        }
+        Expression::Combine(operator, left, right) => {
+            let left = boxed(alloc, left)?;
+            Ok(Expr::Combine(binary(*operator), left, boxed(alloc, right)?))
+        }
+        Expression::Sequence(items) => Ok(Expr::Sequence(expressions(alloc, items)?)),
+        Expression::Set(items) => Ok(Expr::Set(expressions(alloc, items)?)),
+        Expression::Range(from, to) => {
+            let from = boxed(alloc, from)?;
+            Ok(Expr::Range(from, boxed(alloc, to)?))
+        }
     }
 }
 
 /// Each of the expressions, in order.
-pub(crate) fn expressions<A: Allocator + Copy>(
+#[cycle(expression)]
+pub(crate) fn expressions<A: Allocator + Copy, B: Allocator>(
     alloc: A,
-    all_parts: &[&[Part]],
-) -> Result<Vec<Expr<A>, A>, Memory> {
+    items: &[Expression<'_, B>],
+) -> Result<Vec<Expr<A>, A>, Fail> {
     let mut all = Vec::new(alloc);
-    for parts in all_parts {
-        all.push(expression(alloc, *parts)?)?;
+    for item in items {
+        all.push(expression(alloc, item)?)?;
     }
     Ok(all)
 }

@@ -278,8 +278,8 @@ static EVENTS: [(u32, &[i32]); 4] = [(0, &[]), (0, &[4, 5, 6]), (0, &[4, 6]), (1
 
 fn rising_events(alloc: Global) -> Result<Vec<Event<Global>, Global>, Memory> {
     let mut events = Vec::new(alloc);
-    for (channel, fields) in EVENTS {
-        events.push(event(alloc, channel, fields)?)?;
+    for (channel, fields) in &EVENTS {
+        events.push(event(alloc, *channel, *fields)?)?;
     }
     Ok(events)
 }
@@ -311,8 +311,8 @@ fn rising_actions(alloc: Global) -> Result<Vec<Action<Global>, Global>, Memory> 
     let mut actions = Vec::new(alloc);
     actions.push(Action::Tau)?;
     actions.push(Action::Tick)?;
-    for (channel, fields) in EVENTS {
-        actions.push(Action::Event(event(alloc, channel, fields)?))?;
+    for (channel, fields) in &EVENTS {
+        actions.push(Action::Event(event(alloc, *channel, *fields)?))?;
     }
     Ok(actions)
 }

@@ -8,20 +8,18 @@ ghost use Rattle.csp_semantics.specs.Syntax.Process.{Given, Input, InputFrom};
 ghost use Rattle.csp_semantics.specs.Meaning.Events.{communications};
 ghost use Rattle.csp_semantics.specs.Meaning.Substitution.{bind};
 ghost use Rattle.csp_value.specs.Value.{value_of, values_of};
-ghost use Rattle.csp_term.specs.Bindings.{bindings_of};
-ghost use Rattle.csp_term.specs.Evaluation.{table_of};
-ghost use Rattle.csp_term.specs.Expression.{expression_of};
+ghost use Rattle.csp_expression.specs.Bindings.{bindings_of};
+ghost use Rattle.csp_expression.specs.Evaluation.{table_of};
+ghost use Rattle.csp_expression.specs.Expression.{expression_of};
 ghost use Rattle.csp_term.specs.Field.{fields_of};
 ghost use Rattle.csp_term.specs.Script.{field_values};
 ghost use Rattle.csp_term.specs.Term.{process_of};
 ghost use Rattle.csp_fire.specs.Answering.{Finds, lent_values, sets_of};
 
-use crate::form::Step;
+use crate::rule_step::{RuleStep, Target};
 use crate::stuck::Stuck;
-use csp_term::expression::{Binding, Expr, TypeTable};
-use csp_term::{
-    Action, AllocHandle, ChannelId, Event, Fault, Field, Memory, Name, Term, TermFault, bind,
-};
+use csp_expression::{Binding, Expr, TypeTable};
+use csp_term::{Action, AllocHandle, ChannelId, Event, Fault, Field, Memory, Name, Term, bind};
 use csp_value::{FieldSet, Value};
 use smallvec::SmallVec;
 
@@ -37,18 +35,22 @@ pub(crate) struct Walk<'w, A: AllocHandle> {
 /// The values of the fields so far, and what the inputs among them stand for.
 #[derive(Drop)]
 pub(crate) struct Front<'v, A: AllocHandle> {
-    pub(crate) values: Vec<&'v Value<A>, A>,
-    pub(crate) bindings: Vec<Binding<'v, A>, A>,
-}
-
-/// The steps that were found, and whether some step leads past the limits.
-#[derive(Drop)]
-pub(crate) struct Found<A: AllocHandle> {
-    pub(crate) steps: Vec<Step<A>, A>,
-    pub(crate) large: bool,
+    values: Vec<&'v Value<A>, A>,
+    bindings: Vec<Binding<'v, A>, A>,
 }
 
 impl<'v, A: AllocHandle> Front<'v, A> {
+    /// The front under these bindings, with no value.
+    pub(crate) fn under(bindings: &[Binding<'v, A>], alloc: A) -> Result<Front<'v, A>, Memory>
+        ensures values { IfOk result (λ f. lent_values f.values.items ≡ []) }
+        ensures bindings { IfOk result (λ f. bindings_of f.bindings.items ≡ bindings_of bindings.now) }
+    {
+        Ok(Front {
+            values: Vec::new(alloc),
+            bindings: Vec::from_slice(alloc, bindings)?,
+        })
+    }
+
     /// The front with one more value, that of a given field.
     fn with_given(&self, value: &'v Value<A>, alloc: A) -> Result<Front<'v, A>, Memory>
         ensures values { IfOk result (λ f. lent_values f.values.items ≡ lent_values self.now.values.items ++ value_of value.now ∷ []) }
@@ -83,8 +85,8 @@ pub(crate) fn look_for<'v, A: AllocHandle>(
     front: &Front<'v, A>,
     fields: &'v [Field<A>],
     sets: &'v [FieldSet<A>],
-    found: Found<A>,
-) -> Result<Found<A>, Stuck>
+    found: Vec<RuleStep<A>, A>,
+) -> Result<Vec<RuleStep<A>, A>, Stuck>
     ensures { Finds walk.now.channel.0 (process_of walk.now.body.now) (lent_values front.now.values.items) found (communications (table_of walk.now.types.now) (bindings_of front.now.bindings.items) (fields_of fields.now) (sets_of sets.now)) result }
 {
     match (fields.split_first(), sets.split_first()) {
@@ -111,8 +113,8 @@ fn given<'v, A: AllocHandle>(
     set: &'v FieldSet<A>,
     fields: &'v [Field<A>],
     sets: &'v [FieldSet<A>],
-    found: Found<A>,
-) -> Result<Found<A>, Stuck>
+    found: Vec<RuleStep<A>, A>,
+) -> Result<Vec<RuleStep<A>, A>, Stuck>
     ensures { Finds walk.now.channel.0 (process_of walk.now.body.now) (lent_values front.now.values.items) found (communications (table_of walk.now.types.now) (bindings_of front.now.bindings.items) (Given (expression_of value.now) ∷ fields_of fields.now) (field_values set.now ∷ sets_of sets.now)) result }
 {
     let seen = (&*value).look(walk.types, &front.bindings, walk.alloc)?;
@@ -132,8 +134,8 @@ fn inputs<'v, A: AllocHandle>(
     set: &'v FieldSet<A>,
     fields: &'v [Field<A>],
     sets: &'v [FieldSet<A>],
-    found: Found<A>,
-) -> Result<Found<A>, Stuck>
+    found: Vec<RuleStep<A>, A>,
+) -> Result<Vec<RuleStep<A>, A>, Stuck>
     ensures { Finds walk.now.channel.0 (process_of walk.now.body.now) (lent_values front.now.values.items) found (communications (table_of walk.now.types.now) (bindings_of front.now.bindings.items) (Input name.0 ∷ fields_of fields.now) (field_values set.now ∷ sets_of sets.now)) result }
 {
     let mut found = found;
@@ -154,8 +156,8 @@ fn inputs_from<'v, A: AllocHandle>(
     set: &'v FieldSet<A>,
     fields: &'v [Field<A>],
     sets: &'v [FieldSet<A>],
-    found: Found<A>,
-) -> Result<Found<A>, Stuck>
+    found: Vec<RuleStep<A>, A>,
+) -> Result<Vec<RuleStep<A>, A>, Stuck>
     ensures { Finds walk.now.channel.0 (process_of walk.now.body.now) (lent_values front.now.values.items) found (communications (table_of walk.now.types.now) (bindings_of front.now.bindings.items) (InputFrom name.0 (expression_of from.now) ∷ fields_of fields.now) (field_values set.now ∷ sets_of sets.now)) result }
 {
     let mut found = found;
@@ -172,29 +174,21 @@ fn inputs_from<'v, A: AllocHandle>(
     Ok(found)
 }
 
-/// The step by the values of all fields, if it leads to a term within the limits.
+/// The step by the values of all fields.
 fn reach<A: AllocHandle>(
     walk: &Walk<'_, A>,
     front: &Front<'_, A>,
-    found: Found<A>,
-) -> Result<Found<A>, Stuck>
+    found: Vec<RuleStep<A>, A>,
+) -> Result<Vec<RuleStep<A>, A>, Stuck>
     ensures { Finds walk.now.channel.0 (process_of walk.now.body.now) (lent_values front.now.values.items) found (communications (table_of walk.now.types.now) (bindings_of front.now.bindings.items) [] []) result }
 {
-    let mut steps = found.steps;
-    match walk.body.subst(&front.bindings, walk.alloc) {
-        Ok(target) => {
-            let fields = event_fields(&front.values, walk.alloc)?;
-            let channel = walk.channel;
-            let action = Action::Event(Event { channel, fields });
-            steps.push(Step { action, target })?;
-            Ok(Found {
-                steps,
-                large: found.large,
-            })
-        }
-        Err(TermFault::TooLarge) => Ok(Found { steps, large: true }),
-        Err(TermFault::Memory) => Err(Stuck::Memory),
-    }
+    let mut found = found;
+    let fields = event_fields(&front.values, walk.alloc)?;
+    let channel = walk.channel;
+    let action = Action::Event(Event { channel, fields });
+    let target = Target::put_in(walk.body, &front.bindings, walk.alloc)?;
+    found.push(RuleStep { action, target })?;
+    Ok(found)
 }
 
 /// A copy of each value, in order.

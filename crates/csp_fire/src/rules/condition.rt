@@ -2,25 +2,27 @@
 
 ghost use Rattle.csp_semantics.specs.Meaning.Events.{condition, truth_of};
 ghost use Rattle.csp_value.specs.Value.{value_of};
-ghost use Rattle.csp_term.specs.Evaluation.{table_of};
-ghost use Rattle.csp_term.specs.Expression.{expression_of};
+ghost use Rattle.csp_expression.specs.Evaluation.{table_of};
+ghost use Rattle.csp_semantics.specs.Meaning.Substitution.{put_expression};
+ghost use Rattle.csp_expression.specs.Bindings.{bindings_of};
+ghost use Rattle.csp_expression.specs.Expression.{expression_of};
 ghost use Rattle.csp_fire.specs.Answering.{Decides};
 
 use crate::stuck::Stuck;
-use csp_term::expression::{Expr, TypeTable};
+use csp_expression::{Binding, Expr, TypeTable};
 use csp_term::{AllocHandle, Fault};
 use csp_value::Value;
 
-/// Whether the condition is true, or the first cause.
-#[tactic(auto, using(csp_term::proofs::Nothing::put_nothing))]
-pub(crate) fn condition<A: AllocHandle>(
+/// Whether the condition with the values put in is true, or the first cause.
+pub(crate) fn condition<'e, A: AllocHandle>(
     alloc: A,
     types: &TypeTable<A>,
-    test: &Expr<A>,
+    bindings: &[Binding<'e, A>],
+    test: &'e Expr<A>,
 ) -> Result<bool, Stuck>
-    ensures { Decides result (condition (table_of types.now) (expression_of test.now)) }
+    ensures { Decides result (condition (table_of types.now) (put_expression (bindings_of bindings.now) (expression_of test.now))) }
 {
-    let seen = test.look(types, &[], alloc)?;
+    let seen = test.look(types, bindings, alloc)?;
     truth_of(seen.value())
 }
 

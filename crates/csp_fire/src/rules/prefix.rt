@@ -2,24 +2,28 @@
 //! values of its inputs.
 
 ghost use Rattle.csp_semantics.specs.Syntax.Process.{Prefix};
+ghost use Rattle.csp_semantics.specs.Meaning.Substitution.{put};
+ghost use Rattle.csp_expression.specs.Bindings.{bindings_of};
 ghost use Rattle.csp_term.specs.Field.{fields_of};
 ghost use Rattle.csp_term.specs.Script.{script_of};
 ghost use Rattle.csp_term.specs.Term.{process_of};
 ghost use Rattle.csp_fire.specs.Answering.{Answers};
 
-use crate::form::Step;
-use crate::rules::communications::{Found, Front, Walk, look_for};
+use crate::rule_step::RuleStep;
+use crate::rules::communications::{Front, Walk, look_for};
 use crate::stuck::Stuck;
+use csp_expression::Binding;
 use csp_term::{AllocHandle, ChannelId, Fault, Field, Script, Term};
 
-pub(crate) fn steps<A: AllocHandle>(
+pub(crate) fn steps<'v, A: AllocHandle>(
     alloc: A,
-    script: &Script<A>,
+    script: &'v Script<A>,
+    bindings: &[Binding<'v, A>],
     channel: ChannelId,
-    fields: &[Field<A>],
-    body: &Term<A>,
-) -> Result<Vec<Step<A>, A>, Stuck>
-    ensures { Answers (script_of script.now) (Prefix channel.0 (fields_of fields.now) (process_of body.now)) result }
+    fields: &'v [Field<A>],
+    body: &'v Term<A>,
+) -> Result<Vec<RuleStep<A>, A>, Stuck>
+    ensures { Answers (script_of script.now) (put (bindings_of bindings.now) (Prefix channel.0 (fields_of fields.now) (process_of body.now))) result }
 {
     let Some(declared) = script.channels.get(channel.0 as usize) else {
         return Err(Stuck::Fault(Fault::Kind));
@@ -30,17 +34,6 @@ pub(crate) fn steps<A: AllocHandle>(
         channel,
         body,
     };
-    let nothing = Found {
-        steps: Vec::new(alloc),
-        large: false,
-    };
-    let front = Front {
-        values: Vec::new(alloc),
-        bindings: Vec::new(alloc),
-    };
-    let found = look_for(&walk, &front, fields, &declared.fields, nothing)?;
-    if found.large {
-        return Err(Stuck::TooLarge);
-    }
-    Ok(found.steps)
+    let front = Front::under(bindings, alloc)?;
+    look_for(&walk, &front, fields, &declared.fields, Vec::new(alloc))
 }

@@ -4,17 +4,17 @@ ghost use Rattle.csp_semantics.specs.Syntax.Process.{Skip};
 ghost use Rattle.csp_term.specs.Script.{script_of};
 ghost use Rattle.csp_fire.specs.Answering.{Answers};
 
-use crate::form::Step;
+use crate::rule_step::{RuleStep, Target, one_step};
 use crate::stuck::Stuck;
 use csp_term::{Action, AllocHandle, Script, Term, TermForm};
 
-pub(crate) fn steps<A: AllocHandle>(alloc: A, script: &Script<A>) -> Result<Vec<Step<A>, A>, Stuck>
+pub(crate) fn steps<A: AllocHandle>(
+    alloc: A,
+    script: &Script<A>,
+) -> Result<Vec<RuleStep<A>, A>, Stuck>
     ensures { Answers (script_of script.now) Skip result }
 {
     let _script = script;
-    let mut steps = Vec::new(alloc);
-    let action = Action::Tick;
-    let target = Term::new(alloc, TermForm::Omega)?;
-    steps.push(Step { action, target })?;
-    Ok(steps)
+    let target = Target::Within(Term::new(alloc, TermForm::Omega)?);
+    Ok(one_step(alloc, Action::Tick, target)?)
 }

@@ -1,7 +1,7 @@
 -- Each field so far is within the depth.
 use Rattle.std.proofs.Common.{refl, arith}
 use Rattle.csp_value.proofs.Walking.{one_more, one_beyond, none_beyond, told_beyond, told_within}
-use Rattle.csp_term.proofs.Measures.{field_depth, field_depths, field_depths_step}
+use Rattle.csp_term.proofs.FieldMeasures.{field_depth, field_depths, field_depths_step}
 use Rattle.csp_term.proofs.limits.are_fields_within_depth.Goals as goal
 
 pub loop-field-preserved : goal.loop-field-preserved

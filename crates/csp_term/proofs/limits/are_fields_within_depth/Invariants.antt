@@ -1,5 +1,5 @@
 use Rattle.csp_value.proofs.Walking.{Decides}
-use Rattle.csp_term.proofs.Measures.{field_depths}
+use Rattle.csp_term.proofs.FieldMeasures.{field_depths}
 use Rattle.csp_term.proofs.limits.are_fields_within_depth.Given as goal
 
 abbrev pub invariant-loop-field : goal.invariant-loop-field

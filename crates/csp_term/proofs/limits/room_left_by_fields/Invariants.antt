@@ -1,5 +1,5 @@
 use Rattle.csp_value.proofs.Walking.{Left}
-use Rattle.csp_term.proofs.Measures.{field_sizes}
+use Rattle.csp_term.proofs.FieldMeasures.{field_sizes}
 use Rattle.csp_term.proofs.limits.room_left_by_fields.Given as goal
 
 abbrev pub invariant-loop-field : goal.invariant-loop-field

@@ -1,4 +1,4 @@
-use Rattle.csp_term.specs.Bindings.{bindings_of}
+use Rattle.csp_expression.specs.Bindings.{bindings_of}
 use Rattle.csp_term.proofs.TermPutting.{Fills, Leaves}
 use Rattle.csp_term.proofs.substitution.put_in_fields.Given as goal
 

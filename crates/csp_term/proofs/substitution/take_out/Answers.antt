@@ -1,8 +1,8 @@
 -- What is kept has another name.
 use Rattle.std.proofs.Common.{nat_eq, not, ◌∙◌, ap, rules}
 use Rattle.std.proofs.lemmas.Fn.{filter_same}
-use Rattle.csp_term.specs.Bindings.{bindings_of}
-use Rattle.csp_term.proofs.Hiding.{hidden}
+use Rattle.csp_expression.specs.Bindings.{bindings_of}
+use Rattle.csp_term.proofs.Without.{hidden}
 use Rattle.csp_term.proofs.substitution.take_out.Goals as goal
 
 pub returns : goal.returns

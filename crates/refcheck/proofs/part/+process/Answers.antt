@@ -11,7 +11,7 @@ use Rattle.csp_parse.proofs.ProcessTrees.{tree_of_prefix}
 use Rattle.csp_term.specs.Field.{fields_of}
 use Rattle.csp_term.specs.Term.{process_of}
 use Rattle.csp_term.proofs.Forms.{of_prefix}
-use Rattle.csp_term.proofs.Sameness.{nat_tells}
+use Rattle.csp_expression.proofs.Sameness.{nat_tells}
 use Rattle.refcheck.specs.Reading.{names_of}
 use Rattle.refcheck.proofs.part.+process.Goals as goal
 

@@ -3,9 +3,9 @@ use Rattle.std.proofs.Common.{◌≡◌, get_or, length, map, sym, ◌∙◌, ap
 use Rattle.std.proofs.lemmas.List.{take_all}
 use Rattle.csp_semantics.specs.Meaning.Events.{parameter_bindings}
 use Rattle.csp_value.specs.Value.{value_of}
-use Rattle.csp_term.specs.declared.name.Name.{Name}
-use Rattle.csp_term.specs.declared.expression.substitution.Binding.{Binding}
-use Rattle.csp_term.specs.Evaluation.{seen_value}
+use Rattle.csp_expression.specs.declared.name.Name.{Name}
+use Rattle.csp_expression.specs.declared.substitution.Binding.{Binding}
+use Rattle.csp_expression.specs.Evaluation.{seen_value}
 use Rattle.csp_fire.specs.Answering.{seen_values}
 use Rattle.csp_fire.proofs.Parameters.{next_parameter, not_as_many, same_length}
 use Rattle.csp_fire.proofs.rules.call.parameter_bindings.Goals as goal

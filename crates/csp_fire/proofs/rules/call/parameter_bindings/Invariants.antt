@@ -1,6 +1,6 @@
 use Rattle.std.proofs.Common.{◌≡◌, Ok, map, take}
 use Rattle.csp_semantics.specs.Meaning.Events.{parameter_bindings}
-use Rattle.csp_term.specs.Bindings.{bindings_of}
+use Rattle.csp_expression.specs.Bindings.{bindings_of}
 use Rattle.csp_fire.specs.Answering.{seen_values}
 use Rattle.csp_fire.proofs.rules.call.parameter_bindings.Given as goal
 

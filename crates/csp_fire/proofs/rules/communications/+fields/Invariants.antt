@@ -5,8 +5,8 @@ use Rattle.csp_semantics.specs.Meaning.Evaluation.{◌and_then◌}
 use Rattle.csp_semantics.specs.Meaning.Events.{communications, with_value}
 use Rattle.csp_semantics.specs.Meaning.Substitution.{bind}
 use Rattle.csp_value.specs.Value.{values_of}
-use Rattle.csp_term.specs.Bindings.{bindings_of}
-use Rattle.csp_term.specs.Evaluation.{table_of}
+use Rattle.csp_expression.specs.Bindings.{bindings_of}
+use Rattle.csp_expression.specs.Evaluation.{table_of}
 use Rattle.csp_term.specs.Script.{field_values}
 use Rattle.csp_term.specs.Field.{fields_of}
 use Rattle.csp_term.specs.Term.{process_of}

@@ -7,3 +7,6 @@ decreases-combined_set g l = 2 * length (left_of l.self.now)
 
 abbrev pub decreases-event_set : goal.decreases-event_set
 decreases-event_set g l = 2 * length (left_of l.self.now) + 1
+
+abbrev pub decreases-event_set_behind : goal.decreases-event_set_behind
+decreases-event_set_behind g l = 2 * length (left_of l.self.now)

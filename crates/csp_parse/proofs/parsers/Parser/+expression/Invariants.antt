@@ -5,16 +5,16 @@ use Rattle.csp_parse.specs.Reading.{left_of, standing_of, Extends}
 use Rattle.csp_parse.proofs.parsers.Parser.+expression.Given as goal
 
 abbrev pub decreases-atom : goal.decreases-atom
-decreases-atom g l = 32 * length (left_of l.self.now) + 2
+decreases-atom g l = 32 * length (left_of l.self.now) + 3
 
 abbrev pub decreases-atom_of_sign : goal.decreases-atom_of_sign
-decreases-atom_of_sign g l = 32 * length (left_of l.self.now) + 1
+decreases-atom_of_sign g l = 32 * length (left_of l.self.now) + 2
 
 abbrev pub decreases-atom_of_word : goal.decreases-atom_of_word
-decreases-atom_of_word g l = 32 * length (left_of l.self.now) + 1
+decreases-atom_of_word g l = 32 * length (left_of l.self.now) + 2
 
 abbrev pub decreases-bracketed : goal.decreases-bracketed
-decreases-bracketed g l = 32 * length (left_of l.self.now)
+decreases-bracketed g l = 32 * length (left_of l.self.now) + 1
 
 abbrev pub decreases-chained : goal.decreases-chained
 decreases-chained g l = 32 * length (left_of l.self.now) + 31
@@ -23,22 +23,40 @@ abbrev pub decreases-compared : goal.decreases-compared
 decreases-compared g l = 32 * length (left_of l.self.now) + 31
 
 abbrev pub decreases-expression : goal.decreases-expression
-decreases-expression g l = 32 * length (left_of l.self.now) + (2 * rank l.level + 3)
+decreases-expression g l = 32 * length (left_of l.self.now) + (2 * rank l.level + 4)
 
 abbrev pub decreases-listed : goal.decreases-listed
 decreases-listed g l = 32 * length (left_of l.self.now) + 31
 
 abbrev pub decreases-negation : goal.decreases-negation
-decreases-negation g l = 32 * length (left_of l.self.now) + 10
+decreases-negation g l = 32 * length (left_of l.self.now) + 11
 
 abbrev pub decreases-sequence : goal.decreases-sequence
-decreases-sequence g l = 32 * length (left_of l.self.now)
+decreases-sequence g l = 32 * length (left_of l.self.now) + 1
 
 abbrev pub decreases-set : goal.decreases-set
-decreases-set g l = 32 * length (left_of l.self.now)
+decreases-set g l = 32 * length (left_of l.self.now) + 1
 
 abbrev pub decreases-two_arguments : goal.decreases-two_arguments
-decreases-two_arguments g l = 32 * length (left_of l.self.now)
+decreases-two_arguments g l = 32 * length (left_of l.self.now) + 1
+
+abbrev pub decreases-expression_behind : goal.decreases-expression_behind
+decreases-expression_behind g l = 32 * length (left_of l.self.now)
+
+abbrev pub decreases-chain_of : goal.decreases-chain_of
+decreases-chain_of g l = 32 * length (left_of l.self.now) + (2 * rank l.operands + 5)
+
+abbrev pub decreases-operation : goal.decreases-operation
+decreases-operation g l = 32 * length (left_of l.self.now) + 30
+
+abbrev pub decreases-signed : goal.decreases-signed
+decreases-signed g l = 32 * length (left_of l.self.now) + 1
+
+abbrev pub decreases-members : goal.decreases-members
+decreases-members g l = 32 * length (left_of l.self.now) + 17
+
+abbrev pub decreases-range : goal.decreases-range
+decreases-range g l = 32 * length (left_of l.self.now) + 1
 
 abbrev pub invariant-chained-loop-kind : goal.invariant-chained-loop-kind
 invariant-chained-loop-kind g l = record {

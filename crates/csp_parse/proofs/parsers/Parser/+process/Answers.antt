@@ -10,9 +10,8 @@ use Rattle.csp_parse.specs.Processes.{infix_of, replicator_of}
 use Rattle.csp_parse.specs.Reading.{standing_of}
 use Rattle.csp_parse.specs.Starts.{ReadsStart, ReadsInner}
 use Rattle.csp_parse.proofs.Operations.{extended}
-use Rattle.csp_parse.proofs.Trees.{tree_of_use}
 use Rattle.csp_parse.proofs.Passing.{renamed}
-use Rattle.csp_parse.proofs.Processing.{read_as, hidden_process, stop_read, skip_read, name_read, call_read, prefix_read, guard_read, expression_in_brackets, process_in_brackets, name_in_brackets, conditional_read, replicated_read, generalised_read, alphabetised_read, two_read, longer_read}
+use Rattle.csp_parse.proofs.Processing.{read_as, hidden_process, name_read, prefix_read, guard_read, expression_in_brackets, process_in_brackets, name_in_brackets, conditional_read, replicated_read, generalised_read, alphabetised_read, two_read, longer_read}
 use Rattle.csp_parse.proofs.parsers.Parser.+process.Goals as goal
 
 pub process-returns-clause-reads : goal.process-returns-clause-reads
@@ -22,14 +21,14 @@ process-returns-clause-reads g t c =
 pub conditional-returns-clause-reads : goal.conditional-returns-clause-reads
 conditional-returns-clause-reads g t c =
     IfOk-weaker c.conditional.result _ _
-    (λ p told. renamed _ _ told (conditional_read c.in_ok-word.ensures.passes c.in_ok-condition.ensures.reads c.in_ok-word-2.ensures.passes c.in_ok-first.ensures.reads c.in_ok-word-3.ensures.passes c.in_ok-second.ensures.reads))
+    (λ p told. renamed _ _ told (conditional_read c.in_ok-condition.ensures.reads.passes c.in_ok-condition.ensures.reads.reads c.in_ok-first.ensures.reads.passes c.in_ok-first.ensures.reads.reads c.in_ok-second.ensures.reads.passes c.in_ok-second.ensures.reads.reads))
     c.conditional.ensures
 
 pub replicated-returns-clause-reads : goal.replicated-returns-clause-reads
 replicated-returns-clause-reads g t c =
     IfOk-weaker c.replicated.result _ _
-    (λ p told. renamed _ _ told (replicated_read (replicator_of c.args.replicator) (sign_of c.sign-written.result) c.sign-written.ensures c.in_ok-sign.ensures.passes c.in_ok-name.ensures.reads
-    c.in_ok-sign-2.ensures.passes c.in_ok-set.ensures.reads c.in_ok-sign-3.ensures.passes c.in_ok-body.ensures.reads))
+    (λ p told. renamed _ _ told (replicated_read (replicator_of c.args.replicator) (sign_of c.sign-written.result) c.sign-written.ensures c.in_ok-name.ensures.reads.passes c.in_ok-name.ensures.reads.reads
+    c.in_ok-set.ensures.reads.passes c.in_ok-set.ensures.reads.reads c.in_ok-body.ensures.reads.passes c.in_ok-body.ensures.reads.reads))
     c.replicated.ensures
 
 pub process_from-returns-in-Name-clause-continues : goal.process_from-returns-in-Name-clause-continues
@@ -56,28 +55,28 @@ process_from_operand-returns-clause-continues g t c =
 pub generalised-returns-clause-continues : goal.generalised-returns-clause-continues
 generalised-returns-clause-continues g t c =
     IfOk-weaker c.generalised.result _ _
-    (λ p told before r. renamed _ _ told (generalised_read r c.in_ok-sign.ensures.passes c.in_ok-shared.ensures.reads c.in_ok-sign-2.ensures.passes c.in_ok-right.ensures.reads)) c.generalised.ensures
+    (λ p told before r. renamed _ _ told (generalised_read r c.in_ok-shared.ensures.reads.passes c.in_ok-shared.ensures.reads.reads c.in_ok-right.ensures.reads.passes c.in_ok-right.ensures.reads.reads)) c.generalised.ensures
 
 pub alphabetised-returns-clause-continues : goal.alphabetised-returns-clause-continues
 alphabetised-returns-clause-continues g t c =
     IfOk-weaker c.alphabetised.result _ _
-    (λ p told before r. renamed _ _ told (alphabetised_read r c.in_ok-sign.ensures.passes c.in_ok-of_left.ensures.reads c.in_ok-sign-2.ensures.passes c.in_ok-of_right.ensures.reads
-    c.in_ok-sign-3.ensures.passes c.in_ok-right.ensures.reads))
+    (λ p told before r. renamed _ _ told (alphabetised_read r c.in_ok-of_left.ensures.reads.passes c.in_ok-of_left.ensures.reads.reads c.in_ok-of_right.ensures.reads.passes c.in_ok-of_right.ensures.reads.reads
+    c.in_ok-right.ensures.reads.passes c.in_ok-right.ensures.reads.reads))
     c.alphabetised.ensures
 
 pub chain-loop-operator-init : goal.chain-loop-operator-init
 chain-loop-operator-init g t c =
     record {
-      continues = λ before r. renamed _ _ c.in_ok-chain.ensures (two_read (infix_of c.args.operator) (sign_of c.sign-written.result) c.sign-written.ensures r c.in_ok-sign.ensures.passes c.in_ok-second.ensures.reads);
-      not_longer = omega (arith, c.in_ok-sign.ensures.shorter, c.in_ok-second.ensures.shorter);
+      continues = λ before r. renamed _ _ c.in_ok-chain.ensures (two_read (infix_of c.args.operator) (sign_of c.sign-written.result) c.sign-written.ensures r c.in_ok-second.ensures.reads.passes c.in_ok-second.ensures.reads.reads);
+      not_longer = omega (arith, c.in_ok-second.ensures.shorter);
     }
 
 pub chain-loop-operator-preserved : goal.chain-loop-operator-preserved
 chain-loop-operator-preserved g t c =
     record {
       continues = λ before r.
-          renamed _ _ c.in_ok-chain-2.ensures (longer_read (infix_of c.args.operator) (sign_of c.sign-written.result) c.sign-written.ensures (c.loop-operator.invariant.continues before r) c.in_ok-sign-2.ensures.passes c.in_ok-operand.ensures.reads);
-      not_longer = omega (arith, c.loop-operator.invariant.not_longer, c.in_ok-sign-2.ensures.shorter, c.in_ok-operand.ensures.shorter);
+          renamed _ _ c.in_ok-chain-2.ensures (longer_read (infix_of c.args.operator) (sign_of c.sign-written.result) c.sign-written.ensures (c.loop-operator.invariant.continues before r) c.in_ok-operand.ensures.reads.passes c.in_ok-operand.ensures.reads.reads);
+      not_longer = omega (arith, c.loop-operator.invariant.not_longer, c.in_ok-operand.ensures.shorter);
     }
 
 pub operand-returns-in-Name-clause-reads : goal.operand-returns-in-Name-clause-reads
@@ -91,51 +90,13 @@ operand-returns-in-Base-clause-reads g t c =
     let read = subst (ReadsStart (standing_of c.args.self.now) (standing_of c.start.new.self)) c.in-Base.is c.in_ok-name.ensures.reads in
     read_as (λ ts h. grammar.base h) read
 
-pub start-returns-in_ok-stop-in-Some-Keyword-Stop-clause-reads : goal.start-returns-in_ok-stop-in-Some-Keyword-Stop-clause-reads
-start-returns-in_ok-stop-in-Some-Keyword-Stop-clause-reads g t c =
-    renamed _ _ c.in_ok-stop-in-Some-Keyword-Stop.ensures (stop_read c.in_ok-word-in-Some-Keyword-Stop.ensures.passes)
-
-pub start-returns-in_ok-skip-in-Some-Keyword-Skip-clause-reads : goal.start-returns-in_ok-skip-in-Some-Keyword-Skip-clause-reads
-start-returns-in_ok-skip-in-Some-Keyword-Skip-clause-reads g t c =
-    renamed _ _ c.in_ok-skip-in-Some-Keyword-Skip.ensures (skip_read c.in_ok-word-in-Some-Keyword-Skip.ensures.passes)
-
-pub start-returns-in_ok-expression-in_default-clause-reads : goal.start-returns-in_ok-expression-in_default-clause-reads
-start-returns-in_ok-expression-in_default-clause-reads g t c =
-    IfOk-weaker c.guarded.result _ _ (λ s k. k (standing_of c.args.self.now) c.in_ok-expression-in_default.ensures.reads) c.guarded.ensures.continues
-
-pub start_of_name-returns-then-is_at-clause-reads : goal.start_of_name-returns-then-is_at-clause-reads
-start_of_name-returns-then-is_at-clause-reads g t c =
-    renamed _ _ c.in_ok-call.ensures (call_read c.in_ok-name.ensures.reads c.in_ok-arguments.ensures.reads)
-
-pub start_of_name-returns-then-is_at_field-clause-reads : goal.start_of_name-returns-then-is_at_field-clause-reads
-start_of_name-returns-then-is_at_field-clause-reads g t c =
-    renamed _ _ c.in_ok-prefix.ensures (prefix_read c.in_ok-name.ensures.reads c.in_ok-fields.ensures.reads c.in_ok-sign.ensures.passes c.in_ok-body.ensures.reads)
-
 pub start_of_name-returns-clause-reads : goal.start_of_name-returns-clause-reads
 start_of_name-returns-clause-reads g t c =
     IfOk-weaker c.start_from_name.result _ _ (λ s k. k (standing_of c.args.self.now) (name_read c.in_ok-name.ensures.reads)) c.start_from_name.ensures.continues
 
 pub start_from_name-returns-clause-continues : goal.start_from_name-returns-clause-continues
 start_from_name-returns-clause-continues g t c =
-    IfOk-weaker c.guarded.result _ _
-    (λ s k before r. k before (extended IsAtom IsAtom IsExpression (λ ts h. h) (renamed _ _ (tree_of_use g.row.A.Denot c.args.name) r.atom) c.in_ok-expression.ensures.extends)) c.guarded.ensures.continues
-
-pub start_of_brackets-returns-in-Name-clause-reads : goal.start_of_brackets-returns-in-Name-clause-reads
-start_of_brackets-returns-in-Name-clause-reads g t c =
-    let read = subst (ReadsInner (standing_of c.sign.new.self) (standing_of c.inner.new.self)) c.in-Name.is c.in_ok-inner.ensures.reads in
-    IfOk-weaker c.start_from_name.result _ _ (λ s k. k (standing_of c.args.self.now) (name_in_brackets c.in_ok-sign.ensures.passes read c.in_ok-sign-2.ensures.passes)) c.start_from_name.ensures.continues
-
-pub start_of_brackets-returns-in_ok-expression-in-Expression-clause-reads : goal.start_of_brackets-returns-in_ok-expression-in-Expression-clause-reads
-start_of_brackets-returns-in_ok-expression-in-Expression-clause-reads g t c =
-    let read = subst (ReadsInner (standing_of c.sign.new.self) (standing_of c.inner.new.self)) c.in-Expression.is c.in_ok-inner.ensures.reads in
-    IfOk-weaker c.guarded.result _ _
-    (λ s k. k (standing_of c.args.self.now) (extended IsAtom IsAtom IsExpression (λ ts h. h) (expression_in_brackets c.in_ok-sign.ensures.passes read c.in_ok-sign-2.ensures.passes) c.in_ok-expression-in-Expression.ensures.extends))
-    c.guarded.ensures.continues
-
-pub start_of_brackets-returns-in-Process-clause-reads : goal.start_of_brackets-returns-in-Process-clause-reads
-start_of_brackets-returns-in-Process-clause-reads g t c =
-    let read = subst (ReadsInner (standing_of c.sign.new.self) (standing_of c.inner.new.self)) c.in-Process.is c.in_ok-inner.ensures.reads in
-    process_in_brackets c.in_ok-sign.ensures.passes read c.in_ok-sign-2.ensures.passes
+    IfOk-weaker c.guarded.result _ _ (λ s k before r. k before (c.in_ok-expression.ensures.continues before r)) c.guarded.ensures.continues
 
 pub guarded-returns-then-not-is_at-clause-continues : goal.guarded-returns-then-not-is_at-clause-continues
 guarded-returns-then-not-is_at-clause-continues g t c =
@@ -143,7 +104,7 @@ guarded-returns-then-not-is_at-clause-continues g t c =
 
 pub guarded-returns-clause-continues : goal.guarded-returns-clause-continues
 guarded-returns-clause-continues g t c =
-    λ before r. renamed _ _ c.in_ok-guard.ensures (guard_read r c.in_ok-sign.ensures.passes c.in_ok-body.ensures.reads)
+    IfOk-weaker c.guard.result _ _ (λ s k before r. k before _ (guard_read r c.in_ok-body.ensures.reads.passes c.in_ok-body.ensures.reads.reads)) c.guard.ensures
 
 pub chain-returns-clause-continues : goal.chain-returns-clause-continues
 chain-returns-clause-continues g t c = λ before r. read_as (λ ts h. grammar.chain h) (c.loop-operator.invariant.continues before r)
@@ -157,15 +118,74 @@ inner-returns-in-Name-clause-reads g t c =
     let read = subst (ReadsStart (standing_of c.args.self.now) (standing_of c.start.new.self)) c.in-Name.is c.in_ok-name.ensures.reads in
     IfOk-weaker c.inner_from_name.result _ _ (λ r k. k (standing_of c.args.self.now) read) c.inner_from_name.ensures.continues
 
-pub inner-returns-in_ok-process-in-Base-clause-reads : goal.inner-returns-in_ok-process-in-Base-clause-reads
-inner-returns-in_ok-process-in-Base-clause-reads g t c =
-    let read = subst (ReadsStart (standing_of c.args.self.now) (standing_of c.start.new.self)) c.in-Base.is c.in_ok-name.ensures.reads in
-    c.in_ok-process-in-Base.ensures.continues (standing_of c.args.self.now) read
+pub process_behind_word-returns-clause-reads : goal.process_behind_word-returns-clause-reads
+process_behind_word-returns-clause-reads g t c =
+    IfOk-weaker c.process.result _ _ (λ p r. record { between = _; passes = c.in_ok-word.ensures.passes; reads = r }) c.process.ensures.reads
 
-pub inner-returns-in_ok-process-in-Operand-clause-reads : goal.inner-returns-in_ok-process-in-Operand-clause-reads
-inner-returns-in_ok-process-in-Operand-clause-reads g t c =
+pub process_behind-returns-clause-reads : goal.process_behind-returns-clause-reads
+process_behind-returns-clause-reads g t c =
+    IfOk-weaker c.process.result _ _ (λ p r. record { between = _; passes = c.in_ok-sign.ensures.passes; reads = r }) c.process.ensures.reads
+
+pub operand_behind-returns-clause-reads : goal.operand_behind-returns-clause-reads
+operand_behind-returns-clause-reads g t c =
+    IfOk-weaker c.operand.result _ _ (λ p r. record { between = _; passes = c.in_ok-sign.ensures.passes; reads = r }) c.operand.ensures.reads
+
+pub start_of_expression-returns-clause-reads : goal.start_of_expression-returns-clause-reads
+start_of_expression-returns-clause-reads g t c =
+    IfOk-weaker c.guarded.result _ _ (λ s k. k (standing_of c.args.self.now) c.in_ok-expression.ensures.reads) c.guarded.ensures.continues
+
+pub start_of_name-returns-then-is_at-clause-reads : goal.start_of_name-returns-then-is_at-clause-reads
+start_of_name-returns-then-is_at-clause-reads g t c =
+    IfOk-weaker c.call_of.result _ _ (λ s k. k (standing_of c.args.self.now) c.in_ok-name.ensures.reads) c.call_of.ensures.continues
+
+pub start_of_name-returns-then-is_at_field-clause-reads : goal.start_of_name-returns-then-is_at_field-clause-reads
+start_of_name-returns-then-is_at_field-clause-reads g t c =
+    IfOk-weaker c.prefix_of.result _ _ (λ s k. k (standing_of c.args.self.now) c.in_ok-name.ensures.reads) c.prefix_of.ensures.continues
+
+pub prefix_of-returns-clause-continues : goal.prefix_of-returns-clause-continues
+prefix_of-returns-clause-continues g t c =
+    IfOk-weaker c.prefix.result _ _ (λ s k before r. k before _ (prefix_read r c.in_ok-fields.ensures.reads c.in_ok-body.ensures.reads.passes c.in_ok-body.ensures.reads.reads)) c.prefix.ensures
+
+pub bracketed_inner-returns-clause-reads : goal.bracketed_inner-returns-clause-reads
+bracketed_inner-returns-clause-reads g t c =
+    record { behind_opening = _; behind_inside = _; opens = c.in_ok-sign.ensures.passes; inside = c.in_ok-inner.ensures.reads; closes = c.in_ok-sign-2.ensures.passes }
+
+pub start_of_brackets-returns-in-Name-clause-reads : goal.start_of_brackets-returns-in-Name-clause-reads
+start_of_brackets-returns-in-Name-clause-reads g t c =
+    let all = c.in_ok-inner.ensures.reads in
+    let read = subst (ReadsInner all.behind_opening all.behind_inside) c.in-Name.is all.inside in
+    IfOk-weaker c.start_from_name.result _ _ (λ s k. k (standing_of c.args.self.now) (name_in_brackets all.opens read all.closes)) c.start_from_name.ensures.continues
+
+pub start_of_brackets-returns-in-Expression-clause-reads : goal.start_of_brackets-returns-in-Expression-clause-reads
+start_of_brackets-returns-in-Expression-clause-reads g t c =
+    let all = c.in_ok-inner.ensures.reads in
+    let read = subst (ReadsInner all.behind_opening all.behind_inside) c.in-Expression.is all.inside in
+    IfOk-weaker c.start_from_atom.result _ _ (λ s k. k (standing_of c.args.self.now) (expression_in_brackets all.opens read all.closes)) c.start_from_atom.ensures.continues
+
+pub start_of_brackets-returns-in-Process-clause-reads : goal.start_of_brackets-returns-in-Process-clause-reads
+start_of_brackets-returns-in-Process-clause-reads g t c =
+    let all = c.in_ok-inner.ensures.reads in
+    let read = subst (ReadsInner all.behind_opening all.behind_inside) c.in-Process.is all.inside in
+    process_in_brackets all.opens read all.closes
+
+pub start_from_atom-returns-clause-continues : goal.start_from_atom-returns-clause-continues
+start_from_atom-returns-clause-continues g t c =
+    IfOk-weaker c.guarded.result _ _ (λ s k before r. k before (extended IsAtom IsAtom IsExpression (λ ts h. h) r c.in_ok-expression.ensures.extends)) c.guarded.ensures.continues
+
+pub inner-returns-in-Base-clause-reads : goal.inner-returns-in-Base-clause-reads
+inner-returns-in-Base-clause-reads g t c =
+    let read = subst (ReadsStart (standing_of c.args.self.now) (standing_of c.start.new.self)) c.in-Base.is c.in_ok-name.ensures.reads in
+    IfOk-weaker c.inner_process.result _ _ (λ r k. k (standing_of c.args.self.now) read) c.inner_process.ensures.continues
+
+pub inner-returns-in-Operand-clause-reads : goal.inner-returns-in-Operand-clause-reads
+inner-returns-in-Operand-clause-reads g t c =
     let read = subst (ReadsStart (standing_of c.args.self.now) (standing_of c.start.new.self)) c.in-Operand.is c.in_ok-name.ensures.reads in
-    c.in_ok-process-in-Operand.ensures.continues (standing_of c.args.self.now) read
+    IfOk-weaker c.inner_process-in-Operand.result _ _ (λ r k. k (standing_of c.args.self.now) read) c.inner_process-in-Operand.ensures.continues
+
+pub inner_process-returns-clause-continues : goal.inner_process-returns-clause-continues
+inner_process-returns-clause-continues g t c =
+    λ before r. c.in_ok-process.ensures.continues before r
 
 pub inner_from_name-returns-clause-continues : goal.inner_from_name-returns-clause-continues
-inner_from_name-returns-clause-continues g t c = λ before r. c.in_ok-process.ensures.continues before r
+inner_from_name-returns-clause-continues g t c =
+    IfOk-weaker c.inner_process.result _ _ (λ i k before r. k before r) c.inner_process.ensures.continues

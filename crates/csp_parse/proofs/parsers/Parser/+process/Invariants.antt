@@ -5,7 +5,7 @@ use Rattle.csp_parse.specs.Reading.{left_of, standing_of, Continues}
 use Rattle.csp_parse.proofs.parsers.Parser.+process.Given as goal
 
 abbrev pub decreases-process : goal.decreases-process
-decreases-process g l = 32 * length (left_of l.self.now) + 2
+decreases-process g l = 32 * length (left_of l.self.now) + 3
 
 abbrev pub decreases-conditional : goal.decreases-conditional
 decreases-conditional g l = 32 * length (left_of l.self.now) + 0
@@ -14,22 +14,22 @@ abbrev pub decreases-replicated : goal.decreases-replicated
 decreases-replicated g l = 32 * length (left_of l.self.now) + 0
 
 abbrev pub decreases-start : goal.decreases-start
-decreases-start g l = 32 * length (left_of l.self.now) + 1
+decreases-start g l = 32 * length (left_of l.self.now) + 2
 
 abbrev pub decreases-operand : goal.decreases-operand
-decreases-operand g l = 32 * length (left_of l.self.now) + 2
+decreases-operand g l = 32 * length (left_of l.self.now) + 3
 
 abbrev pub decreases-inner : goal.decreases-inner
-decreases-inner g l = 32 * length (left_of l.self.now) + 3
+decreases-inner g l = 32 * length (left_of l.self.now) + 4
 
 abbrev pub decreases-inner_from_name : goal.decreases-inner_from_name
-decreases-inner_from_name g l = 32 * length (left_of l.self.now) + 32
+decreases-inner_from_name g l = 32 * length (left_of l.self.now) + 33
 
 abbrev pub decreases-start_of_name : goal.decreases-start_of_name
-decreases-start_of_name g l = 32 * length (left_of l.self.now) + 0
+decreases-start_of_name g l = 32 * length (left_of l.self.now) + 1
 
 abbrev pub decreases-start_of_brackets : goal.decreases-start_of_brackets
-decreases-start_of_brackets g l = 32 * length (left_of l.self.now) + 0
+decreases-start_of_brackets g l = 32 * length (left_of l.self.now) + 1
 
 abbrev pub decreases-process_from : goal.decreases-process_from
 decreases-process_from g l = 32 * length (left_of l.self.now) + 31
@@ -54,6 +54,30 @@ decreases-start_from_name g l = 32 * length (left_of l.self.now) + 30
 
 abbrev pub decreases-guarded : goal.decreases-guarded
 decreases-guarded g l = 32 * length (left_of l.self.now) + 29
+
+abbrev pub decreases-process_behind_word : goal.decreases-process_behind_word
+decreases-process_behind_word g l = 32 * length (left_of l.self.now) + 0
+
+abbrev pub decreases-process_behind : goal.decreases-process_behind
+decreases-process_behind g l = 32 * length (left_of l.self.now) + 0
+
+abbrev pub decreases-operand_behind : goal.decreases-operand_behind
+decreases-operand_behind g l = 32 * length (left_of l.self.now) + 0
+
+abbrev pub decreases-start_of_expression : goal.decreases-start_of_expression
+decreases-start_of_expression g l = 32 * length (left_of l.self.now) + 1
+
+abbrev pub decreases-prefix_of : goal.decreases-prefix_of
+decreases-prefix_of g l = 32 * length (left_of l.self.now) + 1
+
+abbrev pub decreases-bracketed_inner : goal.decreases-bracketed_inner
+decreases-bracketed_inner g l = 32 * length (left_of l.self.now) + 0
+
+abbrev pub decreases-start_from_atom : goal.decreases-start_from_atom
+decreases-start_from_atom g l = 32 * length (left_of l.self.now) + 30
+
+abbrev pub decreases-inner_process : goal.decreases-inner_process
+decreases-inner_process g l = 32 * length (left_of l.self.now) + 32
 
 abbrev pub invariant-chain-loop-operator : goal.invariant-chain-loop-operator
 invariant-chain-loop-operator g l = record {

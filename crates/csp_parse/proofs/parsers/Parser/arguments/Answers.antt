@@ -6,7 +6,7 @@ returns-clause-reads g c =
     record {
       behind_opening = _;
       behind_arguments = _;
-      opens = c.in_ok-sign.ensures.passes;
-      arguments = expressions_read c.in_ok-first.ensures.reads c.in_ok-arguments.ensures.extends;
-      closes = c.in_ok-sign-2.ensures.passes;
+      opens = c.in_ok-first.ensures.reads.passes;
+      arguments = expressions_read c.in_ok-first.ensures.reads.reads c.in_ok-arguments.ensures.extends;
+      closes = c.in_ok-sign.ensures.passes;
     }

@@ -8,8 +8,8 @@ loop-self-init g c = record { list = nothing_dotted c.new-fields.result.items re
 pub loop-self-preserved : goal.loop-self-preserved
 loop-self-preserved g c =
     record {
-      list = more_dotted c.in_ok-field.field c.loop-self.fields.items c.push.new.self.items c.loop-self.invariant.list c.in_ok-sign.ensures.passes c.in_ok-field.ensures.reads c.in_ok-push.ensures.items;
-      not_longer = omega (arith, c.loop-self.invariant.not_longer, c.in_ok-sign.ensures.shorter, c.in_ok-field.ensures.shorter);
+      list = more_dotted c.in_ok-field.field c.loop-self.fields.items c.push.new.self.items c.loop-self.invariant.list c.in_ok-field.ensures.reads.passes c.in_ok-field.ensures.reads.reads c.in_ok-push.ensures.items;
+      not_longer = omega (arith, c.loop-self.invariant.not_longer, c.in_ok-field.ensures.shorter);
     }
 
 pub returns-clause-reads : goal.returns-clause-reads

@@ -10,9 +10,9 @@ loop-self-init g c = record { list = no_given c.new-fields.result.items refl c.n
 pub loop-self-preserved : goal.loop-self-preserved
 loop-self-preserved g c =
     record {
-      list = more_given (field.Given c.in_ok-value.value) (expression_of c.in_ok-value.value) c.loop-self.fields.items c.push.new.self.items refl c.loop-self.invariant.list c.in_ok-sign.ensures.passes
-          c.in_ok-value.ensures.reads c.in_ok-push.ensures.items;
-      not_longer = omega (arith, c.loop-self.invariant.not_longer, c.in_ok-sign.ensures.shorter, c.in_ok-value.ensures.shorter);
+      list = more_given (field.Given c.in_ok-value.value) (expression_of c.in_ok-value.value) c.loop-self.fields.items c.push.new.self.items refl c.loop-self.invariant.list c.in_ok-value.ensures.reads.passes
+          c.in_ok-value.ensures.reads.reads c.in_ok-push.ensures.items;
+      not_longer = omega (arith, c.loop-self.invariant.not_longer, c.in_ok-value.ensures.shorter);
     }
 
 pub loop-self-2-init : goal.loop-self-2-init

@@ -10,8 +10,8 @@ loop-self-init g c = record { continues = λ before r. read_as (λ ts h. unhidde
 pub loop-self-preserved : goal.loop-self-preserved
 loop-self-preserved g c =
     record {
-      continues = λ before r. renamed _ _ c.in_ok-process.ensures (hiding_read (c.loop-self.invariant.continues before r) c.in_ok-sign.ensures.passes c.in_ok-set.ensures.reads);
-      not_longer = omega (arith, c.loop-self.invariant.not_longer, c.in_ok-sign.ensures.shorter, c.in_ok-set.ensures.shorter);
+      continues = λ before r. renamed _ _ c.in_ok-process.ensures (hiding_read (c.loop-self.invariant.continues before r) c.in_ok-set.ensures.reads.passes c.in_ok-set.ensures.reads.reads);
+      not_longer = omega (arith, c.loop-self.invariant.not_longer, c.in_ok-set.ensures.shorter);
     }
 
 pub returns-clause-continues : goal.returns-clause-continues

@@ -16,9 +16,9 @@ loop-between-init g c =
 pub loop-between-preserved : goal.loop-between-preserved
 loop-between-preserved g c =
     record {
-      list = more_parts (sign_of c.args.between) IsName name_of c.in_ok-name.name c.loop-between.names.items c.push-in-loop-between.new.self.items c.loop-between.invariant.list c.in_ok-sign.ensures.passes
-          c.in_ok-name.ensures.reads c.in_ok-push-2.ensures.items;
-      shorter = omega (arith, c.loop-between.invariant.shorter, c.in_ok-sign.ensures.shorter, c.in_ok-name.ensures.shorter);
+      list = more_parts (sign_of c.args.between) IsName name_of c.in_ok-name.name c.loop-between.names.items c.push-in-loop-between.new.self.items c.loop-between.invariant.list c.in_ok-name.ensures.reads.passes
+          c.in_ok-name.ensures.reads.reads c.in_ok-push-2.ensures.items;
+      shorter = omega (arith, c.loop-between.invariant.shorter, c.in_ok-name.ensures.shorter);
     }
 
 pub returns-clause-reads : goal.returns-clause-reads

@@ -1,0 +1,11 @@
+-- Putting no value in copies.
+use Rattle.std.proofs.Common.{◌≡◌, IfOk, subst}
+use Rattle.csp_semantics.specs.Syntax.Process as pure
+use Rattle.csp_event_sets.specs.Events.{event_expression_of}
+use Rattle.csp_expression.proofs.Nothing.{put_nothing_in_event}
+use Rattle.csp_event_sets.proofs.event_expression.EventExpression.try_copy.Goals as goal
+
+pub returns : goal.returns
+returns g c =
+    let P : pure.EventExpression → Type 0 = λ e. IfOk c.put_in.result (λ copy. event_expression_of copy ≡ e) in
+    subst P (put_nothing_in_event (event_expression_of c.args.self.now)) c.put_in.ensures

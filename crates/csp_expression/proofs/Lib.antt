@@ -1,0 +1,17 @@
+pub mod Answering
+pub mod ExpressionPutting
+pub mod Sameness
+pub mod Copying
+pub mod ExpressionForms
+pub mod OperatorOrder
+pub mod Variants
+pub mod Apart
+pub mod ExpressionOrder
+pub mod ExpressionEquality
+pub mod ValueTests
+pub mod Evaluating
+pub mod Named
+pub mod Looking
+pub mod Forming
+pub mod Nothing
+pub mod Measures

@@ -1,0 +1,6 @@
+use Rattle.csp_expression.proofs.ExpressionEquality.{expression_tells}
+use Rattle.csp_expression.proofs.Sameness.{decided}
+use Rattle.csp_expression.proofs.laws.equal_expressions.Goals as goal
+
+pub returns : goal.returns
+returns g c = decided (expression_tells g.row.A g.A.Allocator g.A.Allocator-dict g.A.Destruct-dict) c.args.left.now c.args.right.now c.eq.result c.eq.ensures

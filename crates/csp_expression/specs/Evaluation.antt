@@ -1,0 +1,77 @@
+-- What an answer of an evaluation says, and what the types of the code stand for.
+use Rattle.std.specs.Prelude.{◌≡◌, ⊤, Bool, true, false, ℕ, zero, suc, List, [], ◌∷◌, map, Result, Ok, Err}
+use Rattle.std.specs.declared.vec.Vec.{Vec}
+use Rattle.csp_semantics.specs.Syntax.Value as pure
+use Rattle.csp_semantics.specs.Syntax.Expression as expression
+use Rattle.csp_semantics.specs.Meaning.Evaluation.{Cause, Types}
+use Rattle.csp_value.specs.declared.set.SetOf.{SetOf}
+use Rattle.csp_value.specs.declared.value.Value.{Value}
+use Rattle.csp_value.specs.Value.{value_of, values_of, members_of}
+use Rattle.csp_expression.specs.declared.fault.Fault.{Fault}
+use Rattle.csp_expression.specs.declared.eval_fault.EvalFault.{EvalFault}
+use Rattle.csp_expression.specs.declared.eval_fault.EvalFault.TheVariants as variant
+use Rattle.csp_expression.specs.declared.seen.Seen.{Seen}
+use Rattle.csp_expression.specs.declared.seen.Seen.TheVariants as seen
+use Rattle.csp_expression.specs.declared.types.Constructors.{Constructors}
+use Rattle.csp_expression.specs.declared.types.TypeTable.{TypeTable}
+use Rattle.csp_expression.specs.Fault.{cause_of}
+
+-- the answer is this value, or this cause
+abbrev pub IsAnswer : {A : Type 0} → Result (Value A) Fault → Result pure.Value Cause → Type 0
+IsAnswer (Ok v) r = r ≡ Ok (value_of v)
+IsAnswer (Err c) r = r ≡ Err (cause_of c)
+
+-- the same where memory is needed; refused memory says nothing
+abbrev pub Answers : {A : Type 0} → Result (Value A) EvalFault → Result pure.Value Cause → Type 0
+Answers (Ok v) r = r ≡ Ok (value_of v)
+Answers (Err (variant.Fault c)) r = r ≡ Err (cause_of c)
+Answers (Err variant.Memory) r = ⊤
+
+-- the value that is seen
+abbrev pub seen_value : {A : Type 0} → Seen A → pure.Value
+seen_value (seen.Lent v) = value_of v.now
+seen_value (seen.Made v) = value_of v
+
+-- the same of a value that is seen
+abbrev pub IsSeen : {A : Type 0} → Result (Seen A) Fault → Result pure.Value Cause → Type 0
+IsSeen (Ok v) r = r ≡ Ok (seen_value v)
+IsSeen (Err c) r = r ≡ Err (cause_of c)
+
+abbrev pub Sees : {A : Type 0} → Result (Seen A) EvalFault → Result pure.Value Cause → Type 0
+Sees (Ok v) r = r ≡ Ok (seen_value v)
+Sees (Err (variant.Fault c)) r = r ≡ Err (cause_of c)
+Sees (Err variant.Memory) r = ⊤
+
+-- and of several values
+abbrev pub AnswersAll : {A : Type 0} → Result (Vec (Value A) A) EvalFault → Result (List pure.Value) Cause → Type 0
+AnswersAll (Ok vs) r = r ≡ Ok (values_of vs.items)
+AnswersAll (Err (variant.Fault c)) r = r ≡ Err (cause_of c)
+AnswersAll (Err variant.Memory) r = ⊤
+
+-- the operator makes its value of its operands without a part of them
+abbrev pub only_reads : expression.Binary → Bool
+only_reads expression.Concatenate = false
+only_reads expression.Union = false
+only_reads expression.Intersection = false
+only_reads expression.Difference = false
+only_reads _ = true
+
+-- the operator makes its value of its operand without a part of it
+abbrev pub only_reads_operand : expression.Unary → Bool
+only_reads_operand expression.Head = false
+only_reads_operand expression.Tail = false
+only_reads_operand _ = true
+
+-- so many numbers, from the first one on
+abbrev pub numbers_up : ℕ → ℕ → List ℕ
+numbers_up first zero = []
+numbers_up first (suc n) = first ∷ numbers_up (suc first) n
+
+abbrev pub constructors_of : Constructors → List ℕ
+constructors_of c = numbers_up c.first.0 (suc c.following)
+
+abbrev pub members_listed : {A : Type 0} → SetOf A → List pure.Value
+members_listed s = pure.values_list (members_of s)
+
+abbrev pub table_of : {A : Type 0} → TypeTable A → Types
+table_of t = record { datatypes = map constructors_of t.datatypes.items; nametypes = map members_listed t.nametypes.items }

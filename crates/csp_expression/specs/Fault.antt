@@ -1,0 +1,12 @@
+-- The cause that a fault stands for.
+use Rattle.csp_semantics.specs.Meaning.Evaluation.{Cause, OutOfRange, Overflow, EmptySequence, BadModulus, EmptyChoice, IllKinded}
+use Rattle.csp_expression.specs.declared.fault.Fault.{Fault}
+use Rattle.csp_expression.specs.declared.fault.Fault.TheVariants as variant
+
+abbrev pub cause_of : Fault → Cause
+cause_of variant.Range = OutOfRange
+cause_of variant.Overflow = Overflow
+cause_of variant.Empty = EmptySequence
+cause_of variant.Modulus = BadModulus
+cause_of variant.Choice = EmptyChoice
+cause_of variant.Kind = IllKinded

@@ -1,0 +1,4 @@
+pub mod Bindings
+pub mod Evaluation
+pub mod Expression
+pub mod Fault

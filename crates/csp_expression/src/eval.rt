@@ -1,0 +1,248 @@
+//! The value of an expression.
+
+ghost use Rattle.csp_semantics.specs.Syntax.Expression as pure;
+ghost use Rattle.csp_semantics.specs.Syntax.Expression.{to_expressions};
+ghost use Rattle.csp_semantics.specs.Meaning.Evaluation.{apply, combine, range_of, value, values};
+ghost use Rattle.csp_semantics.specs.Meaning.Substitution.{put_expression};
+ghost use Rattle.csp_expression.specs.Bindings.{bindings_of, puts};
+ghost use Rattle.std.specs.Prelude.{◌≡◌, true};
+ghost use Rattle.csp_value.specs.Value.{value_of};
+ghost use Rattle.csp_expression.specs.Evaluation.{Answers, AnswersAll, IsAnswer, Sees, only_reads, only_reads_operand, seen_value, table_of};
+ghost use Rattle.csp_expression.specs.Expression.{binary_of, expression_of, unary_of};
+
+use crate::eval_fault::EvalFault;
+use crate::expr::Expr;
+use crate::fault::Fault;
+use crate::operator::{BinaryOperator, UnaryOperator};
+use crate::seen::Seen;
+use crate::substitution::{Binding, bound};
+use crate::types::TypeTable;
+use crate::{arithmetic, comparison, connectives, ranges, sequences, sets};
+use csp_value::Value;
+use std::alloc::Allocator;
+
+impl<A: Allocator + Copy> Expr<A> {
+    /// The value of the expression in the given allocator, or the first cause from left to right for which it has none.
+    /// `and` and `or` look at their right side only where the left one does not decide. A name that no value was put in
+    /// for, and an operand of the wrong kind, are `Kind`. `Memory` says nothing of the value.
+    #[tactic(auto, using(crate::proofs::Nothing::put_nothing))]
+    pub fn eval(&self, types: &TypeTable<A>, alloc: A) -> Result<Value<A>, EvalFault>
+        ensures { Answers result (value (table_of types.now) (expression_of self.now)) }
+    {
+        Ok(self.look(types, &[], alloc)?.into_value(alloc)?)
+    }
+
+    /// The same for the expression with the values of the bindings put in. The value is lent where it lies in the
+    /// expression or in a binding, and nothing is copied that is only read.
+    #[cycle(eval)]
+    pub fn look<'e>(
+        &'e self,
+        types: &TypeTable<A>,
+        bindings: &[Binding<'e, A>],
+        alloc: A,
+    ) -> Result<Seen<'e, A>, EvalFault>
+        ensures { Sees result (value (table_of types.now) (put_expression (bindings_of bindings.now) (expression_of self.now))) }
+    {
+        match self {
+            Expr::Literal(value) => Ok(Seen::Lent(value)),
+            Expr::Name(name) => match bound(*name, bindings) {
+                Some(value) => Ok(Seen::Lent(value)),
+                None => Err(EvalFault::Fault(Fault::Kind)),
+            },
+            Expr::Apply(operator, operand) => {
+                let operand = operand.look(types, bindings, alloc)?;
+                apply(*operator, operand, alloc)
+            }
+            Expr::Combine(operator, left, right) => {
+                let left = left.look(types, bindings, alloc)?;
+                if connectives::decides(*operator, left.value()) {
+                    return Ok(left);
+                }
+                let right = right.look(types, bindings, alloc)?;
+                Ok(Seen::Made(combine(*operator, left, right, alloc)?))
+            }
+            Expr::Sequence(items) => {
+                let values = look_at_all(items, types, bindings, alloc)?;
+                Ok(Seen::Made(sequences::sequence(values)?))
+            }
+            Expr::Set(members) => {
+                let values = look_at_all(members, types, bindings, alloc)?;
+                Ok(Seen::Made(sets::set_of_values(values)?))
+            }
+            Expr::Range(from, to) => {
+                let from = from.look(types, bindings, alloc)?;
+                let to = to.look(types, bindings, alloc)?;
+                Ok(Seen::Made(range(from, to, alloc)?))
+            }
+            Expr::Booleans => Ok(Seen::Made(ranges::booleans(alloc)?)),
+            Expr::Datatype(datatype) => Ok(Seen::Made(ranges::datatype(types, *datatype, alloc)?)),
+            Expr::Nametype(nametype) => Ok(Seen::Made(ranges::nametype(types, *nametype, alloc)?)),
+        }
+    }
+}
+
+/// The value of each expression with the values of the bindings put in, in order, or the first cause.
+#[cycle(eval)]
+fn look_at_all<'e, A: Allocator + Copy>(
+    expressions: &'e [Expr<A>],
+    types: &TypeTable<A>,
+    bindings: &[Binding<'e, A>],
+    alloc: A,
+) -> Result<Vec<Value<A>, A>, EvalFault>
+    ensures { AnswersAll result (values (table_of types.now) (to_expressions (puts (bindings_of bindings.now) expressions.now))) }
+{
+    let mut all = Vec::new(alloc);
+    for expression in expressions {
+        let seen = expression.look(types, bindings, alloc)?;
+        all.push(seen.into_value(alloc)?)?;
+    }
+    Ok(all)
+}
+
+/// `{e..f}`
+fn range<'e, A: Allocator + Copy>(
+    from: Seen<'e, A>,
+    to: Seen<'e, A>,
+    alloc: A,
+) -> Result<Value<A>, EvalFault>
+    ensures { Answers result (range_of (seen_value from.entry) (seen_value to.entry)) }
+{
+    ranges::range(from.value(), to.value(), alloc)
+}
+
+/// What the operator makes of the operand's value.
+fn apply<'e, A: Allocator + Copy>(
+    operator: UnaryOperator,
+    operand: Seen<'e, A>,
+    alloc: A,
+) -> Result<Seen<'e, A>, EvalFault>
+    ensures { Sees result (apply (unary_of operator) (seen_value operand.entry)) }
+{
+    match operator {
+        UnaryOperator::Head => Ok(sequences::head(operand)?),
+        UnaryOperator::Tail => tail(operand, alloc),
+        _ => Ok(Seen::Made(read_operand(operator, operand.value())?)),
+    }
+}
+
+/// `tail(e)`
+fn tail<'e, A: Allocator + Copy>(operand: Seen<'e, A>, alloc: A) -> Result<Seen<'e, A>, EvalFault>
+    ensures { Sees result (apply pure.Tail (seen_value operand.entry)) }
+{
+    let operand = operand.into_value(alloc)?;
+    Ok(Seen::Made(sequences::tail(operand)?))
+}
+
+/// What an operator makes of its operand's value that only reads it.
+fn read_operand<A: Allocator + Copy>(
+    operator: UnaryOperator,
+    operand: &Value<A>,
+) -> Result<Value<A>, EvalFault>
+    requires { only_reads_operand (unary_of operator) ≡ true }
+    ensures { Answers result (apply (unary_of operator) (value_of operand.now)) }
+{
+    match operator {
+        UnaryOperator::Negate => Ok(arithmetic::negate(operand)?),
+        UnaryOperator::Not => Ok(connectives::negation(operand)?),
+        UnaryOperator::Length => sequences::length(operand),
+        UnaryOperator::IsNull => Ok(sequences::is_null(operand)?),
+        UnaryOperator::Card => sets::card(operand),
+        _ => unreachable!(),
+    }
+}
+
+/// What the operator makes of the operands' values.
+fn combine<'e, A: Allocator + Copy>(
+    operator: BinaryOperator,
+    left: Seen<'e, A>,
+    right: Seen<'e, A>,
+    alloc: A,
+) -> Result<Value<A>, EvalFault>
+    ensures { Answers result (combine (binary_of operator) (seen_value left.entry) (seen_value right.entry)) }
+{
+    match operator {
+        BinaryOperator::Concatenate => concatenation(left, right, alloc),
+        BinaryOperator::Union => union(left, right, alloc),
+        BinaryOperator::Intersection => intersection(left, right, alloc),
+        BinaryOperator::Difference => difference(left, right, alloc),
+        _ => Ok(read(operator, left.value(), right.value())?),
+    }
+}
+
+/// `e^f`
+fn concatenation<'e, A: Allocator + Copy>(
+    left: Seen<'e, A>,
+    right: Seen<'e, A>,
+    alloc: A,
+) -> Result<Value<A>, EvalFault>
+    ensures { Answers result (combine pure.Concatenate (seen_value left.entry) (seen_value right.entry)) }
+{
+    let left = left.into_value(alloc)?;
+    let right = right.into_value(alloc)?;
+    sequences::concatenate(left, right)
+}
+
+/// `union(e, f)`
+fn union<'e, A: Allocator + Copy>(
+    left: Seen<'e, A>,
+    right: Seen<'e, A>,
+    alloc: A,
+) -> Result<Value<A>, EvalFault>
+    ensures { Answers result (combine pure.Union (seen_value left.entry) (seen_value right.entry)) }
+{
+    let left = left.into_value(alloc)?;
+    let right = right.into_value(alloc)?;
+    sets::union(left, right)
+}
+
+/// `inter(e, f)`
+fn intersection<'e, A: Allocator + Copy>(
+    left: Seen<'e, A>,
+    right: Seen<'e, A>,
+    alloc: A,
+) -> Result<Value<A>, EvalFault>
+    ensures { Answers result (combine pure.Intersection (seen_value left.entry) (seen_value right.entry)) }
+{
+    let left = left.into_value(alloc)?;
+    Ok(sets::intersection(left, right.value())?)
+}
+
+/// `diff(e, f)`
+fn difference<'e, A: Allocator + Copy>(
+    left: Seen<'e, A>,
+    right: Seen<'e, A>,
+    alloc: A,
+) -> Result<Value<A>, EvalFault>
+    ensures { Answers result (combine pure.Difference (seen_value left.entry) (seen_value right.entry)) }
+{
+    let left = left.into_value(alloc)?;
+    Ok(sets::difference(left, right.value())?)
+}
+
+/// What an operator makes of its operands' values that only reads them.
+fn read<A: Allocator + Copy>(
+    operator: BinaryOperator,
+    left: &Value<A>,
+    right: &Value<A>,
+) -> Result<Value<A>, Fault>
+    requires { only_reads (binary_of operator) ≡ true }
+    ensures { IsAnswer result (combine (binary_of operator) (value_of left.now) (value_of right.now)) }
+{
+    match operator {
+        BinaryOperator::Add => arithmetic::add(left, right),
+        BinaryOperator::Subtract => arithmetic::subtract(left, right),
+        BinaryOperator::Multiply => arithmetic::multiply(left, right),
+        BinaryOperator::Modulus => arithmetic::remainder(left, right),
+        BinaryOperator::Equals => comparison::equals(left, right),
+        BinaryOperator::Differs => comparison::differs(left, right),
+        BinaryOperator::LessThan => comparison::less_than(left, right),
+        BinaryOperator::AtMost => comparison::at_most(left, right),
+        BinaryOperator::GreaterThan => comparison::greater_than(left, right),
+        BinaryOperator::AtLeast => comparison::at_least(left, right),
+        BinaryOperator::And => connectives::conjunction(left, right),
+        BinaryOperator::Or => connectives::disjunction(left, right),
+        BinaryOperator::IsElement => sequences::is_element(left, right),
+        BinaryOperator::IsMember => sets::is_member(left, right),
+        _ => unreachable!(),
+    }
+}

@@ -1,0 +1,48 @@
+//! Why an expression has no value.
+
+ghost use Rattle.std.specs.Prelude.{◌≡◌};
+
+use crate::fault::Fault;
+use csp_value::Memory;
+use std::alloc::AllocFailed;
+use thiserror::Error;
+
+/// Why the value of an expression is not answered.
+#[derive(Clone, Copy, Debug, PartialEq, Eq, Error)]
+pub enum EvalFault {
+    #[error("out of memory")]
+    Memory,
+    /// The expression has no value, for this cause.
+    #[error("there is no value")]
+    Fault(Fault),
+}
+
+impl From<Memory> for EvalFault {
+    ghost use Rattle.csp_expression.specs.declared.eval_fault.EvalFault.TheVariants.{Memory as no_memory};
+
+    ghost from_gives = { λ _ e. e ≡ no_memory };
+
+    fn from(_refused: Memory) -> EvalFault {
+        EvalFault::Memory
+    }
+}
+
+impl From<Fault> for EvalFault {
+    ghost use Rattle.csp_expression.specs.declared.eval_fault.EvalFault.TheVariants.{Fault as faulty};
+
+    ghost from_gives = { λ cause e. e ≡ faulty cause };
+
+    fn from(cause: Fault) -> EvalFault {
+        EvalFault::Fault(cause)
+    }
+}
+
+impl<T: Drop> From<AllocFailed<T>> for EvalFault {
+    ghost use Rattle.csp_expression.specs.declared.eval_fault.EvalFault.TheVariants.{Memory as no_memory};
+
+    ghost from_gives = { λ _ e. e ≡ no_memory };
+
+    fn from(_refused: AllocFailed<T>) -> EvalFault {
+        EvalFault::Memory
+    }
+}

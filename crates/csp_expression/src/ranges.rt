@@ -1,0 +1,123 @@
+//! Sets that are named: ranges of numbers, both truth values, datatypes and nametypes.
+
+ghost use Rattle.std.specs.Prelude.{◌≡◌, ◌≤◌, ◌∷◌, [], true, false, map, slice_get};
+ghost use Rattle.csp_semantics.specs.Syntax.Value.{Truth};
+ghost use Rattle.csp_semantics.specs.Meaning.Evaluation.{constructors, count_between, datatype_set, numbers_from, range, range_of, set_at, set_of};
+ghost use Rattle.csp_value.specs.Value.{value_of};
+ghost use Rattle.csp_expression.specs.Evaluation.{Answers, constructors_of, members_listed, table_of};
+
+use crate::eval_fault::EvalFault;
+use crate::fault::Fault;
+use crate::name::{DatatypeId, NametypeId};
+use crate::sequences::MAX_MEMBERS;
+use crate::sets::set;
+use crate::types::{Constructors, TypeTable};
+use csp_value::{ConId, SetOf, Value};
+use std::alloc::Allocator;
+
+/// `{e..f}`, or `Overflow` where those are more than 1,024 numbers.
+pub(crate) fn range<A: Allocator + Copy>(
+    from: &Value<A>,
+    to: &Value<A>,
+    alloc: A,
+) -> Result<Value<A>, EvalFault>
+    ensures { Answers result (range_of (value_of from.now) (value_of to.now)) }
+{
+    match (from, to) {
+        (Value::Int(from), Value::Int(to)) => numbers(*from, *to, alloc),
+        _ => Err(EvalFault::Fault(Fault::Kind)),
+    }
+}
+
+/// The set of the numbers from one to another, both with them.
+fn numbers<A: Allocator + Copy>(from: i32, to: i32, alloc: A) -> Result<Value<A>, EvalFault>
+    ensures { Answers result (range from to) }
+{
+    let count = count_between(from, to);
+    if count > MAX_MEMBERS as u64 {
+        return Err(EvalFault::Fault(Fault::Overflow));
+    }
+    let mut members = Vec::new(alloc);
+    for offset in 0..count {
+        // A number between two of 32 bits has 32 bits, so the last arm is never taken.
+        match from.checked_add(offset as i32) {
+            Some(number) => members.push(Value::Int(number))?,
+            None => return Err(EvalFault::Memory),
+        }
+    }
+    Ok(Value::Set(SetOf::from_values(members)))
+}
+
+/// How many numbers there are from one to another.
+fn count_between(from: i32, to: i32) -> u64
+    ensures { result ≡ count_between from to }
+{
+    if to < from {
+        return 0;
+    }
+    u64::from(to.abs_diff(from)) + 1
+}
+
+/// `Bool`
+pub(crate) fn booleans<A: Allocator + Copy>(alloc: A) -> Result<Value<A>, EvalFault>
+    ensures { Answers result (set_of (Truth false ∷ Truth true ∷ [])) }
+{
+    let mut members = Vec::new(alloc);
+    members.push(Value::Bool(false))?;
+    members.push(Value::Bool(true))?;
+    Ok(Value::Set(SetOf::from_values(members)))
+}
+
+/// The set of the datatype's constructors, or `Overflow` where they are more than 1,024.
+pub(crate) fn datatype<A: Allocator + Copy>(
+    types: &TypeTable<A>,
+    datatype: DatatypeId,
+    alloc: A,
+) -> Result<Value<A>, EvalFault>
+    ensures { Answers result (datatype_set (slice_get (table_of types.now).datatypes datatype.0)) }
+{
+    match types.datatypes.get(datatype.0 as usize) {
+        Some(range) => all_of(*range, alloc),
+        None => Err(EvalFault::Fault(Fault::Kind)),
+    }
+}
+
+/// The set of the constructors.
+fn all_of<A: Allocator + Copy>(range: Constructors, alloc: A) -> Result<Value<A>, EvalFault>
+    ensures { Answers result (set_of (constructors (constructors_of range))) }
+{
+    if range.following as usize >= MAX_MEMBERS {
+        return Err(EvalFault::Fault(Fault::Overflow));
+    }
+    let mut members = Vec::new(alloc);
+    for offset in 0..range.following + 1 {
+        // No memory holds the names of more constructors than have a number, so the last arm is never taken.
+        match range.first.0.checked_add(offset) {
+            Some(constructor) => members.push(Value::Con(ConId(constructor)))?,
+            None => return Err(EvalFault::Memory),
+        }
+    }
+    Ok(Value::Set(SetOf::from_values(members)))
+}
+
+/// The set that the nametype names, or `Overflow` where it has more than 1,024 members.
+pub(crate) fn nametype<A: Allocator + Copy>(
+    types: &TypeTable<A>,
+    nametype: NametypeId,
+    alloc: A,
+) -> Result<Value<A>, EvalFault>
+    ensures { Answers result (set_at (slice_get (table_of types.now).nametypes nametype.0)) }
+{
+    match types.nametypes.get(nametype.0 as usize) {
+        Some(set) => copy_of(set, alloc),
+        None => Err(EvalFault::Fault(Fault::Kind)),
+    }
+}
+
+/// A copy of the set as a value, or `Overflow` where it has more than 1,024 members.
+fn copy_of<A: Allocator + Copy>(original: &SetOf<A>, alloc: A) -> Result<Value<A>, EvalFault>
+    ensures { Answers result (set_of (members_listed original.now)) }
+{
+    let copy = original.try_copy(alloc)?;
+    Ok(set(copy)?)
+}

@@ -1,0 +1,129 @@
+//! Sequences.
+
+ghost use Rattle.std.specs.Prelude.{◌≡◌, ◌++◌, pos, Ok, IfOk};
+ghost use Rattle.csp_semantics.specs.Syntax.Expression as pure;
+ghost use Rattle.csp_semantics.specs.Syntax.Value.{Integer};
+ghost use Rattle.csp_semantics.specs.Meaning.Evaluation.{apply, combine, sequence};
+ghost use Rattle.csp_value.specs.Value.{value_of, values_of};
+ghost use Rattle.csp_expression.specs.Evaluation.{Answers, IsAnswer, IsSeen, seen_value};
+
+use crate::eval_fault::EvalFault;
+use crate::fault::Fault;
+use crate::seen::Seen;
+use csp_value::{Memory, Value};
+use std::alloc::Allocator;
+
+/// The most items of a sequence, and the most members of a set.
+pub(crate) const MAX_MEMBERS: usize = 1024;
+
+/// The sequence of the values, or `Overflow` where they are more than 1,024.
+pub(crate) fn sequence<A: Allocator>(items: Vec<Value<A>, A>) -> Result<Value<A>, Fault>
+    ensures { IsAnswer result (sequence (values_of items.items)) }
+{
+    if items.len() > MAX_MEMBERS {
+        return Err(Fault::Overflow);
+    }
+    Ok(Value::Seq(items))
+}
+
+/// The number of things. More than a number of 32 bits says are more than any evaluation makes, and count as `Memory`.
+pub(crate) fn count<A: Allocator>(things: usize) -> Result<Value<A>, EvalFault>
+    ensures { Answers result (Ok (Integer (pos things))) }
+{
+    match i32::try_from(things) {
+        Ok(number) => Ok(Value::Int(number)),
+        Err(_) => Err(EvalFault::Memory),
+    }
+}
+
+/// `#e`
+pub(crate) fn length<A: Allocator>(operand: &Value<A>) -> Result<Value<A>, EvalFault>
+    ensures { Answers result (apply pure.Length (value_of operand.now)) }
+{
+    match operand {
+        Value::Seq(items) => count(items.len()),
+        _ => Err(EvalFault::Fault(Fault::Kind)),
+    }
+}
+
+/// `null(e)`
+pub(crate) fn is_null<A: Allocator>(operand: &Value<A>) -> Result<Value<A>, Fault>
+    ensures { IsAnswer result (apply pure.IsNull (value_of operand.now)) }
+{
+    match operand {
+        Value::Seq(items) => Ok(Value::Bool(items.is_empty())),
+        _ => Err(Fault::Kind),
+    }
+}
+
+/// `head(e)`, or `Empty`. Of a sequence that is lent the item is lent too.
+pub(crate) fn head<'e, A: Allocator>(operand: Seen<'e, A>) -> Result<Seen<'e, A>, Fault>
+    ensures { IsSeen result (apply pure.Head (seen_value operand.entry)) }
+{
+    match operand {
+        Seen::Lent(Value::Seq(items)) => match items.first() {
+            Some(item) => Ok(Seen::Lent(item)),
+            None => Err(Fault::Empty),
+        },
+        Seen::Made(Value::Seq(items)) => match items.into_iter().next() {
+            Some(item) => Ok(Seen::Made(item)),
+            None => Err(Fault::Empty),
+        },
+        _ => Err(Fault::Kind),
+    }
+}
+
+/// `tail(e)`, or `Empty`.
+pub(crate) fn tail<A: Allocator>(operand: Value<A>) -> Result<Value<A>, Fault>
+    ensures { IsAnswer result (apply pure.Tail (value_of operand)) }
+{
+    match operand {
+        Value::Seq(mut items) => {
+            if items.is_empty() {
+                return Err(Fault::Empty);
+            }
+            let _head = items.remove(0);
+            Ok(Value::Seq(items))
+        }
+        _ => Err(Fault::Kind),
+    }
+}
+
+/// `e ^ f`, or `Overflow` where the items are more than 1,024.
+pub(crate) fn concatenate<A: Allocator>(
+    left: Value<A>,
+    right: Value<A>,
+) -> Result<Value<A>, EvalFault>
+    ensures { Answers result (combine pure.Concatenate (value_of left) (value_of right)) }
+{
+    match (left, right) {
+        (Value::Seq(left), Value::Seq(right)) => Ok(sequence(joined(left, right)?)?),
+        _ => Err(EvalFault::Fault(Fault::Kind)),
+    }
+}
+
+/// The items of both, or `Memory`.
+fn joined<A: Allocator>(
+    left: Vec<Value<A>, A>,
+    right: Vec<Value<A>, A>,
+) -> Result<Vec<Value<A>, A>, Memory>
+    ensures { IfOk result (λ both. both.items ≡ left.items ++ right.items) }
+{
+    let mut both = left;
+    let mut others = right;
+    both.append(&mut others)?;
+    Ok(both)
+}
+
+/// `elem(e, f)`
+pub(crate) fn is_element<A: Allocator>(
+    value: &Value<A>,
+    sequence: &Value<A>,
+) -> Result<Value<A>, Fault>
+    ensures { IsAnswer result (combine pure.IsElement (value_of value.now) (value_of sequence.now)) }
+{
+    match sequence {
+        Value::Seq(items) => Ok(Value::Bool(items.contains(value))),
+        _ => Err(Fault::Kind),
+    }
+}

@@ -1,0 +1,5 @@
+use Rattle.csp_parse.proofs.Passing.{renamed}
+use Rattle.csp_parse.proofs.starts.Start.guard.Goals as goal
+
+pub returns : goal.returns
+returns g c = λ before after r. renamed _ _ c.in_ok-guard.ensures r

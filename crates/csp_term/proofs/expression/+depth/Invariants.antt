@@ -1,6 +1,0 @@
-use Rattle.csp_value.proofs.Walking.{Decides}
-use Rattle.csp_term.proofs.Measures.{depths}
-use Rattle.csp_term.proofs.expression.+depth.Given as goal
-
-abbrev pub invariant-limits::are_within_depth-loop-expression : goal.invariant-limits::are_within_depth-loop-expression
-invariant-limits::are_within_depth-loop-expression g l = Decides depths l.expressions l.most l.expression-index

@@ -1,7 +1,0 @@
-use Rattle.csp_term.specs.Bindings.{bindings_of}
-use Rattle.csp_term.specs.Evaluation.{table_of}
-use Rattle.csp_term.proofs.Evaluating.{FoundSoFar}
-use Rattle.csp_term.proofs.expression.+eval.Given as goal
-
-abbrev pub invariant-eval::look_at_all-loop-expression : goal.invariant-eval::look_at_all-loop-expression
-invariant-eval::look_at_all-loop-expression g l = FoundSoFar (table_of l.types) (bindings_of l.bindings) l.expressions l.expression-index l.all.items

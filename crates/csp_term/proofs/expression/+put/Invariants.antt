@@ -1,9 +1,0 @@
-use Rattle.std.proofs.Common.{◌≡◌, take}
-use Rattle.csp_term.specs.Bindings.{bindings_of, puts}
-use Rattle.csp_term.specs.Expression.{expressions_of}
-use Rattle.csp_term.proofs.expression.+put.Given as goal
-
-abbrev pub invariant-substitution::put_in_all-loop-expression :
-    goal.invariant-substitution::put_in_all-loop-expression
-invariant-substitution::put_in_all-loop-expression g l =
-    expressions_of l.all.items ≡ puts (bindings_of l.bindings) (take l.expression-index l.expressions)

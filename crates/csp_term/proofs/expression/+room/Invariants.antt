@@ -1,6 +1,0 @@
-use Rattle.csp_value.proofs.Walking.{Left}
-use Rattle.csp_term.proofs.Measures.{sizes}
-use Rattle.csp_term.proofs.expression.+room.Given as goal
-
-abbrev pub invariant-limits::room_left_by-loop-expression : goal.invariant-limits::room_left_by-loop-expression
-invariant-limits::room_left_by-loop-expression g l = Left sizes l.expressions l.room l.expression-index l.rest

@@ -1,6 +1,0 @@
-use Rattle.std.proofs.Common.{◌∙◌}
-use Rattle.csp_term.proofs.ExpressionOrder.{ordered}
-use Rattle.csp_term.proofs.expression.laws.compare_expressions.Goals as goal
-
-pub returns : goal.returns
-returns g c = c.cmp.ensures ∙ ordered g.row.A g.A.Allocator g.A.Allocator-dict g.A.Destruct-dict c.args.left.now c.args.right.now

@@ -1,6 +1,0 @@
-use Rattle.csp_term.proofs.ExpressionEquality.{expression_tells}
-use Rattle.csp_term.proofs.Sameness.{decided}
-use Rattle.csp_term.proofs.expression.laws.equal_expressions.Goals as goal
-
-pub returns : goal.returns
-returns g c = decided (expression_tells g.row.A g.A.Allocator g.A.Allocator-dict g.A.Destruct-dict) c.args.left.now c.args.right.now c.eq.result c.eq.ensures

@@ -1,7 +1,0 @@
-use Rattle.std.proofs.Common.{◌≡◌, drop}
-use Rattle.csp_semantics.specs.Meaning.Substitution.{bound}
-use Rattle.csp_term.specs.Bindings.{bindings_of}
-use Rattle.csp_term.proofs.expression.substitution.bound.Given as goal
-
-abbrev pub invariant-loop-binding : goal.invariant-loop-binding
-invariant-loop-binding g l = bound (bindings_of (drop l.binding-index l.bindings)) l.name.0 ≡ bound (bindings_of l.bindings) l.name.0

@@ -1,0 +1,69 @@
+//! Numbers of 32 bits and the operators on them.
+
+use crate::rows::holds;
+use std::test::Fail;
+
+static NUMBERS: &str = "
+VALUE = OF(2 + 3, 5)
+CAUSE = overflow(2147483647 + 1, LEAST + MINUS1)
+
+VALUE = OF(-2147483647 - 1, LEAST)
+CAUSE = overflow(LEAST - 1, 2147483647 - MINUS1, 0 - LEAST)
+
+VALUE = OF(-3 * 5, -15)
+VALUE = OF(-65536 * 32768, LEAST)
+CAUSE = overflow(65536 * 32768, 65536 * -32769, LEAST * MINUS1)
+
+VALUE = OF(7 % 3, 1)
+VALUE = OF(-7 % 3, 2)
+VALUE = OF(-6 % 3, 0)
+VALUE = OF(MINUS1 % 1, 0)
+VALUE = OF(LEAST % 3, 1)
+VALUE = OF(LEAST % 2147483647, 2147483646)
+CAUSE = modulus(7 % 0, 7 % -3)
+
+-- opposites
+CAUSE = overflow(-LEAST, -(-2147483647 - 1))
+VALUE = OF(-2147483647, -2147483647)
+VALUE = OF(-0, 0)
+";
+
+#[test]
+fn numbers_are_of_32_bits(rt: HostRuntime) -> Result<(), Fail> {
+    holds(&rt, rt.alloc(), NUMBERS)
+}
+
+static COMPARISONS: &str = "
+VALUE = OF(1 == 2, false)
+VALUE = OF(1 != 2, true)
+VALUE = OF(1 < 2, true)
+VALUE = OF(1 <= 2, true)
+VALUE = OF(1 > 2, false)
+VALUE = OF(1 >= 2, false)
+
+VALUE = OF(2 == 2, true)
+VALUE = OF(2 != 2, false)
+VALUE = OF(2 < 2, false)
+VALUE = OF(2 <= 2, true)
+VALUE = OF(2 > 2, false)
+VALUE = OF(2 >= 2, true)
+
+VALUE = OF(3 == 2, false)
+VALUE = OF(3 != 2, true)
+VALUE = OF(3 < 2, false)
+VALUE = OF(3 <= 2, false)
+VALUE = OF(3 > 2, true)
+VALUE = OF(3 >= 2, true)
+
+VALUE = OF(LEAST == 2147483647, false)
+VALUE = OF(LEAST != 2147483647, true)
+VALUE = OF(LEAST < 2147483647, true)
+VALUE = OF(LEAST <= 2147483647, true)
+VALUE = OF(LEAST > 2147483647, false)
+VALUE = OF(LEAST >= 2147483647, false)
+";
+
+#[test]
+fn comparisons(rt: HostRuntime) -> Result<(), Fail> {
+    holds(&rt, rt.alloc(), COMPARISONS)
+}
