@@ -41,4 +41,3 @@ pub mod Ranging
 pub mod Naming
 pub mod Imaged
 pub mod Comparing
-pub mod Failing

@@ -7,7 +7,6 @@ use Rattle.csp_fire.specs.declared.form.Step.{Step}
 use Rattle.csp_fire.specs.Form.{step_of}
 use Rattle.csp_fire.specs.Offering.{offers_of}
 use Rattle.csp_fire.proofs.Keeping.{step_eq, steps_rise, steps_stay}
-use Rattle.csp_fire.proofs.Failing.{no_value}
 use Rattle.csp_fire.proofs.firing.form_by_steps.Goals as goal
 
 pub offers-requires : goal.offers-requires
@@ -28,6 +27,3 @@ returns g c =
       rise = subst P once rises;
       each = λ s. let Q : List (Step g.row.A.Denot) → Type 0 = λ ss. Contains (map step_of given) s ↔ Contains (map step_of ss) s in subst Q once (stay s);
     }
-
-pub returns-in_err-offers : goal.returns-in_err-offers
-returns-in_err-offers g c = no_value _ _ c.from_residual.result c.from_residual.ensures.1

@@ -7,7 +7,6 @@ use Rattle.csp_value.specs.Action.{action_of}
 use Rattle.csp_fire.specs.declared.form.Step.{Step}
 use Rattle.csp_fire.specs.Answering.{target_of}
 use Rattle.csp_fire.proofs.Within.{WithinSoFar, all_done, none_yet, one_past, one_within}
-use Rattle.csp_fire.proofs.Failing.{no_value}
 use Rattle.csp_fire.proofs.firing.steps_within.Goals as goal
 
 pub loop-step-preserved : goal.loop-step-preserved
@@ -44,6 +43,3 @@ loop-step-init g c = none_yet c.args.answered.items c.new-steps.result.items c.n
 
 pub array_drop-action-requires : goal.array_drop-action-requires
 array_drop-action-requires g c = elim g.met.A.AllocHandle.small [ inl e ↦ rw (e.0, e.1) (lit< tt) | inr e ↦ rw (e.0, e.1) (lit< tt) ]
-
-pub returns-in_err-push-in-Within : goal.returns-in_err-push-in-Within
-returns-in_err-push-in-Within g c = no_value _ _ c.from_residual.result c.from_residual.ensures.1

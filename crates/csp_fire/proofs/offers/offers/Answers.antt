@@ -6,7 +6,6 @@ use Rattle.csp_fire.specs.Form.{step_of}
 use Rattle.csp_fire.specs.Offering.{actions_of, has_tau, has_tick, tick_offer}
 use Rattle.csp_fire.proofs.Parameters.{same_length}
 use Rattle.csp_fire.proofs.Offered.{with_tick, without_tick, unstable, only_tick, stable}
-use Rattle.csp_fire.proofs.Failing.{no_value}
 use Rattle.csp_fire.proofs.offers.offers.Goals as goal
 use Rattle.csp_fire.proofs.offers.offers.Goals.{then-ticks+in_ok-tick_alone+in_ok-push, else-ticks}
 use Rattle.csp_fire.proofs.offers.offers.Goals.{then-not-ticks+in_ok-push-2, then-not-ticks-via-then-not-ticks, then-not-ticks-via-else-not-ticks+then-len-ne1, else-not-ticks+else-len-ne1}
@@ -44,15 +43,3 @@ returns g c =
           ap (λ b. b && nat_eq (length (actions_of ss)) 1) (tick ∙ w.if-not-ticks.false) ∙ eq-eqb (length (actions_of ss)) 1 (omega (arith, many, w.len.ensures, c.in_ok-all.all.ok.0, w.if-len-ne1.false)) in
           ap (λ v. map (λ xs. map action_of xs.items) v.items) w.offers-is ∙ only_tick (λ xs. map action_of xs.items) ss offers ticks unstable only
     ]
-
-pub returns-in_err-tick_alone : goal.returns-in_err-tick_alone
-returns-in_err-tick_alone g c = no_value _ _ c.from_residual.result c.from_residual.ensures.1
-
-pub returns-in_err-push : goal.returns-in_err-push
-returns-in_err-push g c = no_value _ _ c.from_residual-in_err-push.result c.from_residual-in_err-push.ensures.1
-
-pub returns-in_err-all : goal.returns-in_err-all
-returns-in_err-all g c = no_value _ _ c.from_residual-in_err-all.result c.from_residual-in_err-all.ensures.1
-
-pub returns-in_err-push-2 : goal.returns-in_err-push-2
-returns-in_err-push-2 g c = no_value _ _ c.from_residual-in_err-push-2.result c.from_residual-in_err-push-2.ensures.1

@@ -29,7 +29,6 @@ use Rattle.csp_fire.specs.declared.rules.side.Side.{Side}
 use Rattle.csp_fire.specs.Answering.{Answers, IsAnswered, answered_of, stuck_by_value}
 use Rattle.csp_fire.specs.Composing.{AreSidesOf, IsSideOf}
 use Rattle.csp_fire.specs.Replicating.{AnswersChoices, instance_of, instances_of, looking_process}
-use Rattle.csp_fire.proofs.Failing.{no_answer, no_side}
 use Rattle.csp_fire.proofs.Members.{no_members}
 use Rattle.csp_fire.proofs.Replicating.{external_by_chain, grouped_more, instances_are, interleaving_by_chain, internal_by_chain, last_choice, mapped_more, mapped_split, no_set, put_replicated, seen_elements, set_stuck, stuck_at_first, stuck_behind, two_sides}
 use Rattle.csp_fire.proofs.Siding.{side_of_stuck, stuck_at_first_side, stuck_at_second_side, stuck_of_side}
@@ -524,24 +523,3 @@ renaming::steps-returns g t c =
 
 pub side::Side::both-drop-left-requires-in_err-right-room-T-Destruct : goal.side::Side::both-drop-left-requires-in_err-right-room-T-Destruct
 side::Side::both-drop-left-requires-in_err-right-room-T-Destruct g t c κs within = elim g.met.A.AllocHandle.small [ inl e ↦ rw (e.0, e.1) (lit< tt) | inr e ↦ rw (e.0, e.1) (lit< tt) ]
-
-pub hiding::steps-returns-in_err-hidden : goal.hiding::steps-returns-in_err-hidden
-hiding::steps-returns-in_err-hidden g t c = no_answer _ _ c.from_residual.result c.from_residual.ensures.1
-
-pub renaming::steps-returns-in_err-pairs : goal.renaming::steps-returns-in_err-pairs
-renaming::steps-returns-in_err-pairs g t c = no_answer _ _ c.from_residual.result c.from_residual.ensures.1
-
-pub parallel::generalised-returns-in_err-shared : goal.parallel::generalised-returns-in_err-shared
-parallel::generalised-returns-in_err-shared g t c = no_answer _ _ c.from_residual.result c.from_residual.ensures.1
-
-pub parallel::alphabetised-returns-in_err-own : goal.parallel::alphabetised-returns-in_err-own
-parallel::alphabetised-returns-in_err-own g t c = no_answer _ _ c.from_residual.result c.from_residual.ensures.1
-
-pub parallel::alphabetised-returns-in_err-other : goal.parallel::alphabetised-returns-in_err-other
-parallel::alphabetised-returns-in_err-other g t c = no_answer _ _ c.from_residual-in_err-other.result c.from_residual-in_err-other.ensures.1
-
-pub side::Side::under-returns-in_err-process : goal.side::Side::under-returns-in_err-process
-side::Side::under-returns-in_err-process g t c = no_side (script_of c.args.script.now) (put (bindings_of c.args.bindings.now) (process_of c.args.term.now)) c.from_residual-in_err-process.result c.from_residual-in_err-process.ensures.1
-
-pub replicated::Instances::side-returns-in_err-bindings : goal.replicated::Instances::side-returns-in_err-bindings
-replicated::Instances::side-returns-in_err-bindings g t c = no_side (script_of c.args.self.now.script.now) (instance_of c.args.self.now c.args.value.now) c.from_residual.result c.from_residual.ensures.1

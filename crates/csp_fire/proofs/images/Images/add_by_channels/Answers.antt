@@ -10,7 +10,6 @@ use Rattle.csp_value.specs.Action.{event_of}
 use Rattle.csp_fire.specs.Imaging.{ChannelsRise, channel_image}
 use Rattle.csp_fire.proofs.Naming.{channel_differs, no_channel_image, one_image}
 use Rattle.csp_fire.proofs.Ranging.{all_made, lesser_first, made_until_at, one_made_at}
-use Rattle.csp_fire.proofs.Failing.{not_done}
 use Rattle.csp_fire.proofs.images.Images.add_by_channels.Goals as goal
 
 abbrev channel_key : ChannelId × ChannelId → ℕ
@@ -58,9 +57,3 @@ returns g c =
     ∙ ap (λ fs. map event_of c.args.found.now.items ++ fs)
     (all_made nat_cmp_total channel_key k c.deref-2.result.now parts.0 (channel_image e) (no_channel_image e) c.partition_point-first.result parts.1 c.loop-pair.pair-index (omega (arith, c.loop-pair-test.false))
     ∙ ap (flat_map (channel_image e)) c.deref-2.ensures.value)
-
-pub returns-in_err-on_channel : goal.returns-in_err-on_channel
-returns-in_err-on_channel g c = not_done _ _ c.from_residual.result c.from_residual.ensures.1
-
-pub returns-in_err-push : goal.returns-in_err-push
-returns-in_err-push g c = not_done _ _ c.from_residual-in_err-push.result c.from_residual-in_err-push.ensures.1

@@ -11,7 +11,6 @@ use Rattle.csp_value.specs.Action.{event_of}
 use Rattle.csp_fire.specs.Imaging.{EventsRise, event_image}
 use Rattle.csp_fire.proofs.Naming.{event_differs, no_event_image, one_image}
 use Rattle.csp_fire.proofs.Ranging.{all_made, lesser_first, made_until, one_made}
-use Rattle.csp_fire.proofs.Failing.{not_done}
 use Rattle.csp_fire.proofs.images.Images.add_by_events.Goals as goal
 
 abbrev event_key : {A : Type 0} → Event A × Event A → pure.Event
@@ -58,9 +57,3 @@ returns g c =
     ∙ ap (λ fs. map event_of c.args.found.now.items ++ fs)
     (all_made event_total event_key e c.deref-2.result.now parts.0 (event_image e) (no_event_image e) c.partition_point-first.result parts.1 c.loop-pair.pair-index (omega (arith, c.loop-pair-test.false))
     ∙ ap (flat_map (event_image e)) c.deref-2.ensures.value)
-
-pub returns-in_err-second : goal.returns-in_err-second
-returns-in_err-second g c = not_done _ _ c.from_residual.result c.from_residual.ensures.1
-
-pub returns-in_err-push : goal.returns-in_err-push
-returns-in_err-push g c = not_done _ _ c.from_residual-in_err-push.result c.from_residual-in_err-push.ensures.1

@@ -3,7 +3,6 @@ use Rattle.std.proofs.Common.{◌≡◌, ◌++◌, flat_map, map, sym, ◌∙◌
 use Rattle.csp_value.specs.Action.{event_of}
 use Rattle.csp_fire.specs.Imaging.{channel_image, event_image, found_images}
 use Rattle.csp_fire.proofs.Naming.{found_in_both, no_items, other_images, own_image, some_items}
-use Rattle.csp_fire.proofs.Failing.{no_value}
 use Rattle.csp_fire.proofs.images.Images.of_event.Goals as goal
 
 pub returns-then-not-is_empty : goal.returns-then-not-is_empty
@@ -19,12 +18,3 @@ returns g c =
     own_image c.args.event (found_images c.args.self.now (event_of c.args.event)) all.items
     (found_in_both c.args.self.now (event_of c.args.event) c.new-found.result.items c.add_by_channels.new.found.items all.items c.new-found.ensures.items c.in_ok-add_by_channels.ensures c.in_ok-add_by_events.ensures) c.push.new.self.items
     (no_items all (sym c.is_empty.ensures ∙ c.if-not-is_empty.false)) c.in_ok-push.ensures.items
-
-pub returns-in_err-add_by_channels : goal.returns-in_err-add_by_channels
-returns-in_err-add_by_channels g c = no_value _ _ c.from_residual.result c.from_residual.ensures.1
-
-pub returns-in_err-add_by_events : goal.returns-in_err-add_by_events
-returns-in_err-add_by_events g c = no_value _ _ c.from_residual-in_err-add_by_events.result c.from_residual-in_err-add_by_events.ensures.1
-
-pub returns-in_err-push : goal.returns-in_err-push
-returns-in_err-push g c = no_value _ _ c.from_residual-in_err-push.result c.from_residual-in_err-push.ensures.1

@@ -6,7 +6,6 @@ use Rattle.csp_fire.specs.Answering.{Answered, answered_of}
 use Rattle.csp_fire.specs.Composing.{composition_of, each_answer, meet_answer}
 use Rattle.csp_fire.specs.Sharing.{is_shared}
 use Rattle.csp_fire.proofs.Collecting.{all_taken, none_collected, one_taken}
-use Rattle.csp_fire.proofs.Failing.{not_done}
 use Rattle.csp_fire.proofs.meeting.Meeting.add.Goals as goal
 
 pub loop-step-init : goal.loop-step-init
@@ -23,6 +22,3 @@ pub returns : goal.returns
 returns g c =
     let f : Action → Option Process → List Answered = λ x t. each_answer (meet_answer (is_shared c.args.self.sharing.now) (composition_of c.args.self.composition.now) x t) (map answered_of c.args.self.right.now) in
     all_taken f (map answered_of c.args.steps.now.items) c.loop-step.steps.items c.args.left.now c.loop-step.step-index (omega arith) c.loop-step.invariant
-
-pub returns-in_err-add_with : goal.returns-in_err-add_with
-returns-in_err-add_with g c = not_done _ _ c.from_residual.result c.from_residual.ensures.1

@@ -7,7 +7,6 @@ use Rattle.csp_fire.specs.Composing.{composition_of}
 use Rattle.csp_fire.specs.Sharing.{is_shared}
 use Rattle.csp_fire.specs.Together.{is_before}
 use Rattle.csp_fire.proofs.Together.{before_first, met_all, met_until, nothing_met, one_met, sliced, told_other, told_same}
-use Rattle.csp_fire.proofs.Failing.{not_done}
 use Rattle.csp_fire.proofs.meeting.Meeting.add_with.Goals as goal
 
 pub returns-then-not-is_shared : goal.returns-then-not-is_shared
@@ -47,9 +46,3 @@ returns g c =
     met_all x (is_shared c.args.self.sharing.now) (composition_of c.args.self.composition.now) (target_of c.args.left.now.target)
     right c.requires.rising first c.partition_point-first.ensures.bound point (take (length right - first) (drop first right)) (sliced right first)
     (map answered_of c.args.steps.now.items) c.loop-right.steps.items c.loop-right.right-index c.loop-right.invariant (omega arith)
-
-pub returns-in_err-both : goal.returns-in_err-both
-returns-in_err-both g c = not_done _ _ c.from_residual.result c.from_residual.ensures.1
-
-pub returns-in_err-push : goal.returns-in_err-push
-returns-in_err-push g c = not_done _ _ c.from_residual-in_err-push.result c.from_residual-in_err-push.ensures.1

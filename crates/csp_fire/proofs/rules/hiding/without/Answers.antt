@@ -7,7 +7,6 @@ use Rattle.csp_fire.specs.Answering.{answered_of, target_of}
 use Rattle.csp_fire.specs.Composing.{each_answer, frame_of, hide_answer, under_limits}
 use Rattle.csp_fire.specs.Testing.{test_of}
 use Rattle.csp_fire.proofs.Collecting.{none_collected, yielded_all, one_collected, one_pushed}
-use Rattle.csp_fire.proofs.Failing.{no_value}
 use Rattle.csp_fire.proofs.rules.hiding.without.Goals as goal
 
 pub loop-of_body-init : goal.loop-of_body-init
@@ -29,9 +28,3 @@ returns g c =
     let yielded = c.loop-of_body.yielded in
     let t = YieldsList-end (YieldsList-from_vec {s = c.into_iter-of_body-iterator.result} items given.0 (given.1 ∙ c.args.body.ok.0)) yielded c.loop-of_body.of_body-iterator c.loop-of_body.yielded_by c.next.result c.next.new.self c.in-None.is c.next.ensures.steps in
     c.loop-of_body.invariant ∙ ap (λ xs. each_answer (hide_answer (test_of c.args.test.now) (under_limits (frame_of c.args.frame.now))) (map answered_of xs)) (yielded_all yielded items t.0)
-
-pub returns-in_err-step : goal.returns-in_err-step
-returns-in_err-step g c = no_value _ _ c.from_residual.result c.from_residual.ensures.1
-
-pub returns-in_err-push : goal.returns-in_err-push
-returns-in_err-push g c = no_value _ _ c.from_residual-in_err-push.result c.from_residual-in_err-push.ensures.1

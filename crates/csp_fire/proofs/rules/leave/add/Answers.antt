@@ -6,7 +6,6 @@ use Rattle.csp_value.specs.Action.{action_of}
 use Rattle.csp_fire.specs.Answering.{answered_of, target_of}
 use Rattle.csp_fire.specs.Composing.{around_of, each_answer, leave_answer}
 use Rattle.csp_fire.proofs.Collecting.{none_collected, yielded_all, one_collected, one_pushed}
-use Rattle.csp_fire.proofs.Failing.{not_done}
 use Rattle.csp_fire.proofs.rules.leave.add.Goals as goal
 
 pub loop-of_side-init : goal.loop-of_side-init
@@ -29,9 +28,3 @@ returns g c =
     let yielded = c.loop-of_side.yielded in
     let t = YieldsList-end (YieldsList-from_vec {s = c.into_iter-of_side-iterator.result} items given.0 (given.1 ∙ c.args.moves.ok.0)) yielded c.loop-of_side.of_side-iterator c.loop-of_side.yielded_by c.next.result c.next.new.self c.in-None.is c.next.ensures.steps in
     c.loop-of_side.invariant ∙ ap (λ xs. map answered_of c.args.steps.now.items ++ each_answer (leave_answer (around_of c.args.context)) (map answered_of xs)) (yielded_all yielded items t.0)
-
-pub returns-in_err-step : goal.returns-in_err-step
-returns-in_err-step g c = not_done _ _ c.from_residual.result c.from_residual.ensures.1
-
-pub returns-in_err-push : goal.returns-in_err-push
-returns-in_err-push g c = not_done _ _ c.from_residual-in_err-push.result c.from_residual-in_err-push.ensures.1

@@ -8,7 +8,6 @@ use Rattle.csp_fire.specs.Answering.{answered_of, target_of}
 use Rattle.csp_fire.specs.Composing.{image_answers}
 use Rattle.csp_fire.proofs.Collecting.{yielded_all}
 use Rattle.csp_fire.proofs.Imaged.{one_image_more}
-use Rattle.csp_fire.proofs.Failing.{not_done}
 use Rattle.csp_fire.proofs.rules.renaming.add_images.Goals as goal
 
 pub loop-image-init : goal.loop-image-init
@@ -26,9 +25,3 @@ returns g c =
     let yielded = c.loop-image.yielded in
     let t = YieldsList-end (YieldsList-from_vec {s = c.into_iter-image-iterator.result} items given.0 (given.1 ∙ c.args.images.ok.0)) yielded c.loop-image.image-iterator c.loop-image.yielded_by c.next.result c.next.new.self c.in-None.is c.next.ensures.steps in
     c.loop-image.invariant ∙ ap (λ xs. map answered_of c.args.steps.now.items ++ image_answers (target_of c.args.target.now) (map event_of xs)) (yielded_all yielded items t.0)
-
-pub returns-in_err-target : goal.returns-in_err-target
-returns-in_err-target g c = not_done _ _ c.from_residual.result c.from_residual.ensures.1
-
-pub returns-in_err-push : goal.returns-in_err-push
-returns-in_err-push g c = not_done _ _ c.from_residual-in_err-push.result c.from_residual-in_err-push.ensures.1

@@ -7,7 +7,6 @@ use Rattle.csp_value.specs.Action.{action_of}
 use Rattle.csp_fire.specs.Answering.{Answered, answered_of, target_of}
 use Rattle.csp_fire.specs.Composing.{frame_of, rename_answer, under_limits}
 use Rattle.csp_fire.specs.Imaging.{found_images}
-use Rattle.csp_fire.proofs.Failing.{not_done}
 use Rattle.csp_fire.proofs.rules.renaming.add_one.Goals as goal
 
 abbrev one_answer : Action → Option Process → List Answered
@@ -33,9 +32,3 @@ returns-in-Event g c =
     let t = target_of c.args.of_body.target in
     let P : List Answered → Type 0 = λ bs. OnOk c.add_event.result (map answered_of c.add_event.new.steps.items ≡ map answered_of c.args.steps.now.items ++ bs) in
     subst P (sym (ap (λ x. f (action_of x) t) c.in-Event.is)) c.add_event.ensures
-
-pub returns-in_err-omega-in-Tick : goal.returns-in_err-omega-in-Tick
-returns-in_err-omega-in-Tick g c = not_done _ _ c.from_residual.result c.from_residual.ensures.1
-
-pub returns-in_err-of-in-Tau : goal.returns-in_err-of-in-Tau
-returns-in_err-of-in-Tau g c = not_done _ _ c.from_residual-in_err-of-in-Tau.result c.from_residual-in_err-of-in-Tau.ensures.1

@@ -6,7 +6,6 @@ use Rattle.csp_fire.specs.Answering.{answered_of}
 use Rattle.csp_fire.specs.Composing.{around_of, each_answer, stay_answer}
 use Rattle.csp_fire.specs.Sharing.{ended_by, is_free}
 use Rattle.csp_fire.proofs.Collecting.{none_collected, yielded_all, one_collected}
-use Rattle.csp_fire.proofs.Failing.{not_done}
 use Rattle.csp_fire.proofs.rules.stay.add.Goals as goal
 
 pub loop-step-init : goal.loop-step-init
@@ -25,6 +24,3 @@ returns g c =
     let t = YieldsList-end (YieldsList-from_vec {s = c.into_iter-step-iterator.result} items given.0 (given.1 ∙ c.args.moves.ok.0)) yielded c.loop-step.step-iterator c.loop-step.yielded_by c.next.result c.next.new.self c.in-None.is c.next.ensures.steps in
     c.loop-step.invariant
     ∙ ap (λ xs. map answered_of c.args.steps.now.items ++ each_answer (stay_answer (is_free c.args.sharing.now c.args.context.hand) (around_of c.args.context) (ended_by c.args.after c.args.context)) (map answered_of xs)) (yielded_all yielded items t.0)
-
-pub returns-in_err-add_one : goal.returns-in_err-add_one
-returns-in_err-add_one g c = not_done _ _ c.from_residual.result c.from_residual.ensures.1
