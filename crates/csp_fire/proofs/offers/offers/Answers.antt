@@ -4,7 +4,7 @@ use Rattle.std.proofs.lemmas.Bool.{eq-eqb, ne_eqb}
 use Rattle.csp_value.specs.Action.{action_of}
 use Rattle.csp_fire.specs.Form.{step_of}
 use Rattle.csp_fire.specs.Offering.{actions_of, has_tau, has_tick, tick_offer}
-use Rattle.csp_fire.proofs.Parameters.{same_length}
+use Rattle.csp_rules.proofs.Parameters.{same_length}
 use Rattle.csp_fire.proofs.Offered.{with_tick, without_tick, unstable, only_tick, stable}
 use Rattle.csp_fire.proofs.offers.offers.Goals as goal
 use Rattle.csp_fire.proofs.offers.offers.Goals.{then-ticks+in_ok-tick_alone+in_ok-push, else-ticks}
