@@ -12,7 +12,7 @@ use Rattle.csp_semantics.specs.Meaning.Offers.{IsRising, RisesBy}
 use Rattle.csp_semantics.specs.Meaning.Stepping.{Steps}
 use Rattle.csp_semantics.specs.Laws.Statements.{IsOneOf}
 use Rattle.csp_semantics.proofs.Offering.{action_refl, action_same}
-use Rattle.csp_rules.proofs.Truths.{or_cases, or_first, or_second}
+use Rattle.csp_event_tests.proofs.Truths.{or_cases, or_first, or_second}
 use Rattle.csp_fire.specs.Offering.{actions_of, actions_once, behind_action}
 
 -- ---- each action once

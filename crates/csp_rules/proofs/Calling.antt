@@ -11,8 +11,8 @@ use Rattle.csp_semantics.specs.Meaning.Substitution.{Bindings, put}
 use Rattle.csp_semantics.specs.Meaning.Transitions.{RuleStep}
 use Rattle.csp_semantics.specs.Laws.Statements.{IsOneOf}
 use Rattle.csp_semantics.proofs.Stepping.{exact}
-use Rattle.csp_rules.specs.declared.stuck.Stuck.{Stuck}
-use Rattle.csp_rules.specs.declared.stuck.Stuck.TheVariants as stuck
+use Rattle.csp_event_tests.specs.declared.stuck.Stuck.{Stuck}
+use Rattle.csp_event_tests.specs.declared.stuck.Stuck.TheVariants as stuck
 use Rattle.csp_rules.specs.Answering.{Answers, Binds, IsAnswered, SeesAll, within_limits}
 use Rattle.csp_rules.proofs.Answered.{answered_by}
 

@@ -8,12 +8,12 @@ use Rattle.csp_semantics.specs.Meaning.Events.{event_test, has_event, images, pa
 use Rattle.csp_semantics.specs.Meaning.Faults.{cause_in}
 use Rattle.csp_semantics.specs.Meaning.Stepping.{each_step, hide, image_steps, rename, rule_steps}
 use Rattle.csp_semantics.proofs.Stepping.{exact}
-use Rattle.csp_rules.specs.declared.stuck.Stuck.{Stuck}
-use Rattle.csp_rules.specs.declared.stuck.Stuck.TheVariants as stuck
+use Rattle.csp_event_tests.specs.declared.stuck.Stuck.{Stuck}
+use Rattle.csp_event_tests.specs.declared.stuck.Stuck.TheVariants as stuck
 use Rattle.csp_rules.specs.Answering.{Answered, Answers, IsAnswered, within_limits}
 use Rattle.csp_rules.proofs.Answered.{AreAnswered, by_its_steps, its_steps}
 use Rattle.csp_rules.specs.Composing.{each_answer, hide_answer, image_answers, rename_answer, under_limits}
-use Rattle.csp_rules.specs.Testing.{IsTestOf}
+use Rattle.csp_event_tests.specs.Testing.{IsTestOf}
 use Rattle.csp_rules.proofs.Composing.{Keeps, both_answered, each_answered, limits_under, none_answered, one_answered}
 use Rattle.csp_rules.proofs.Past.{hiding_only, renaming_only}
 

@@ -9,8 +9,8 @@ use Rattle.csp_semantics.specs.Meaning.Events.{Communication, each_list, with_va
 use Rattle.csp_semantics.specs.Meaning.Stepping.{communication_steps}
 use Rattle.csp_semantics.specs.Meaning.Substitution.{put}
 use Rattle.csp_rules.specs.declared.rule_step.RuleStep.{RuleStep}
-use Rattle.csp_rules.specs.declared.stuck.Stuck.{Stuck}
-use Rattle.csp_rules.specs.declared.stuck.Stuck.TheVariants as stuck
+use Rattle.csp_event_tests.specs.declared.stuck.Stuck.{Stuck}
+use Rattle.csp_event_tests.specs.declared.stuck.Stuck.TheVariants as stuck
 use Rattle.csp_rules.specs.Answering.{Finds, IsFurther, answered_of, behind_values, kept}
 
 -- ---- two lists of communications

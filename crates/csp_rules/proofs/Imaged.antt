@@ -10,15 +10,15 @@ use Rattle.csp_semantics.specs.Meaning.Faults.{cause_in}
 use Rattle.csp_value.specs.declared.action.Event as concrete
 use Rattle.csp_value.specs.declared.action.Action.TheVariants as action
 use Rattle.csp_value.specs.Action.{event_of}
-use Rattle.csp_rules.specs.declared.images.Images.{Images}
+use Rattle.csp_event_tests.specs.declared.images.Images.{Images}
 use Rattle.csp_rules.specs.declared.rule_step.RuleStep.{RuleStep}
 use Rattle.csp_rules.specs.declared.rule_step.Target.{Target}
-use Rattle.csp_rules.specs.declared.stuck.Stuck.{Stuck}
-use Rattle.csp_rules.specs.declared.stuck.Stuck.TheVariants as stuck
+use Rattle.csp_event_tests.specs.declared.stuck.Stuck.{Stuck}
+use Rattle.csp_event_tests.specs.declared.stuck.Stuck.TheVariants as stuck
 use Rattle.csp_rules.specs.Answering.{Answered, Answers, IsAnswered, answered_of, target_of}
 use Rattle.csp_rules.specs.Composing.{HaveSameSteps, each_answer, image_answers, rename_answer, under_limits}
-use Rattle.csp_rules.specs.Imaging.{AreMade, IsImagesOf, found_images}
-use Rattle.csp_rules.proofs.Alike.{AreAlike, alike_both, alike_by}
+use Rattle.csp_event_tests.specs.Imaging.{AreMade, IsImagesOf, found_images}
+use Rattle.csp_event_tests.proofs.Alike.{AreAlike, alike_both, alike_by}
 use Rattle.csp_rules.proofs.Changing.{renaming_answered}
 use Rattle.csp_rules.proofs.Same.{answered_by_same}
 

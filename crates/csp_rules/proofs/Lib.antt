@@ -1,4 +1,3 @@
-pub mod Truths
 pub mod Telling
 pub mod Answered
 pub mod Ruling
@@ -17,12 +16,6 @@ pub mod Past
 pub mod Composing
 pub mod Collecting
 pub mod Siding
-pub mod Halving
-pub mod Testing
-pub mod Fronts
-pub mod Enumerating
-pub mod Giving
-pub mod Evaluating
 pub mod Same
 pub mod Operating
 pub mod Joining
@@ -31,8 +24,4 @@ pub mod Replicating
 pub mod Together
 pub mod Ended
 pub mod Sided
-pub mod Alike
-pub mod Ranging
-pub mod Naming
 pub mod Imaged
-pub mod Comparing

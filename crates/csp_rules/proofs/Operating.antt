@@ -7,8 +7,8 @@ use Rattle.csp_semantics.specs.Meaning.Faults.{cause_in, height}
 use Rattle.csp_semantics.specs.Meaning.Stepping.{Steps, always, each_step, external_steps, leave, rule_steps, stay, steps_within}
 use Rattle.csp_semantics.proofs.Causes.{external_cause, interrupt_cause, sequential_cause}
 use Rattle.csp_semantics.proofs.Stepping.{exact, exact_within, external_exact}
-use Rattle.csp_rules.specs.declared.stuck.Stuck.{Stuck}
-use Rattle.csp_rules.specs.declared.stuck.Stuck.TheVariants as stuck
+use Rattle.csp_event_tests.specs.declared.stuck.Stuck.{Stuck}
+use Rattle.csp_event_tests.specs.declared.stuck.Stuck.TheVariants as stuck
 use Rattle.csp_rules.specs.Answering.{Answered, Answers, IsAnswered, within_limits}
 use Rattle.csp_rules.proofs.Answered.{answered_by, by_its_steps, its_steps, kept_answers}
 use Rattle.csp_rules.specs.Composing.{each_answer, external_answers, interrupt_answers, leave_answer, sequential_answers, stay_answer, under_both}

@@ -1,6 +1,6 @@
 -- The parameters with the values of the arguments.
 use Rattle.std.proofs.Common.{◌≡◌, ℕ, suc, ◌+◌, ◌<◌, List, [], ◌∷◌, ◌++◌, length, map, take, get_or, Result, Ok, Err, refl, sym, ◌∙◌, ap, ap₂, arith}
-use Rattle.std.proofs.lemmas.List.{length-take-le, map-append, take_more}
+use Rattle.std.proofs.lemmas.List.{length-map, length-take-le, map-append, take_more}
 use Rattle.csp_semantics.specs.Syntax.Value.{Value}
 use Rattle.csp_semantics.specs.Meaning.Evaluation.{Cause, IllKinded, ◌and_then◌}
 use Rattle.csp_semantics.specs.Meaning.Events.{parameter_bindings}
@@ -24,13 +24,9 @@ one_more [] (v ∷ vs) m w e = absurd (cc e)
 one_more (n ∷ ns) [] m w e = absurd (cc e)
 one_more (n ∷ ns) (v ∷ vs) m w e = pushed n v (parameter_bindings ns vs) (parameter_bindings (ns ++ m ∷ []) (vs ++ w ∷ [])) m w (one_more ns vs m w (cc e))
 
-pub same_length : {X Y : Type 0} (f : X → Y) (xs : List X) → length (map f xs) ≡ length xs
-same_length f [] = refl
-same_length f (x ∷ xs) = ap suc (same_length f xs)
-
 module _ {N S B : Type 0} (name : N → ℕ) (value : S → Value) (binding : B → ℕ × Value) (ns : List N) (vs : List S) (k : ℕ) where
   taken : {X Y : Type 0} (f : X → Y) (xs : List X) → k < length xs → length (map f (take k xs)) ≡ k
-  taken f xs within = same_length f (take k xs) ∙ length-take-le k xs (omega (arith, within))
+  taken f xs within = length-map (take k xs) f ∙ length-take-le k xs (omega (arith, within))
 
   pub next_parameter : (bs more : List B) (d : N) (v : S) (b : B) → length ns ≡ length vs → k < length ns → parameter_bindings (map name (take k ns)) (map value (take k vs)) ≡ Ok (map binding bs) →
       v ≡ get_or vs k v → binding b ≡ (name (get_or ns k d), value v) → more ≡ bs ++ b ∷ [] → parameter_bindings (map name (take (k + 1) ns)) (map value (take (k + 1) vs)) ≡ Ok (map binding more)

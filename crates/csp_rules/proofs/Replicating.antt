@@ -31,9 +31,10 @@ use Rattle.csp_rules.specs.declared.rule_step.RuleStep.{RuleStep}
 use Rattle.csp_rules.specs.declared.rules.replicated.Looking.{Looking}
 use Rattle.csp_rules.specs.declared.rules.replicated.Looking.TheVariants as looking
 use Rattle.csp_rules.specs.declared.rules.side.Side.{Side}
-use Rattle.csp_rules.specs.declared.stuck.Stuck.{Stuck}
-use Rattle.csp_rules.specs.declared.stuck.Stuck.TheVariants as stuck
-use Rattle.csp_rules.specs.Answering.{Answered, Answers, IsAnswered, stuck_by_value, target_of, within_limits}
+use Rattle.csp_event_tests.specs.declared.stuck.Stuck.{Stuck}
+use Rattle.csp_event_tests.specs.declared.stuck.Stuck.TheVariants as stuck
+use Rattle.csp_rules.specs.Answering.{Answered, Answers, IsAnswered, target_of, within_limits}
+use Rattle.csp_event_tests.specs.Stuck.{stuck_by_value}
 use Rattle.csp_rules.specs.Composing.{HaveSameSteps, IsSideOf, parallel_answers, side_answers, under_both}
 use Rattle.csp_rules.specs.Replicating.{AnswersChoices, looking_answers, looking_process}
 use Rattle.csp_rules.proofs.Composing.{limits_under_both}

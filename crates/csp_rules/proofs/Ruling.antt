@@ -9,8 +9,8 @@ use Rattle.csp_semantics.specs.Meaning.Faults.{cause_in, in_branch}
 use Rattle.csp_semantics.specs.Meaning.Transitions as rule
 use Rattle.csp_semantics.proofs.Causes.{if_cause}
 use Rattle.csp_rules.specs.declared.rule_step.RuleStep.{RuleStep}
-use Rattle.csp_rules.specs.declared.stuck.Stuck.{Stuck}
-use Rattle.csp_rules.specs.declared.stuck.Stuck.TheVariants as stuck
+use Rattle.csp_event_tests.specs.declared.stuck.Stuck.{Stuck}
+use Rattle.csp_event_tests.specs.declared.stuck.Stuck.TheVariants as stuck
 use Rattle.csp_rules.specs.Answering.{Answers, Decides, IsAnswered}
 use Rattle.csp_rules.proofs.Answered.{answered_by}
 

@@ -3,8 +3,8 @@ use Rattle.std.proofs.Common.{◌≡◌, None, Err, ◌∙◌, ap, ap₂}
 use Rattle.std.specs.Option.{option_or}
 use Rattle.csp_semantics.specs.Syntax.Process.{Process, Script}
 use Rattle.csp_semantics.specs.Meaning.Faults.{cause_in}
-use Rattle.csp_rules.specs.declared.stuck.Stuck.{Stuck}
-use Rattle.csp_rules.specs.declared.stuck.Stuck.TheVariants as stuck
+use Rattle.csp_event_tests.specs.declared.stuck.Stuck.{Stuck}
+use Rattle.csp_event_tests.specs.declared.stuck.Stuck.TheVariants as stuck
 use Rattle.csp_rules.specs.Answering.{Answers}
 use Rattle.csp_rules.specs.Composing.{AreSidesOf, IsSideOf}
 

@@ -12,28 +12,20 @@ use Rattle.csp_semantics.specs.Meaning.Events.{Communication}
 use Rattle.csp_semantics.specs.Meaning.Faults.{cause_in}
 use Rattle.csp_semantics.specs.Meaning.Stepping.{Steps, communication_steps}
 use Rattle.csp_semantics.specs.Meaning.Transitions as rule
-use Rattle.csp_value.specs.declared.field_set.FieldSet.{FieldSet}
 use Rattle.csp_value.specs.declared.value.Value.{Value}
 use Rattle.csp_value.specs.Action.{action_of}
 use Rattle.csp_value.specs.Value.{value_of}
-use Rattle.csp_expression.specs.declared.eval_fault.EvalFault.{EvalFault}
-use Rattle.csp_expression.specs.declared.eval_fault.EvalFault.TheVariants as eval
 use Rattle.csp_expression.specs.declared.seen.Seen.{Seen}
 use Rattle.csp_expression.specs.declared.substitution.Binding.{Binding}
 use Rattle.csp_expression.specs.Bindings.{bindings_of}
 use Rattle.csp_expression.specs.Evaluation.{seen_value}
 use Rattle.csp_expression.specs.Fault.{cause_of}
-use Rattle.csp_term.specs.Script.{field_values}
 use Rattle.csp_term.specs.Term.{process_of}
 use Rattle.csp_rules.specs.declared.rule_step.RuleStep.{RuleStep}
 use Rattle.csp_rules.specs.declared.rule_step.Target.{Target}
 use Rattle.csp_rules.specs.declared.rule_step.Target.TheVariants as target
-use Rattle.csp_rules.specs.declared.stuck.Stuck.{Stuck}
-use Rattle.csp_rules.specs.declared.stuck.Stuck.TheVariants as stuck
-
-abbrev pub stuck_by_value : EvalFault → Stuck
-stuck_by_value eval.Memory = stuck.Memory
-stuck_by_value (eval.Fault c) = stuck.Fault c
+use Rattle.csp_event_tests.specs.declared.stuck.Stuck.{Stuck}
+use Rattle.csp_event_tests.specs.declared.stuck.Stuck.TheVariants as stuck
 
 -- ---- steps that may lead past the limits
 
@@ -100,9 +92,6 @@ Decides (Err stuck.Memory) r = ⊤
 -- the values that are lent
 abbrev pub lent_values : {A : Type 0} → List (Bor (Value A)) → List pure.Value
 lent_values vs = map (λ v. value_of v.now) vs
-
-abbrev pub sets_of : {A : Type 0} → List (FieldSet A) → List (List pure.Value)
-sets_of ss = map field_values ss
 
 -- the communications with these values before their own
 abbrev pub behind_values : List pure.Value → List Communication → List Communication

@@ -16,8 +16,8 @@ use Rattle.csp_rules.specs.declared.context.Context.{Context}
 use Rattle.csp_rules.specs.declared.context.Hand.{Hand}
 use Rattle.csp_rules.specs.declared.context.Hand.TheVariants as hand
 use Rattle.csp_rules.specs.declared.rules.side.Side.{Side}
-use Rattle.csp_rules.specs.declared.stuck.Stuck.{Stuck}
-use Rattle.csp_rules.specs.declared.stuck.Stuck.TheVariants as stuck
+use Rattle.csp_event_tests.specs.declared.stuck.Stuck.{Stuck}
+use Rattle.csp_event_tests.specs.declared.stuck.Stuck.TheVariants as stuck
 use Rattle.csp_rules.specs.Answering.{Answered, IsAnswered, answered_of, target_of, within_limits}
 
 -- ---- operators

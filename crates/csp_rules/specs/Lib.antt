@@ -1,7 +1,5 @@
 pub mod Answering
 pub mod Composing
-pub mod Testing
 pub mod Sharing
 pub mod Replicating
 pub mod Together
-pub mod Imaging

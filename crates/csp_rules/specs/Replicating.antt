@@ -14,8 +14,8 @@ use Rattle.csp_rules.specs.declared.rule_step.RuleStep.{RuleStep}
 use Rattle.csp_rules.specs.declared.rules.replicated.Instances.{Instances}
 use Rattle.csp_rules.specs.declared.rules.replicated.Looking.{Looking}
 use Rattle.csp_rules.specs.declared.rules.replicated.Looking.TheVariants as looking
-use Rattle.csp_rules.specs.declared.stuck.Stuck.{Stuck}
-use Rattle.csp_rules.specs.declared.stuck.Stuck.TheVariants as stuck
+use Rattle.csp_event_tests.specs.declared.stuck.Stuck.{Stuck}
+use Rattle.csp_event_tests.specs.declared.stuck.Stuck.TheVariants as stuck
 use Rattle.csp_rules.specs.Answering.{Answered, Answers}
 use Rattle.csp_rules.specs.Composing.{external_answers, parallel_answers}
 

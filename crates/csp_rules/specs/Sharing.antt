@@ -1,7 +1,14 @@
 -- Which events the sides of a composition do alone, and which together, and what follows a side's tick.
-use Rattle.std.specs.Prelude.{⊤, Bool, true, false, not, ◌&&◌, List, [], ◌∷◌, Option, Some}
+use Rattle.std.specs.Prelude.{◌≡◌, ⊤, Bool, true, false, not, ◌&&◌, List, [], ◌∷◌, Option, Some, Result, Ok, Err}
+use Rattle.std.specs.Option.{option_or}
+use Rattle.std.specs.Result.{result_err}
 use Rattle.csp_semantics.specs.Syntax.Value.{Event, Tau, Tick}
 use Rattle.csp_semantics.specs.Syntax.Process.{Process, Omega}
+use Rattle.csp_semantics.specs.Meaning.Evaluation.{Cause}
+use Rattle.csp_expression.specs.Fault.{cause_of}
+use Rattle.csp_event_tests.specs.declared.event_test.EventTest.{EventTest}
+use Rattle.csp_event_tests.specs.declared.stuck.Stuck.{Stuck}
+use Rattle.csp_event_tests.specs.declared.stuck.Stuck.TheVariants as stuck
 use Rattle.csp_rules.specs.declared.context.Context.{Context}
 use Rattle.csp_rules.specs.declared.context.Hand.{Hand}
 use Rattle.csp_rules.specs.declared.context.Hand.TheVariants as hand
@@ -11,7 +18,7 @@ use Rattle.csp_rules.specs.declared.sharing.Sharing.{Sharing}
 use Rattle.csp_rules.specs.declared.sharing.Sharing.TheVariants as sharing
 use Rattle.csp_rules.specs.Answering.{Answered, target_of}
 use Rattle.csp_rules.specs.Composing.{around_of, parallel_answers}
-use Rattle.csp_rules.specs.Testing.{AreSorted, listed_in, test_of}
+use Rattle.csp_event_tests.specs.Testing.{AreSorted, IsTestOf, listed_in, test_of}
 
 -- What the sets list rises, so that an event is found by halving.
 abbrev pub IsSearchable : {A : Type 0} → Sharing A → Type 0
@@ -41,3 +48,9 @@ abbrev pub ended_by : {A : Type 0} → AfterTick → Context A → List Answered
 ended_by after.Other c = (Tau, target_of c.other.now) ∷ []
 ended_by after.All c = (Tick, Some Omega) ∷ []
 ended_by after.Beside c = (Tau, around_of c (Some Omega)) ∷ []
+
+-- the tests of two sets, or the first cause of both, the first one's before the second's
+abbrev pub AreTestsOf : {A : Type 0} → Result (EventTest A × EventTest A) Stuck → Result (Event → Bool) Cause → Result (Event → Bool) Cause → Type 0
+AreTestsOf (Ok tests) r q = IsTestOf (Ok tests.0) r × IsTestOf (Ok tests.1) q
+AreTestsOf (Err (stuck.Fault c)) r q = option_or (result_err r) (result_err q) ≡ Some (cause_of c)
+AreTestsOf (Err stuck.Memory) r q = ⊤

@@ -28,7 +28,7 @@ mod skip;
 mod stay;
 
 use crate::rule_step::RuleStep;
-use crate::stuck::Stuck;
+use csp_event_tests::Stuck;
 use csp_expression::Binding;
 use csp_term::{AllocHandle, ProcessOperator, Script, Term, TermForm};
 

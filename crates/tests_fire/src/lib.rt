@@ -32,6 +32,8 @@ mod limits;
 #[cfg(test)]
 mod literals;
 #[cfg(test)]
+mod lookups;
+#[cfg(test)]
 mod made_in_little_room;
 #[cfg(test)]
 mod names;

@@ -13,7 +13,7 @@ ghost use Rattle.csp_term.specs.Script.{script_of};
 ghost use Rattle.csp_rules.specs.Answering.{Answers, Binds, SeesAll, seen_values};
 
 use crate::rule_step::{RuleStep, Target, one_step};
-use crate::stuck::Stuck;
+use csp_event_tests::Stuck;
 use csp_expression::{Binding, Expr, Seen, TypeTable};
 use csp_term::{Action, AllocHandle, EquationId, Fault, Name, Script};
 

@@ -17,7 +17,7 @@ use crate::context::{Context, Hand};
 use crate::rule_step::{RuleStep, Target, add_step, one_step};
 use crate::rules::leave;
 use crate::rules::side::Side;
-use crate::stuck::Stuck;
+use csp_event_tests::Stuck;
 use csp_expression::Binding;
 use csp_term::{Action, AllocHandle, Memory, ProcessOperator, Script, Term};
 

@@ -8,7 +8,7 @@ ghost use Rattle.csp_expression.specs.Bindings.{bindings_of};
 ghost use Rattle.csp_expression.specs.Expression.{expression_of};
 ghost use Rattle.csp_rules.specs.Answering.{Decides};
 
-use crate::stuck::Stuck;
+use csp_event_tests::Stuck;
 use csp_expression::{Binding, Expr, TypeTable};
 use csp_term::{AllocHandle, Fault};
 use csp_value::Value;

@@ -11,7 +11,7 @@ ghost use Rattle.csp_rules.specs.Answering.{Answers};
 use crate::rule_step::RuleStep;
 use crate::rules;
 use crate::rules::condition::condition;
-use crate::stuck::Stuck;
+use csp_event_tests::Stuck;
 use csp_expression::{Binding, Expr};
 use csp_term::{AllocHandle, Script, Term};
 

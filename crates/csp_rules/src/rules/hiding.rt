@@ -12,14 +12,13 @@ ghost use Rattle.csp_term.specs.Script.{script_of};
 ghost use Rattle.csp_term.specs.Term.{process_of};
 ghost use Rattle.csp_rules.specs.Answering.{Answers, answered_of, target_of};
 ghost use Rattle.csp_rules.specs.Composing.{each_answer, frame_of, hide_answer, under_limits};
-ghost use Rattle.csp_rules.specs.Testing.{AreSorted, listed_in, test_of};
+ghost use Rattle.csp_event_tests.specs.Testing.{AreSorted, listed_in, test_of};
 
 use crate::composition::Frame;
-use crate::event_test::EventTest;
 use crate::rule_step::{RuleStep, Target};
 use crate::rules;
-use crate::stuck::Stuck;
 use csp_event_sets::EventSet;
+use csp_event_tests::{EventTest, Stuck};
 use csp_expression::Binding;
 use csp_term::{Action, AllocHandle, Event, Memory, Script, Term};
 

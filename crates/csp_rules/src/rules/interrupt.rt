@@ -19,7 +19,7 @@ use crate::rules::leave;
 use crate::rules::side::Side;
 use crate::rules::stay::{self, AfterTick};
 use crate::sharing::Sharing;
-use crate::stuck::Stuck;
+use csp_event_tests::Stuck;
 use csp_expression::Binding;
 use csp_term::{AllocHandle, Memory, ProcessOperator, Script, Term};
 

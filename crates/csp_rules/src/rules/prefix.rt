@@ -11,7 +11,7 @@ ghost use Rattle.csp_rules.specs.Answering.{Answers};
 
 use crate::rule_step::RuleStep;
 use crate::rules::communications::{Front, Walk, look_for};
-use crate::stuck::Stuck;
+use csp_event_tests::Stuck;
 use csp_expression::Binding;
 use csp_term::{AllocHandle, ChannelId, Fault, Field, Script, Term};
 

@@ -12,14 +12,13 @@ ghost use Rattle.csp_term.specs.Script.{script_of};
 ghost use Rattle.csp_term.specs.Term.{process_of};
 ghost use Rattle.csp_rules.specs.Answering.{Answers, answered_of, target_of};
 ghost use Rattle.csp_rules.specs.Composing.{each_answer, frame_of, image_answers, rename_answer, under_limits};
-ghost use Rattle.csp_rules.specs.Imaging.{PairsRise, found_images};
+ghost use Rattle.csp_event_tests.specs.Imaging.{PairsRise, found_images};
 
 use crate::composition::Frame;
-use crate::images::Images;
 use crate::rule_step::{RuleStep, Target, add_step};
 use crate::rules;
-use crate::stuck::Stuck;
 use csp_event_sets::{RenamingPair, put_in_pairs};
+use csp_event_tests::{Images, Stuck};
 use csp_expression::Binding;
 use csp_term::{Action, AllocHandle, Event, Memory, Script, Term};
 

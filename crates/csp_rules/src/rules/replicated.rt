@@ -19,7 +19,7 @@ use crate::composition::Composition;
 use crate::rule_step::{RuleStep, Target};
 use crate::rules::side::Side;
 use crate::rules::{choice, parallel, skip};
-use crate::stuck::Stuck;
+use csp_event_tests::Stuck;
 use csp_expression::{Binding, Expr};
 use csp_term::{
     AllocHandle, Fault, Memory, Name, ProcessOperator, ReplicatedOperator, Script, Term, bind,

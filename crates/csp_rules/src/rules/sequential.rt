@@ -16,7 +16,7 @@ use crate::rule_step::{RuleStep, Target};
 use crate::rules;
 use crate::rules::stay::{self, AfterTick};
 use crate::sharing::Sharing;
-use crate::stuck::Stuck;
+use csp_event_tests::Stuck;
 use csp_expression::Binding;
 use csp_term::{AllocHandle, Memory, ProcessOperator, Script, Term};
 

@@ -8,7 +8,7 @@ ghost use Rattle.csp_rules.specs.Composing.{AreSidesOf, IsSideOf};
 
 use crate::rule_step::{RuleStep, Target};
 use crate::rules;
-use crate::stuck::Stuck;
+use csp_event_tests::Stuck;
 use csp_expression::Binding;
 use csp_term::{AllocHandle, Script, Term};
 

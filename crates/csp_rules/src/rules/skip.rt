@@ -5,7 +5,7 @@ ghost use Rattle.csp_term.specs.Script.{script_of};
 ghost use Rattle.csp_rules.specs.Answering.{Answers};
 
 use crate::rule_step::{RuleStep, Target, one_step};
-use crate::stuck::Stuck;
+use csp_event_tests::Stuck;
 use csp_term::{Action, AllocHandle, Script, Term, TermForm};
 
 pub(crate) fn steps<A: AllocHandle>(

@@ -24,9 +24,10 @@ use Rattle.csp_expression.specs.Bindings.{bindings_of}
 use Rattle.csp_term.specs.Script.{script_of}
 use Rattle.csp_term.specs.Term.{binary_process, process_of, process_of_form, replicated_process}
 use Rattle.csp_rules.specs.declared.rule_step.RuleStep.{RuleStep}
-use Rattle.csp_rules.specs.declared.stuck.Stuck.{Stuck}
+use Rattle.csp_event_tests.specs.declared.stuck.Stuck.{Stuck}
 use Rattle.csp_rules.specs.declared.rules.side.Side.{Side}
-use Rattle.csp_rules.specs.Answering.{Answers, IsAnswered, answered_of, stuck_by_value}
+use Rattle.csp_rules.specs.Answering.{Answers, IsAnswered, answered_of}
+use Rattle.csp_event_tests.specs.Stuck.{stuck_by_value}
 use Rattle.csp_rules.specs.Composing.{AreSidesOf, IsSideOf}
 use Rattle.csp_rules.specs.Replicating.{AnswersChoices, instance_of, instances_of, looking_process}
 use Rattle.csp_rules.proofs.Members.{no_members}

@@ -1,19 +1,19 @@
 -- Where they are not as many, there is no binding; else the bindings so far, and one more.
 use Rattle.std.proofs.Common.{◌≡◌, get_or, length, map, sym, ◌∙◌, ap₂, arith}
-use Rattle.std.proofs.lemmas.List.{take_all}
+use Rattle.std.proofs.lemmas.List.{length-map, take_all}
 use Rattle.csp_semantics.specs.Meaning.Events.{parameter_bindings}
 use Rattle.csp_value.specs.Value.{value_of}
 use Rattle.csp_expression.specs.declared.name.Name.{Name}
 use Rattle.csp_expression.specs.declared.substitution.Binding.{Binding}
 use Rattle.csp_expression.specs.Evaluation.{seen_value}
 use Rattle.csp_rules.specs.Answering.{seen_values}
-use Rattle.csp_rules.proofs.Parameters.{next_parameter, not_as_many, same_length}
+use Rattle.csp_rules.proofs.Parameters.{next_parameter, not_as_many}
 use Rattle.csp_rules.proofs.rules.call.parameter_bindings.Goals as goal
 
 pub returns-then-parameters-values : goal.returns-then-parameters-values
 returns-then-parameters-values g c =
     not_as_many (map (λ n. n.0) c.args.parameters.now) (seen_values c.args.values.now)
-    (λ e. c.if-parameters-values.true (sym (same_length (λ n. n.0) c.args.parameters.now) ∙ e ∙ same_length seen_value c.args.values.now))
+    (λ e. c.if-parameters-values.true (sym (length-map c.args.parameters.now (λ n. n.0)) ∙ e ∙ length-map c.args.values.now seen_value))
 
 pub loop-place-preserved : goal.loop-place-preserved
 loop-place-preserved g c =

@@ -1,6 +1,6 @@
 -- Each field is gone through by the communications of it and those behind it, and what is held has a known size.
 use Rattle.std.proofs.Common.{◌≡◌, ◌++◌, ◌∷◌, [], ◌+◌, Bool, true, false, List, filter, take, drop, length, Result, Ok, Err, refl, sym, ◌∙◌, ap, ap₂, subst, inl, inr, lit<, arith}
-use Rattle.std.proofs.lemmas.List.{take_all}
+use Rattle.std.proofs.lemmas.List.{length-map, take_all}
 use Rattle.std.proofs.lemmas.Result.{err_from_is_err_and}
 use Rattle.csp_semantics.specs.Syntax.Value as pure
 use Rattle.csp_semantics.specs.Syntax.Process.{Given, InputFrom}
@@ -17,11 +17,11 @@ use Rattle.csp_term.specs.Term.{process_of}
 use Rattle.csp_expression.proofs.Forming.{set_is}
 use Rattle.csp_rules.specs.declared.rule_step.RuleStep.{RuleStep}
 use Rattle.std.specs.declared.vec.Vec.{Vec}
-use Rattle.csp_rules.specs.declared.stuck.Stuck.{Stuck}
-use Rattle.csp_rules.specs.Answering.{Finds, lent_values, sets_of}
+use Rattle.csp_event_tests.specs.declared.stuck.Stuck.{Stuck}
+use Rattle.csp_rules.specs.Answering.{Finds, lent_values}
+use Rattle.csp_event_tests.specs.Testing.{sets_of}
 use Rattle.csp_rules.proofs.Further.{FoundSoFar, none_so_far, one_further, stopped_at, with_one}
 use Rattle.csp_rules.proofs.Members.{no_members}
-use Rattle.csp_rules.proofs.Parameters.{same_length}
 use Rattle.csp_rules.proofs.Walking.{behind_input, chosen_from, chosen_from_none, chosen_more, chosen_same, chosen_split, chosen_stuck, ended_fields, ended_sets, given_stuck, given_within, values_more, values_split}
 use Rattle.csp_rules.proofs.rules.communications.+fields.Goals as goal
 use Rattle.csp_rules.proofs.rules.communications.+fields.Goals.{inputs_from-then-contains+in_ok-front+in_ok-found, inputs_from-else-contains}
@@ -394,7 +394,7 @@ look_for-returns-in_default g t c =
     let sets = c.args.sets.now in
     elim c.in_default.branch [
       | look_for-in_default-via-in-None+in_default w ↦
-          ended_sets types bs (fields_of fs) (sets_of sets) (ap fields_of (nothing_in fs w.in_default.ensures.cases)) (λ e. omega (arith, e, same_length field_values sets, w.in_default.ensures'.cases.1))
+          ended_sets types bs (fields_of fs) (sets_of sets) (ap fields_of (nothing_in fs w.in_default.ensures.cases)) (λ e. omega (arith, e, length-map sets field_values, w.in_default.ensures'.cases.1))
       | look_for-in_default-via-in-Some+in_default w ↦
-          ended_fields types bs (fields_of fs) (sets_of sets) (λ e. omega (arith, e, same_length field_of fs, w.in_default.ensures.cases.1)) (ap sets_of (nothing_in sets w.in_default.ensures'.cases))
+          ended_fields types bs (fields_of fs) (sets_of sets) (λ e. omega (arith, e, length-map fs field_of, w.in_default.ensures.cases.1)) (ap sets_of (nothing_in sets w.in_default.ensures'.cases))
     ]

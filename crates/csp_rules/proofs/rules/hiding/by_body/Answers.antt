@@ -7,9 +7,9 @@ use Rattle.csp_semantics.specs.Syntax.Process.{Hiding}
 use Rattle.csp_event_sets.specs.Events.{event_set_of}
 use Rattle.csp_term.specs.Script.{script_of}
 use Rattle.csp_rules.specs.declared.rule_step.RuleStep.{RuleStep}
-use Rattle.csp_rules.specs.declared.stuck.Stuck.{Stuck}
+use Rattle.csp_event_tests.specs.declared.stuck.Stuck.{Stuck}
 use Rattle.csp_rules.specs.Answering.{Answered, Answers, IsAnswered, answered_of}
-use Rattle.csp_rules.specs.Testing.{test_of}
+use Rattle.csp_event_tests.specs.Testing.{test_of}
 use Rattle.csp_rules.proofs.Changing.{hiding_by, hiding_rest, hiding_stuck}
 use Rattle.csp_rules.proofs.Operating.{stuck_by_only}
 use Rattle.csp_rules.proofs.rules.hiding.by_body.Goals as goal

@@ -6,7 +6,7 @@ use Rattle.csp_semantics.specs.Syntax.Process.{Interrupt}
 use Rattle.csp_semantics.proofs.Causes.{interrupt_cause}
 use Rattle.csp_rules.specs.declared.rule_step.RuleStep.{RuleStep}
 use Rattle.csp_rules.specs.declared.rules.side.Side.{Side}
-use Rattle.csp_rules.specs.declared.stuck.Stuck.{Stuck}
+use Rattle.csp_event_tests.specs.declared.stuck.Stuck.{Stuck}
 use Rattle.csp_rules.specs.Answering.{Answered, Answers, IsAnswered, target_of}
 use Rattle.csp_rules.specs.Composing.{AreSidesOf, side_answers}
 use Rattle.csp_rules.proofs.Operating.{interrupt_answered}

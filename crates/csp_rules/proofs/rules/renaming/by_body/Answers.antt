@@ -8,9 +8,9 @@ use Rattle.csp_semantics.specs.Meaning.Events.{renaming}
 use Rattle.csp_event_sets.specs.Events.{renaming_pairs_of}
 use Rattle.csp_term.specs.Script.{script_of}
 use Rattle.csp_rules.specs.declared.rule_step.RuleStep.{RuleStep}
-use Rattle.csp_rules.specs.declared.stuck.Stuck.{Stuck}
+use Rattle.csp_event_tests.specs.declared.stuck.Stuck.{Stuck}
 use Rattle.csp_rules.specs.Answering.{Answered, Answers, IsAnswered, answered_of}
-use Rattle.csp_rules.specs.Imaging.{AreMade}
+use Rattle.csp_event_tests.specs.Imaging.{AreMade}
 use Rattle.csp_rules.proofs.Changing.{renaming_rest}
 use Rattle.csp_rules.proofs.Imaged.{renaming_by, renaming_stuck}
 use Rattle.csp_rules.proofs.Operating.{stuck_by_only}

@@ -5,7 +5,7 @@ use Rattle.std.proofs.lemmas.Iterator.Consumers.{YieldsList-end}
 use Rattle.csp_semantics.specs.Meaning.Events.{or_itself}
 use Rattle.csp_rules.specs.Answering.{answered_of}
 use Rattle.csp_rules.specs.Composing.{each_answer, frame_of, rename_answer, under_limits}
-use Rattle.csp_rules.specs.Imaging.{found_images}
+use Rattle.csp_event_tests.specs.Imaging.{found_images}
 use Rattle.csp_rules.proofs.Collecting.{none_collected, yielded_all, one_collected}
 use Rattle.csp_rules.proofs.rules.renaming.renamed.Goals as goal
 

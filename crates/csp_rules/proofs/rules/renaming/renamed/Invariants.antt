@@ -2,7 +2,7 @@
 use Rattle.std.proofs.Common.{[]}
 use Rattle.csp_semantics.specs.Meaning.Events.{or_itself}
 use Rattle.csp_rules.specs.Composing.{frame_of, rename_answer, under_limits}
-use Rattle.csp_rules.specs.Imaging.{found_images}
+use Rattle.csp_event_tests.specs.Imaging.{found_images}
 use Rattle.csp_rules.proofs.Collecting.{Collected}
 use Rattle.csp_rules.proofs.rules.renaming.renamed.Given as goal
 

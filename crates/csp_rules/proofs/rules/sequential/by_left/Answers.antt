@@ -8,7 +8,7 @@ use Rattle.csp_semantics.proofs.Causes.{sequential_cause}
 use Rattle.csp_expression.specs.Bindings.{bindings_of}
 use Rattle.csp_term.specs.Term.{process_of}
 use Rattle.csp_rules.specs.declared.rule_step.RuleStep.{RuleStep}
-use Rattle.csp_rules.specs.declared.stuck.Stuck.{Stuck}
+use Rattle.csp_event_tests.specs.declared.stuck.Stuck.{Stuck}
 use Rattle.csp_rules.specs.Answering.{Answered, Answers, IsAnswered, answered_of, target_of}
 use Rattle.csp_rules.proofs.Operating.{sequential_answered, stuck_by_only}
 use Rattle.csp_rules.proofs.rules.sequential.by_left.Goals as goal
