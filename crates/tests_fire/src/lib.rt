@@ -14,11 +14,11 @@ mod conditions;
 #[cfg(test)]
 mod copies;
 #[cfg(test)]
-mod counts;
-#[cfg(test)]
 mod decisions;
 #[cfg(test)]
 mod event_sets;
+#[cfg(test)]
+mod events;
 #[cfg(test)]
 mod events_changed;
 #[cfg(test)]
@@ -26,15 +26,11 @@ mod expressions;
 #[cfg(test)]
 mod faults;
 #[cfg(test)]
-mod fired_in_little_room;
-#[cfg(test)]
 mod limits;
 #[cfg(test)]
 mod literals;
 #[cfg(test)]
-mod lookups;
-#[cfg(test)]
-mod made_in_little_room;
+mod memory;
 #[cfg(test)]
 mod names;
 #[cfg(test)]
@@ -51,10 +47,6 @@ mod puts;
 mod replicated;
 #[cfg(test)]
 mod rows;
-#[cfg(test)]
-mod rule_steps;
-#[cfg(test)]
-mod samples;
 #[cfg(test)]
 mod script;
 #[cfg(test)]

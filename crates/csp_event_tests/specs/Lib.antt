@@ -1,3 +1,0 @@
-pub mod Stuck
-pub mod Testing
-pub mod Imaging
