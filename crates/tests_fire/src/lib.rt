@@ -3,6 +3,8 @@
 //! reads.
 //!
 //! The tests stand in a crate above the libraries, since a crate is proved anew for the tests that it has of its own.
+//! `evaluated` is there without tests too: it drops evaluated sets and renamings, which wants proofs, and a proof file has
+//! to have its function whether the tests are looked at or not.
 #![tactic(auto)]
 
 #[cfg(test)]
@@ -17,6 +19,7 @@ mod copies;
 mod counts;
 #[cfg(test)]
 mod decisions;
+mod evaluated;
 #[cfg(test)]
 mod event_sets;
 #[cfg(test)]

@@ -4,10 +4,11 @@
 //! - `MAKES`: a prefix over an event, and behind it prefixes over its images, those by channels first.
 //! - `NONE`: the word of the first cause for which it has no value.
 
+use crate::evaluated::{has, images, stuck_of_renaming, stuck_of_set};
 use crate::event_sets::{event_set, pairs};
 use crate::rows::{event, holds};
 use csp_event_sets::{EventSet, RenamingPair};
-use csp_event_tests::{EventTest, Images, Stuck};
+use csp_event_tests::Stuck;
 use csp_parse::{Name, Process};
 use csp_term::{Event, Script};
 use std::alloc::Global;
@@ -39,17 +40,6 @@ fn said_events(
     Ok(events)
 }
 
-/// Whether the set has the event.
-fn has(
-    alloc: Global,
-    script: &Script<Global>,
-    set: &EventSet<Global>,
-    event: &Event<Global>,
-) -> Result<bool, Stuck> {
-    let test = EventTest::of(alloc, script, set)?;
-    Ok(test.holds(event))
-}
-
 /// Whether the set has each of the events, or none of them.
 fn have_all(
     alloc: Global,
@@ -64,16 +54,6 @@ fn have_all(
         }
     }
     !events.is_empty()
-}
-
-fn images(
-    alloc: Global,
-    script: &Script<Global>,
-    pairs: &[RenamingPair<Global>],
-    event: Event<Global>,
-) -> Result<Vec<Event<Global>, Global>, Stuck> {
-    let images = Images::of(alloc, script, pairs)?;
-    Ok(images.of_event(alloc, event)?)
 }
 
 /// Whether the first event has the others as its images.
@@ -94,9 +74,9 @@ fn makes(
 }
 
 /// Whether there is nothing, for the cause of the word.
-fn is_cause<T>(made: &Result<T, Stuck>, said: &Process<'_, Global>) -> bool {
-    match (made, said) {
-        (Err(Stuck::Fault(cause)), Process::Call(word, _)) => cause.word() == word.text,
+fn is_cause(stuck: Option<Stuck>, said: &Process<'_, Global>) -> bool {
+    match (stuck, said) {
+        (Some(Stuck::Fault(cause)), Process::Call(word, _)) => cause.word() == word.text,
         _ => false,
     }
 }
@@ -109,7 +89,7 @@ fn is_set_so(
     said: &Process<'_, Global>,
 ) -> Result<bool, Fail> {
     if name.text == "NONE" {
-        return Ok(is_cause(&EventTest::of(alloc, script, set), said));
+        return Ok(is_cause(stuck_of_set(alloc, script, set), said));
     }
     let events = said_events(alloc, script, said)?;
     Ok(have_all(alloc, script, set, &events, name.text == "HAS"))
@@ -123,7 +103,7 @@ fn are_images_so(
     said: &Process<'_, Global>,
 ) -> Result<bool, Fail> {
     if name.text == "NONE" {
-        return Ok(is_cause(&Images::of(alloc, script, pairs), said));
+        return Ok(is_cause(stuck_of_renaming(alloc, script, pairs), said));
     }
     let events = said_events(alloc, script, said)?;
     Ok(makes(alloc, script, pairs, events))
