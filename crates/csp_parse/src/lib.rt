@@ -22,12 +22,15 @@ mod read_expressions;
 mod read_processes;
 mod refusals;
 mod starts;
+mod stops;
 
-ghost use Rattle.std.specs.Prelude.{IfOk, map};
+ghost use Rattle.std.specs.Prelude.{IfOk, IfErr, map};
 ghost use Rattle.csp_semantics.specs.Text.Grammar.{IsScript};
 ghost use Rattle.csp_semantics.specs.Text.Height.{HasNoneTooHigh};
+ghost use Rattle.csp_lex.specs.Places.{place_of};
 ghost use Rattle.csp_lex.specs.Tokens.{placed_token};
 ghost use Rattle.csp_parse.specs.Declarations.{script_of};
+ghost use Rattle.csp_parse.specs.Stopping.{IsRefusalOf};
 
 use csp_lex::TokenList;
 pub use declarations::{Declaration, Domain, Model, Raw};
@@ -52,6 +55,11 @@ pub fn parse<'a, A: Allocator + Copy, B: Allocator>(
 ) -> Result<Raw<'a, A>, Refused>
     ensures tree { IfOk result (λ raw. IsScript (map placed_token list.now.tokens.items) (script_of raw)) }
     ensures low { IfOk result (λ _. HasNoneTooHigh (map placed_token list.now.tokens.items)) }
+    ensures refusal { IfErr result (λ refused. IsRefusalOf (map placed_token list.now.tokens.items) (place_of list.now.end) refused) }
 {
-    parsers::Parser::new(alloc, list).script()
+    let mut parser = parsers::Parser::new(alloc, list);
+    match parser.script() {
+        Ok(raw) => Ok(raw),
+        Err(stopped) => Err(parser.refusal(stopped, list.end)),
+    }
 }

@@ -1,12 +1,12 @@
-ghost use Rattle.std.specs.Prelude.{◌≡◌, ◌<◌, ◌≤◌, ℕ, List, IfOk, IfSome, length, map};
-ghost use Rattle.csp_semantics.specs.Text.Grammar.{IsSign, IsWord, IsName, IsAtom, IsExpression, AreLaterFields, AreFields, IsRenamed, IsHidden, IsBase, IsOperand, IsProcess};
-ghost use Rattle.csp_semantics.specs.Text.Token.{PlacedToken, IfWord};
+ghost use Rattle.std.specs.Prelude.{◌≡◌, ◌<◌, ◌≤◌, ◌⊎◌, ℕ, List, true, false, IfOk, IfErr, IfSome, IfNone, length, map};
+ghost use Rattle.csp_semantics.specs.Text.Grammar.{IsSign, IsWord, IsName, IsAtom, IsExpression, AreLaterFields, AreFields, IsRenamingPart, IsHidingPart, IsRenamed, IsHidden, IsBase, IsOperand, IsProcess};
+ghost use Rattle.csp_semantics.specs.Text.Token.{PlacedToken, IfWord, StopWord, SkipWord, ColonSign, OpenRenamingSign, HidingSign};
 ghost use Rattle.csp_lex.specs.Tokens.{keyword_of, sign_of};
 ghost use Rattle.csp_parse.specs.EventSets.{event_set_of};
 ghost use Rattle.csp_parse.specs.Expressions.{expression_of, expressions_of};
 ghost use Rattle.csp_parse.specs.Names.{name_of};
 ghost use Rattle.csp_parse.specs.Processes.{field_of, infix_of, replicator_of, process_in};
-ghost use Rattle.csp_parse.specs.Starts.{ReadsName, ReadsStart, ReadsInner, ReadsInBrackets, ReadsArguments, IsLaterField, IsRenamedBase, IsHiddenBase};
+ghost use Rattle.csp_parse.specs.Starts.{ReadsName, ReadsStart, ReadsInner, ReadsArguments, IsLaterField, IsRenamedBase, IsHiddenBase};
 
 use crate::event_sets::EventSet;
 use crate::expressions::Expression;
@@ -14,18 +14,32 @@ use crate::levels::{Level, comparison};
 use crate::names::Name;
 use crate::parsers::Parser;
 use crate::processes::{Field, Infix, Process, Replicator};
-use crate::refusals::Refused;
 use crate::starts::{Inner, Start};
+use crate::stops::Stopped;
 use csp_lex::{Keyword, Sign, TokenKind};
 use std::alloc::Allocator;
 
 impl<'t, 'a, A: Allocator + Copy> Parser<'t, 'a, A> {
-    ghost use Rattle.csp_parse.specs.Reading.{left_of, standing_of, Standing, Reads, ReadsBehind, Continues};
+    ghost use Rattle.csp_lex.specs.declared.kinds.TokenKind.TheVariants as kinds;
+    ghost use Rattle.csp_lex.specs.declared.signs.Sign.TheVariants as sign;
+    ghost use Rattle.csp_parse.specs.Continuing.{continues, BehindAtom};
+    ghost use Rattle.csp_parse.specs.Deciding.{nothing, only, Stops, Done, IsStop};
+    ghost use Rattle.csp_parse.specs.Forms.{HasTree, Then, Perhaps, Repeated, Next};
+    ghost use Rattle.csp_parse.specs.ProcessForms as forms;
+    ghost use Rattle.csp_parse.specs.ProcessForms.{continues_start, continues_process, fields_go_on, Operand, Starting, Guarded, BehindName, Arguments, Prefixed, Named, Expressed, BracketedStart, Conditional, ReplicatedBy, Shared, Alphabets, ChainOf, BehindOperand};
+    ghost use Rattle.csp_parse.specs.Reading.{left_of, standing_of, Standing, IsNext, Reads, ReadsBehind, Continues};
+    ghost use Rattle.csp_parse.specs.StartForms.{Tells, IsBaseStart, IsOperandStart, IsProcessInner, OnlyStart, OnlyAtom, OnlyBehindName, OnlyGuard, OnlyInner, OnlyBehindInner, ReadsInBrackets, BehindBase, BehindStart, StopsBehind, infix_written, replicator_written};
+    ghost use Rattle.csp_parse.specs.Words.{infix_sign, replicator_sign};
+    ghost use Rattle.csp_parse.specs.declared.levels.Level.TheVariants.{Disjunction};
+    ghost use Rattle.csp_parse.specs.declared.processes.Infix as infixes;
+    ghost use Rattle.csp_parse.specs.declared.processes.Replicator as replicators;
 
     /// A process.
     #[cycle(process)]
-    pub(crate) fn process(&mut self) -> Result<Box<Process<'a, A>, A>, Refused>
+    pub(crate) fn process(&mut self) -> Result<Box<Process<'a, A>, A>, Stopped>
         ensures reads { IfOk result (λ r. Reads IsProcess (standing_of self.old) (standing_of self.new) (process_in r)) }
+        ensures done { IfOk result (λ _. Done (HasTree IsProcess) continues_process (standing_of self.old) (standing_of self.new)) }
+        ensures stops { IfErr result (λ stopped. IsStop (HasTree IsProcess) continues_process (standing_of self.old) (standing_of self.new) stopped) }
         ensures shorter { IfOk result (λ _. length (left_of self.new) < length (left_of self.old)) }
     {
         if self.is_at_word(Keyword::If) {
@@ -40,8 +54,10 @@ impl<'t, 'a, A: Allocator + Copy> Parser<'t, 'a, A> {
 
     /// A conditional process, whose `if` is next.
     #[cycle(process)]
-    fn conditional(&mut self) -> Result<Box<Process<'a, A>, A>, Refused>
+    fn conditional(&mut self) -> Result<Box<Process<'a, A>, A>, Stopped>
         ensures reads { IfOk result (λ r. Reads IsProcess (standing_of self.old) (standing_of self.new) (process_in r)) }
+        ensures done { IfOk result (λ _. Done Conditional continues_process (standing_of self.old) (standing_of self.new)) }
+        ensures stops { IfErr result (λ stopped. IsStop Conditional continues_process (standing_of self.old) (standing_of self.new) stopped) }
         ensures shorter { IfOk result (λ _. length (left_of self.new) < length (left_of self.old)) }
     {
         let condition = self.condition()?;
@@ -51,8 +67,10 @@ impl<'t, 'a, A: Allocator + Copy> Parser<'t, 'a, A> {
     }
 
     /// `if`, and an expression behind it.
-    fn condition(&mut self) -> Result<Expression<'a, A>, Refused>
+    fn condition(&mut self) -> Result<Expression<'a, A>, Stopped>
         ensures reads { IfOk result (λ e. ReadsBehind (IsWord IfWord) IsExpression (standing_of self.old) (standing_of self.new) (expression_of e)) }
+        ensures done { IfOk result (λ _. Done (Then (IsWord IfWord) Expressed) (continues Disjunction) (standing_of self.old) (standing_of self.new)) }
+        ensures stops { IfErr result (λ stopped. IsStop (Then (IsWord IfWord) Expressed) (continues Disjunction) (standing_of self.old) (standing_of self.new) stopped) }
         ensures shorter { IfOk result (λ _. length (left_of self.new) < length (left_of self.old)) }
     {
         self.word(Keyword::If)?;
@@ -61,8 +79,10 @@ impl<'t, 'a, A: Allocator + Copy> Parser<'t, 'a, A> {
 
     /// This keyword, and a process behind it.
     #[cycle(process)]
-    fn process_behind_word(&mut self, keyword: Keyword) -> Result<Box<Process<'a, A>, A>, Refused>
+    fn process_behind_word(&mut self, keyword: Keyword) -> Result<Box<Process<'a, A>, A>, Stopped>
         ensures reads { IfOk result (λ r. ReadsBehind (IsWord (keyword_of keyword)) IsProcess (standing_of self.old) (standing_of self.new) (process_in r)) }
+        ensures done { IfOk result (λ _. Done (Then (IsWord (keyword_of keyword)) (HasTree IsProcess)) continues_process (standing_of self.old) (standing_of self.new)) }
+        ensures stops { IfErr result (λ stopped. IsStop (Then (IsWord (keyword_of keyword)) (HasTree IsProcess)) continues_process (standing_of self.old) (standing_of self.new) stopped) }
         ensures shorter { IfOk result (λ _. length (left_of self.new) < length (left_of self.old)) }
     {
         self.word(keyword)?;
@@ -71,8 +91,10 @@ impl<'t, 'a, A: Allocator + Copy> Parser<'t, 'a, A> {
 
     /// This sign, and a process behind it.
     #[cycle(process)]
-    pub(crate) fn process_behind(&mut self, sign: Sign) -> Result<Box<Process<'a, A>, A>, Refused>
+    pub(crate) fn process_behind(&mut self, sign: Sign) -> Result<Box<Process<'a, A>, A>, Stopped>
         ensures reads { IfOk result (λ r. ReadsBehind (IsSign (sign_of sign)) IsProcess (standing_of self.old) (standing_of self.new) (process_in r)) }
+        ensures done { IfOk result (λ _. Done (Next (sign_of sign) (HasTree IsProcess)) continues_process (standing_of self.old) (standing_of self.new)) }
+        ensures stops { IfErr result (λ stopped. IsStop (Next (sign_of sign) (HasTree IsProcess)) continues_process (standing_of self.old) (standing_of self.new) stopped) }
         ensures shorter { IfOk result (λ _. length (left_of self.new) < length (left_of self.old)) }
     {
         self.sign(sign)?;
@@ -81,8 +103,10 @@ impl<'t, 'a, A: Allocator + Copy> Parser<'t, 'a, A> {
 
     /// A replicated process, whose operator is next.
     #[cycle(process)]
-    fn replicated(&mut self, replicator: Replicator) -> Result<Box<Process<'a, A>, A>, Refused>
+    fn replicated(&mut self, replicator: Replicator) -> Result<Box<Process<'a, A>, A>, Stopped>
         ensures reads { IfOk result (λ r. Reads IsProcess (standing_of self.old) (standing_of self.new) (process_in r)) }
+        ensures done { IfOk result (λ _. Done (ReplicatedBy (replicator_sign (replicator_of replicator))) continues_process (standing_of self.old) (standing_of self.new)) }
+        ensures stops { IfErr result (λ stopped. IsStop (ReplicatedBy (replicator_sign (replicator_of replicator))) continues_process (standing_of self.old) (standing_of self.new) stopped) }
         ensures shorter { IfOk result (λ _. length (left_of self.new) < length (left_of self.old)) }
     {
         let written = replicator.sign();
@@ -94,8 +118,10 @@ impl<'t, 'a, A: Allocator + Copy> Parser<'t, 'a, A> {
 
     /// The process that begins so.
     #[cycle(process)]
-    fn process_from(&mut self, start: Start<'a, A>) -> Result<Box<Process<'a, A>, A>, Refused>
+    fn process_from(&mut self, start: Start<'a, A>) -> Result<Box<Process<'a, A>, A>, Stopped>
         ensures continues { IfOk result (λ r. (before : Standing) → ReadsStart before (standing_of self.old) start.entry → Reads IsProcess before (standing_of self.new) (process_in r)) }
+        ensures done { IfOk result (λ _. Done (BehindStart start.entry) continues_process (standing_of self.old) (standing_of self.new)) }
+        ensures stops { IfErr result (λ stopped. StopsBehind start.entry (standing_of self.old) (standing_of self.new) stopped) }
         ensures not_longer { IfOk result (λ _. length (left_of self.new) ≤ length (left_of self.old)) }
     {
         match start {
@@ -103,7 +129,7 @@ impl<'t, 'a, A: Allocator + Copy> Parser<'t, 'a, A> {
                 let base = Process::call(self.alloc, name, Vec::new(self.alloc))?;
                 self.process_from_base(base)
             }
-            Start::Expression(_) => Err(self.refused()),
+            Start::Expression(_) => Err(Stopped::Here),
             Start::Base(base) => self.process_from_base(base),
             Start::Operand(operand) => self.process_from_operand(operand),
         }
@@ -114,8 +140,10 @@ impl<'t, 'a, A: Allocator + Copy> Parser<'t, 'a, A> {
     fn process_from_base(
         &mut self,
         base: Box<Process<'a, A>, A>,
-    ) -> Result<Box<Process<'a, A>, A>, Refused>
+    ) -> Result<Box<Process<'a, A>, A>, Stopped>
         ensures continues { IfOk result (λ r. Continues IsBase IsProcess (standing_of self.old) (standing_of self.new) (process_in base.entry) (process_in r)) }
+        ensures done { IfOk result (λ _. Done BehindBase continues_process (standing_of self.old) (standing_of self.new)) }
+        ensures stops { IfErr result (λ stopped. IsStop BehindBase continues_process (standing_of self.old) (standing_of self.new) stopped) }
         ensures not_longer { IfOk result (λ _. length (left_of self.new) ≤ length (left_of self.old)) }
     {
         if self.is_at(Sign::OpenRenaming) || self.is_at(Sign::Hiding) {
@@ -126,8 +154,10 @@ impl<'t, 'a, A: Allocator + Copy> Parser<'t, 'a, A> {
     }
 
     /// The renamings of a process.
-    fn renamed(&mut self, base: Box<Process<'a, A>, A>) -> Result<Box<Process<'a, A>, A>, Refused>
+    fn renamed(&mut self, base: Box<Process<'a, A>, A>) -> Result<Box<Process<'a, A>, A>, Stopped>
         ensures continues { IfOk result (λ r. Continues IsBase IsRenamedBase (standing_of self.old) (standing_of self.new) (process_in base.entry) (process_in r)) }
+        ensures done { IfOk result (λ _. Done (Repeated (HasTree IsRenamingPart)) (only OpenRenamingSign) (standing_of self.old) (standing_of self.new)) }
+        ensures stops { IfErr result (λ stopped. IsStop (Repeated (HasTree IsRenamingPart)) (only OpenRenamingSign) (standing_of self.old) (standing_of self.new) stopped) }
         ensures not_longer { IfOk result (λ _. length (left_of self.new) ≤ length (left_of self.old)) }
     {
         let mut process = base;
@@ -141,8 +171,10 @@ impl<'t, 'a, A: Allocator + Copy> Parser<'t, 'a, A> {
     }
 
     /// The hidings of a process.
-    fn hidden(&mut self, renamed: Box<Process<'a, A>, A>) -> Result<Box<Process<'a, A>, A>, Refused>
+    fn hidden(&mut self, renamed: Box<Process<'a, A>, A>) -> Result<Box<Process<'a, A>, A>, Stopped>
         ensures continues { IfOk result (λ r. Continues IsRenamedBase IsHiddenBase (standing_of self.old) (standing_of self.new) (process_in renamed.entry) (process_in r)) }
+        ensures done { IfOk result (λ _. Done (Repeated (HasTree IsHidingPart)) (only HidingSign) (standing_of self.old) (standing_of self.new)) }
+        ensures stops { IfErr result (λ stopped. IsStop (Repeated (HasTree IsHidingPart)) (only HidingSign) (standing_of self.old) (standing_of self.new) stopped) }
         ensures not_longer { IfOk result (λ _. length (left_of self.new) ≤ length (left_of self.old)) }
     {
         let mut process = renamed;
@@ -158,8 +190,10 @@ impl<'t, 'a, A: Allocator + Copy> Parser<'t, 'a, A> {
     fn process_from_operand(
         &mut self,
         first: Box<Process<'a, A>, A>,
-    ) -> Result<Box<Process<'a, A>, A>, Refused>
+    ) -> Result<Box<Process<'a, A>, A>, Stopped>
         ensures continues { IfOk result (λ r. Continues IsOperand IsProcess (standing_of self.old) (standing_of self.new) (process_in first.entry) (process_in r)) }
+        ensures done { IfOk result (λ _. Done BehindOperand continues_process (standing_of self.old) (standing_of self.new)) }
+        ensures stops { IfErr result (λ stopped. IsStop BehindOperand continues_process (standing_of self.old) (standing_of self.new) stopped) }
         ensures not_longer { IfOk result (λ _. length (left_of self.new) ≤ length (left_of self.old)) }
     {
         if let Some(operator) = self.next_infix() {
@@ -179,8 +213,10 @@ impl<'t, 'a, A: Allocator + Copy> Parser<'t, 'a, A> {
     fn generalised(
         &mut self,
         left: Box<Process<'a, A>, A>,
-    ) -> Result<Box<Process<'a, A>, A>, Refused>
+    ) -> Result<Box<Process<'a, A>, A>, Stopped>
         ensures continues { IfOk result (λ r. Continues IsOperand IsProcess (standing_of self.old) (standing_of self.new) (process_in left.entry) (process_in r)) }
+        ensures done { IfOk result (λ _. Done Shared continues_process (standing_of self.old) (standing_of self.new)) }
+        ensures stops { IfErr result (λ stopped. IsStop Shared continues_process (standing_of self.old) (standing_of self.new) stopped) }
         ensures not_longer { IfOk result (λ _. length (left_of self.new) ≤ length (left_of self.old)) }
     {
         let shared = self.event_set_behind(Sign::OpenShared)?;
@@ -193,8 +229,10 @@ impl<'t, 'a, A: Allocator + Copy> Parser<'t, 'a, A> {
     fn alphabetised(
         &mut self,
         left: Box<Process<'a, A>, A>,
-    ) -> Result<Box<Process<'a, A>, A>, Refused>
+    ) -> Result<Box<Process<'a, A>, A>, Stopped>
         ensures continues { IfOk result (λ r. Continues IsOperand IsProcess (standing_of self.old) (standing_of self.new) (process_in left.entry) (process_in r)) }
+        ensures done { IfOk result (λ _. Done Alphabets continues_process (standing_of self.old) (standing_of self.new)) }
+        ensures stops { IfErr result (λ stopped. IsStop Alphabets continues_process (standing_of self.old) (standing_of self.new) stopped) }
         ensures not_longer { IfOk result (λ _. length (left_of self.new) ≤ length (left_of self.old)) }
     {
         let of_left = self.event_set_behind(Sign::OpenSquare)?;
@@ -209,8 +247,10 @@ impl<'t, 'a, A: Allocator + Copy> Parser<'t, 'a, A> {
         &mut self,
         operator: Infix,
         first: Box<Process<'a, A>, A>,
-    ) -> Result<Box<Process<'a, A>, A>, Refused>
+    ) -> Result<Box<Process<'a, A>, A>, Stopped>
         ensures continues { IfOk result (λ r. Continues IsOperand IsProcess (standing_of self.old) (standing_of self.new) (process_in first.entry) (process_in r)) }
+        ensures done { IfOk result (λ _. Done (ChainOf (infix_sign (infix_of operator))) continues_process (standing_of self.old) (standing_of self.new)) }
+        ensures stops { IfErr result (λ stopped. IsStop (ChainOf (infix_sign (infix_of operator))) continues_process (standing_of self.old) (standing_of self.new) stopped) }
         ensures not_longer { IfOk result (λ _. length (left_of self.new) ≤ length (left_of self.old)) }
     {
         let written = operator.sign();
@@ -225,13 +265,15 @@ impl<'t, 'a, A: Allocator + Copy> Parser<'t, 'a, A> {
 
     /// An operand.
     #[cycle(process)]
-    fn operand(&mut self) -> Result<Box<Process<'a, A>, A>, Refused>
+    fn operand(&mut self) -> Result<Box<Process<'a, A>, A>, Stopped>
         ensures reads { IfOk result (λ r. Reads IsOperand (standing_of self.old) (standing_of self.new) (process_in r)) }
+        ensures done { IfOk result (λ _. Done Operand continues_start (standing_of self.old) (standing_of self.new)) }
+        ensures stops { IfErr result (λ stopped. IsStop Operand continues_start (standing_of self.old) (standing_of self.new) stopped) }
         ensures shorter { IfOk result (λ _. length (left_of self.new) < length (left_of self.old)) }
     {
         match self.start()? {
             Start::Name(name) => Process::call(self.alloc, name, Vec::new(self.alloc)),
-            Start::Expression(_) => Err(self.refused()),
+            Start::Expression(_) => Err(Stopped::Here),
             Start::Base(process) => Ok(process),
             Start::Operand(process) => Ok(process),
         }
@@ -239,8 +281,10 @@ impl<'t, 'a, A: Allocator + Copy> Parser<'t, 'a, A> {
 
     /// This sign, and an operand behind it.
     #[cycle(process)]
-    fn operand_behind(&mut self, sign: Sign) -> Result<Box<Process<'a, A>, A>, Refused>
+    fn operand_behind(&mut self, sign: Sign) -> Result<Box<Process<'a, A>, A>, Stopped>
         ensures reads { IfOk result (λ r. ReadsBehind (IsSign (sign_of sign)) IsOperand (standing_of self.old) (standing_of self.new) (process_in r)) }
+        ensures done { IfOk result (λ _. Done (Next (sign_of sign) Operand) continues_start (standing_of self.old) (standing_of self.new)) }
+        ensures stops { IfErr result (λ stopped. IsStop (Next (sign_of sign) Operand) continues_start (standing_of self.old) (standing_of self.new) stopped) }
         ensures shorter { IfOk result (λ _. length (left_of self.new) < length (left_of self.old)) }
     {
         self.sign(sign)?;
@@ -249,8 +293,11 @@ impl<'t, 'a, A: Allocator + Copy> Parser<'t, 'a, A> {
 
     /// An operand, or an expression without a guard sign behind it.
     #[cycle(process)]
-    fn start(&mut self) -> Result<Start<'a, A>, Refused>
+    fn start(&mut self) -> Result<Start<'a, A>, Stopped>
         ensures reads { IfOk result (λ r. ReadsStart (standing_of self.old) (standing_of self.new) r) }
+        ensures done { IfOk result (λ _. Done Starting continues_start (standing_of self.old) (standing_of self.new)) }
+        ensures only { IfOk result (λ r. Tells (OnlyStart r) (standing_of self.old) (standing_of self.new)) }
+        ensures stops { IfErr result (λ stopped. IsStop Starting continues_start (standing_of self.old) (standing_of self.new) stopped) }
         ensures shorter { IfOk result (λ _. length (left_of self.new) < length (left_of self.old)) }
     {
         match self.kind() {
@@ -263,8 +310,11 @@ impl<'t, 'a, A: Allocator + Copy> Parser<'t, 'a, A> {
     }
 
     /// `STOP`
-    fn stop(&mut self) -> Result<Start<'a, A>, Refused>
+    fn stop(&mut self) -> Result<Start<'a, A>, Stopped>
         ensures reads { IfOk result (λ r. ReadsStart (standing_of self.old) (standing_of self.new) r) }
+        ensures base { IfOk result (λ r. IsBaseStart r) }
+        ensures done { IfOk result (λ _. Done (IsWord StopWord) nothing (standing_of self.old) (standing_of self.new)) }
+        ensures stops { IfErr result (λ stopped. IsStop (IsWord StopWord) nothing (standing_of self.old) (standing_of self.new) stopped) }
         ensures shorter { IfOk result (λ _. length (left_of self.new) < length (left_of self.old)) }
     {
         self.word(Keyword::Stop)?;
@@ -273,8 +323,11 @@ impl<'t, 'a, A: Allocator + Copy> Parser<'t, 'a, A> {
     }
 
     /// `SKIP`
-    fn skip(&mut self) -> Result<Start<'a, A>, Refused>
+    fn skip(&mut self) -> Result<Start<'a, A>, Stopped>
         ensures reads { IfOk result (λ r. ReadsStart (standing_of self.old) (standing_of self.new) r) }
+        ensures base { IfOk result (λ r. IsBaseStart r) }
+        ensures done { IfOk result (λ _. Done (IsWord SkipWord) nothing (standing_of self.old) (standing_of self.new)) }
+        ensures stops { IfErr result (λ stopped. IsStop (IsWord SkipWord) nothing (standing_of self.old) (standing_of self.new) stopped) }
         ensures shorter { IfOk result (λ _. length (left_of self.new) < length (left_of self.old)) }
     {
         self.word(Keyword::Skip)?;
@@ -284,8 +337,11 @@ impl<'t, 'a, A: Allocator + Copy> Parser<'t, 'a, A> {
 
     /// What begins with an expression.
     #[cycle(process)]
-    fn start_of_expression(&mut self) -> Result<Start<'a, A>, Refused>
+    fn start_of_expression(&mut self) -> Result<Start<'a, A>, Stopped>
         ensures reads { IfOk result (λ r. ReadsStart (standing_of self.old) (standing_of self.new) r) }
+        ensures done { IfOk result (λ _. Done (Then Expressed (Perhaps Guarded)) continues_start (standing_of self.old) (standing_of self.new)) }
+        ensures only { IfOk result (λ r. Tells (OnlyAtom Expressed r) (standing_of self.old) (standing_of self.new)) }
+        ensures stops { IfErr result (λ stopped. IsStop (Then Expressed (Perhaps Guarded)) continues_start (standing_of self.old) (standing_of self.new) stopped) }
         ensures shorter { IfOk result (λ _. length (left_of self.new) < length (left_of self.old)) }
     {
         let expression = self.expression(Level::Disjunction)?;
@@ -294,8 +350,11 @@ impl<'t, 'a, A: Allocator + Copy> Parser<'t, 'a, A> {
 
     /// What begins with a name, which is next.
     #[cycle(process)]
-    fn start_of_name(&mut self) -> Result<Start<'a, A>, Refused>
+    fn start_of_name(&mut self) -> Result<Start<'a, A>, Stopped>
         ensures reads { IfOk result (λ r. ReadsStart (standing_of self.old) (standing_of self.new) r) }
+        ensures done { IfOk result (λ _. Done (Then (HasTree IsName) Named) continues_start (standing_of self.old) (standing_of self.new)) }
+        ensures only { IfOk result (λ r. Tells (OnlyStart r) (standing_of self.old) (standing_of self.new)) }
+        ensures stops { IfErr result (λ stopped. IsStop (Then (HasTree IsName) Named) continues_start (standing_of self.old) (standing_of self.new) stopped) }
         ensures shorter { IfOk result (λ _. length (left_of self.new) < length (left_of self.old)) }
     {
         let name = self.name()?;
@@ -309,8 +368,11 @@ impl<'t, 'a, A: Allocator + Copy> Parser<'t, 'a, A> {
     }
 
     /// The call of this name, whose arguments are next.
-    fn call_of(&mut self, name: Name<'a>) -> Result<Start<'a, A>, Refused>
+    fn call_of(&mut self, name: Name<'a>) -> Result<Start<'a, A>, Stopped>
         ensures continues { IfOk result (λ r. (before : Standing) → Reads IsName before (standing_of self.old) (name_of name.entry) → ReadsStart before (standing_of self.new) r) }
+        ensures base { IfOk result (λ r. IsBaseStart r) }
+        ensures done { IfOk result (λ _. Done Arguments nothing (standing_of self.old) (standing_of self.new)) }
+        ensures stops { IfErr result (λ stopped. IsStop Arguments nothing (standing_of self.old) (standing_of self.new) stopped) }
         ensures not_longer { IfOk result (λ _. length (left_of self.new) ≤ length (left_of self.old)) }
     {
         let arguments = self.arguments()?;
@@ -320,8 +382,11 @@ impl<'t, 'a, A: Allocator + Copy> Parser<'t, 'a, A> {
 
     /// The prefix of this channel, whose fields are next.
     #[cycle(process)]
-    fn prefix_of(&mut self, channel: Name<'a>) -> Result<Start<'a, A>, Refused>
+    fn prefix_of(&mut self, channel: Name<'a>) -> Result<Start<'a, A>, Stopped>
         ensures continues { IfOk result (λ r. (before : Standing) → Reads IsName before (standing_of self.old) (name_of channel.entry) → ReadsStart before (standing_of self.new) r) }
+        ensures operand { IfOk result (λ r. IsOperandStart r) }
+        ensures done { IfOk result (λ _. Done Prefixed continues_start (standing_of self.old) (standing_of self.new)) }
+        ensures stops { IfErr result (λ stopped. IsStop Prefixed continues_start (standing_of self.old) (standing_of self.new) stopped) }
         ensures not_longer { IfOk result (λ _. length (left_of self.new) ≤ length (left_of self.old)) }
     {
         let fields = self.fields()?;
@@ -330,8 +395,10 @@ impl<'t, 'a, A: Allocator + Copy> Parser<'t, 'a, A> {
     }
 
     /// The arguments of a call, in brackets.
-    fn arguments(&mut self) -> Result<Vec<Expression<'a, A>, A>, Refused>
+    fn arguments(&mut self) -> Result<Vec<Expression<'a, A>, A>, Stopped>
         ensures reads { IfOk result (λ r. ReadsArguments (standing_of self.old) (standing_of self.new) (expressions_of r.items)) }
+        ensures done { IfOk result (λ _. Done Arguments nothing (standing_of self.old) (standing_of self.new)) }
+        ensures stops { IfErr result (λ stopped. IsStop Arguments nothing (standing_of self.old) (standing_of self.new) stopped) }
         ensures shorter { IfOk result (λ _. length (left_of self.new) < length (left_of self.old)) }
     {
         let first = self.expression_behind(Sign::OpenRound, Level::Disjunction)?;
@@ -342,8 +409,11 @@ impl<'t, 'a, A: Allocator + Copy> Parser<'t, 'a, A> {
 
     /// What begins with a name, perhaps in brackets, that is no call with arguments and no channel.
     #[cycle(process)]
-    fn start_from_name(&mut self, name: Name<'a>) -> Result<Start<'a, A>, Refused>
+    fn start_from_name(&mut self, name: Name<'a>) -> Result<Start<'a, A>, Stopped>
         ensures continues { IfOk result (λ r. (before : Standing) → ReadsName before (standing_of self.old) (name_of name.entry) → ReadsStart before (standing_of self.new) r) }
+        ensures done { IfOk result (λ _. Done BehindName continues_start (standing_of self.old) (standing_of self.new)) }
+        ensures only { IfOk result (λ r. Tells (OnlyBehindName r) (standing_of self.old) (standing_of self.new)) }
+        ensures stops { IfErr result (λ stopped. IsStop BehindName continues_start (standing_of self.old) (standing_of self.new) stopped) }
         ensures not_longer { IfOk result (λ _. length (left_of self.new) ≤ length (left_of self.old)) }
     {
         if !self.is_at_operator() && !self.is_at(Sign::Guard) {
@@ -354,8 +424,10 @@ impl<'t, 'a, A: Allocator + Copy> Parser<'t, 'a, A> {
     }
 
     /// The expression that begins with a name, perhaps in brackets.
-    fn expression_of_name(&mut self, name: Name<'a>) -> Result<Expression<'a, A>, Refused>
+    fn expression_of_name(&mut self, name: Name<'a>) -> Result<Expression<'a, A>, Stopped>
         ensures continues { IfOk result (λ e. (before : Standing) → ReadsName before (standing_of self.old) (name_of name.entry) → Reads IsExpression before (standing_of self.new) (expression_of e)) }
+        ensures done { IfOk result (λ _. Done BehindAtom (continues Disjunction) (standing_of self.old) (standing_of self.new)) }
+        ensures stops { IfErr result (λ stopped. IsStop BehindAtom (continues Disjunction) (standing_of self.old) (standing_of self.new) stopped) }
         ensures not_longer { IfOk result (λ _. length (left_of self.new) ≤ length (left_of self.old)) }
     {
         self.expression_from(Expression::Use(name))
@@ -363,8 +435,11 @@ impl<'t, 'a, A: Allocator + Copy> Parser<'t, 'a, A> {
 
     /// What begins with an opening bracket, which is next.
     #[cycle(process)]
-    fn start_of_brackets(&mut self) -> Result<Start<'a, A>, Refused>
+    fn start_of_brackets(&mut self) -> Result<Start<'a, A>, Stopped>
         ensures reads { IfOk result (λ r. ReadsStart (standing_of self.old) (standing_of self.new) r) }
+        ensures done { IfOk result (λ _. Done BracketedStart continues_start (standing_of self.old) (standing_of self.new)) }
+        ensures only { IfOk result (λ r. Tells (OnlyStart r) (standing_of self.old) (standing_of self.new)) }
+        ensures stops { IfErr result (λ stopped. IsStop BracketedStart continues_start (standing_of self.old) (standing_of self.new) stopped) }
         ensures shorter { IfOk result (λ _. length (left_of self.new) < length (left_of self.old)) }
     {
         let inner = self.bracketed_inner()?;
@@ -377,8 +452,9 @@ impl<'t, 'a, A: Allocator + Copy> Parser<'t, 'a, A> {
 
     /// What stands in brackets, and the brackets.
     #[cycle(process)]
-    fn bracketed_inner(&mut self) -> Result<Inner<'a, A>, Refused>
+    fn bracketed_inner(&mut self) -> Result<Inner<'a, A>, Stopped>
         ensures reads { IfOk result (λ r. ReadsInBrackets (standing_of self.old) (standing_of self.new) r) }
+        ensures stops { IfErr result (λ stopped. IsStop BracketedStart continues_start (standing_of self.old) (standing_of self.new) stopped) }
         ensures shorter { IfOk result (λ _. length (left_of self.new) < length (left_of self.old)) }
     {
         self.sign(Sign::OpenRound)?;
@@ -389,8 +465,11 @@ impl<'t, 'a, A: Allocator + Copy> Parser<'t, 'a, A> {
 
     /// What begins with an atom.
     #[cycle(process)]
-    fn start_from_atom(&mut self, atom: Expression<'a, A>) -> Result<Start<'a, A>, Refused>
+    fn start_from_atom(&mut self, atom: Expression<'a, A>) -> Result<Start<'a, A>, Stopped>
         ensures continues { IfOk result (λ r. (before : Standing) → Reads IsAtom before (standing_of self.old) (expression_of atom.entry) → ReadsStart before (standing_of self.new) r) }
+        ensures done { IfOk result (λ _. Done BehindName continues_start (standing_of self.old) (standing_of self.new)) }
+        ensures only { IfOk result (λ r. Tells (OnlyAtom BehindAtom r) (standing_of self.old) (standing_of self.new)) }
+        ensures stops { IfErr result (λ stopped. IsStop BehindName continues_start (standing_of self.old) (standing_of self.new) stopped) }
         ensures not_longer { IfOk result (λ _. length (left_of self.new) ≤ length (left_of self.old)) }
     {
         let expression = self.expression_from(atom)?;
@@ -399,8 +478,11 @@ impl<'t, 'a, A: Allocator + Copy> Parser<'t, 'a, A> {
 
     /// What stands behind an opening bracket.
     #[cycle(process)]
-    fn inner(&mut self) -> Result<Inner<'a, A>, Refused>
+    fn inner(&mut self) -> Result<Inner<'a, A>, Stopped>
         ensures reads { IfOk result (λ r. ReadsInner (standing_of self.old) (standing_of self.new) r) }
+        ensures done { IfOk result (λ _. Done forms.Inner continues_process (standing_of self.old) (standing_of self.new)) }
+        ensures only { IfOk result (λ r. Tells (OnlyInner (left_of self.new) r) (standing_of self.old) (standing_of self.new)) }
+        ensures stops { IfErr result (λ stopped. IsStop forms.Inner continues_process (standing_of self.old) (standing_of self.new) stopped) }
         ensures shorter { IfOk result (λ _. length (left_of self.new) < length (left_of self.old)) }
     {
         if self.is_at_word(Keyword::If) || self.next_replicator().is_some() {
@@ -417,8 +499,11 @@ impl<'t, 'a, A: Allocator + Copy> Parser<'t, 'a, A> {
 
     /// The process behind an opening bracket that begins so.
     #[cycle(process)]
-    fn inner_process(&mut self, start: Start<'a, A>) -> Result<Inner<'a, A>, Refused>
+    fn inner_process(&mut self, start: Start<'a, A>) -> Result<Inner<'a, A>, Stopped>
         ensures continues { IfOk result (λ r. (before : Standing) → ReadsStart before (standing_of self.old) start.entry → ReadsInner before (standing_of self.new) r) }
+        ensures process { IfOk result (λ r. IsProcessInner r) }
+        ensures done { IfOk result (λ _. Done (BehindStart start.entry) continues_process (standing_of self.old) (standing_of self.new)) }
+        ensures stops { IfErr result (λ stopped. StopsBehind start.entry (standing_of self.old) (standing_of self.new) stopped) }
         ensures not_longer { IfOk result (λ _. length (left_of self.new) ≤ length (left_of self.old)) }
     {
         let process = self.process_from(start)?;
@@ -427,8 +512,11 @@ impl<'t, 'a, A: Allocator + Copy> Parser<'t, 'a, A> {
 
     /// What stands behind an opening bracket and begins with a name, perhaps in brackets.
     #[cycle(process)]
-    fn inner_from_name(&mut self, name: Name<'a>) -> Result<Inner<'a, A>, Refused>
+    fn inner_from_name(&mut self, name: Name<'a>) -> Result<Inner<'a, A>, Stopped>
         ensures continues { IfOk result (λ r. (before : Standing) → ReadsName before (standing_of self.old) (name_of name.entry) → ReadsInner before (standing_of self.new) r) }
+        ensures done { IfOk result (λ _. Done BehindBase continues_process (standing_of self.old) (standing_of self.new)) }
+        ensures only { IfOk result (λ r. Tells (OnlyBehindInner (left_of self.new) r) (standing_of self.old) (standing_of self.new)) }
+        ensures stops { IfErr result (λ stopped. IsStop BehindBase continues_process (standing_of self.old) (standing_of self.new) stopped) }
         ensures not_longer { IfOk result (λ _. length (left_of self.new) ≤ length (left_of self.old)) }
     {
         if self.is_at(Sign::CloseRound) {
@@ -439,8 +527,11 @@ impl<'t, 'a, A: Allocator + Copy> Parser<'t, 'a, A> {
 
     /// An expression, or with `&` behind it the process that it guards.
     #[cycle(process)]
-    fn guarded(&mut self, expression: Expression<'a, A>) -> Result<Start<'a, A>, Refused>
+    fn guarded(&mut self, expression: Expression<'a, A>) -> Result<Start<'a, A>, Stopped>
         ensures continues { IfOk result (λ r. (before : Standing) → Reads IsExpression before (standing_of self.old) (expression_of expression.entry) → ReadsStart before (standing_of self.new) r) }
+        ensures done { IfOk result (λ _. Done (Perhaps Guarded) continues_start (standing_of self.old) (standing_of self.new)) }
+        ensures only { IfOk result (λ r. Tells (OnlyGuard r) (standing_of self.old) (standing_of self.new)) }
+        ensures stops { IfErr result (λ stopped. IsStop (Perhaps Guarded) continues_start (standing_of self.old) (standing_of self.new) stopped) }
         ensures not_longer { IfOk result (λ _. length (left_of self.new) ≤ length (left_of self.old)) }
     {
         if !self.is_at(Sign::Guard) {
@@ -451,8 +542,10 @@ impl<'t, 'a, A: Allocator + Copy> Parser<'t, 'a, A> {
     }
 
     /// The fields of a prefix.
-    fn fields(&mut self) -> Result<Vec<Field<'a, A>, A>, Refused>
+    fn fields(&mut self) -> Result<Vec<Field<'a, A>, A>, Stopped>
         ensures reads { IfOk result (λ r. Reads AreFields (standing_of self.old) (standing_of self.new) (map field_of r.items)) }
+        ensures done { IfOk result (λ _. Done (HasTree AreFields) fields_go_on (standing_of self.old) (standing_of self.new)) }
+        ensures stops { IfErr result (λ stopped. IsStop (HasTree AreFields) fields_go_on (standing_of self.old) (standing_of self.new) stopped) }
         ensures not_longer { IfOk result (λ _. length (left_of self.new) ≤ length (left_of self.old)) }
     {
         let mut fields = Vec::new(self.alloc);
@@ -468,8 +561,10 @@ impl<'t, 'a, A: Allocator + Copy> Parser<'t, 'a, A> {
     }
 
     /// An output or an input.
-    fn field(&mut self) -> Result<Field<'a, A>, Refused>
+    fn field(&mut self) -> Result<Field<'a, A>, Stopped>
         ensures reads { IfOk result (λ r. Reads IsLaterField (standing_of self.old) (standing_of self.new) (field_of r)) }
+        ensures done { IfOk result (λ _. Done (HasTree IsLaterField) (only ColonSign) (standing_of self.old) (standing_of self.new)) }
+        ensures stops { IfErr result (λ stopped. IsStop (HasTree IsLaterField) (only ColonSign) (standing_of self.old) (standing_of self.new) stopped) }
         ensures shorter { IfOk result (λ _. length (left_of self.new) < length (left_of self.old)) }
     {
         if self.is_at(Sign::Output) {
@@ -485,12 +580,18 @@ impl<'t, 'a, A: Allocator + Copy> Parser<'t, 'a, A> {
     }
 
     /// Whether the next token begins a field of a prefix.
-    fn is_at_field(&self) -> bool {
+    fn is_at_field(&self) -> bool
+        ensures yes { result ≡ true → IsNext (kinds.Sign sign.Dot) (left_of self.now) ⊎ IsNext (kinds.Sign sign.Output) (left_of self.now) ⊎ IsNext (kinds.Sign sign.Input) (left_of self.now) }
+        ensures no { result ≡ false → ¬ (IsNext (kinds.Sign sign.Dot) (left_of self.now)) × ¬ (IsNext (kinds.Sign sign.Output) (left_of self.now)) × ¬ (IsNext (kinds.Sign sign.Input) (left_of self.now)) }
+    {
         self.is_at(Sign::Dot) || self.is_at(Sign::Output) || self.is_at(Sign::Input)
     }
 
     /// Whether the next token is an operator between expressions.
-    fn is_at_operator(&self) -> bool {
+    fn is_at_operator(&self) -> bool
+        ensures yes { result ≡ true → ¬ (Stops (continues Disjunction) (left_of self.now)) }
+        ensures no { result ≡ false → Stops (continues Disjunction) (left_of self.now) }
+    {
         let Some(kind) = self.kind() else {
             return false;
         };
@@ -502,7 +603,10 @@ impl<'t, 'a, A: Allocator + Copy> Parser<'t, 'a, A> {
     }
 
     /// The operator between processes that the next token is, if it is one.
-    fn next_infix(&self) -> Option<Infix> {
+    fn next_infix(&self) -> Option<Infix>
+        ensures some { IfSome result (λ o. IsNext (kinds.Sign (infix_written o)) (left_of self.now)) }
+        ensures none { IfNone result ((o : infixes.Infix) → ¬ (IsNext (kinds.Sign (infix_written o)) (left_of self.now))) }
+    {
         match self.kind()? {
             TokenKind::Sign(Sign::Box) => Some(Infix::ExternalChoice),
             TokenKind::Sign(Sign::Internal) => Some(Infix::InternalChoice),
@@ -514,7 +618,10 @@ impl<'t, 'a, A: Allocator + Copy> Parser<'t, 'a, A> {
     }
 
     /// The operator over a set that the next token is, if it is one.
-    fn next_replicator(&self) -> Option<Replicator> {
+    fn next_replicator(&self) -> Option<Replicator>
+        ensures some { IfSome result (λ o. IsNext (kinds.Sign (replicator_written o)) (left_of self.now)) }
+        ensures none { IfNone result ((o : replicators.Replicator) → ¬ (IsNext (kinds.Sign (replicator_written o)) (left_of self.now))) }
+    {
         match self.kind()? {
             TokenKind::Sign(Sign::Box) => Some(Replicator::ExternalChoice),
             TokenKind::Sign(Sign::Internal) => Some(Replicator::InternalChoice),

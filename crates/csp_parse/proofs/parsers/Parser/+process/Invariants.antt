@@ -82,6 +82,7 @@ decreases-inner_process g l = 32 * length (left_of l.self.now) + 32
 abbrev pub invariant-chain-loop-operator : goal.invariant-chain-loop-operator
 invariant-chain-loop-operator g l = record {
   continues : Continues IsOperand (IsChain (infix_of l.operator)) (standing_of l.fn.self) (standing_of l.self) (process_in l.fn.first) (process_in l.chain);
+  links : ChainSoFar (infix_of l.operator) (standing_of l.fn.self) (standing_of l.self);
   not_longer : length (left_of l.self) ≤ length (left_of l.fn.self);
 }
 
