@@ -5,10 +5,10 @@ use Rattle.csp_semantics.specs.Text.Raw.{RawExpression}
 use Rattle.csp_semantics.specs.Text.Grammar.{IsWord, word, IsExpression, IsConjunction, IsNegation, IsComparison, IsSum, IsProduct, IsAtom}
 use Rattle.csp_parse.specs.declared.levels.Level.{Level}
 use Rattle.csp_parse.specs.declared.levels.Level.TheVariants as level
-use Rattle.csp_parse.specs.Continuing.{IsRest, IsAgainst, BehindConjunction, BehindComparison, BehindSum, BehindProduct, BehindAtom}
+use Rattle.csp_parse.specs.Continuing.{IsRest, IsAgainst, BehindConjunction, BehindComparison, BehindSum, BehindProduct, BehindAtom, IsChained}
 use Rattle.csp_parse.specs.Forms.{HasTree, Then, both, Perhaps}
 use Rattle.csp_parse.specs.Levels.{IsAt, stronger}
-use Rattle.csp_parse.proofs.Chains.{IsChained, product_chained, sum_chained, conjunction_chained, disjunction_chained, whole_chain}
+use Rattle.csp_parse.proofs.Chains.{product_chained, sum_chained, conjunction_chained, disjunction_chained, whole_chain}
 use Rattle.csp_parse.proofs.Comparing.{IsCompared, comparison_compared, compared_comparison}
 use Rattle.csp_parse.proofs.Operations.{alone}
 use Rattle.csp_parse.proofs.Repeating.{IsFirstIn, first_before}

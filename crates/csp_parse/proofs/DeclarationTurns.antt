@@ -55,7 +55,9 @@ declared_as x [] is h = absurd is
 declared_as x (t ∷ ts) is h = subst (λ y. DeclaredAs y (t ∷ ts)) (sym is) h
 
 datatype_first : BeginsIn (λ t. t ≡ KeywordToken DatatypeWord) IsDatatype
-datatype_first = let f = λ t. t ≡ KeywordToken DatatypeWord in then_begins f (then_begins f (then_begins f (word_begins DatatypeWord)))
+datatype_first =
+    let f : Token → Type 0 = λ t. t ≡ KeywordToken DatatypeWord in
+    then_begins f (then_begins f (then_begins f (word_begins DatatypeWord)))
 
 nametype_first : BeginsIn (λ t. t ≡ KeywordToken NametypeWord) IsNametype
 nametype_first = then_begins (λ t. t ≡ KeywordToken NametypeWord) (word_begins NametypeWord)

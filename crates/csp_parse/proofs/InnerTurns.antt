@@ -119,8 +119,8 @@ opens_no_expression t (inr (inr (inr is))) (inr e) = let k = sym is ∙ e in cc 
 pub process_inside : {s : Standing} → IsFirstIn opens_process s.left → Turns Inner continues_process s (HasTree IsProcess) continues_process s
 process_inside next = left_here opens_process begins_expression next (λ a h. first_of_expression h.1) opens_no_expression
 
-pub no_expression_inside : {s : Standing} → IsFirstIn opens_process s.left → (f rest : List PlacedToken) → s.left ≡ f ++ rest → Expressed f → ⊥
-no_expression_inside {s} next f rest is h = not_apart opens_process begins_expression opens_no_expression s.left next (first_here begins_expression f rest s.left (ap first (sym is)) (first_of_expression h.1))
+pub no_expression_inside : (s : Standing) → IsFirstIn opens_process s.left → (f rest : List PlacedToken) → s.left ≡ f ++ rest → Expressed f → ⊥
+no_expression_inside s next f rest is h = not_apart opens_process begins_expression opens_no_expression s.left next (first_here begins_expression f rest s.left (ap first (sym is)) (first_of_expression h.1))
 
 -- what stands behind a process or an expression in brackets
 abbrev pub BracketParts : List PlacedToken → List PlacedToken → Type 0

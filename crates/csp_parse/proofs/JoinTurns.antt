@@ -239,12 +239,6 @@ renamings_behind done = turn (behind done hidings_avoid) (wider (λ t is. suffix
 pub renamings_stop : {s t : Standing} {e : Stopped} → IsStop (Repeated (HasTree IsRenamingPart)) (only OpenRenamingSign) s t e → IsStop Suffixes continues_process s t e
 renamings_stop stop = within_first hidings_avoid (some_none (HasTree IsHidingPart)) stop
 
--- what is not next
-pub neither_suffix : (left : List PlacedToken) → ¬ (IsFirstIn (only OpenRenamingSign) left) → ¬ (IsFirstIn (only HidingSign) left) → IsFirstIn opens_suffix left → ⊥
-neither_suffix [] one two is = is
-neither_suffix (t ∷ ts) one two (inl is) = one is
-neither_suffix (t ∷ ts) one two (inr is) = two is
-
 -- what joins an operand with more
 first_there : (f g : Token → Type 0) (a b left : List PlacedToken) → first (a ++ b) ≡ first left → IsFirstIn g a → IsFirstIn f left → IsFirstIn f a
 first_there f g [] b left alike some is = absurd some

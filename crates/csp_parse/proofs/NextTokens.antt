@@ -3,7 +3,6 @@ use Rattle.std.proofs.Common.{◌≡◌, ◌∙◌, ◌⊎◌, List, [], ◌∷�
 use Rattle.csp_semantics.specs.Text.Token as text
 use Rattle.csp_semantics.specs.Text.Token.{Token, KeywordToken, SignToken, ArrowSign, GuardSign, CloseRoundSign, OpenRenamingSign, HidingSign, PlacedToken}
 use Rattle.csp_semantics.specs.Text.Grammar.{IsSign}
-use Rattle.csp_lex.specs.declared.kinds.TokenKind.{TokenKind}
 use Rattle.csp_lex.specs.declared.kinds.TokenKind.TheVariants as kind
 use Rattle.csp_lex.specs.declared.keywords.Keyword.TheVariants as keyword
 use Rattle.csp_lex.specs.declared.signs.Sign.TheVariants as signs
@@ -20,42 +19,51 @@ use Rattle.csp_parse.proofs.Comparing.{perhaps_done, perhaps_stop}
 use Rattle.csp_parse.proofs.Deciding.{Inhabited}
 use Rattle.csp_parse.proofs.JoinTurns.{opens_suffix}
 use Rattle.csp_parse.proofs.NamesTurn.{prefixes, goes_on_expression, empty_done}
-use Rattle.csp_parse.proofs.OneKind.{next_sign_is, next_word_is, next_name_is}
 use Rattle.csp_parse.proofs.ProcessTurns.{joins, base_empty, some_process}
 use Rattle.csp_parse.proofs.Repeating.{IsFirstIn}
 use Rattle.csp_parse.proofs.Singles.{some_sign}
 use Rattle.csp_parse.proofs.StartsTurn.{starts_otherwise}
 use Rattle.csp_parse.proofs.Turning.{Turns, in_more, not_apart, some_then, some_left}
 
-pub renaming_next : (left : List PlacedToken) → IsFirstIn (only OpenRenamingSign) left → IsFirstIn opens_suffix left
-renaming_next left is = in_more (only OpenRenamingSign) opens_suffix (λ t k. inl k) left is
+-- a suffix of a base
+pub suffix_next : (left : List PlacedToken) → IsNext (kind.Sign signs.OpenRenaming) left ⊎ IsNext (kind.Sign signs.Hiding) left → IsFirstIn opens_suffix left
+suffix_next [] (inl next) = absurd next
+suffix_next [] (inr next) = absurd next
+suffix_next (t ∷ ts) (inl next) = inl next.1
+suffix_next (t ∷ ts) (inr next) = inr next.1
 
-pub hiding_next : (left : List PlacedToken) → IsFirstIn (only HidingSign) left → IsFirstIn opens_suffix left
-hiding_next left is = in_more (only HidingSign) opens_suffix (λ t k. inr k) left is
+pub no_suffix_next : (left : List PlacedToken) → ¬ (IsNext (kind.Sign signs.OpenRenaming) left) × ¬ (IsNext (kind.Sign signs.Hiding) left) → IsFirstIn opens_suffix left → ⊥
+no_suffix_next [] not is = is
+no_suffix_next (t ∷ ts) not (inl is) = not.0 ([], is)
+no_suffix_next (t ∷ ts) not (inr is) = not.1 ([], is)
 
--- a field or an arrow
-pub field_next : (left : List PlacedToken) → IsNext (kind.Sign signs.Dot) left ⊎ IsNext (kind.Sign signs.Output) left ⊎ IsNext (kind.Sign signs.Input) left → IsFirstIn prefixes left
-field_next [] (inl next) = next
-field_next [] (inr (inl next)) = next
-field_next [] (inr (inr next)) = next
-field_next (t ∷ ts) (inl next) = subst prefixes (sym next.1) refl
-field_next (t ∷ ts) (inr (inl next)) = subst prefixes (sym next.1) refl
-field_next (t ∷ ts) (inr (inr next)) = subst prefixes (sym next.1) refl
+-- what goes on with a prefix
+abbrev pub PrefixNext : List PlacedToken → Type 0
+PrefixNext left = IsNext (kind.Sign signs.Dot) left ⊎ IsNext (kind.Sign signs.Output) left ⊎ IsNext (kind.Sign signs.Input) left ⊎ IsNext (kind.Sign signs.Arrow) left
 
-pub arrow_next : (left : List PlacedToken) → IsFirstIn (only ArrowSign) left → IsFirstIn prefixes left
-arrow_next left is = in_more (only ArrowSign) prefixes (λ t k. subst prefixes (sym k) refl) left is
+abbrev pub NoPrefixNext : List PlacedToken → Type 0
+NoPrefixNext left = ¬ (IsNext (kind.Sign signs.Dot) left) × ¬ (IsNext (kind.Sign signs.Output) left) × ¬ (IsNext (kind.Sign signs.Input) left) × ¬ (IsNext (kind.Sign signs.Arrow) left)
 
-prefix_not : (t : PlacedToken) (ts : List PlacedToken) → ¬ (IsNext (kind.Sign signs.Dot) (t ∷ ts)) × ¬ (IsNext (kind.Sign signs.Output) (t ∷ ts)) × ¬ (IsNext (kind.Sign signs.Input) (t ∷ ts)) → ¬ (IsFirstIn (only ArrowSign) (t ∷ ts)) →
-    (x : Token) → t.token ≡ x → prefixes x → ⊥
-prefix_not t ts not arrow (SignToken text.DotSign) e is = not.0 ([], e)
-prefix_not t ts not arrow (SignToken text.OutputSign) e is = not.1 ([], e)
-prefix_not t ts not arrow (SignToken text.InputSign) e is = not.2 ([], e)
-prefix_not t ts not arrow (SignToken text.ArrowSign) e is = arrow e
-prefix_not t ts not arrow _ e is = absurd (cc is)
+pub prefix_next : (left : List PlacedToken) → PrefixNext left → IsFirstIn prefixes left
+prefix_next [] (inl next) = next
+prefix_next [] (inr (inl next)) = next
+prefix_next [] (inr (inr (inl next))) = next
+prefix_next [] (inr (inr (inr next))) = next
+prefix_next (t ∷ ts) (inl next) = subst prefixes (sym next.1) refl
+prefix_next (t ∷ ts) (inr (inl next)) = subst prefixes (sym next.1) refl
+prefix_next (t ∷ ts) (inr (inr (inl next))) = subst prefixes (sym next.1) refl
+prefix_next (t ∷ ts) (inr (inr (inr next))) = subst prefixes (sym next.1) refl
 
-pub no_prefix_next : (left : List PlacedToken) → ¬ (IsNext (kind.Sign signs.Dot) left) × ¬ (IsNext (kind.Sign signs.Output) left) × ¬ (IsNext (kind.Sign signs.Input) left) → ¬ (IsFirstIn (only ArrowSign) left) → IsFirstIn prefixes left → ⊥
-no_prefix_next [] not arrow is = is
-no_prefix_next (t ∷ ts) not arrow is = prefix_not t ts not arrow t.token refl is
+prefix_not : (t : PlacedToken) (ts : List PlacedToken) → NoPrefixNext (t ∷ ts) → (x : Token) → t.token ≡ x → prefixes x → ⊥
+prefix_not t ts not (SignToken text.DotSign) e is = not.0 ([], e)
+prefix_not t ts not (SignToken text.OutputSign) e is = not.1 ([], e)
+prefix_not t ts not (SignToken text.InputSign) e is = not.2 ([], e)
+prefix_not t ts not (SignToken text.ArrowSign) e is = not.3 ([], e)
+prefix_not t ts not _ e is = absurd (cc is)
+
+pub no_prefix_next : (left : List PlacedToken) → NoPrefixNext left → IsFirstIn prefixes left → ⊥
+no_prefix_next [] not is = is
+no_prefix_next (t ∷ ts) not is = prefix_not t ts not t.token refl is
 
 -- neither an operator of expressions nor the sign of a guard
 pub neither_goes_on : (left : List PlacedToken) → Stops (continues level.Disjunction) left → ¬ (IsFirstIn (only GuardSign) left) → IsFirstIn goes_on_expression left → ⊥
@@ -82,12 +90,9 @@ pub guard_here : {s : Standing} → IsFirstIn (only GuardSign) s.left → Turns 
 guard_here next = record { finish = λ after done. perhaps_done (only GuardSign) next (λ t k. subst continues_start (sym k) refl) done; stop = λ after e stop. perhaps_stop (only GuardSign) next (λ t k. subst continues_start (sym k) refl) stop }
 
 -- what is next where a start begins otherwise
-pub otherwise_by : (k : TokenKind) (left : List PlacedToken) → IsNext k left → ¬ (k ≡ kind.Name) → ¬ (k ≡ kind.Sign signs.OpenRound) → ¬ (k ≡ kind.Keyword keyword.Stop) → ¬ (k ≡ kind.Keyword keyword.Skip) → IsFirstIn starts_otherwise left → ⊥
-otherwise_by k [] next name bracket stop skip is = is
-otherwise_by k (t ∷ ts) next name bracket stop skip (inl is) = name (next_name_is k (t ∷ ts) next is)
-otherwise_by k (t ∷ ts) next name bracket stop skip (inr (inl is)) = bracket (next_sign_is k signs.OpenRound (t ∷ ts) next ([], is))
-otherwise_by k (t ∷ ts) next name bracket stop skip (inr (inr (inl is))) = stop (next_word_is k keyword.Stop (t ∷ ts) next ([], is))
-otherwise_by k (t ∷ ts) next name bracket stop skip (inr (inr (inr is))) = skip (next_word_is k keyword.Skip (t ∷ ts) next ([], is))
-
-pub otherwise_at_end : (left : List PlacedToken) → left ≡ [] → IsFirstIn starts_otherwise left → ⊥
-otherwise_at_end left none is = subst (IsFirstIn starts_otherwise) none is
+pub starts_none : (left : List PlacedToken) → ¬ (IsNext (kind.Keyword keyword.Stop) left) → ¬ (IsNext (kind.Keyword keyword.Skip) left) → ¬ (IsNext kind.Name left) → ¬ (IsNext (kind.Sign signs.OpenRound) left) → IsFirstIn starts_otherwise left → ⊥
+starts_none [] stop skip name bracket is = is
+starts_none (t ∷ ts) stop skip name bracket (inl is) = name is
+starts_none (t ∷ ts) stop skip name bracket (inr (inl is)) = bracket ([], is)
+starts_none (t ∷ ts) stop skip name bracket (inr (inr (inl is))) = stop ([], is)
+starts_none (t ∷ ts) stop skip name bracket (inr (inr (inr is))) = skip ([], is)

@@ -17,8 +17,8 @@ use Rattle.csp_parse.proofs.Expressing.{some_at}
 use Rattle.csp_parse.proofs.ProcessTurns.{some_operand}
 use Rattle.csp_parse.proofs.Repeating.{IsFirstIn}
 
-some_step : (l : Level) (t : PlacedToken) {o : Binary} → IsOperatorAt l (t ∷ []) o → (a : List PlacedToken) × IsRest l (t ∷ a)
-some_step l t {o} h =
+some_step : (l : Level) (t : PlacedToken) (o : Binary) → IsOperatorAt l (t ∷ []) o → (a : List PlacedToken) × IsRest l (t ∷ a)
+some_step l t o h =
     let x = some_at (stronger l) in
     (x.0, subst (IsRest l) (append-nil (t ∷ x.0)) (again (t ∷ x.0) [] (both (t ∷ []) x.0 (o, h) x.1) never))
 
@@ -47,19 +47,19 @@ by_disjunction : (t : PlacedToken) → (a : List PlacedToken) × IsRest level.Di
 by_disjunction t r = (r.0, both [] (t ∷ r.0) never (both [] (t ∷ r.0) never (both [] (t ∷ r.0) (inl refl) (both [] (t ∷ r.0) never r.1))))
 
 operated : (t : PlacedToken) (x : Token) → t.token ≡ x → continues level.Disjunction x → Operated t
-operated t (SignToken text.TimesSign) e h = by_product t (some_step level.Product t (grammar.times (grammar.sign t e)))
-operated t (SignToken text.PercentSign) e h = by_product t (some_step level.Product t (grammar.percent (grammar.sign t e)))
-operated t (SignToken text.PlusSign) e h = by_sum t (some_step level.Sum t (grammar.plus (grammar.sign t e)))
-operated t (SignToken text.MinusSign) e h = by_sum t (some_step level.Sum t (grammar.minus (grammar.sign t e)))
-operated t (SignToken text.CaretSign) e h = by_sum t (some_step level.Sum t (grammar.caret (grammar.sign t e)))
+operated t (SignToken text.TimesSign) e h = by_product t (some_step level.Product t _ (grammar.times (grammar.sign t e)))
+operated t (SignToken text.PercentSign) e h = by_product t (some_step level.Product t _ (grammar.percent (grammar.sign t e)))
+operated t (SignToken text.PlusSign) e h = by_sum t (some_step level.Sum t _ (grammar.plus (grammar.sign t e)))
+operated t (SignToken text.MinusSign) e h = by_sum t (some_step level.Sum t _ (grammar.minus (grammar.sign t e)))
+operated t (SignToken text.CaretSign) e h = by_sum t (some_step level.Sum t _ (grammar.caret (grammar.sign t e)))
 operated t (SignToken text.SameSign) e h = by_comparison t (grammar.same (grammar.sign t e))
 operated t (SignToken text.DiffersSign) e h = by_comparison t (grammar.differs (grammar.sign t e))
 operated t (SignToken text.LessSign) e h = by_comparison t (grammar.less (grammar.sign t e))
 operated t (SignToken text.AtMostSign) e h = by_comparison t (grammar.at_most (grammar.sign t e))
 operated t (SignToken text.GreaterSign) e h = by_comparison t (grammar.greater (grammar.sign t e))
 operated t (SignToken text.AtLeastSign) e h = by_comparison t (grammar.at_least (grammar.sign t e))
-operated t (KeywordToken text.AndWord) e h = by_conjunction t (some_step level.Conjunction t (grammar.word t e, refl))
-operated t (KeywordToken text.OrWord) e h = by_disjunction t (some_step level.Disjunction t (grammar.word t e, refl))
+operated t (KeywordToken text.AndWord) e h = by_conjunction t (some_step level.Conjunction t _ (grammar.word t e, refl))
+operated t (KeywordToken text.OrWord) e h = by_disjunction t (some_step level.Disjunction t _ (grammar.word t e, refl))
 operated t _ e h = absurd (omega (arith, h))
 
 -- where nothing is read behind an atom no operator is next

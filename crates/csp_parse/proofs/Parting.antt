@@ -78,9 +78,9 @@ nothing_fits {First} {R} {d} {c} {s} {t} done avoids none begins = here (record 
       found.2;
 })
 
-not_parted : {First : List PlacedToken → Type 0} {R : List PlacedToken → List PlacedToken → Type 0} {d c : Token → Type 0} (f later a z : List PlacedToken) → ((p : List PlacedToken) → Avoids d c (R p)) → Parted First R a → f ++ later ≡ a ++ z → Stops c z →
+not_parted : {First : List PlacedToken → Type 0} {R : List PlacedToken → List PlacedToken → Type 0} (d c : Token → Type 0) (f later a z : List PlacedToken) → ((p : List PlacedToken) → Avoids d c (R p)) → Parted First R a → f ++ later ≡ a ++ z → Stops c z →
     ((p y : List PlacedToken) → f ++ later ≡ p ++ y → First p → Stops d y → ⊥) → ⊥
-not_parted f later a z avoids (parts p x h r) e stops none = none p (x ++ z) (e ∙ append_assoc p x z) h (avoids p x z r stops)
+not_parted d c f later a z avoids (parts p x h r) e stops none = none p (x ++ z) (e ∙ append_assoc p x z) h (avoids p x z r stops)
 
 on_and_on : {First : List PlacedToken → Type 0} {R : List PlacedToken → List PlacedToken → Type 0} (f : List PlacedToken) → ((p : List PlacedToken) → First p → Begins (Parted First R) p) → Begins First f → Begins (Parted First R) f
 on_and_on {First} {R} f reach (more, h) = let rest = reach (f ++ more) h in (more ++ rest.0, subst (Parted First R) (append_assoc f more rest.0) rest.1)
@@ -92,7 +92,7 @@ part_stops {First} {R} {d} {c} avoids reach (here fails) = here (record {
   front = fails.front;
   splits = fails.splits;
   begins = on_and_on fails.front reach fails.begins;
-  none = λ later a z same e h stops. not_parted {First} {R} {d} {c} fails.front later a z avoids h e stops (λ p y is k stop. fails.none later p y same is k stop);
+  none = λ later a z same e h stops. not_parted {First = First} {R = R} d c fails.front later a z avoids h e stops (λ p y is k stop. fails.none later p y same is k stop);
 })
 part_stops avoids reach (high rises) = high (record { front = rises.front; is = rises.is; begins = on_and_on rises.front reach rises.begins; exceeds = rises.exceeds })
 part_stops avoids reach memory = memory

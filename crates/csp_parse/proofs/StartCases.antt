@@ -23,7 +23,7 @@ use Rattle.csp_parse.specs.declared.starts.Inner.TheVariants as inner
 use Rattle.csp_parse.specs.declared.stops.Stopped.{Stopped}
 use Rattle.csp_parse.specs.declared.stops.Stopped.TheVariants as stop
 use Rattle.csp_parse.specs.Deciding.{first, nothing, only, Done, IsStop}
-use Rattle.csp_parse.specs.Forms.{HasTree, Then, Either}
+use Rattle.csp_parse.specs.Forms.{HasTree, Then, Either, Next}
 use Rattle.csp_parse.specs.ProcessForms.{continues_start, continues_process, Expressed, Starting, BehindName, Named, Inner, ClosedProcess, ClosedExpression, BracketedStart}
 use Rattle.csp_parse.specs.Processes.{infix_of, replicator_of}
 use Rattle.csp_parse.specs.Reading.{Standing, IsNext, Passes, Reads}
@@ -79,7 +79,7 @@ next_sign s [] is = absurd is
 next_sign s (t ∷ ts) is = ([], is)
 
 -- a process in brackets is no expression
-pub shut_process : {A : Type 0} (p : _) {s t : Standing} → (done : Done Inner continues_process s t) → Tells (OnlyInner {A} t.left (inner.Process p)) s t → IsFirstIn (only CloseRoundSign) t.left → ¬ (Expressed done.front)
+pub shut_process : {A : Type 0} (p : _) {s t : Standing} → (done : Done Inner continues_process s t) → Tells (OnlyInner {A = A} t.left (inner.Process p)) s t → IsFirstIn (only CloseRoundSign) t.left → ¬ (Expressed done.front)
 shut_process p {t = t} done told is = told_of told done (next_sign signs.CloseRound t.left is)
 
 -- the sign behind what stands in brackets is not passed
@@ -110,15 +110,19 @@ pub word_first : (k : lexed.Keyword) (left : List PlacedToken) → IsNext (kind.
 word_first k [] next = absurd next
 word_first k (t ∷ ts) next = next.1
 
-pub opening_next : (o : Replicator) (left : List PlacedToken) → IsNext (kind.Sign (replicator_written o)) left → IsFirstIn opens_process left
-opening_next o [] next = absurd next
-opening_next replicator.ExternalChoice (t ∷ ts) next = inr (inl next.1)
-opening_next replicator.InternalChoice (t ∷ ts) next = inr (inr (inl next.1))
-opening_next replicator.Interleaving (t ∷ ts) next = inr (inr (inr next.1))
+process_opens : (o : Replicator) (left : List PlacedToken) → IsNext (kind.Sign (replicator_written o)) left → IsFirstIn opens_process left
+process_opens o [] next = absurd next
+process_opens replicator.ExternalChoice (t ∷ ts) next = inr (inl next.1)
+process_opens replicator.InternalChoice (t ∷ ts) next = inr (inr (inl next.1))
+process_opens replicator.Interleaving (t ∷ ts) next = inr (inr (inr next.1))
 
-pub if_next : (left : List PlacedToken) → IsNext (kind.Keyword keyword.If) left → IsFirstIn opens_process left
-if_next [] next = absurd next
-if_next (t ∷ ts) next = inl next.1
+if_opens : (left : List PlacedToken) → IsNext (kind.Keyword keyword.If) left → IsFirstIn opens_process left
+if_opens [] next = absurd next
+if_opens (t ∷ ts) next = inl next.1
+
+pub opening_next : (left : List PlacedToken) → IsNext (kind.Keyword keyword.If) left ⊎ ((o : Replicator) × IsNext (kind.Sign (replicator_written o)) left) → IsFirstIn opens_process left
+opening_next left (inl next) = if_opens left next
+opening_next left (inr (o, next)) = process_opens o left next
 
 pub opens_none : (left : List PlacedToken) → ¬ (IsNext (kind.Keyword keyword.If) left) → ((o : Replicator) → ¬ (IsNext (kind.Sign (replicator_written o)) left)) → IsFirstIn opens_process left → ⊥
 opens_none [] no_if none is = is

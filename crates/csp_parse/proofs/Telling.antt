@@ -67,7 +67,7 @@ pub guard_told : {A : Type 0} (x : Start A) {Is B : List PlacedToken → Type 0}
 guard_told (start.Name n) one two told = told.tells two.front two.splits.is
 guard_told (start.Expression e) one two told = λ h. unguarded one (sym (append-nil one.front) ∙ ap (λ w. one.front ++ w) (sym (told.tells two.front two.splits.is))) h
 guard_told (start.Base p) one two told = told.tells two.front two.splits.is
-guard_told {t = t} (start.Operand p) one two told = λ h. no_longer one two.front t.left two.splits.is (no_guard_alone (told.tells two.front two.splits.is)) h
+guard_told (start.Operand p) {t = t} one two told = λ h. no_longer one two.front t.left two.splits.is (no_guard_alone (told.tells two.front two.splits.is)) h
 
 -- where neither a name nor a bracket nor `STOP` nor `SKIP` stands first
 operand_otherwise : (s : Standing) → (IsFirstIn starts_otherwise s.left → ⊥) → (left : List PlacedToken) {a : List PlacedToken} {p : RawProcess} → first (a ++ left) ≡ first s.left → IsOperand a p → Then Expressed Guarded a
@@ -317,8 +317,8 @@ pub atom_brackets_told : {A : Type 0} (x : Start A) {s t : Standing} → (b : In
 atom_brackets_told x b not told = all_told (OnlyStart x) b (atom_brackets_only x b not (told.tells b.behind b.rest))
 
 -- a process in brackets that is no expression
-pub process_brackets_told : {A : Type 0} (p : _) {s t : Standing} → (b : InBrackets s t) → ¬ (Expressed b.inside.front) → Tells (OnlyStart {A} (start.Base p)) s t
-process_brackets_told {A} p b not = all_told (OnlyStart {A} (start.Base p)) b (λ h. not (expressed_in b h).0)
+pub process_brackets_told : {A : Type 0} (p : _) {s t : Standing} → (b : InBrackets s t) → ¬ (Expressed b.inside.front) → Tells (OnlyStart {A = A} (start.Base p)) s t
+process_brackets_told {A} p b not = all_told (OnlyStart {A = A} (start.Base p)) b (λ h. not (expressed_in b h).0)
 
 -- what stands in brackets
 no_expression_behind : {s m : Standing} → (one : Done Starting continues_start s m) → ¬ (Expressed one.front) → (g rest : List PlacedToken) → m.left ≡ g ++ rest → Expressed (one.front ++ g) → ⊥

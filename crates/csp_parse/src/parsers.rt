@@ -85,6 +85,14 @@ impl<'t, 'a, A: Allocator + Copy> Parser<'t, 'a, A> {
         }
     }
 
+    /// Whether the next token is a name.
+    pub(crate) fn is_at_name(&self) -> bool
+        ensures yes { result ≡ true → IsNext kinds.Name (left_of self.now) }
+        ensures no { result ≡ false → ¬ (IsNext kinds.Name (left_of self.now)) }
+    {
+        matches!(self.kind(), Some(TokenKind::Name))
+    }
+
     /// The refusal where a reader stopped, of a text with this place behind it.
     pub(crate) fn refusal(&self, stopped: Stopped, end: Place) -> Refused
         ensures { IsRefusalAt (place_of end) (left_of self.now) stopped result }

@@ -21,6 +21,7 @@ use std::alloc::Allocator;
 
 impl<'t, 'a, A: Allocator + Copy> Parser<'t, 'a, A> {
     ghost use Rattle.csp_lex.specs.declared.kinds.TokenKind.TheVariants as kinds;
+    ghost use Rattle.csp_lex.specs.declared.keywords.Keyword.TheVariants as keyword;
     ghost use Rattle.csp_lex.specs.declared.signs.Sign.TheVariants as sign;
     ghost use Rattle.csp_parse.specs.Continuing.{continues, BehindAtom};
     ghost use Rattle.csp_parse.specs.Deciding.{nothing, only, Stops, Done, IsStop};
@@ -146,7 +147,7 @@ impl<'t, 'a, A: Allocator + Copy> Parser<'t, 'a, A> {
         ensures stops { IfErr result (λ stopped. IsStop BehindBase continues_process (standing_of self.old) (standing_of self.new) stopped) }
         ensures not_longer { IfOk result (λ _. length (left_of self.new) ≤ length (left_of self.old)) }
     {
-        if self.is_at(Sign::OpenRenaming) || self.is_at(Sign::Hiding) {
+        if self.is_at_suffix() {
             let renamed = self.renamed(base)?;
             return self.hidden(renamed);
         }
@@ -300,13 +301,19 @@ impl<'t, 'a, A: Allocator + Copy> Parser<'t, 'a, A> {
         ensures stops { IfErr result (λ stopped. IsStop Starting continues_start (standing_of self.old) (standing_of self.new) stopped) }
         ensures shorter { IfOk result (λ _. length (left_of self.new) < length (left_of self.old)) }
     {
-        match self.kind() {
-            Some(TokenKind::Keyword(Keyword::Stop)) => self.stop(),
-            Some(TokenKind::Keyword(Keyword::Skip)) => self.skip(),
-            Some(TokenKind::Name) => self.start_of_name(),
-            Some(TokenKind::Sign(Sign::OpenRound)) => self.start_of_brackets(),
-            _ => self.start_of_expression(),
+        if self.is_at_word(Keyword::Stop) {
+            return self.stop();
         }
+        if self.is_at_word(Keyword::Skip) {
+            return self.skip();
+        }
+        if self.is_at_name() {
+            return self.start_of_name();
+        }
+        if self.is_at(Sign::OpenRound) {
+            return self.start_of_brackets();
+        }
+        self.start_of_expression()
     }
 
     /// `STOP`
@@ -361,7 +368,7 @@ impl<'t, 'a, A: Allocator + Copy> Parser<'t, 'a, A> {
         if self.is_at(Sign::OpenRound) {
             return self.call_of(name);
         }
-        if self.is_at_field() || self.is_at(Sign::Arrow) {
+        if self.is_at_prefix() {
             return self.prefix_of(name);
         }
         self.start_from_name(name)
@@ -485,7 +492,7 @@ impl<'t, 'a, A: Allocator + Copy> Parser<'t, 'a, A> {
         ensures stops { IfErr result (λ stopped. IsStop forms.Inner continues_process (standing_of self.old) (standing_of self.new) stopped) }
         ensures shorter { IfOk result (λ _. length (left_of self.new) < length (left_of self.old)) }
     {
-        if self.is_at_word(Keyword::If) || self.next_replicator().is_some() {
+        if self.is_at_process() {
             let process = self.process()?;
             return Ok(Inner::Process(process));
         }
@@ -579,12 +586,34 @@ impl<'t, 'a, A: Allocator + Copy> Parser<'t, 'a, A> {
         Ok(Field::InputFrom(name, set))
     }
 
-    /// Whether the next token begins a field of a prefix.
-    fn is_at_field(&self) -> bool
-        ensures yes { result ≡ true → IsNext (kinds.Sign sign.Dot) (left_of self.now) ⊎ IsNext (kinds.Sign sign.Output) (left_of self.now) ⊎ IsNext (kinds.Sign sign.Input) (left_of self.now) }
-        ensures no { result ≡ false → ¬ (IsNext (kinds.Sign sign.Dot) (left_of self.now)) × ¬ (IsNext (kinds.Sign sign.Output) (left_of self.now)) × ¬ (IsNext (kinds.Sign sign.Input) (left_of self.now)) }
+    /// Whether the next token begins a process that is no operand: `if`, or an operator over a set.
+    fn is_at_process(&self) -> bool
+        ensures yes { result ≡ true → IsNext (kinds.Keyword keyword.If) (left_of self.now) ⊎ ((o : replicators.Replicator) × IsNext (kinds.Sign (replicator_written o)) (left_of self.now)) }
+        ensures no { result ≡ false → ¬ (IsNext (kinds.Keyword keyword.If) (left_of self.now)) × ((o : replicators.Replicator) → ¬ (IsNext (kinds.Sign (replicator_written o)) (left_of self.now))) }
     {
-        self.is_at(Sign::Dot) || self.is_at(Sign::Output) || self.is_at(Sign::Input)
+        match self.next_replicator() {
+            Some(_) => true,
+            None => self.is_at_word(Keyword::If),
+        }
+    }
+
+    /// Whether the next token begins a renaming or a hiding, which go on with a base.
+    fn is_at_suffix(&self) -> bool
+        ensures yes { result ≡ true → IsNext (kinds.Sign sign.OpenRenaming) (left_of self.now) ⊎ IsNext (kinds.Sign sign.Hiding) (left_of self.now) }
+        ensures no { result ≡ false → ¬ (IsNext (kinds.Sign sign.OpenRenaming) (left_of self.now)) × ¬ (IsNext (kinds.Sign sign.Hiding) (left_of self.now)) }
+    {
+        self.is_at(Sign::OpenRenaming) || self.is_at(Sign::Hiding)
+    }
+
+    /// Whether the next token goes on with a prefix behind its channel: a field or the arrow.
+    fn is_at_prefix(&self) -> bool
+        ensures yes { result ≡ true → IsNext (kinds.Sign sign.Dot) (left_of self.now) ⊎ IsNext (kinds.Sign sign.Output) (left_of self.now) ⊎ IsNext (kinds.Sign sign.Input) (left_of self.now) ⊎ IsNext (kinds.Sign sign.Arrow) (left_of self.now) }
+        ensures no { result ≡ false → ¬ (IsNext (kinds.Sign sign.Dot) (left_of self.now)) × ¬ (IsNext (kinds.Sign sign.Output) (left_of self.now)) × ¬ (IsNext (kinds.Sign sign.Input) (left_of self.now)) × ¬ (IsNext (kinds.Sign sign.Arrow) (left_of self.now)) }
+    {
+        self.is_at(Sign::Dot)
+            || self.is_at(Sign::Output)
+            || self.is_at(Sign::Input)
+            || self.is_at(Sign::Arrow)
     }
 
     /// Whether the next token is an operator between expressions.

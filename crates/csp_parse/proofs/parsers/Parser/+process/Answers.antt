@@ -1,15 +1,9 @@
 use Rattle.std.proofs.Common.{◌∙◌, [], ◌++◌, refl, sym, ap, subst, arith, inl, inr, IfOk, IfErr}
 use Rattle.std.proofs.lemmas.Result.{IfOk-weaker, IfErr-weaker}
-use Rattle.csp_semantics.specs.Text.Grammar as grammar
 use Rattle.csp_semantics.specs.Text.Grammar.{IsAtom, IsExpression}
 use Rattle.csp_semantics.specs.Text.Raw.{RawCall}
 use Rattle.csp_semantics.specs.Text.Token.{StopWord, SkipWord, ArrowSign, GuardSign, CloseSharedSign, OpenSquareSign, CloseSquareSign, DoubleBarSign, CloseRoundSign}
 use Rattle.csp_lex.specs.Tokens.{sign_of}
-use Rattle.csp_lex.specs.declared.kinds.TokenKind.TheVariants as kind
-use Rattle.csp_lex.specs.declared.keywords.Keyword.TheVariants as keyword
-use Rattle.csp_lex.specs.declared.signs.Sign.TheVariants as signs
-use Rattle.csp_parse.specs.declared.starts.Start.TheVariants as start
-use Rattle.csp_parse.specs.declared.starts.Inner.TheVariants as inner
 use Rattle.csp_parse.specs.Deciding.{only, Done, memory}
 use Rattle.csp_parse.specs.Expressions.{expressions_of}
 use Rattle.csp_parse.specs.Forms.{Either}
@@ -20,30 +14,33 @@ use Rattle.csp_parse.specs.Reading.{left_of, standing_of, IsNext}
 use Rattle.csp_parse.specs.Starts.{ReadsStart, ReadsInner}
 use Rattle.csp_parse.specs.StartForms.{Tells, OnlyStart, OnlyBehindName, OnlyGuard, OnlyInner, OnlyBehindInner, BehindStart, StopsBehind}
 use Rattle.csp_parse.specs.Words.{infix_sign, replicator_sign}
-use Rattle.csp_parse.proofs.AtomsTurn.{word_done}
-use Rattle.csp_parse.proofs.Chaining.{rest_more, rest_end, rest_stop, rest_stop_behind}
+use Rattle.csp_semantics.specs.Text.Grammar as grammar
+use Rattle.csp_lex.specs.declared.kinds.TokenKind.TheVariants as kind
+use Rattle.csp_lex.specs.declared.keywords.Keyword.TheVariants as keyword
+use Rattle.csp_lex.specs.declared.signs.Sign.TheVariants as signs
+use Rattle.csp_parse.specs.declared.starts.Start.TheVariants as start
+use Rattle.csp_parse.specs.declared.starts.Inner.TheVariants as inner
+use Rattle.csp_parse.proofs.Chaining.{rest_end, rest_step, rest_step_stop}
 use Rattle.csp_parse.proofs.Comparing.{perhaps_none}
-use Rattle.csp_parse.proofs.Deciding.{avoids_nothing}
-use Rattle.csp_parse.proofs.EventsTurn.{atom_done, atom_stop}
-use Rattle.csp_parse.proofs.InnerTurns.{inner_form, inner_start_stops, inner_base, inner_operand, inner_expression, at_once, no_process, process_inside, no_expression_inside, closed_form, inner_stops, behind_inner_process}
-use Rattle.csp_parse.proofs.JoinTurns.{conditional_here, replicated_here, if_stops, condition_behind, condition_stops, then_stops, first_behind, first_process_stops, else_stops, replicator_stops, bound_behind, bound_stops, colon_stops, set_behind, set_stops, at_stops, suffixes_here, no_suffixes_here, renamings_behind, renamings_stop, neither_suffix, shared_here, alphabets_here, chain_here, nothing_joined, last_operand, open_shared_stops, set_then, set_then_stops, sign_then_stops, some_shared_right, some_square_right, some_right_set, some_double, some_left_set, told_operands, chain_sign_stops, second_behind, second_stops, fields_behind, fields_stop, operand_sign_stops}
+use Rattle.csp_parse.proofs.Expressing.{atom_done, atom_stop}
+use Rattle.csp_parse.proofs.InnerTurns.{at_once, behind_inner_process, closed_form, inner_base, inner_expression, inner_form, inner_operand, inner_start_stops, inner_stops, no_expression_inside, no_process, process_inside}
+use Rattle.csp_parse.proofs.JoinTurns.{alphabets_here, bound_read, bound_stops, chain_here, condition_read, condition_stops, conditional_here, fields_behind, fields_stop, first_process_stops, first_read, last_operand, last_operand_stops, no_suffixes_here, nothing_joined, renamings_behind, renamings_stop, replicated_here, second_read, second_stops, set_read, set_stops, set_then, set_then_stops, shared_here, some_double, some_shared_right, some_square_right, suffixes_here, told_operands}
 use Rattle.csp_parse.proofs.Leaves.{name_done, sign_done, sign_first, sign_not_first}
-use Rattle.csp_parse.proofs.Memory.{handed, memory_only, memory_here}
-use Rattle.csp_parse.proofs.NamesTurn.{arguments_here, no_arguments_here, prefix_here, no_prefix_here, expression_guarded, expression_unguarded, name_alone}
-use Rattle.csp_parse.proofs.NextTokens.{renaming_next, hiding_next, field_next, arrow_next, no_prefix_next, neither_goes_on, closing_next, some_closed_start, none_behind, behind_inner_told, twice_left, guard_here, guard_read_told, otherwise_by, otherwise_at_end}
+use Rattle.csp_parse.proofs.Memory.{handed, memory_here, memory_only}
+use Rattle.csp_parse.proofs.NamesTurn.{arguments_here, expression_guarded, expression_unguarded, name_alone, no_arguments_here, no_prefix_here, prefix_here}
+use Rattle.csp_parse.proofs.NextTokens.{closing_next, guard_here, neither_goes_on, no_prefix_next, no_suffix_next, none_behind, prefix_next, some_closed_start, starts_none, suffix_next}
 use Rattle.csp_parse.proofs.Operating.{something_read}
 use Rattle.csp_parse.proofs.Operations.{extended}
-use Rattle.csp_parse.proofs.Trees.{tree_of_use}
-use Rattle.csp_parse.proofs.Passing.{renamed, in_any_case}
-use Rattle.csp_parse.proofs.Processing.{read_as, hidden_process, stop_read, skip_read, name_read, call_read, prefix_read, guard_read, expression_in_brackets, process_in_brackets, name_in_brackets, conditional_read, replicated_read, generalised_read, alphabetised_read, two_read, longer_read}
-use Rattle.csp_parse.proofs.ProcessTurns.{begun_form, start_stops, operand_done, no_operand, operand_stops, base_operand, some_operand}
+use Rattle.csp_parse.proofs.Passing.{in_any_case, renamed}
+use Rattle.csp_parse.proofs.ProcessTurns.{base_operand, begun_form, no_operand, operand_done, operand_stops, some_operand, some_process, start_stops}
+use Rattle.csp_parse.proofs.Processing.{alphabetised_read, conditional_read, expression_in_brackets, generalised_read, guard_read, hidden_process, longer_read, name_in_brackets, name_read, prefix_read, process_in_brackets, read_as, replicated_read, two_read}
 use Rattle.csp_parse.proofs.Repeating.{repeats_none}
-use Rattle.csp_parse.proofs.StartCases.{front_is, name_base, name_expressed, told_of, process_finished, process_stopped, shut_process, closing_stops, in_brackets, infix_next, replicator_next, word_first, opening_next, if_next, opens_none, joins_none, both_told, passes_so, stops_so, first_so, not_first_so, none_told, here_behind, memory_behind, next_name_of, name_then, name_then_stops, stop_form, skip_form, stop_told, skip_told}
-use Rattle.csp_parse.proofs.StartsTurn.{name_starts, bracket_form, expression_form}
-use Rattle.csp_parse.proofs.Telling.{told_once, guard_told, otherwise_told, behind_name_told, named_told, call_told, prefix_told, name_brackets_told, atom_brackets_told, process_brackets_told, process_inside_told, inner_name_told}
-use Rattle.csp_parse.proofs.Turning.{turn, finished, stopped, within_first, wider_done, wider_stop, never_within, sign_behind, word_behind, sign_begins, then_begins, all_done, all_stop}
+use Rattle.csp_parse.proofs.StartCases.{both_told, closing_stops, first_so, front_is, here_behind, in_brackets, infix_next, joins_none, memory_behind, name_base, name_expressed, name_then, name_then_stops, next_name_of, next_so, next_stop_so, none_told, not_first_so, opening_next, opens_none, process_finished, process_stopped, replicator_next, shut_process, skip_form, skip_told, stop_form, stop_told, told_of, word_first}
+use Rattle.csp_parse.proofs.StartsTurn.{bracket_form, expression_form, name_starts}
+use Rattle.csp_parse.proofs.Telling.{atom_brackets_told, atom_told, behind_inner_told, behind_name_told, call_told, guard_read_told, inner_name_told, name_brackets_told, named_told, otherwise_told, prefix_told, process_brackets_told, process_inside_told, told_once}
+use Rattle.csp_parse.proofs.Turning.{all_done, all_stop, finished, never_within, sign_begins, sign_behind, sign_stops, stopped, then_begins, turn, wider_done, wider_stop, word_behind, word_stops}
+use Rattle.csp_parse.proofs.parsers.Parser.+process.Goals.{start_from_name-else-not-is_at_operator-via-then-not-is_at_operator+else-not-is_at, start_from_name-else-not-is_at_operator-via-else-not-is_at_operator}
 use Rattle.csp_parse.proofs.parsers.Parser.+process.Goals as goal
-use Rattle.csp_parse.proofs.parsers.Parser.+process.Goals.{process_from_base-then-is_at, process_from_base-else-is_at+then-is_at-2, start_of_name-then-is_at_field, start_of_name-else-is_at_field+then-is_at-2}
 
 pub process-returns-clause-reads : goal.process-returns-clause-reads
 process-returns-clause-reads g t c =
@@ -70,10 +67,6 @@ process_from-returns-in-Name-clause-continues g t c =
 pub process_from-returns-in-Base-clause-continues : goal.process_from-returns-in-Base-clause-continues
 process_from-returns-in-Base-clause-continues g t c =
     IfOk-weaker c.process_from_base-in-Base.result _ _ (λ p k before r. k before (subst (ReadsStart before (standing_of c.args.self.now)) c.in-Base.is r)) c.process_from_base-in-Base.ensures.continues
-
-pub process_from_base-returns-then-is_at-clause-continues : goal.process_from_base-returns-then-is_at-clause-continues
-process_from_base-returns-then-is_at-clause-continues g t c =
-    IfOk-weaker c.hidden.result _ _ (λ p k before r. read_as (λ ts h. hidden_process ts _ h) (k before (c.in_ok-renamed.ensures.continues before r))) c.hidden.ensures.continues
 
 pub process_from_base-returns-clause-continues : goal.process_from_base-returns-clause-continues
 process_from_base-returns-clause-continues g t c =
@@ -130,10 +123,6 @@ operand-returns-in-Base-clause-reads g t c =
 pub start_of_name-returns-then-is_at-clause-reads : goal.start_of_name-returns-then-is_at-clause-reads
 start_of_name-returns-then-is_at-clause-reads g t c =
     IfOk-weaker c.call_of.result _ _ (λ s k. k (standing_of c.args.self.now) c.in_ok-name.ensures.reads) c.call_of.ensures.continues
-
-pub start_of_name-returns-then-is_at_field-clause-reads : goal.start_of_name-returns-then-is_at_field-clause-reads
-start_of_name-returns-then-is_at_field-clause-reads g t c =
-    IfOk-weaker c.prefix_of.result _ _ (λ s k. k (standing_of c.args.self.now) c.in_ok-name.ensures.reads) c.prefix_of.ensures.continues
 
 pub start_of_name-returns-clause-reads : goal.start_of_name-returns-clause-reads
 start_of_name-returns-clause-reads g t c =
@@ -239,25 +228,17 @@ pub process_from-returns-in_err-base-in-Name-clause-stops : goal.process_from-re
 process_from-returns-in_err-base-in-Name-clause-stops g t c =
     handed c.from_residual.result _ c.from_residual.ensures (memory_behind c.args.start _ _ _ c.in-Name.is c.in_err-base-in-Name.ensures.stops)
 
-pub process_from_base-returns-then-is_at-clause-done : goal.process_from_base-returns-then-is_at-clause-done
-process_from_base-returns-then-is_at-clause-done g t c =
-    all_done c.hidden.result _ (turn (suffixes_here (elim c.if-is_at.branch [ | process_from_base-then-is_at w ↦ renaming_next (left_of c.args.self.now) (sign_first signs.OpenRenaming (left_of c.args.self.now) (c.is_at.ensures.yes w.if-is_at.true)) | process_from_base-else-is_at+then-is_at-2 w ↦ hiding_next (left_of c.args.self.now) (sign_first signs.Hiding (left_of c.args.self.now) (w.is_at-else-is_at.ensures.yes w.if-is_at-2.true)) ])) (renamings_behind c.in_ok-renamed.ensures.done)) c.hidden.ensures.done
-
-pub process_from_base-returns-then-is_at-clause-stops : goal.process_from_base-returns-then-is_at-clause-stops
-process_from_base-returns-then-is_at-clause-stops g t c =
-    all_stop c.hidden.result _ (turn (suffixes_here (elim c.if-is_at.branch [ | process_from_base-then-is_at w ↦ renaming_next (left_of c.args.self.now) (sign_first signs.OpenRenaming (left_of c.args.self.now) (c.is_at.ensures.yes w.if-is_at.true)) | process_from_base-else-is_at+then-is_at-2 w ↦ hiding_next (left_of c.args.self.now) (sign_first signs.Hiding (left_of c.args.self.now) (w.is_at-else-is_at.ensures.yes w.if-is_at-2.true)) ])) (renamings_behind c.in_ok-renamed.ensures.done)) c.hidden.ensures.stops
-
 pub process_from_base-returns-in_err-renamed-clause-stops : goal.process_from_base-returns-in_err-renamed-clause-stops
 process_from_base-returns-in_err-renamed-clause-stops g t c =
-    handed c.from_residual.result _ c.from_residual.ensures (stopped (suffixes_here (elim c.if-is_at.branch [ | process_from_base-then-is_at w ↦ renaming_next (left_of c.args.self.now) (sign_first signs.OpenRenaming (left_of c.args.self.now) (c.is_at.ensures.yes w.if-is_at.true)) | process_from_base-else-is_at+then-is_at-2 w ↦ hiding_next (left_of c.args.self.now) (sign_first signs.Hiding (left_of c.args.self.now) (w.is_at-else-is_at.ensures.yes w.if-is_at-2.true)) ])) (renamings_stop c.in_err-renamed.ensures.stops))
+    handed c.from_residual.result _ c.from_residual.ensures (stopped (suffixes_here (suffix_next (left_of c.args.self.now) (c.is_at_suffix.ensures.yes c.if-is_at_suffix.true))) (renamings_stop c.in_err-renamed.ensures.stops))
 
 pub process_from_base-returns-clause-done : goal.process_from_base-returns-clause-done
 process_from_base-returns-clause-done g t c =
-    all_done c.process_from_operand.result _ (no_suffixes_here (neither_suffix (left_of c.args.self.now) (sign_not_first signs.OpenRenaming (left_of c.args.self.now) (c.is_at.ensures.no c.if-is_at.false)) (sign_not_first signs.Hiding (left_of c.args.self.now) (c.is_at-else-is_at.ensures.no c.if-is_at-2.false)))) c.process_from_operand.ensures.done
+    all_done c.process_from_operand.result _ (no_suffixes_here (no_suffix_next (left_of c.args.self.now) (c.is_at_suffix.ensures.no c.if-is_at_suffix.false))) c.process_from_operand.ensures.done
 
 pub process_from_base-returns-clause-stops : goal.process_from_base-returns-clause-stops
 process_from_base-returns-clause-stops g t c =
-    all_stop c.process_from_operand.result _ (no_suffixes_here (neither_suffix (left_of c.args.self.now) (sign_not_first signs.OpenRenaming (left_of c.args.self.now) (c.is_at.ensures.no c.if-is_at.false)) (sign_not_first signs.Hiding (left_of c.args.self.now) (c.is_at-else-is_at.ensures.no c.if-is_at-2.false)))) c.process_from_operand.ensures.stops
+    all_stop c.process_from_operand.result _ (no_suffixes_here (no_suffix_next (left_of c.args.self.now) (c.is_at_suffix.ensures.no c.if-is_at_suffix.false))) c.process_from_operand.ensures.stops
 
 pub process_from_operand-returns-in-Some-clause-done : goal.process_from_operand-returns-in-Some-clause-done
 process_from_operand-returns-in-Some-clause-done g t c =
@@ -306,10 +287,6 @@ operand-returns-in-Expression-clause-stops g t c =
 pub operand-returns-in-Base-clause-done : goal.operand-returns-in-Base-clause-done
 operand-returns-in-Base-clause-done g t c =
     operand_done c.in_ok-name.ensures.done (base_operand (_, front_is (subst (ReadsStart (standing_of c.args.self.now) (standing_of c.start.new.self)) c.in-Base.is c.in_ok-name.ensures.reads) c.in_ok-name.ensures.done))
-
-pub operand-returns-in-Operand-clause-done : goal.operand-returns-in-Operand-clause-done
-operand-returns-in-Operand-clause-done g t c =
-    operand_done c.in_ok-name.ensures.done (_, front_is (subst (ReadsStart (standing_of c.args.self.now) (standing_of c.start.new.self)) c.in-Operand.is c.in_ok-name.ensures.reads) c.in_ok-name.ensures.done)
 
 pub process_behind_word-returns-clause-reads : goal.process_behind_word-returns-clause-reads
 process_behind_word-returns-clause-reads g t c =
@@ -500,58 +477,6 @@ chain-returns-clause-done g t c =
     finished c.loop-operator.invariant.links.begun
     (rest_end c.loop-operator.invariant.links.rest (not_first_so (left_of c.loop-operator.self) c.sign-written.ensures (sign_not_first c.sign-written.result (left_of c.loop-operator.self) (c.is_at.ensures.no c.loop-operator-test.false))))
 
-pub start-returns-in-Some-Keyword-Stop-clause-done : goal.start-returns-in-Some-Keyword-Stop-clause-done
-start-returns-in-Some-Keyword-Stop-clause-done g t c =
-    all_done c.stop.result _ (stop_form c.in-Some-Keyword-Stop.ensures.some) c.stop.ensures.done
-
-pub start-returns-in-Some-Keyword-Stop-clause-stops : goal.start-returns-in-Some-Keyword-Stop-clause-stops
-start-returns-in-Some-Keyword-Stop-clause-stops g t c =
-    all_stop c.stop.result _ (stop_form c.in-Some-Keyword-Stop.ensures.some) c.stop.ensures.stops
-
-pub start-returns-in-Some-Keyword-Skip-clause-done : goal.start-returns-in-Some-Keyword-Skip-clause-done
-start-returns-in-Some-Keyword-Skip-clause-done g t c =
-    all_done c.skip.result _ (skip_form c.in-Some-Keyword-Skip.ensures.some) c.skip.ensures.done
-
-pub start-returns-in-Some-Keyword-Skip-clause-stops : goal.start-returns-in-Some-Keyword-Skip-clause-stops
-start-returns-in-Some-Keyword-Skip-clause-stops g t c =
-    all_stop c.skip.result _ (skip_form c.in-Some-Keyword-Skip.ensures.some) c.skip.ensures.stops
-
-pub start-returns-in-Some-Name-clause-done : goal.start-returns-in-Some-Name-clause-done
-start-returns-in-Some-Name-clause-done g t c =
-    all_done c.start_of_name.result _ (name_starts c.in-Some-Name.ensures.some) c.start_of_name.ensures.done
-
-pub start-returns-in-Some-Name-clause-stops : goal.start-returns-in-Some-Name-clause-stops
-start-returns-in-Some-Name-clause-stops g t c =
-    all_stop c.start_of_name.result _ (name_starts c.in-Some-Name.ensures.some) c.start_of_name.ensures.stops
-
-pub start-returns-in-Some-Sign-OpenRound-clause-done : goal.start-returns-in-Some-Sign-OpenRound-clause-done
-start-returns-in-Some-Sign-OpenRound-clause-done g t c =
-    all_done c.start_of_brackets.result _ (bracket_form c.in-Some-Sign-OpenRound.ensures.some) c.start_of_brackets.ensures.done
-
-pub start-returns-in-Some-Sign-OpenRound-clause-stops : goal.start-returns-in-Some-Sign-OpenRound-clause-stops
-start-returns-in-Some-Sign-OpenRound-clause-stops g t c =
-    all_stop c.start_of_brackets.result _ (bracket_form c.in-Some-Sign-OpenRound.ensures.some) c.start_of_brackets.ensures.stops
-
-pub start-returns-in-Some-Keyword-Stop-clause-only : goal.start-returns-in-Some-Keyword-Stop-clause-only
-start-returns-in-Some-Keyword-Stop-clause-only g t c =
-    both_told c.stop.result c.stop.ensures.base c.stop.ensures.done (λ x is done. stop_told x is done)
-
-pub start-returns-in-Some-Keyword-Skip-clause-only : goal.start-returns-in-Some-Keyword-Skip-clause-only
-start-returns-in-Some-Keyword-Skip-clause-only g t c =
-    both_told c.skip.result c.skip.ensures.base c.skip.ensures.done (λ x is done. skip_told x is done)
-
-pub start-returns-in_default-clause-done : goal.start-returns-in_default-clause-done
-start-returns-in_default-clause-done g t c =
-    all_done c.start_of_expression.result _ (expression_form ?) c.start_of_expression.ensures.done
-
-pub start-returns-in_default-clause-stops : goal.start-returns-in_default-clause-stops
-start-returns-in_default-clause-stops g t c =
-    all_stop c.start_of_expression.result _ (expression_form ?) c.start_of_expression.ensures.stops
-
-pub start-returns-in_default-clause-only : goal.start-returns-in_default-clause-only
-start-returns-in_default-clause-only g t c =
-    both_told c.start_of_expression.result c.start_of_expression.ensures.done c.start_of_expression.ensures.only (λ x done told. otherwise_told x ? done told)
-
 pub start_of_expression-returns-in_err-expression-clause-stops : goal.start_of_expression-returns-in_err-expression-clause-stops
 start_of_expression-returns-in_err-expression-clause-stops g t c =
     handed c.from_residual.result _ c.from_residual.ensures (expression_unguarded c.in_err-expression.ensures.stops)
@@ -584,25 +509,13 @@ pub start_of_name-returns-then-is_at-clause-only : goal.start_of_name-returns-th
 start_of_name-returns-then-is_at-clause-only g t c =
     both_told c.call_of.result c.call_of.ensures.base c.call_of.ensures.done (λ x is two. call_told x is (next_name_of c.in_ok-name.ensures.reads) (name_done c.in_ok-name.ensures.reads) two)
 
-pub start_of_name-returns-then-is_at_field-clause-done : goal.start_of_name-returns-then-is_at_field-clause-done
-start_of_name-returns-then-is_at_field-clause-done g t c =
-    all_done c.prefix_of.result _ (turn (turn (name_then (name_done c.in_ok-name.ensures.reads)) (no_arguments_here (sign_not_first signs.OpenRound (left_of c.name.new.self) (c.is_at.ensures.no c.if-is_at.false)))) (prefix_here (elim c.if-is_at_field.branch [ start_of_name-then-is_at_field w ↦ field_next (left_of c.name.new.self) (c.is_at_field.ensures.yes w.if-is_at_field.true) | start_of_name-else-is_at_field+then-is_at-2 w ↦ arrow_next (left_of c.name.new.self) (sign_first signs.Arrow (left_of c.name.new.self) (w.is_at-else-is_at_field.ensures.yes w.if-is_at-2.true)) ]))) c.prefix_of.ensures.done
-
-pub start_of_name-returns-then-is_at_field-clause-stops : goal.start_of_name-returns-then-is_at_field-clause-stops
-start_of_name-returns-then-is_at_field-clause-stops g t c =
-    all_stop c.prefix_of.result _ (turn (turn (name_then (name_done c.in_ok-name.ensures.reads)) (no_arguments_here (sign_not_first signs.OpenRound (left_of c.name.new.self) (c.is_at.ensures.no c.if-is_at.false)))) (prefix_here (elim c.if-is_at_field.branch [ start_of_name-then-is_at_field w ↦ field_next (left_of c.name.new.self) (c.is_at_field.ensures.yes w.if-is_at_field.true) | start_of_name-else-is_at_field+then-is_at-2 w ↦ arrow_next (left_of c.name.new.self) (sign_first signs.Arrow (left_of c.name.new.self) (w.is_at-else-is_at_field.ensures.yes w.if-is_at-2.true)) ]))) c.prefix_of.ensures.stops
-
-pub start_of_name-returns-then-is_at_field-clause-only : goal.start_of_name-returns-then-is_at_field-clause-only
-start_of_name-returns-then-is_at_field-clause-only g t c =
-    both_told c.prefix_of.result c.prefix_of.ensures.operand c.prefix_of.ensures.done (λ x is two. prefix_told x is (next_name_of c.in_ok-name.ensures.reads) (name_done c.in_ok-name.ensures.reads) two)
-
 pub start_of_name-returns-clause-done : goal.start_of_name-returns-clause-done
 start_of_name-returns-clause-done g t c =
-    all_done c.start_from_name.result _ (turn (turn (name_then (name_done c.in_ok-name.ensures.reads)) (no_arguments_here (sign_not_first signs.OpenRound (left_of c.name.new.self) (c.is_at.ensures.no c.if-is_at.false)))) (no_prefix_here (no_prefix_next (left_of c.name.new.self) (c.is_at_field.ensures.no c.if-is_at_field.false) (sign_not_first signs.Arrow (left_of c.name.new.self) (c.is_at-else-is_at_field.ensures.no c.if-is_at-2.false))))) c.start_from_name.ensures.done
+    all_done c.start_from_name.result _ (turn (turn (name_then (name_done c.in_ok-name.ensures.reads)) (no_arguments_here (sign_not_first signs.OpenRound (left_of c.name.new.self) (c.is_at.ensures.no c.if-is_at.false)))) (no_prefix_here (no_prefix_next (left_of c.name.new.self) (c.is_at_prefix.ensures.no c.if-is_at_prefix.false)))) c.start_from_name.ensures.done
 
 pub start_of_name-returns-clause-stops : goal.start_of_name-returns-clause-stops
 start_of_name-returns-clause-stops g t c =
-    all_stop c.start_from_name.result _ (turn (turn (name_then (name_done c.in_ok-name.ensures.reads)) (no_arguments_here (sign_not_first signs.OpenRound (left_of c.name.new.self) (c.is_at.ensures.no c.if-is_at.false)))) (no_prefix_here (no_prefix_next (left_of c.name.new.self) (c.is_at_field.ensures.no c.if-is_at_field.false) (sign_not_first signs.Arrow (left_of c.name.new.self) (c.is_at-else-is_at_field.ensures.no c.if-is_at-2.false))))) c.start_from_name.ensures.stops
+    all_stop c.start_from_name.result _ (turn (turn (name_then (name_done c.in_ok-name.ensures.reads)) (no_arguments_here (sign_not_first signs.OpenRound (left_of c.name.new.self) (c.is_at.ensures.no c.if-is_at.false)))) (no_prefix_here (no_prefix_next (left_of c.name.new.self) (c.is_at_prefix.ensures.no c.if-is_at_prefix.false)))) c.start_from_name.ensures.stops
 
 pub start_of_name-returns-clause-only : goal.start_of_name-returns-clause-only
 start_of_name-returns-clause-only g t c =
@@ -624,14 +537,6 @@ pub prefix_of-returns-clause-stops : goal.prefix_of-returns-clause-stops
 prefix_of-returns-clause-stops g t c =
     memory_only c.prefix.result _ memory c.prefix.ensures.stops
 
-pub start_from_name-returns-then-not-is_at_operator-clause-done : goal.start_from_name-returns-then-not-is_at_operator-clause-done
-start_from_name-returns-then-not-is_at_operator-clause-done g t c =
-    name_alone refl (neither_goes_on (left_of c.args.self.now) (c.is_at_operator.ensures.no c.if-not-is_at_operator.true) (sign_not_first signs.Guard (left_of c.args.self.now) (c.is_at.ensures.no c.if-not-is_at.true)))
-
-pub start_from_name-returns-then-not-is_at_operator-clause-only : goal.start_from_name-returns-then-not-is_at_operator-clause-only
-start_from_name-returns-then-not-is_at_operator-clause-only g t c =
-    none_told (OnlyBehindName (start.Name c.args.name)) refl
-
 pub start_from_name-returns-in_err-expression-clause-stops : goal.start_from_name-returns-in_err-expression-clause-stops
 start_from_name-returns-in_err-expression-clause-stops g t c =
     handed c.from_residual.result _ c.from_residual.ensures (expression_unguarded c.in_err-expression.ensures.stops)
@@ -646,7 +551,7 @@ start_from_name-returns-clause-stops g t c =
 
 pub start_from_name-returns-clause-only : goal.start_from_name-returns-clause-only
 start_from_name-returns-clause-only g t c =
-    both_told c.guarded.result c.guarded.ensures.done c.guarded.ensures.only (λ x two told. behind_name_told x c.in_ok-expression.ensures.done two (something_read c.in_ok-expression.ensures.done two ?) told)
+    both_told c.guarded.result c.guarded.ensures.done c.guarded.ensures.only (λ x two told. behind_name_told x c.in_ok-expression.ensures.done two (something_read c.in_ok-expression.ensures.done two (elim c.else-not-is_at_operator.branch [ start_from_name-else-not-is_at_operator-via-then-not-is_at_operator+else-not-is_at w ↦ inr (sign_first signs.Guard (left_of c.args.self.now) (w.is_at.ensures.yes w.if-not-is_at.false)) | start_from_name-else-not-is_at_operator-via-else-not-is_at_operator w ↦ inl (c.is_at_operator.ensures.yes w.if-not-is_at_operator.false) ])) told)
 
 pub bracketed_inner-returns-in_err-sign-clause-stops : goal.bracketed_inner-returns-in_err-sign-clause-stops
 bracketed_inner-returns-in_err-sign-clause-stops g t c =
@@ -731,29 +636,21 @@ pub start_from_atom-returns-clause-only : goal.start_from_atom-returns-clause-on
 start_from_atom-returns-clause-only g t c =
     both_told c.guarded.result c.guarded.ensures.done c.guarded.ensures.only (λ x two told. atom_told x c.in_ok-expression.ensures.done two told)
 
-pub inner-returns-in_ok-process-clause-done : goal.inner-returns-in_ok-process-clause-done
-inner-returns-in_ok-process-clause-done g t c =
-    finished (process_inside ?) c.in_ok-process.ensures.done
-
-pub inner-returns-in_ok-process-clause-only : goal.inner-returns-in_ok-process-clause-only
-inner-returns-in_ok-process-clause-only g t c =
-    record { tells = λ r is closing h. no_expression_inside ? r _ is h }
-
 pub inner-returns-in_err-process-clause-stops : goal.inner-returns-in_err-process-clause-stops
 inner-returns-in_err-process-clause-stops g t c =
-    handed c.from_residual.result _ c.from_residual.ensures (stopped (process_inside ?) c.in_err-process.ensures.stops)
+    handed c.from_residual.result _ c.from_residual.ensures (stopped (process_inside (opening_next (left_of c.args.self.now) (c.is_at_process.ensures.yes c.if-is_at_process.true))) c.in_err-process.ensures.stops)
 
 pub inner-returns-in_err-name-clause-stops : goal.inner-returns-in_err-name-clause-stops
 inner-returns-in_err-name-clause-stops g t c =
-    handed c.from_residual-in_err-name.result _ c.from_residual-in_err-name.ensures (stopped (inner_form ?) (inner_start_stops c.in_err-name.ensures.stops))
+    handed c.from_residual-in_err-name.result _ c.from_residual-in_err-name.ensures (stopped (inner_form (opens_none (left_of c.args.self.now) (c.is_at_process.ensures.no c.if-is_at_process.false).0 (c.is_at_process.ensures.no c.if-is_at_process.false).1)) (inner_start_stops c.in_err-name.ensures.stops))
 
 pub inner-returns-in-Name-clause-done : goal.inner-returns-in-Name-clause-done
 inner-returns-in-Name-clause-done g t c =
-    all_done c.inner_from_name.result _ (turn (inner_form ?) (inner_base c.in_ok-name.ensures.done (name_base (subst (ReadsStart (standing_of c.args.self.now) (standing_of c.start.new.self)) c.in-Name.is c.in_ok-name.ensures.reads) c.in_ok-name.ensures.done))) c.inner_from_name.ensures.done
+    all_done c.inner_from_name.result _ (turn (inner_form (opens_none (left_of c.args.self.now) (c.is_at_process.ensures.no c.if-is_at_process.false).0 (c.is_at_process.ensures.no c.if-is_at_process.false).1)) (inner_base c.in_ok-name.ensures.done (name_base (subst (ReadsStart (standing_of c.args.self.now) (standing_of c.start.new.self)) c.in-Name.is c.in_ok-name.ensures.reads) c.in_ok-name.ensures.done))) c.inner_from_name.ensures.done
 
 pub inner-returns-in-Name-clause-stops : goal.inner-returns-in-Name-clause-stops
 inner-returns-in-Name-clause-stops g t c =
-    all_stop c.inner_from_name.result _ (turn (inner_form ?) (inner_base c.in_ok-name.ensures.done (name_base (subst (ReadsStart (standing_of c.args.self.now) (standing_of c.start.new.self)) c.in-Name.is c.in_ok-name.ensures.reads) c.in_ok-name.ensures.done))) c.inner_from_name.ensures.stops
+    all_stop c.inner_from_name.result _ (turn (inner_form (opens_none (left_of c.args.self.now) (c.is_at_process.ensures.no c.if-is_at_process.false).0 (c.is_at_process.ensures.no c.if-is_at_process.false).1)) (inner_base c.in_ok-name.ensures.done (name_base (subst (ReadsStart (standing_of c.args.self.now) (standing_of c.start.new.self)) c.in-Name.is c.in_ok-name.ensures.reads) c.in_ok-name.ensures.done))) c.inner_from_name.ensures.stops
 
 pub inner-returns-in-Name-clause-only : goal.inner-returns-in-Name-clause-only
 inner-returns-in-Name-clause-only g t c =
@@ -761,23 +658,23 @@ inner-returns-in-Name-clause-only g t c =
 
 pub inner-returns-in-Expression-clause-done : goal.inner-returns-in-Expression-clause-done
 inner-returns-in-Expression-clause-done g t c =
-    finished (turn (inner_form ?) (inner_expression c.in_ok-name.ensures.done (_, front_is (subst (ReadsStart (standing_of c.args.self.now) (standing_of c.start.new.self)) c.in-Expression.is c.in_ok-name.ensures.reads) c.in_ok-name.ensures.done) (told_of (subst (λ x. Tells (OnlyStart x) (standing_of c.args.self.now) (standing_of c.start.new.self)) c.in-Expression.is c.in_ok-name.ensures.only) c.in_ok-name.ensures.done))) at_once
+    finished (turn (inner_form (opens_none (left_of c.args.self.now) (c.is_at_process.ensures.no c.if-is_at_process.false).0 (c.is_at_process.ensures.no c.if-is_at_process.false).1)) (inner_expression c.in_ok-name.ensures.done (_, front_is (subst (ReadsStart (standing_of c.args.self.now) (standing_of c.start.new.self)) c.in-Expression.is c.in_ok-name.ensures.reads) c.in_ok-name.ensures.done) (told_of (subst (λ x. Tells (OnlyStart x) (standing_of c.args.self.now) (standing_of c.start.new.self)) c.in-Expression.is c.in_ok-name.ensures.only) c.in_ok-name.ensures.done))) at_once
 
 pub inner-returns-in-Expression-clause-only : goal.inner-returns-in-Expression-clause-only
 inner-returns-in-Expression-clause-only g t c =
-    told_once (OnlyInner (left_of c.start.new.self) (inner.Expression c.in-Expression.expression)) c.in_ok-name.ensures.done (λ h. no_process ? c.in_ok-name.ensures.done (told_of (subst (λ x. Tells (OnlyStart x) (standing_of c.args.self.now) (standing_of c.start.new.self)) c.in-Expression.is c.in_ok-name.ensures.only) c.in_ok-name.ensures.done) h)
+    told_once (OnlyInner (left_of c.start.new.self) (inner.Expression c.in-Expression.expression)) c.in_ok-name.ensures.done (λ h. no_process (opens_none (left_of c.args.self.now) (c.is_at_process.ensures.no c.if-is_at_process.false).0 (c.is_at_process.ensures.no c.if-is_at_process.false).1) c.in_ok-name.ensures.done (told_of (subst (λ x. Tells (OnlyStart x) (standing_of c.args.self.now) (standing_of c.start.new.self)) c.in-Expression.is c.in_ok-name.ensures.only) c.in_ok-name.ensures.done) h)
 
 pub inner-returns-in-Base-clause-done : goal.inner-returns-in-Base-clause-done
 inner-returns-in-Base-clause-done g t c =
     let read = subst (ReadsStart (standing_of c.args.self.now) (standing_of c.start.new.self)) c.in-Base.is c.in_ok-name.ensures.reads in
     let told = subst (λ x. Tells (OnlyStart x) (standing_of c.args.self.now) (standing_of c.start.new.self)) c.in-Base.is c.in_ok-name.ensures.only in
-    all_done c.inner_process.result _ (turn (inner_form ?) (inner_base c.in_ok-name.ensures.done (_, front_is read c.in_ok-name.ensures.done))) c.inner_process.ensures.done
+    all_done c.inner_process.result _ (turn (inner_form (opens_none (left_of c.args.self.now) (c.is_at_process.ensures.no c.if-is_at_process.false).0 (c.is_at_process.ensures.no c.if-is_at_process.false).1)) (inner_base c.in_ok-name.ensures.done (_, front_is read c.in_ok-name.ensures.done))) c.inner_process.ensures.done
 
 pub inner-returns-in-Base-clause-stops : goal.inner-returns-in-Base-clause-stops
 inner-returns-in-Base-clause-stops g t c =
     let read = subst (ReadsStart (standing_of c.args.self.now) (standing_of c.start.new.self)) c.in-Base.is c.in_ok-name.ensures.reads in
     let told = subst (λ x. Tells (OnlyStart x) (standing_of c.args.self.now) (standing_of c.start.new.self)) c.in-Base.is c.in_ok-name.ensures.only in
-    all_stop c.inner_process.result _ (turn (inner_form ?) (inner_base c.in_ok-name.ensures.done (_, front_is read c.in_ok-name.ensures.done))) c.inner_process.ensures.stops
+    all_stop c.inner_process.result _ (turn (inner_form (opens_none (left_of c.args.self.now) (c.is_at_process.ensures.no c.if-is_at_process.false).0 (c.is_at_process.ensures.no c.if-is_at_process.false).1)) (inner_base c.in_ok-name.ensures.done (_, front_is read c.in_ok-name.ensures.done))) c.inner_process.ensures.stops
 
 pub inner-returns-in-Base-clause-only : goal.inner-returns-in-Base-clause-only
 inner-returns-in-Base-clause-only g t c =
@@ -789,13 +686,13 @@ pub inner-returns-in-Operand-clause-done : goal.inner-returns-in-Operand-clause-
 inner-returns-in-Operand-clause-done g t c =
     let read = subst (ReadsStart (standing_of c.args.self.now) (standing_of c.start.new.self)) c.in-Operand.is c.in_ok-name.ensures.reads in
     let told = subst (λ x. Tells (OnlyStart x) (standing_of c.args.self.now) (standing_of c.start.new.self)) c.in-Operand.is c.in_ok-name.ensures.only in
-    all_done c.inner_process-in-Operand.result _ (turn (inner_form ?) (inner_operand c.in_ok-name.ensures.done (_, front_is read c.in_ok-name.ensures.done) (told_of told c.in_ok-name.ensures.done).1)) c.inner_process-in-Operand.ensures.done
+    all_done c.inner_process-in-Operand.result _ (turn (inner_form (opens_none (left_of c.args.self.now) (c.is_at_process.ensures.no c.if-is_at_process.false).0 (c.is_at_process.ensures.no c.if-is_at_process.false).1)) (inner_operand c.in_ok-name.ensures.done (_, front_is read c.in_ok-name.ensures.done) (told_of told c.in_ok-name.ensures.done).1)) c.inner_process-in-Operand.ensures.done
 
 pub inner-returns-in-Operand-clause-stops : goal.inner-returns-in-Operand-clause-stops
 inner-returns-in-Operand-clause-stops g t c =
     let read = subst (ReadsStart (standing_of c.args.self.now) (standing_of c.start.new.self)) c.in-Operand.is c.in_ok-name.ensures.reads in
     let told = subst (λ x. Tells (OnlyStart x) (standing_of c.args.self.now) (standing_of c.start.new.self)) c.in-Operand.is c.in_ok-name.ensures.only in
-    all_stop c.inner_process-in-Operand.result _ (turn (inner_form ?) (inner_operand c.in_ok-name.ensures.done (_, front_is read c.in_ok-name.ensures.done) (told_of told c.in_ok-name.ensures.done).1)) c.inner_process-in-Operand.ensures.stops
+    all_stop c.inner_process-in-Operand.result _ (turn (inner_form (opens_none (left_of c.args.self.now) (c.is_at_process.ensures.no c.if-is_at_process.false).0 (c.is_at_process.ensures.no c.if-is_at_process.false).1)) (inner_operand c.in_ok-name.ensures.done (_, front_is read c.in_ok-name.ensures.done) (told_of told c.in_ok-name.ensures.done).1)) c.inner_process-in-Operand.ensures.stops
 
 pub inner-returns-in-Operand-clause-only : goal.inner-returns-in-Operand-clause-only
 inner-returns-in-Operand-clause-only g t c =
@@ -850,3 +747,107 @@ guarded-returns-clause-stops g t c =
 pub guarded-returns-clause-only : goal.guarded-returns-clause-only
 guarded-returns-clause-only g t c =
     IfOk-weaker c.guard.result _ _ (λ x is. guard_read_told x is c.in_ok-body.ensures.done) c.guard.ensures.operand
+
+pub inner_from_name-returns-then-is_at-clause-only : goal.inner_from_name-returns-then-is_at-clause-only
+inner_from_name-returns-then-is_at-clause-only g t c =
+    none_told (OnlyBehindInner {A = g.row.A.Denot} (left_of c.args.self.now) (inner.Name c.args.name)) tt
+
+pub operand-returns-clause-done : goal.operand-returns-clause-done
+operand-returns-clause-done g t c =
+    operand_done c.in_ok-name.ensures.done (_, front_is (subst (ReadsStart (standing_of c.args.self.now) (standing_of c.start.new.self)) c.in-Operand.is c.in_ok-name.ensures.reads) c.in_ok-name.ensures.done)
+
+pub start_from_name-returns-then-not-is_at-clause-done : goal.start_from_name-returns-then-not-is_at-clause-done
+start_from_name-returns-then-not-is_at-clause-done g t c =
+    name_alone refl (neither_goes_on (left_of c.args.self.now) (c.is_at_operator.ensures.no c.if-not-is_at_operator.true) (sign_not_first signs.Guard (left_of c.args.self.now) (c.is_at.ensures.no c.if-not-is_at.true)))
+
+pub start_from_name-returns-then-not-is_at-clause-only : goal.start_from_name-returns-then-not-is_at-clause-only
+start_from_name-returns-then-not-is_at-clause-only g t c =
+    none_told (OnlyBehindName (start.Name c.args.name)) refl
+
+pub start-returns-then-is_at_word-clause-done : goal.start-returns-then-is_at_word-clause-done
+start-returns-then-is_at_word-clause-done g t c =
+    all_done c.stop.result _ (stop_form (c.is_at_word.ensures.yes c.if-is_at_word.true)) c.stop.ensures.done
+
+pub start-returns-then-is_at_word-clause-stops : goal.start-returns-then-is_at_word-clause-stops
+start-returns-then-is_at_word-clause-stops g t c =
+    all_stop c.stop.result _ (stop_form (c.is_at_word.ensures.yes c.if-is_at_word.true)) c.stop.ensures.stops
+
+pub start-returns-then-is_at_word-2-clause-done : goal.start-returns-then-is_at_word-2-clause-done
+start-returns-then-is_at_word-2-clause-done g t c =
+    all_done c.skip.result _ (skip_form (c.is_at_word-2.ensures.yes c.if-is_at_word-2.true)) c.skip.ensures.done
+
+pub start-returns-then-is_at_word-2-clause-stops : goal.start-returns-then-is_at_word-2-clause-stops
+start-returns-then-is_at_word-2-clause-stops g t c =
+    all_stop c.skip.result _ (skip_form (c.is_at_word-2.ensures.yes c.if-is_at_word-2.true)) c.skip.ensures.stops
+
+pub start-returns-then-is_at_name-clause-done : goal.start-returns-then-is_at_name-clause-done
+start-returns-then-is_at_name-clause-done g t c =
+    all_done c.start_of_name.result _ (name_starts (c.is_at_name.ensures.yes c.if-is_at_name.true)) c.start_of_name.ensures.done
+
+pub start-returns-then-is_at_name-clause-stops : goal.start-returns-then-is_at_name-clause-stops
+start-returns-then-is_at_name-clause-stops g t c =
+    all_stop c.start_of_name.result _ (name_starts (c.is_at_name.ensures.yes c.if-is_at_name.true)) c.start_of_name.ensures.stops
+
+pub start-returns-then-is_at-clause-done : goal.start-returns-then-is_at-clause-done
+start-returns-then-is_at-clause-done g t c =
+    all_done c.start_of_brackets.result _ (bracket_form (c.is_at.ensures.yes c.if-is_at.true)) c.start_of_brackets.ensures.done
+
+pub start-returns-then-is_at-clause-stops : goal.start-returns-then-is_at-clause-stops
+start-returns-then-is_at-clause-stops g t c =
+    all_stop c.start_of_brackets.result _ (bracket_form (c.is_at.ensures.yes c.if-is_at.true)) c.start_of_brackets.ensures.stops
+
+pub start-returns-then-is_at_word-clause-only : goal.start-returns-then-is_at_word-clause-only
+start-returns-then-is_at_word-clause-only g t c =
+    both_told c.stop.result c.stop.ensures.base c.stop.ensures.done (λ x is done. stop_told x is done)
+
+pub start-returns-then-is_at_word-2-clause-only : goal.start-returns-then-is_at_word-2-clause-only
+start-returns-then-is_at_word-2-clause-only g t c =
+    both_told c.skip.result c.skip.ensures.base c.skip.ensures.done (λ x is done. skip_told x is done)
+
+pub start-returns-clause-done : goal.start-returns-clause-done
+start-returns-clause-done g t c =
+    all_done c.start_of_expression.result _ (expression_form (starts_none (left_of c.args.self.now) (c.is_at_word.ensures.no c.if-is_at_word.false) (c.is_at_word-2.ensures.no c.if-is_at_word-2.false) (c.is_at_name.ensures.no c.if-is_at_name.false) (c.is_at.ensures.no c.if-is_at.false))) c.start_of_expression.ensures.done
+
+pub start-returns-clause-stops : goal.start-returns-clause-stops
+start-returns-clause-stops g t c =
+    all_stop c.start_of_expression.result _ (expression_form (starts_none (left_of c.args.self.now) (c.is_at_word.ensures.no c.if-is_at_word.false) (c.is_at_word-2.ensures.no c.if-is_at_word-2.false) (c.is_at_name.ensures.no c.if-is_at_name.false) (c.is_at.ensures.no c.if-is_at.false))) c.start_of_expression.ensures.stops
+
+pub start-returns-clause-only : goal.start-returns-clause-only
+start-returns-clause-only g t c =
+    both_told c.start_of_expression.result c.start_of_expression.ensures.done c.start_of_expression.ensures.only (λ x done told. otherwise_told x (starts_none (left_of c.args.self.now) (c.is_at_word.ensures.no c.if-is_at_word.false) (c.is_at_word-2.ensures.no c.if-is_at_word-2.false) (c.is_at_name.ensures.no c.if-is_at_name.false) (c.is_at.ensures.no c.if-is_at.false)) done told)
+
+pub inner-returns-then-is_at_process-clause-done : goal.inner-returns-then-is_at_process-clause-done
+inner-returns-then-is_at_process-clause-done g t c =
+    finished (process_inside (opening_next (left_of c.args.self.now) (c.is_at_process.ensures.yes c.if-is_at_process.true))) c.in_ok-process.ensures.done
+
+pub inner-returns-then-is_at_process-clause-only : goal.inner-returns-then-is_at_process-clause-only
+inner-returns-then-is_at_process-clause-only g t c =
+    record { tells = λ r is closing h. no_expression_inside (standing_of c.args.self.now) (opening_next (left_of c.args.self.now) (c.is_at_process.ensures.yes c.if-is_at_process.true)) r _ is h }
+
+pub start_of_name-returns-then-is_at_prefix-clause-reads : goal.start_of_name-returns-then-is_at_prefix-clause-reads
+start_of_name-returns-then-is_at_prefix-clause-reads g t c =
+    IfOk-weaker c.prefix_of.result _ _ (λ s k. k (standing_of c.args.self.now) c.in_ok-name.ensures.reads) c.prefix_of.ensures.continues
+
+pub start_of_name-returns-then-is_at_prefix-clause-done : goal.start_of_name-returns-then-is_at_prefix-clause-done
+start_of_name-returns-then-is_at_prefix-clause-done g t c =
+    all_done c.prefix_of.result _ (turn (turn (name_then (name_done c.in_ok-name.ensures.reads)) (no_arguments_here (sign_not_first signs.OpenRound (left_of c.name.new.self) (c.is_at.ensures.no c.if-is_at.false)))) (prefix_here (prefix_next (left_of c.name.new.self) (c.is_at_prefix.ensures.yes c.if-is_at_prefix.true)))) c.prefix_of.ensures.done
+
+pub start_of_name-returns-then-is_at_prefix-clause-stops : goal.start_of_name-returns-then-is_at_prefix-clause-stops
+start_of_name-returns-then-is_at_prefix-clause-stops g t c =
+    all_stop c.prefix_of.result _ (turn (turn (name_then (name_done c.in_ok-name.ensures.reads)) (no_arguments_here (sign_not_first signs.OpenRound (left_of c.name.new.self) (c.is_at.ensures.no c.if-is_at.false)))) (prefix_here (prefix_next (left_of c.name.new.self) (c.is_at_prefix.ensures.yes c.if-is_at_prefix.true)))) c.prefix_of.ensures.stops
+
+pub start_of_name-returns-then-is_at_prefix-clause-only : goal.start_of_name-returns-then-is_at_prefix-clause-only
+start_of_name-returns-then-is_at_prefix-clause-only g t c =
+    both_told c.prefix_of.result c.prefix_of.ensures.operand c.prefix_of.ensures.done (λ x is two. prefix_told x is (next_name_of c.in_ok-name.ensures.reads) (name_done c.in_ok-name.ensures.reads) two)
+
+pub process_from_base-returns-then-is_at_suffix-clause-continues : goal.process_from_base-returns-then-is_at_suffix-clause-continues
+process_from_base-returns-then-is_at_suffix-clause-continues g t c =
+    IfOk-weaker c.hidden.result _ _ (λ p k before r. read_as (λ ts h. hidden_process ts _ h) (k before (c.in_ok-renamed.ensures.continues before r))) c.hidden.ensures.continues
+
+pub process_from_base-returns-then-is_at_suffix-clause-done : goal.process_from_base-returns-then-is_at_suffix-clause-done
+process_from_base-returns-then-is_at_suffix-clause-done g t c =
+    all_done c.hidden.result _ (turn (suffixes_here (suffix_next (left_of c.args.self.now) (c.is_at_suffix.ensures.yes c.if-is_at_suffix.true))) (renamings_behind c.in_ok-renamed.ensures.done)) c.hidden.ensures.done
+
+pub process_from_base-returns-then-is_at_suffix-clause-stops : goal.process_from_base-returns-then-is_at_suffix-clause-stops
+process_from_base-returns-then-is_at_suffix-clause-stops g t c =
+    all_stop c.hidden.result _ (turn (suffixes_here (suffix_next (left_of c.args.self.now) (c.is_at_suffix.ensures.yes c.if-is_at_suffix.true))) (renamings_behind c.in_ok-renamed.ensures.done)) c.hidden.ensures.stops
