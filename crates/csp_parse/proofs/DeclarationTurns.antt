@@ -5,6 +5,7 @@ use Rattle.csp_semantics.specs.Text.Token.{Token, KeywordToken, SignToken, NameT
 use Rattle.csp_semantics.specs.Text.Raw.{RawName, RawDeclaration, RawDatatype, RawNametype, RawChannels, RawEquation, RawAssertion}
 use Rattle.csp_semantics.specs.Text.Grammar as grammar
 use Rattle.csp_semantics.specs.Text.Grammar.{IsWord, IsSign, IsName, AreNames, AreAlternatives, IsModel, IsProcess, IsDeclaration}
+use Rattle.csp_lex.specs.declared.keywords.Keyword.TheVariants as keyword
 use Rattle.csp_lex.specs.declared.kinds.TokenKind.TheVariants as kind
 use Rattle.csp_parse.specs.declared.levels.Level.TheVariants as level
 use Rattle.csp_parse.specs.declared.stops.Stopped.{Stopped}
@@ -223,6 +224,20 @@ some_declaration = let x = some_equation in (x.0, equation_is x.1)
 -- no declaration begins with the next token
 pub none_declared : {s : Standing} → (IsFirstIn declares s.left → ⊥) → IsStop (HasTree IsDeclaration) declaration_goes_on s s stop.Here
 none_declared {s} not = not_there some_declaration (λ a b alike h stops. not (first_here declares a b s.left alike (declaration_first a h)))
+
+declares_not : (t : PlacedToken) (ts : List PlacedToken) → ¬ (IsNext (kind.Keyword keyword.Datatype) (t ∷ ts)) → ¬ (IsNext (kind.Keyword keyword.Nametype) (t ∷ ts)) → ¬ (IsNext (kind.Keyword keyword.Channel) (t ∷ ts)) →
+    ¬ (IsNext (kind.Keyword keyword.Assert) (t ∷ ts)) → ¬ (IsNext kind.Name (t ∷ ts)) → (x : Token) → t.token ≡ x → declares x → ⊥
+declares_not t ts datatype nametype channel assert name (KeywordToken DatatypeWord) e is = datatype ([], e)
+declares_not t ts datatype nametype channel assert name (KeywordToken NametypeWord) e is = nametype ([], e)
+declares_not t ts datatype nametype channel assert name (KeywordToken ChannelWord) e is = channel ([], e)
+declares_not t ts datatype nametype channel assert name (KeywordToken AssertWord) e is = assert ([], e)
+declares_not t ts datatype nametype channel assert name (NameToken cs) e is = name (cs, e)
+declares_not t ts datatype nametype channel assert name _ e is = absurd (cc is)
+
+pub declares_none : (left : List PlacedToken) → ¬ (IsNext (kind.Keyword keyword.Datatype) left) → ¬ (IsNext (kind.Keyword keyword.Nametype) left) → ¬ (IsNext (kind.Keyword keyword.Channel) left) → ¬ (IsNext (kind.Keyword keyword.Assert) left) →
+    ¬ (IsNext kind.Name left) → IsFirstIn declares left → ⊥
+declares_none [] datatype nametype channel assert name is = is
+declares_none (t ∷ ts) datatype nametype channel assert name is = declares_not t ts datatype nametype channel assert name t.token refl is
 
 pub equation_name : {s t : Standing} → Done (HasTree IsName) nothing s t → Turns IsEquation continues_process s (Either Parameters Equated) continues_process t
 equation_name done = behind done (avoids_nothing continues_process (Either Parameters Equated))

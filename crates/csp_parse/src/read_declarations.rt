@@ -13,7 +13,7 @@ use crate::levels::Level;
 use crate::names::Name;
 use crate::parsers::Parser;
 use crate::stops::Stopped;
-use csp_lex::{Keyword, Sign, TokenKind};
+use csp_lex::{Keyword, Sign};
 use std::alloc::Allocator;
 
 impl<'t, 'a, A: Allocator + Copy> Parser<'t, 'a, A> {
@@ -48,14 +48,22 @@ impl<'t, 'a, A: Allocator + Copy> Parser<'t, 'a, A> {
         ensures stops { IfErr result (λ stopped. IsStop (HasTree IsDeclaration) declaration_goes_on (standing_of self.old) (standing_of self.new) stopped) }
         ensures shorter { IfOk result (λ _. length (left_of self.new) < length (left_of self.old)) }
     {
-        match self.kind() {
-            Some(TokenKind::Keyword(Keyword::Datatype)) => self.datatype(),
-            Some(TokenKind::Keyword(Keyword::Nametype)) => self.nametype(),
-            Some(TokenKind::Keyword(Keyword::Channel)) => self.channels(),
-            Some(TokenKind::Keyword(Keyword::Assert)) => self.assertion(),
-            Some(TokenKind::Name) => self.equation(),
-            _ => Err(Stopped::Here),
+        if self.is_at_word(Keyword::Datatype) {
+            return self.datatype();
         }
+        if self.is_at_word(Keyword::Nametype) {
+            return self.nametype();
+        }
+        if self.is_at_word(Keyword::Channel) {
+            return self.channels();
+        }
+        if self.is_at_word(Keyword::Assert) {
+            return self.assertion();
+        }
+        if self.is_at_name() {
+            return self.equation();
+        }
+        Err(Stopped::Here)
     }
 
     /// A datatype, whose keyword is next.

@@ -22,7 +22,7 @@ returns-in-Ok-clause-low g c =
     let raw = c.in-Ok.raw in
     none_too_high tokens (script_of raw) (subst (λ ts. IsLowScript ts (script_of raw)) c.new-parser.ensures c.in-Ok.ensures.reads)
 
-pub returns-in-Err-clause-refusal : goal.returns-in-Err-clause-refusal
-returns-in-Err-clause-refusal g c =
+pub returns-clause-refusal : goal.returns-clause-refusal
+returns-clause-refusal g c =
     let tokens = map placed_token c.args.list.now.tokens.items in
     refusal_of tokens (place_of c.args.list.now.end) c.refusal.ensures (subst (λ ts. IsScriptStop ts (left_of c.script.new.self) c.in-Err.stopped) c.new-parser.ensures c.in-Err.ensures.stops)

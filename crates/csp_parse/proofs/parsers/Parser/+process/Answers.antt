@@ -762,7 +762,7 @@ start_from_name-returns-then-not-is_at-clause-done g t c =
 
 pub start_from_name-returns-then-not-is_at-clause-only : goal.start_from_name-returns-then-not-is_at-clause-only
 start_from_name-returns-then-not-is_at-clause-only g t c =
-    none_told (OnlyBehindName (start.Name c.args.name)) refl
+    none_told (OnlyBehindName {A = g.row.A.Denot} (start.Name c.args.name)) refl
 
 pub start-returns-then-is_at_word-clause-done : goal.start-returns-then-is_at_word-clause-done
 start-returns-then-is_at_word-clause-done g t c =

@@ -5,7 +5,6 @@ use Rattle.csp_lex.specs.Tokens.{placed_token}
 use Rattle.csp_parse.specs.declared.refusals.GrammarFault.TheVariants as fault
 use Rattle.csp_parse.specs.Reading.{left_of}
 use Rattle.csp_parse.proofs.Refusing.{unexpected_at, too_high_at, none_at, memory_at, here_not_memory, high_not_memory}
-use Rattle.csp_parse.proofs.parsers.Parser.refusal.Goals.{in_default-None-via-in-Here+in-None, in_default-None-via-in-High+in-None}
 use Rattle.csp_parse.proofs.parsers.Parser.refusal.Goals as goal
 
 pub returns-in-Memory-default : goal.returns-in-Memory-default
@@ -24,9 +23,8 @@ returns-in-High-Some g c =
 
 pub returns-in_default-None : goal.returns-in_default-None
 returns-in_default-None g c =
-    let end = place_of c.args.end in
-    let left = left_of c.args.self.now in
-    elim c.in_default-None.branch [
-      | in_default-None-via-in-Here+in-None w ↦ none_at end left c.args.stopped fault.UnexpectedEnd c.args.end (here_not_memory w.in_default-None.is-0) w.in_default-None.ensures.none refl refl
-      | in_default-None-via-in-High+in-None w ↦ none_at end left c.args.stopped fault.UnexpectedEnd c.args.end (high_not_memory w.in_default-None.is-0) w.in_default-None.ensures.none refl refl
-    ]
+    none_at (place_of c.args.end) (left_of c.args.self.now) c.args.stopped fault.UnexpectedEnd c.args.end (here_not_memory c.in_default-None.is-0) c.in_default-None.ensures.none refl refl
+
+pub returns-in_default-None-2 : goal.returns-in_default-None-2
+returns-in_default-None-2 g c =
+    none_at (place_of c.args.end) (left_of c.args.self.now) c.args.stopped fault.UnexpectedEnd c.args.end (high_not_memory c.in_default-None.is-0) c.in_default-None.ensures.none refl refl

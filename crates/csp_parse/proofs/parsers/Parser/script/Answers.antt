@@ -19,8 +19,8 @@ script-preserved g c =
           (something_next _ (left_of c.begin_declaration.new.self) (subst (IsNext _) (sym c.in_ok-begin_declaration.ensures.same) c.in-Some.ensures.some)) c.in_ok-declaration.ensures.done;
     }
 
-pub returns-clause-reads : goal.returns-clause-reads
-returns-clause-reads g c = whole_script c.script.invariant.reads c.in_default.ensures.none
+pub returns-in_default-clause-reads : goal.returns-in_default-clause-reads
+returns-in_default-clause-reads g c = whole_script c.script.invariant.reads c.in_default.ensures.none
 
 pub returns-in_err-begin_declaration-clause-stops : goal.returns-in_err-begin_declaration-clause-stops
 returns-in_err-begin_declaration-clause-stops g c = handed c.from_residual.result _ c.from_residual.ensures (script_refused c.in_err-begin_declaration.ensures.stops)
