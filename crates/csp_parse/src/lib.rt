@@ -2,8 +2,8 @@
 //!
 //! `parse` reads the tokens once, and each of its choices is made by the next token. By its contract a
 //! tree that it answers is one that the grammar gives these tokens, with each name's spelling and place,
-//! and no token is too high for its declaration. That every such script is read, and which refusal stands
-//! where, is only tested.
+//! and no token is too high for its declaration; and a refusal is the one that the definitions give these
+//! tokens, at its place. So every script within the limit of heights is read, as long as there is memory.
 #![tactic(auto)]
 
 mod declarations;
