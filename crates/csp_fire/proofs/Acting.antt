@@ -12,31 +12,8 @@ use Rattle.csp_semantics.specs.Meaning.Offers.{IsRising, RisesBy}
 use Rattle.csp_semantics.specs.Meaning.Stepping.{Steps}
 use Rattle.csp_semantics.specs.Laws.Statements.{IsOneOf}
 use Rattle.csp_semantics.proofs.Offering.{action_refl, action_same}
+use Rattle.csp_event_tests.proofs.Truths.{or_cases, or_first, or_second}
 use Rattle.csp_fire.specs.Offering.{actions_of, actions_once, behind_action}
-
-pub or_cases : (a b : Bool) → a || b ≡ true → (a ≡ true) ⊎ (b ≡ true)
-or_cases true b e = inl refl
-or_cases false b e = inr e
-
-pub or_first : (a b : Bool) → a ≡ true → a || b ≡ true
-or_first true b e = refl
-or_first false b e = absurd (cc e)
-
-pub or_second : (a b : Bool) → b ≡ true → a || b ≡ true
-or_second true b e = refl
-or_second false b e = e
-
--- ---- members of a list of steps
-
-pub one_of_contains : (ss : Steps) (x : Action) (u : Process) → Contains ss (x, u) → IsOneOf ss x u
-one_of_contains [] x u (k, h, e) = absurd (omega arith)
-one_of_contains (s ∷ ss) x u (zero, h, e) = inl (ap (λ z. z.0) (sym e), ap (λ z. z.1) (sym e))
-one_of_contains (s ∷ ss) x u (suc k, h, e) = inr (one_of_contains ss x u (k, omega arith, e))
-
-pub contains_one_of : (ss : Steps) (x : Action) (u : Process) → IsOneOf ss x u → Contains ss (x, u)
-contains_one_of [] x u h = absurd h
-contains_one_of (s ∷ ss) x u (inl e) = (0, omega arith, λ i. (sym e.0 i, sym e.1 i))
-contains_one_of (s ∷ ss) x u (inr h) = let r = contains_one_of ss x u h in (suc r.0, omega (arith, r.1), r.2)
 
 -- ---- each action once
 

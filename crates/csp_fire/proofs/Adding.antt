@@ -4,8 +4,8 @@ use Rattle.std.proofs.lemmas.List.{take_more, map-append}
 use Rattle.std.specs.List.{slice_get}
 use Rattle.csp_semantics.specs.Syntax.Value.{Action, action_eq}
 use Rattle.csp_semantics.specs.Syntax.Process.{Process}
-use Rattle.csp_semantics.proofs.Offering.{action_refl, action_same}
 use Rattle.csp_value.proofs.Sameness.{Tells}
+use Rattle.csp_rules.proofs.Telling.{eq_of}
 use Rattle.csp_fire.specs.Offering.{actions_of, actions_once, behind_action}
 
 abbrev last_from : Action → List Action → Action
@@ -59,18 +59,6 @@ module _ {X : Type 0} (meaning : X → Action) (z : Action) where
   by_last (x ∷ xs) l b read is =
       ap (λ c. cond c (map meaning (x ∷ xs)) (map meaning (x ∷ xs) ++ z ∷ []))
       (ap (λ w. action_eq w z) (last_read meaning x xs l (ap (slice_get (x ∷ xs)) (sym (one_less (length xs))) ∙ read)) ∙ is)
-
-same_answer : (a b : Bool) → (a ≡ true → b ≡ true) → (b ≡ true → a ≡ true) → a ≡ b
-same_answer true b to back = sym (to refl)
-same_answer false true to back = back refl
-same_answer false false to back = refl
-
--- `==` of actions is that of the definitions
-pub eq_of : {X : Type 0} {test : X → X → Bool} {meaning : X → Action} → Tells test meaning → (x y : X) → action_eq (meaning x) (meaning y) ≡ test x y
-eq_of {X} {test} {meaning} told x y =
-    same_answer (action_eq (meaning x) (meaning y)) (test x y)
-    (λ e. told.complete x y (action_same (meaning x) (meaning y) e))
-    (λ e. subst (λ w. action_eq (meaning x) w ≡ true) (told.sound x y e) (action_refl (meaning x)))
 
 -- the actions of the steps so far, and of one more
 module _ {S X : Type 0} {test : X → X → Bool} (meaning : X → Action) (told : Tells test meaning) (doing : S → Action × Process) (steps : List S) (i : ℕ) (s : S) (x : X) (within : i < length steps) (read : s ≡ get_or steps i s) (acts : meaning x ≡ (doing s).0) (taken : List X) (so_far : map meaning taken ≡ actions_of (map doing (take i steps))) where

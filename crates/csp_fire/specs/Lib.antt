@@ -1,10 +1,3 @@
 pub mod Form
-pub mod Answering
-pub mod Composing
-pub mod Testing
-pub mod Sharing
 pub mod Offering
 pub mod Expansion
-pub mod Replicating
-pub mod Together
-pub mod Imaging

@@ -6,15 +6,13 @@ ghost use Rattle.csp_term.specs.Term.{process_of};
 ghost use Rattle.csp_term.specs.Script.{script_of};
 ghost use Rattle.csp_fire.specs.Form.{form_of, step_of};
 ghost use Rattle.std.specs.Option.{option_map};
-ghost use Rattle.csp_fire.specs.Answering.{all_within, answered_of};
+ghost use Rattle.csp_rules.specs.Answering.{all_within, answered_of};
 ghost use Rattle.csp_fire.specs.Offering.{IsFormByAnswer, IsFormBySteps};
 
 use crate::expansion::Expansion;
 use crate::form::{Form, Step};
 use crate::offers::offers;
-use crate::rule_step::{RuleStep, Target};
-use crate::rules::steps;
-use crate::stuck::Stuck;
+use csp_rules::{RuleStep, Stuck, Target, steps};
 use csp_term::{AllocHandle, Memory, Script, Term};
 
 /// Fires a closed term of the script. The expansion names the script and the term that were handed in.

@@ -5,19 +5,10 @@
 //! target, each once, and the acceptances, sorted, each once; or the fault; or that a step leads past the limits.
 #![tactic(auto)]
 
-mod composition;
-mod context;
-mod event_test;
 mod expansion;
 mod firing;
 mod form;
-mod images;
-mod meeting;
 mod offers;
-mod rule_step;
-mod rules;
-mod sharing;
-mod stuck;
 
 pub use expansion::Expansion;
 pub use firing::fire;

@@ -3,6 +3,8 @@
 //! reads.
 //!
 //! The tests stand in a crate above the libraries, since a crate is proved anew for the tests that it has of its own.
+//! `evaluated` is there without tests too: it drops evaluated sets and renamings, which wants proofs, and a proof file has
+//! to have its function whether the tests are looked at or not.
 #![tactic(auto)]
 
 #[cfg(test)]
@@ -14,11 +16,12 @@ mod conditions;
 #[cfg(test)]
 mod copies;
 #[cfg(test)]
+mod counts;
+#[cfg(test)]
 mod decisions;
+mod evaluated;
 #[cfg(test)]
 mod event_sets;
-#[cfg(test)]
-mod events;
 #[cfg(test)]
 mod events_changed;
 #[cfg(test)]
@@ -26,11 +29,15 @@ mod expressions;
 #[cfg(test)]
 mod faults;
 #[cfg(test)]
+mod fired_in_little_room;
+#[cfg(test)]
 mod limits;
 #[cfg(test)]
 mod literals;
 #[cfg(test)]
-mod memory;
+mod lookups;
+#[cfg(test)]
+mod made_in_little_room;
 #[cfg(test)]
 mod names;
 #[cfg(test)]
@@ -47,6 +54,10 @@ mod puts;
 mod replicated;
 #[cfg(test)]
 mod rows;
+#[cfg(test)]
+mod rule_steps;
+#[cfg(test)]
+mod samples;
 #[cfg(test)]
 mod script;
 #[cfg(test)]

@@ -1,7 +1,8 @@
 //! Texts that say of terms what they do. A text has a term as `T`, and behind it what is said of that term:
 //!
 //! - `VALUE` and `CAUSE` of expressions, as `values` reads them. They need no term.
-//! - `PUT` and `BOUND`, as `puts` reads them, and `MEASURES`, as `sizes` reads it.
+//! - `PUT` and `BOUND`, as `puts` reads them, `MEASURES`, as `sizes` reads it, and `HAS`, `LACKS`, `MAKES` and `NONE`, as
+//!   `lookups` reads them.
 //! - `DOES`: the steps, in order, as prefixes with `[]` between. `tau` and `tick` are no channels, and `STOP` is no step.
 //! - `OFFERS`: the acceptances, in order, each as prefixes before `STOP` with `[]` between, and `|~|` between two
 //!   acceptances. `STOP` is the empty one, and `NOTHING` stands for none.
@@ -13,7 +14,7 @@ use crate::names::channel;
 use crate::script::script;
 use crate::terms::term;
 use crate::texts::read;
-use crate::{puts, sizes, values};
+use crate::{lookups, puts, sizes, values};
 use csp_fire::{Form, Step, fire};
 use csp_parse::{Declaration, Expression, Field, Infix, Name, Process, Raw};
 use csp_term::{Action, Event, Script};
@@ -32,7 +33,7 @@ fn value(
     Ok(expression.eval(&script.types, alloc)?)
 }
 
-fn event(
+pub(crate) fn event(
     alloc: Global,
     script: &Script<Global>,
     name: Name<'_>,
@@ -233,6 +234,9 @@ fn is_so<'t>(
     }
     if name.text == "MEASURES" {
         return sizes::is_so(alloc, of, said);
+    }
+    if name.text == "HAS" || name.text == "LACKS" || name.text == "MAKES" || name.text == "NONE" {
+        return lookups::is_so(alloc, script, of, name, said);
     }
     is_fired_so(alloc, script, of, name, said)
 }

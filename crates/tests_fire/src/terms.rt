@@ -1,6 +1,6 @@
 //! Terms of texts.
 
-use crate::events::{event_set, pairs};
+use crate::event_sets::{event_set, pairs};
 use crate::expressions::{expression, expressions};
 use crate::names::{bound, channel, equation};
 use csp_parse::{Expression, Field as RawField, Infix, Name, Process, Replicator};

@@ -4,7 +4,7 @@ use Rattle.std.proofs.lemmas.Bool.{eq-eqb, ne_eqb}
 use Rattle.csp_value.specs.Action.{action_of}
 use Rattle.csp_fire.specs.Form.{step_of}
 use Rattle.csp_fire.specs.Offering.{actions_of, has_tau, has_tick, tick_offer}
-use Rattle.csp_fire.proofs.Parameters.{same_length}
+use Rattle.std.proofs.lemmas.List.{length-map}
 use Rattle.csp_fire.proofs.Offered.{with_tick, without_tick, unstable, only_tick, stable}
 use Rattle.csp_fire.proofs.offers.offers.Goals as goal
 use Rattle.csp_fire.proofs.offers.offers.Goals.{then-ticks+in_ok-tick_alone+in_ok-push, else-ticks}
@@ -30,7 +30,7 @@ returns g c =
       | else-ticks w ↦ without_tick (λ xs. map action_of xs.items) ss offers (tick ∙ w.if-ticks.false) (ap (λ v. v.items) w.offers-is ∙ c.new-offers.ensures.items)
     ] in
     let unstable : has_tau ss ≡ false = sym c.has_tau.ensures ∙ c.if-has_tau.false in
-    let many : length c.in_ok-all.all.items ≡ length (actions_of ss) = sym (same_length action_of c.in_ok-all.all.items) ∙ ap length c.in_ok-all.ensures in
+    let many : length c.in_ok-all.all.items ≡ length (actions_of ss) = sym (length-map c.in_ok-all.all.items action_of) ∙ ap length c.in_ok-all.ensures in
     elim c.if-not-ticks.branch [
       | then-not-ticks+in_ok-push-2 w ↦
           let only : has_tick ss && nat_eq (length (actions_of ss)) 1 ≡ false = elim w.then-not-ticks.branch [

@@ -1,0 +1,230 @@
+-- Given fields one after the other, each evaluated and then compared with its set.
+use Rattle.std.proofs.Common.{◌≡◌, ℕ, zero, suc, ◌+◌, ◌<◌, nat_eq, Bool, true, false, cond, List, [], ◌∷◌, ◌++◌, length, take, drop, get_or, slice_get, Some, None, Result, Ok, Err, refl, sym, ◌∙◌, ap, arith}
+use Rattle.std.proofs.lemmas.Bool.{eq-eqb, eqb-true}
+use Rattle.std.proofs.lemmas.List.{drop_more, length-map, length-take-le, map-append, take-append-drop, take_more}
+use Rattle.std.specs.Result.{result_err, result_ok}
+use Rattle.csp_semantics.specs.Syntax.Value.{Event, Value, has_value}
+use Rattle.csp_semantics.specs.Syntax.Expression.{Expression, Expressions, expression_and, to_expressions}
+use Rattle.csp_semantics.specs.Syntax.Process.{EventExpression, Script}
+use Rattle.csp_semantics.specs.Meaning.Evaluation.{Cause, IllKinded, OutOfRange, Types, ◌and_then◌, value}
+use Rattle.csp_semantics.specs.Meaning.Events.{beginning_of, event_of, field_sets, given_values, in_field_set}
+use Rattle.csp_value.specs.declared.field_set.FieldSet.{FieldSet}
+use Rattle.csp_value.specs.declared.value.Value as code
+use Rattle.csp_value.specs.Value.{value_of, values_of}
+use Rattle.csp_expression.specs.declared.expr.Expr.{Expr}
+use Rattle.csp_expression.specs.Expression.{expression_of, expressions_of}
+use Rattle.csp_expression.proofs.Forming.{get_none, get_some}
+use Rattle.csp_expression.specs.Fault.{cause_of}
+use Rattle.csp_term.specs.Script.{field_values}
+use Rattle.csp_event_tests.specs.declared.stuck.Stuck.{Stuck}
+use Rattle.csp_event_tests.specs.declared.stuck.Stuck.TheVariants as stuck
+use Rattle.csp_event_tests.specs.Testing.{AreGivenBy, AreSetsOf, IsEventOf, IsGivenBy, given, sets_of}
+
+-- ---- what is left of a list
+
+-- there is a set for the next field
+drop_at : {X : Type 0} (xs : List X) (i : ℕ) (x : X) → slice_get xs i ≡ Some x → drop i xs ≡ x ∷ drop (suc i) xs
+drop_at [] i x at = absurd (cc at)
+drop_at (y ∷ ys) zero x at = let f : Some y ≡ Some x = at in let e : y ≡ x = cc f in ap (λ z. z ∷ ys) e
+drop_at (y ∷ ys) (suc i) x at = drop_at ys i x at
+
+-- there is none
+drop_past : {X : Type 0} (xs : List X) (i : ℕ) → slice_get xs i ≡ None → drop i xs ≡ []
+drop_past [] zero at = refl
+drop_past [] (suc i) at = refl
+drop_past (y ∷ ys) zero at = absurd (cc at)
+drop_past (y ∷ ys) (suc i) at = drop_past ys i at
+
+module _ (types : Types) where
+  -- ---- the first field, and those behind it
+
+  -- what is done with a value that lies in its set
+  by_given : (r : Result Value Cause) (set : List Value) (k : Value → Result (List Value) Cause) → (r and_then λ v. in_field_set set v and_then λ w. k v) ≡ ((r and_then λ v. in_field_set set v) and_then λ v. k v)
+  by_given (Ok v) set k = by_test (has_value set v)
+    where
+      by_test : (b : Bool) → (cond b (Ok v) (Err OutOfRange) and_then λ w. k v) ≡ (cond b (Ok v) (Err OutOfRange) and_then λ w. k w)
+      by_test true = refl
+      by_test false = refl
+  by_given (Err c) set k = refl
+
+  -- the first field
+  first_given : (e : Expression) (es : Expressions) (set : List Value) (sets : List (List Value)) → given_values types (expression_and e es) (set ∷ sets) ≡ (given types e set and_then λ v. given_values types es sets and_then λ vs. Ok (v ∷ vs))
+  first_given e es set sets = by_given (value types e) set (λ v. given_values types es sets and_then λ vs. Ok (v ∷ vs))
+
+  -- some fields, and those behind them
+  given_both : (es fs : List Expression) (sets : List (List Value)) →
+      given_values types (to_expressions (es ++ fs)) sets ≡ (given_values types (to_expressions es) sets and_then λ vs. given_values types (to_expressions fs) (drop (length es) sets) and_then λ ws. Ok (vs ++ ws))
+  given_both [] fs sets = alone (given_values types (to_expressions fs) sets)
+    where
+      alone : (r : Result (List Value) Cause) → r ≡ (r and_then λ ws. Ok ws)
+      alone (Ok ws) = refl
+      alone (Err c) = refl
+  given_both (e ∷ es) fs [] = refl
+  given_both (e ∷ es) fs (set ∷ sets) =
+      first_given e (to_expressions (es ++ fs)) set sets ∙ by_first (given types e set) (given_both es fs sets)
+      ∙ ap (λ r. r and_then λ vs. given_values types (to_expressions fs) (drop (length es) sets) and_then λ ws. Ok (vs ++ ws)) (sym (first_given e (to_expressions es) set sets))
+    where
+      behind : Result (List Value) Cause
+      behind = given_values types (to_expressions fs) (drop (length es) sets)
+
+      by_last : (v : Value) (vs : List Value) (r : Result (List Value) Cause) → ((r and_then λ ws. Ok (vs ++ ws)) and_then λ us. Ok (v ∷ us)) ≡ (r and_then λ ws. Ok ((v ∷ vs) ++ ws))
+      by_last v vs (Ok ws) = refl
+      by_last v vs (Err c) = refl
+
+      by_rest : (v : Value) (r : Result (List Value) Cause) → ((r and_then λ vs. behind and_then λ ws. Ok (vs ++ ws)) and_then λ us. Ok (v ∷ us)) ≡ ((r and_then λ vs. Ok (v ∷ vs)) and_then λ vs. behind and_then λ ws. Ok (vs ++ ws))
+      by_rest v (Ok vs) = by_last v vs behind
+      by_rest v (Err c) = refl
+
+      by_first : (r : Result Value Cause) → given_values types (to_expressions (es ++ fs)) sets ≡ (given_values types (to_expressions es) sets and_then λ vs. behind and_then λ ws. Ok (vs ++ ws)) →
+          (r and_then λ v. given_values types (to_expressions (es ++ fs)) sets and_then λ us. Ok (v ∷ us)) ≡ ((r and_then λ v. given_values types (to_expressions es) sets and_then λ vs. Ok (v ∷ vs)) and_then λ vs. behind and_then λ ws. Ok (vs ++ ws))
+      by_first (Ok v) rest = ap (λ r. r and_then λ us. Ok (v ∷ us)) rest ∙ by_rest v (given_values types (to_expressions es) sets)
+      by_first (Err c) rest = refl
+
+  -- ---- one field more
+
+  module _ (es : List Expression) (vs : List Value) (sets : List (List Value)) (so_far : given_values types (to_expressions es) sets ≡ Ok vs) (e : Expression) where
+    -- the values so far do not hang on what follows
+    after : (fs : List Expression) → given_values types (to_expressions (es ++ e ∷ fs)) sets ≡ (given_values types (expression_and e (to_expressions fs)) (drop (length es) sets) and_then λ ws. Ok (vs ++ ws))
+    after fs = given_both es (e ∷ fs) sets ∙ ap (λ r. r and_then λ us. given_values types (expression_and e (to_expressions fs)) (drop (length es) sets) and_then λ ws. Ok (us ++ ws)) so_far
+
+    -- so where there is a set for the field
+    after_set : (fs : List Expression) (set : List Value) → slice_get sets (length es) ≡ Some set →
+        given_values types (to_expressions (es ++ e ∷ fs)) sets ≡ ((given types e set and_then λ v. given_values types (to_expressions fs) (drop (suc (length es)) sets) and_then λ ws. Ok (v ∷ ws)) and_then λ ws. Ok (vs ++ ws))
+    after_set fs set at =
+        after fs ∙ ap (λ zs. given_values types (expression_and e (to_expressions fs)) zs and_then λ ws. Ok (vs ++ ws)) (drop_at sets (length es) set at)
+        ∙ ap (λ r. r and_then λ ws. Ok (vs ++ ws)) (first_given e (to_expressions fs) set (drop (suc (length es)) sets))
+
+    -- its value is the next
+    one_given : (set : List Value) (v : Value) → slice_get sets (length es) ≡ Some set → given types e set ≡ Ok v → given_values types (to_expressions (es ++ e ∷ [])) sets ≡ Ok (vs ++ v ∷ [])
+    one_given set v at one = after_set [] set at ∙ ap (λ r. (r and_then λ w. Ok (w ∷ [])) and_then λ ws. Ok (vs ++ ws)) one
+
+    -- it has no value
+    one_stops : (fs : List Expression) (set : List Value) (c : Cause) → slice_get sets (length es) ≡ Some set → given types e set ≡ Err c → given_values types (to_expressions (es ++ e ∷ fs)) sets ≡ Err c
+    one_stops fs set c at none = after_set fs set at ∙ ap (λ r. (r and_then λ w. given_values types (to_expressions fs) (drop (suc (length es)) sets) and_then λ ws. Ok (w ∷ ws)) and_then λ ws. Ok (vs ++ ws)) none
+
+    -- it has no set
+    one_too_many : (fs : List Expression) → slice_get sets (length es) ≡ None → given_values types (to_expressions (es ++ e ∷ fs)) sets ≡ Err IllKinded
+    one_too_many fs at = after fs ∙ ap (λ zs. given_values types (expression_and e (to_expressions fs)) zs and_then λ ws. Ok (vs ++ ws)) (drop_past sets (length es) at)
+
+  -- ---- along the fields of the code
+
+  -- the values of the first i fields are these
+  abbrev pub GivenSoFar : {A : Type 0} → List (Expr A) → List (FieldSet A) → ℕ → List (code.Value A) → Type 0
+  GivenSoFar items sets i all = given_values types (to_expressions (expressions_of (take i items))) (sets_of sets) ≡ Ok (values_of all)
+
+  module _ {A : Type 0} (items : List (Expr A)) (sets : List (FieldSet A)) (i : ℕ) (item : Expr A) (all : List (code.Value A)) (so_far : GivenSoFar items sets i all) (within : i < length items) (read : item ≡ get_or items i item) where
+    -- so many fields are before it
+    counted : length (expressions_of (take i items)) ≡ i
+    counted = length-map (take i items) expression_of ∙ length-take-le i items (omega (arith, within))
+
+    -- its set
+    set_at : (set : FieldSet A) → slice_get sets i ≡ Some set → slice_get (sets_of sets) (length (expressions_of (take i items))) ≡ Some (field_values set)
+    set_at set at = ap (slice_get (sets_of sets)) counted ∙ get_some field_values sets i set at
+
+    -- the fields before it, itself and those behind it
+    split : expressions_of items ≡ expressions_of (take i items) ++ expression_of item ∷ expressions_of (drop (i + 1) items)
+    split =
+        ap expressions_of (sym (take-append-drop i items) ∙ ap (λ zs. take i items ++ zs) (drop_more items i item within ∙ ap (λ z. z ∷ drop (i + 1) items) (sym read)))
+        ∙ map-append expression_of (take i items) (item ∷ drop (i + 1) items)
+
+    -- its value is the next
+    pub next_given : (set : FieldSet A) (v : code.Value A) (more : List (code.Value A)) → slice_get sets i ≡ Some set → given types (expression_of item) (field_values set) ≡ Ok (value_of v) → more ≡ all ++ v ∷ [] → GivenSoFar items sets (i + 1) more
+    next_given set v more at one pushed =
+        let longer = ap expressions_of (take_more items i item within ∙ ap (λ z. take i items ++ z ∷ []) (sym read)) ∙ map-append expression_of (take i items) (item ∷ []) in
+        ap (λ es. given_values types (to_expressions es) (sets_of sets)) longer ∙ one_given (expressions_of (take i items)) (values_of all) (sets_of sets) so_far (expression_of item) (field_values set) (value_of v) (set_at set at) one
+        ∙ ap Ok (sym (map-append value_of all (v ∷ [])) ∙ ap values_of (sym pushed))
+
+    -- it has no value
+    pub given_stops : (set : FieldSet A) (why : Stuck) → slice_get sets i ≡ Some set → IsGivenBy {A = A} (Err why) (given types (expression_of item) (field_values set)) → AreGivenBy {A = A} (Err why) (given_values types (to_expressions (expressions_of items)) (sets_of sets))
+    given_stops set (stuck.Fault c) at none =
+        ap (λ es. given_values types (to_expressions es) (sets_of sets)) split
+        ∙ one_stops (expressions_of (take i items)) (values_of all) (sets_of sets) so_far (expression_of item) (expressions_of (drop (i + 1) items)) (field_values set) (cause_of c) (set_at set at) none
+    given_stops set stuck.Memory at none = tt
+
+    -- it has no set
+    pub too_many : slice_get sets i ≡ None → given_values types (to_expressions (expressions_of items)) (sets_of sets) ≡ Err IllKinded
+    too_many at =
+        ap (λ es. given_values types (to_expressions es) (sets_of sets)) split
+        ∙ one_too_many (expressions_of (take i items)) (values_of all) (sets_of sets) so_far (expression_of item) (expressions_of (drop (i + 1) items)) (ap (slice_get (sets_of sets)) counted ∙ get_none field_values sets i at)
+
+-- ---- events
+
+-- the channel with these values
+abbrev made : ℕ → List Value → Event
+made c vs = record { channel = c; fields = vs }
+
+-- behind the sets of the channel, the values decide
+module _ (s : Script) (e : EventExpression) (sets : List (List Value)) (has : field_sets s e.channel ≡ Ok sets) where
+  begins_by : beginning_of s e ≡ (given_values s.types e.fields sets and_then λ vs. Ok (made e.channel vs))
+  begins_by = ap (λ r. r and_then λ zs. given_values s.types e.fields zs and_then λ vs. Ok (made e.channel vs)) has
+
+  -- there are values
+  pub begun : (vs : List Value) → given_values s.types e.fields sets ≡ Ok vs → beginning_of s e ≡ Ok (made e.channel vs)
+  begun vs is = begins_by ∙ ap (λ r. r and_then λ us. Ok (made e.channel us)) is
+
+  -- there are none
+  pub not_begun : (c : Cause) → given_values s.types e.fields sets ≡ Err c → beginning_of s e ≡ Err c
+  not_begun c is = begins_by ∙ ap (λ r. r and_then λ us. Ok (made e.channel us)) is
+
+  -- the event is whole where its beginning has all fields
+  pub whole_by : (b : Event) → beginning_of s e ≡ Ok b → event_of s e ≡ cond (nat_eq (length b.fields) (length sets)) (Ok b) (Err IllKinded)
+  whole_by b is =
+      ap (λ r. r and_then λ zs. given_values s.types e.fields zs and_then λ vs. cond (nat_eq (length vs) (length zs)) (Ok (made e.channel vs)) (Err IllKinded)) has
+      ∙ by_values (given_values s.types e.fields sets) (sym begins_by ∙ is)
+    where
+      by_values : (r : Result (List Value) Cause) → (r and_then λ vs. Ok (made e.channel vs)) ≡ Ok b →
+          (r and_then λ vs. cond (nat_eq (length vs) (length sets)) (Ok (made e.channel vs)) (Err IllKinded)) ≡ cond (nat_eq (length b.fields) (length sets)) (Ok b) (Err IllKinded)
+      by_values (Ok vs) same =
+          let k : Some (made e.channel vs) ≡ Some b = ap result_ok same in
+          let j : made e.channel vs ≡ b = cc k in
+          ap (λ d. cond (nat_eq (length d.fields) (length sets)) (Ok d) (Err IllKinded)) j
+      by_values (Err c) same = absurd (cc same)
+
+  -- it has them all
+  pub whole : (b : Event) → beginning_of s e ≡ Ok b → length b.fields ≡ length sets → event_of s e ≡ Ok b
+  whole b is all = whole_by b is ∙ ap (λ t. cond t (Ok b) (Err IllKinded)) (eq-eqb (length b.fields) (length sets) all)
+
+  -- it has not
+  pub not_all : (b : Event) → beginning_of s e ≡ Ok b → (length b.fields ≡ length sets → ⊥) → event_of s e ≡ Err IllKinded
+  not_all b is fewer = whole_by b is ∙ by_test (nat_eq (length b.fields) (length sets)) refl
+    where
+      by_test : (t : Bool) → nat_eq (length b.fields) (length sets) ≡ t → cond t (Ok b) (Err IllKinded) ≡ Err IllKinded
+      by_test true same = absurd (fewer (eqb-true (length b.fields) (length sets) same))
+      by_test false same = refl
+
+module _ (s : Script) (e : EventExpression) (c : Cause) where
+  -- a channel that is not there has no event
+  pub no_sets : field_sets s e.channel ≡ Err c → beginning_of s e ≡ Err c
+  no_sets none = ap (λ r. r and_then λ zs. given_values s.types e.fields zs and_then λ vs. Ok (made e.channel vs)) none
+
+  -- what has no beginning is no event
+  pub not_whole : beginning_of s e ≡ Err c → event_of s e ≡ Err c
+  not_whole none = by_sets (field_sets s e.channel) none
+    where
+      by_values : (n : ℕ) (r : Result (List Value) Cause) → (r and_then λ vs. Ok (made e.channel vs)) ≡ Err c →
+          (r and_then λ vs. cond (nat_eq (length vs) n) (Ok (made e.channel vs)) (Err IllKinded)) ≡ Err c
+      by_values n (Ok vs) same = absurd (cc same)
+      by_values n (Err d) same = let k : Some d ≡ Some c = ap result_err same in let j : d ≡ c = cc k in ap Err j
+
+      by_sets : (r : Result (List (List Value)) Cause) → (r and_then λ zs. given_values s.types e.fields zs and_then λ vs. Ok (made e.channel vs)) ≡ Err c →
+          (r and_then λ zs. given_values s.types e.fields zs and_then λ vs. cond (nat_eq (length vs) (length zs)) (Ok (made e.channel vs)) (Err IllKinded)) ≡ Err c
+      by_sets (Ok zs) same = by_values (length zs) (given_values s.types e.fields zs) same
+      by_sets (Err d) same = let k : Some d ≡ Some c = ap result_err same in let j : d ≡ c = cc k in ap Err j
+
+-- ---- events that are not found
+
+module _ (A : Type 0) (s : Script) (e : EventExpression) where
+  -- without sets there is no beginning
+  pub sets_stuck : (why : Stuck) → AreSetsOf {A = A} (Err why) (field_sets s e.channel) → IsEventOf {A = A} (Err why) (beginning_of s e)
+  sets_stuck (stuck.Fault c) none = no_sets s e (cause_of c) none
+  sets_stuck stuck.Memory none = tt
+
+  -- nor without values
+  pub values_stuck : (sets : List (List Value)) → field_sets s e.channel ≡ Ok sets → (why : Stuck) → AreGivenBy {A = A} (Err why) (given_values s.types e.fields sets) → IsEventOf {A = A} (Err why) (beginning_of s e)
+  values_stuck sets has (stuck.Fault c) none = not_begun s e sets has (cause_of c) none
+  values_stuck sets has stuck.Memory none = tt
+
+  -- without a beginning there is no event
+  pub beginning_stuck : (why : Stuck) → IsEventOf {A = A} (Err why) (beginning_of s e) → IsEventOf {A = A} (Err why) (event_of s e)
+  beginning_stuck (stuck.Fault c) none = not_whole s e (cause_of c) none
+  beginning_stuck stuck.Memory none = tt

@@ -1,0 +1,11 @@
+pub mod Truths
+pub mod Halving
+pub mod Testing
+pub mod Fronts
+pub mod Enumerating
+pub mod Giving
+pub mod Evaluating
+pub mod Alike
+pub mod Ranging
+pub mod Naming
+pub mod Comparing

@@ -1,0 +1,244 @@
+//! Sets of events, evaluated once.
+
+ghost use Rattle.std.specs.Prelude.{◌≡◌, map};
+ghost use Rattle.std.specs.List.{list_any};
+ghost use Rattle.std.specs.List.Sorted.{IsSortedBy};
+ghost use Rattle.std.specs.Ordering.{is_lt};
+ghost use Rattle.csp_semantics.specs.Syntax.Value.{event_cmp, event_eq};
+ghost use Rattle.csp_semantics.specs.Syntax.Process.{Enumeration, Productions};
+ghost use Rattle.csp_semantics.specs.Syntax.Expression.{to_expressions};
+ghost use Rattle.csp_semantics.specs.Meaning.Events.{begins_with, beginning_of, event_of as written_event, event_test, field_sets, given_values};
+ghost use Rattle.csp_value.specs.Action.{event_of};
+ghost use Rattle.csp_expression.specs.Evaluation.{table_of};
+ghost use Rattle.csp_expression.specs.Expression.{expression_of, expressions_of};
+ghost use Rattle.csp_event_sets.specs.Events.{event_expression_of, event_expressions_of, event_set_of};
+ghost use Rattle.csp_term.specs.Script.{field_values, script_of};
+ghost use Rattle.csp_event_tests.specs.Testing.{AreGivenBy, AreSetsOf, AreSorted, IsBoxedTestOf, IsEventOf, IsGivenBy, IsTestOf, event_with, given, listed_in, sets_of, test_of};
+
+use crate::stuck::Stuck;
+use csp_event_sets::{EventExpression, EventSet, EventSetOperator};
+use csp_expression::{Expr, TypeTable};
+use csp_term::{AllocHandle, Channel, ChannelId, Event, Fault, Memory, Script};
+use csp_value::{FieldSet, Value};
+use smallvec::SmallVec;
+use std::cmp::Ordering;
+
+/// Which events a set holds.
+#[derive(Drop)]
+pub enum EventTest<A: AllocHandle> {
+    /// These events, which rise, so that one is found by halving.
+    Events(Vec<Event<A>, A>),
+    /// The events that begin with one of these: its channel and its fields, and whatever fields behind. They rise too.
+    Beginnings(Vec<Event<A>, A>),
+    Combine(EventSetOperator, Box<EventTest<A>, A>, Box<EventTest<A>, A>),
+}
+
+/// The field sets of the channel, or the cause where the script has none such.
+pub(crate) fn field_sets<A: AllocHandle>(
+    script: &Script<A>,
+    channel: ChannelId,
+) -> Result<&[FieldSet<A>], Stuck>
+    ensures { AreSetsOf result (field_sets (script_of script.now) channel.0) }
+{
+    match script.channels.get(channel.0 as usize) {
+        Some(declared) => Ok(&declared.fields),
+        None => Err(Stuck::Fault(Fault::Kind)),
+    }
+}
+
+/// The value of a given field, which has to lie in its field set.
+fn given_value<A: AllocHandle>(
+    alloc: A,
+    types: &TypeTable<A>,
+    field: &Expr<A>,
+    set: &FieldSet<A>,
+) -> Result<Value<A>, Stuck>
+    ensures { IsGivenBy result (given (table_of types.now) (expression_of field.now) (field_values set.now)) }
+{
+    let value = field.eval(types, alloc)?;
+    if set.contains(&value) {
+        Ok(value)
+    } else {
+        Err(Stuck::Fault(Fault::Range))
+    }
+}
+
+/// The values of the fields, each evaluated and then compared with its set.
+fn given_values<A: AllocHandle>(
+    alloc: A,
+    types: &TypeTable<A>,
+    fields: &[Expr<A>],
+    sets: &[FieldSet<A>],
+) -> Result<SmallVec<Value<A>, 2, A>, Stuck>
+    ensures { AreGivenBy result (given_values (table_of types.now) (to_expressions (expressions_of fields.now)) (sets_of sets.now)) }
+{
+    let mut values = SmallVec::new(alloc);
+    for (place, field) in fields.iter().enumerate() {
+        let Some(set) = sets.get(place) else {
+            return Err(Stuck::Fault(Fault::Kind));
+        };
+        values.push(given_value(alloc, types, field, set)?)?;
+    }
+    Ok(values)
+}
+
+/// The channel with the values of its first fields.
+fn beginning<A: AllocHandle>(
+    alloc: A,
+    script: &Script<A>,
+    written: &EventExpression<A>,
+) -> Result<Event<A>, Stuck>
+    ensures { IsEventOf result (beginning_of (script_of script.now) (event_expression_of written.now)) }
+{
+    let channel = written.channel;
+    let sets = field_sets(script, channel)?;
+    let fields = given_values(alloc, &script.types, &written.fields, sets)?;
+    Ok(Event { channel, fields })
+}
+
+/// The event that is written, with all its fields.
+pub(crate) fn whole_event<A: AllocHandle>(
+    alloc: A,
+    script: &Script<A>,
+    written: &EventExpression<A>,
+) -> Result<Event<A>, Stuck>
+    ensures { IsEventOf result (written_event (script_of script.now) (event_expression_of written.now)) }
+{
+    let event = beginning(alloc, script, written)?;
+    let sets = field_sets(script, written.channel)?;
+    if event.fields.len() == sets.len() {
+        Ok(event)
+    } else {
+        Err(Stuck::Fault(Fault::Kind))
+    }
+}
+
+fn events<A: AllocHandle>(
+    alloc: A,
+    script: &Script<A>,
+    written: &[EventExpression<A>],
+) -> Result<EventTest<A>, Stuck>
+    ensures { IsTestOf result (event_test (script_of script.now) (Enumeration (event_expressions_of written.now))) }
+{
+    let mut events = Vec::new(alloc);
+    for event in written {
+        events.push(whole_event(alloc, script, event)?)?;
+    }
+    events.sort_unstable();
+    Ok(EventTest::Events(events))
+}
+
+fn beginnings<A: AllocHandle>(
+    alloc: A,
+    script: &Script<A>,
+    written: &[EventExpression<A>],
+) -> Result<EventTest<A>, Stuck>
+    ensures { IsTestOf result (event_test (script_of script.now) (Productions (event_expressions_of written.now))) }
+{
+    let mut events = Vec::new(alloc);
+    for event in written {
+        events.push(beginning(alloc, script, event)?)?;
+    }
+    events.sort_unstable();
+    Ok(EventTest::Beginnings(events))
+}
+
+#[cycle(event_test)]
+fn boxed<A: AllocHandle>(
+    alloc: A,
+    script: &Script<A>,
+    set: &EventSet<A>,
+) -> Result<Box<EventTest<A>, A>, Stuck>
+    ensures { IsBoxedTestOf result (event_test (script_of script.now) (event_set_of set.now)) }
+{
+    Ok(Box::new(alloc, EventTest::of(alloc, script, set)?)?)
+}
+
+/// Whether the event is one of these, which rise.
+fn is_listed<A: AllocHandle>(listed: &[Event<A>], event: &Event<A>) -> bool
+    requires { IsSortedBy (λ e f. is_lt (event_cmp (event_of e) (event_of f))) listed.now }
+    ensures { result ≡ list_any (event_eq (event_of event.now)) (map event_of listed.now) }
+{
+    listed.binary_search(event).is_ok()
+}
+
+/// The order of the beginning and the channel with these fields.
+fn compared<A: AllocHandle>(
+    beginning: &Event<A>,
+    channel: ChannelId,
+    fields: &[Value<A>],
+) -> Ordering
+    ensures { result ≡ event_cmp (event_of beginning.now) (event_with channel fields.now) }
+{
+    match beginning.channel.cmp(&channel) {
+        Ordering::Equal => beginning.fields.as_slice().cmp(&fields),
+        order => order,
+    }
+}
+
+/// Whether the channel with these fields is one of the beginnings, which rise.
+fn is_beginning<A: AllocHandle>(
+    beginnings: &[Event<A>],
+    channel: ChannelId,
+    fields: &[Value<A>],
+) -> bool
+    requires { IsSortedBy (λ e f. is_lt (event_cmp (event_of e) (event_of f))) beginnings.now }
+    ensures { result ≡ list_any (event_eq (event_with channel fields.now)) (map event_of beginnings.now) }
+{
+    let found = beginnings.binary_search_by(
+        |beginning: &Event<A>| -> Ordering
+            ensures { result ≡ event_cmp (event_of beginning.now) (event_with channel fields.entry.now) }
+        { compared(beginning, channel, fields) },
+    );
+    found.is_ok()
+}
+
+/// Whether the event begins with one of these, which rise. Its channel is looked for by halving with none of its fields,
+/// with the first one, and so on: so many searches as it has fields, and one more.
+fn is_begun<A: AllocHandle>(beginnings: &[Event<A>], event: &Event<A>) -> bool
+    requires { IsSortedBy (λ e f. is_lt (event_cmp (event_of e) (event_of f))) beginnings.now }
+    ensures { result ≡ list_any (begins_with (event_of event.now)) (map event_of beginnings.now) }
+{
+    let fields = event.fields.as_slice();
+    for count in 0..fields.len() {
+        if is_beginning(beginnings, event.channel, &fields[..count]) {
+            return true;
+        }
+    }
+    is_beginning(beginnings, event.channel, fields)
+}
+
+impl<A: AllocHandle> EventTest<A> {
+    /// The test that the set is: `Stuck::Fault` has the first cause for which it is none, and `Stuck::Memory` says that
+    /// there is no room for it.
+    #[cycle(event_test)]
+    pub fn of(alloc: A, script: &Script<A>, set: &EventSet<A>) -> Result<EventTest<A>, Stuck>
+        ensures { IsTestOf result (event_test (script_of script.now) (event_set_of set.now)) }
+    {
+        match set {
+            EventSet::Enumeration(written) => events(alloc, script, written),
+            EventSet::Productions(written) => beginnings(alloc, script, written),
+            EventSet::Combine(operator, left, right) => {
+                let left = boxed(alloc, script, left)?;
+                let right = boxed(alloc, script, right)?;
+                Ok(EventTest::Combine(*operator, left, right))
+            }
+        }
+    }
+
+    /// Whether the event is in the set.
+    pub fn holds(&self, event: &Event<A>) -> bool
+        requires { AreSorted (listed_in self.now) }
+        ensures { result ≡ test_of self.now (event_of event.now) }
+    {
+        match self {
+            EventTest::Events(listed) => is_listed(listed, event),
+            EventTest::Beginnings(beginnings) => is_begun(beginnings, event),
+            EventTest::Combine(operator, left, right) => match operator {
+                EventSetOperator::Union => left.holds(event) || right.holds(event),
+                EventSetOperator::Intersection => left.holds(event) && right.holds(event),
+                EventSetOperator::Difference => left.holds(event) && !right.holds(event),
+            },
+        }
+    }
+}

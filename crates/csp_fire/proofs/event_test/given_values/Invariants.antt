@@ -1,7 +1,0 @@
--- The values of the fields so far.
-use Rattle.csp_expression.specs.Evaluation.{table_of}
-use Rattle.csp_fire.proofs.Giving.{GivenSoFar}
-use Rattle.csp_fire.proofs.event_test.given_values.Given as goal
-
-abbrev pub invariant-loop-place : goal.invariant-loop-place
-invariant-loop-place g l = GivenSoFar (table_of l.types) l.fields l.sets l.place l.values.items

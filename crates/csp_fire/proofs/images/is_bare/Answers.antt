@@ -1,8 +1,0 @@
--- No fields are no expressions.
-use Rattle.std.proofs.Common.{◌≡◌, Bool, true, false, List, [], ◌∷◌, length, refl, sym, ◌∙◌}
-use Rattle.csp_semantics.specs.Meaning.Events.{is_bare}
-use Rattle.csp_fire.proofs.Naming.{none_is_bare}
-use Rattle.csp_fire.proofs.images.is_bare.Goals as goal
-
-pub returns : goal.returns
-returns g c = c.is_empty.ensures ∙ none_is_bare c.args.written.now

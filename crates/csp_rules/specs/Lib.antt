@@ -1,0 +1,5 @@
+pub mod Answering
+pub mod Composing
+pub mod Sharing
+pub mod Replicating
+pub mod Together

@@ -1,0 +1,207 @@
+//! The communications that the fields of a prefix allow over their field sets.
+//!
+//! They are gone through in the order of the definitions: an input takes its values in turn, and the later fields are
+//! looked at for each. So the first cause is found, and what is evaluated is read where it lies.
+
+ghost use Rattle.std.specs.Prelude.{◌≡◌, ◌++◌, ◌∷◌, [], IfOk};
+ghost use Rattle.csp_semantics.specs.Syntax.Process.{Given, Input, InputFrom};
+ghost use Rattle.csp_semantics.specs.Meaning.Events.{communications};
+ghost use Rattle.csp_semantics.specs.Meaning.Substitution.{bind};
+ghost use Rattle.csp_value.specs.Value.{value_of, values_of};
+ghost use Rattle.csp_expression.specs.Bindings.{bindings_of};
+ghost use Rattle.csp_expression.specs.Evaluation.{table_of};
+ghost use Rattle.csp_expression.specs.Expression.{expression_of};
+ghost use Rattle.csp_term.specs.Field.{fields_of};
+ghost use Rattle.csp_term.specs.Script.{field_values};
+ghost use Rattle.csp_term.specs.Term.{process_of};
+ghost use Rattle.csp_rules.specs.Answering.{Finds, lent_values};
+ghost use Rattle.csp_event_tests.specs.Testing.{sets_of};
+
+use crate::rule_step::{RuleStep, Target};
+use csp_event_tests::Stuck;
+use csp_expression::{Binding, Expr, TypeTable};
+use csp_term::{Action, AllocHandle, ChannelId, Event, Fault, Field, Memory, Name, Term, bind};
+use csp_value::{FieldSet, Value};
+use smallvec::SmallVec;
+
+/// What stays the same while the fields of a prefix are gone through.
+#[derive(Clone, Copy)]
+pub(crate) struct Walk<'w, A: AllocHandle> {
+    pub(crate) alloc: A,
+    pub(crate) types: &'w TypeTable<A>,
+    pub(crate) channel: ChannelId,
+    pub(crate) body: &'w Term<A>,
+}
+
+/// The values of the fields so far, and what the inputs among them stand for.
+#[derive(Drop)]
+pub(crate) struct Front<'v, A: AllocHandle> {
+    values: Vec<&'v Value<A>, A>,
+    bindings: Vec<Binding<'v, A>, A>,
+}
+
+impl<'v, A: AllocHandle> Front<'v, A> {
+    /// The front under these bindings, with no value.
+    pub(crate) fn under(bindings: &[Binding<'v, A>], alloc: A) -> Result<Front<'v, A>, Memory>
+        ensures values { IfOk result (λ f. lent_values f.values.items ≡ []) }
+        ensures bindings { IfOk result (λ f. bindings_of f.bindings.items ≡ bindings_of bindings.now) }
+    {
+        Ok(Front {
+            values: Vec::new(alloc),
+            bindings: Vec::from_slice(alloc, bindings)?,
+        })
+    }
+
+    /// The front with one more value, that of a given field.
+    fn with_given(&self, value: &'v Value<A>, alloc: A) -> Result<Front<'v, A>, Memory>
+        ensures values { IfOk result (λ f. lent_values f.values.items ≡ lent_values self.now.values.items ++ value_of value.now ∷ []) }
+        ensures bindings { IfOk result (λ f. bindings_of f.bindings.items ≡ bindings_of self.now.bindings.items) }
+    {
+        let mut values = Vec::from_slice(alloc, self.values.as_slice())?;
+        values.push(value)?;
+        Ok(Front {
+            values,
+            bindings: Vec::from_slice(alloc, self.bindings.as_slice())?,
+        })
+    }
+
+    /// The front with one more value, for which the name stands from here on.
+    fn with_input(&self, name: Name, value: &'v Value<A>, alloc: A) -> Result<Front<'v, A>, Memory>
+        ensures values { IfOk result (λ f. lent_values f.values.items ≡ lent_values self.now.values.items ++ value_of value.now ∷ []) }
+        ensures bindings { IfOk result (λ f. bindings_of f.bindings.items ≡ bind name.0 (value_of value.now) (bindings_of self.now.bindings.items)) }
+    {
+        let mut values = Vec::from_slice(alloc, self.values.as_slice())?;
+        values.push(value)?;
+        Ok(Front {
+            values,
+            bindings: bind(name, value, &self.bindings, alloc)?,
+        })
+    }
+}
+
+/// Looks for what the fields allow over their sets, behind the front.
+#[cycle(fields)]
+pub(crate) fn look_for<'v, A: AllocHandle>(
+    walk: &Walk<'v, A>,
+    front: &Front<'v, A>,
+    fields: &'v [Field<A>],
+    sets: &'v [FieldSet<A>],
+    found: Vec<RuleStep<A>, A>,
+) -> Result<Vec<RuleStep<A>, A>, Stuck>
+    ensures { Finds walk.now.channel.0 (process_of walk.now.body.now) (lent_values front.now.values.items) found (communications (table_of walk.now.types.now) (bindings_of front.now.bindings.items) (fields_of fields.now) (sets_of sets.now)) result }
+{
+    match (fields.split_first(), sets.split_first()) {
+        (None, None) => reach(walk, front, found),
+        (Some((field, fields)), Some((set, sets))) => match field {
+            Field::Given(value) => given(walk, front, value, set, fields, sets, found),
+            Field::Input(name) => inputs(walk, front, *name, set, fields, sets, found),
+            Field::InputFrom(name, from) => {
+                inputs_from(walk, front, *name, from, set, fields, sets, found)
+            }
+        },
+        _ => Err(Stuck::Fault(Fault::Kind)),
+    }
+}
+
+// Where a value is made on the way, what is lent for longer is lent again (`&*`), for as long as that value lives.
+
+/// A given value has to lie in its field set.
+#[cycle(fields)]
+fn given<'v, A: AllocHandle>(
+    walk: &Walk<'v, A>,
+    front: &Front<'v, A>,
+    value: &'v Expr<A>,
+    set: &'v FieldSet<A>,
+    fields: &'v [Field<A>],
+    sets: &'v [FieldSet<A>],
+    found: Vec<RuleStep<A>, A>,
+) -> Result<Vec<RuleStep<A>, A>, Stuck>
+    ensures { Finds walk.now.channel.0 (process_of walk.now.body.now) (lent_values front.now.values.items) found (communications (table_of walk.now.types.now) (bindings_of front.now.bindings.items) (Given (expression_of value.now) ∷ fields_of fields.now) (field_values set.now ∷ sets_of sets.now)) result }
+{
+    let seen = (&*value).look(walk.types, &front.bindings, walk.alloc)?;
+    if !set.contains(seen.value()) {
+        return Err(Stuck::Fault(Fault::Range));
+    }
+    let front = (&*front).with_given(seen.value(), walk.alloc)?;
+    look_for(&*walk, &front, &*fields, &*sets, found)
+}
+
+/// An input takes each value of its field set in turn.
+#[cycle(fields)]
+fn inputs<'v, A: AllocHandle>(
+    walk: &Walk<'v, A>,
+    front: &Front<'v, A>,
+    name: Name,
+    set: &'v FieldSet<A>,
+    fields: &'v [Field<A>],
+    sets: &'v [FieldSet<A>],
+    found: Vec<RuleStep<A>, A>,
+) -> Result<Vec<RuleStep<A>, A>, Stuck>
+    ensures { Finds walk.now.channel.0 (process_of walk.now.body.now) (lent_values front.now.values.items) found (communications (table_of walk.now.types.now) (bindings_of front.now.bindings.items) (Input name.0 ∷ fields_of fields.now) (field_values set.now ∷ sets_of sets.now)) result }
+{
+    let mut found = found;
+    for value in set.members() {
+        let front = front.with_input(name, value, walk.alloc)?;
+        found = look_for(walk, &front, fields, sets, found)?;
+    }
+    Ok(found)
+}
+
+/// An input from a set takes each value of it in turn that lies in the field set.
+#[cycle(fields)]
+fn inputs_from<'v, A: AllocHandle>(
+    walk: &Walk<'v, A>,
+    front: &Front<'v, A>,
+    name: Name,
+    from: &'v Expr<A>,
+    set: &'v FieldSet<A>,
+    fields: &'v [Field<A>],
+    sets: &'v [FieldSet<A>],
+    found: Vec<RuleStep<A>, A>,
+) -> Result<Vec<RuleStep<A>, A>, Stuck>
+    ensures { Finds walk.now.channel.0 (process_of walk.now.body.now) (lent_values front.now.values.items) found (communications (table_of walk.now.types.now) (bindings_of front.now.bindings.items) (InputFrom name.0 (expression_of from.now) ∷ fields_of fields.now) (field_values set.now ∷ sets_of sets.now)) result }
+{
+    let mut found = found;
+    let seen = (&*from).look(walk.types, &front.bindings, walk.alloc)?;
+    let Value::Set(chosen) = seen.value() else {
+        return Err(Stuck::Fault(Fault::Kind));
+    };
+    for value in chosen.members() {
+        if set.contains(value) {
+            let front = (&*front).with_input(name, value, walk.alloc)?;
+            found = look_for(&*walk, &front, &*fields, &*sets, found)?;
+        }
+    }
+    Ok(found)
+}
+
+/// The step by the values of all fields.
+fn reach<A: AllocHandle>(
+    walk: &Walk<'_, A>,
+    front: &Front<'_, A>,
+    found: Vec<RuleStep<A>, A>,
+) -> Result<Vec<RuleStep<A>, A>, Stuck>
+    ensures { Finds walk.now.channel.0 (process_of walk.now.body.now) (lent_values front.now.values.items) found (communications (table_of walk.now.types.now) (bindings_of front.now.bindings.items) [] []) result }
+{
+    let mut found = found;
+    let fields = event_fields(&front.values, walk.alloc)?;
+    let channel = walk.channel;
+    let action = Action::Event(Event { channel, fields });
+    let target = Target::put_in(walk.body, &front.bindings, walk.alloc)?;
+    found.push(RuleStep { action, target })?;
+    Ok(found)
+}
+
+/// A copy of each value, in order.
+fn event_fields<A: AllocHandle>(
+    values: &[&Value<A>],
+    alloc: A,
+) -> Result<SmallVec<Value<A>, 2, A>, Memory>
+    ensures { IfOk result (λ fields. values_of fields.items ≡ lent_values values.now) }
+{
+    let mut fields = SmallVec::new(alloc);
+    for value in values {
+        fields.push(value.try_copy(alloc)?)?;
+    }
+    Ok(fields)
+}

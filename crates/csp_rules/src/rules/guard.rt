@@ -1,0 +1,33 @@
+//! A guarded process does what its body does, where the condition is true.
+
+ghost use Rattle.csp_semantics.specs.Syntax.Process.{Guard};
+ghost use Rattle.csp_semantics.specs.Meaning.Substitution.{put};
+ghost use Rattle.csp_expression.specs.Bindings.{bindings_of};
+ghost use Rattle.csp_expression.specs.Expression.{expression_of};
+ghost use Rattle.csp_term.specs.Script.{script_of};
+ghost use Rattle.csp_term.specs.Term.{process_of};
+ghost use Rattle.csp_rules.specs.Answering.{Answers};
+
+use crate::rule_step::RuleStep;
+use crate::rules;
+use crate::rules::condition::condition;
+use csp_event_tests::Stuck;
+use csp_expression::{Binding, Expr};
+use csp_term::{AllocHandle, Script, Term};
+
+#[cycle(steps)]
+pub(crate) fn steps<'v, A: AllocHandle>(
+    alloc: A,
+    script: &'v Script<A>,
+    bindings: &[Binding<'v, A>],
+    test: &'v Expr<A>,
+    body: &'v Term<A>,
+) -> Result<Vec<RuleStep<A>, A>, Stuck>
+    ensures { Answers (script_of script.now) (put (bindings_of bindings.now) (Guard (expression_of test.now) (process_of body.now))) result }
+{
+    if condition(alloc, &script.types, bindings, test)? {
+        rules::steps(alloc, script, bindings, body)
+    } else {
+        Ok(Vec::new(alloc))
+    }
+}

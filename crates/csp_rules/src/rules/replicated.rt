@@ -1,0 +1,204 @@
+//! Replicated operators. `op x : S @ P` is the chain of its instances, grouped to the left: one of each value of the set, in
+//! order, with the value put in for the name. The steps of the chain are found from those of its instances, and of the
+//! chain itself no more is built than fits the limits.
+
+ghost use Rattle.std.specs.Prelude.{◌≡◌, ◌∷◌, [], IfOk, map};
+ghost use Rattle.csp_semantics.specs.Syntax.Process.{ExternalChoice, InternalChoice, Interleaving, Skip, Stop};
+ghost use Rattle.csp_semantics.specs.Syntax.Value.{Tau};
+ghost use Rattle.csp_semantics.specs.Meaning.Substitution.{put};
+ghost use Rattle.csp_semantics.specs.Meaning.Transitions.{chain, left_grouped};
+ghost use Rattle.csp_expression.specs.Bindings.{bindings_of};
+ghost use Rattle.csp_expression.specs.Expression.{expression_of};
+ghost use Rattle.csp_term.specs.Script.{script_of};
+ghost use Rattle.csp_term.specs.Term.{process_of, replicated_process};
+ghost use Rattle.csp_rules.specs.Answering.{Answers, answered_of, target_of, within_limits};
+ghost use Rattle.csp_rules.specs.Composing.{HaveSameSteps, IsSideOf, side_answers, under_both};
+ghost use Rattle.csp_rules.specs.Replicating.{AnswersChoices, instance_of, instances_of, looking_answers, looking_process};
+
+use crate::composition::Composition;
+use crate::rule_step::{RuleStep, Target};
+use crate::rules::side::Side;
+use crate::rules::{choice, parallel, skip};
+use csp_event_tests::Stuck;
+use csp_expression::{Binding, Expr};
+use csp_term::{
+    AllocHandle, Fault, Memory, Name, ProcessOperator, ReplicatedOperator, Script, Term, bind,
+};
+use csp_value::Value;
+
+// Where a value is made on the way, what is lent for longer is lent again (`&*`), for as long as that value lives.
+
+#[cycle(steps)]
+pub(crate) fn steps<'v, A: AllocHandle>(
+    alloc: A,
+    script: &'v Script<A>,
+    bindings: &[Binding<'v, A>],
+    operator: ReplicatedOperator,
+    name: Name,
+    set: &'v Expr<A>,
+    body: &'v Term<A>,
+) -> Result<Vec<RuleStep<A>, A>, Stuck>
+    ensures { Answers (script_of script.now) (put (bindings_of bindings.now) (replicated_process operator name.0 (expression_of set.now) (process_of body.now))) result }
+{
+    let seen = (&*set).look(&script.types, bindings, alloc)?;
+    let Value::Set(members) = seen.value() else {
+        return Err(Stuck::Fault(Fault::Kind));
+    };
+    let instances = Instances {
+        alloc,
+        script: &*script,
+        bindings,
+        name,
+        body: &*body,
+    };
+    let values = members.members();
+    match operator {
+        ReplicatedOperator::ExternalChoice => instances.external(values),
+        ReplicatedOperator::InternalChoice => instances.internal(values),
+        ReplicatedOperator::Interleaving => instances.interleaving(values),
+    }
+}
+
+/// A replicated operator that looks at each of its instances.
+#[derive(Clone, Copy)]
+enum Looking {
+    ExternalChoice,
+    Interleaving,
+}
+
+impl Looking {
+    /// The operator of the two.
+    fn compose<A: AllocHandle>(
+        self,
+        alloc: A,
+        left: Side<A>,
+        right: Side<A>,
+    ) -> Result<Side<A>, Memory>
+        ensures process { IfOk result (λ side. target_of side.process ≡ under_both (looking_process self) (target_of left.process) (target_of right.process)) }
+        ensures steps { IfOk result (λ side. HaveSameSteps (side_answers side) (looking_answers self (target_of left.process) (side_answers left) (target_of right.process) (side_answers right))) }
+    {
+        match self {
+            Looking::ExternalChoice => choice::between(alloc, left, right),
+            Looking::Interleaving => parallel::interleave(alloc, left, right),
+        }
+    }
+}
+
+/// `P |~| Q`, if it is within the limits.
+fn either<A: AllocHandle>(alloc: A, left: Target<A>, right: Target<A>) -> Result<Target<A>, Memory>
+    ensures { IfOk result (λ t. target_of t ≡ under_both InternalChoice (target_of left) (target_of right)) }
+{
+    let composition = Composition::Operator(ProcessOperator::InternalChoice);
+    let target = composition.of(alloc, left, right);
+    drop(composition);
+    target
+}
+
+/// The name and the process of a replicated operator, under the bindings around it.
+#[derive(Drop)]
+struct Instances<'v, 'b, A: AllocHandle> {
+    alloc: A,
+    script: &'v Script<A>,
+    bindings: &'b [Binding<'v, A>],
+    name: Name,
+    body: &'v Term<A>,
+}
+
+impl<'v, 'b, A: AllocHandle> Instances<'v, 'b, A> {
+    /// The instance of the value, with its steps.
+    #[cycle(steps)]
+    fn side(&self, value: &'v Value<A>) -> Result<Side<A>, Stuck>
+        ensures { IsSideOf (script_of self.now.script.now) (instance_of self.now value.now) result }
+    {
+        let bindings = bind(self.name, value, self.bindings, self.alloc)?;
+        Side::under(self.alloc, self.script, &bindings, self.body)
+    }
+
+    /// The instance of the value, if it is within the limits.
+    fn process(&self, value: &'v Value<A>) -> Result<Target<A>, Memory>
+        ensures { IfOk result (λ t. target_of t ≡ within_limits (instance_of self.now value.now)) }
+    {
+        let bindings = bind(self.name, value, self.bindings, self.alloc)?;
+        Target::put_in(self.body, &bindings, self.alloc)
+    }
+
+    /// The chain of an operator that looks at each instance, of at least one.
+    #[cycle(steps)]
+    fn chain(
+        &self,
+        operator: Looking,
+        first: &'v Value<A>,
+        others: &'v [Value<A>],
+    ) -> Result<Vec<RuleStep<A>, A>, Stuck>
+        ensures { Answers (script_of self.now.script.now) (left_grouped (looking_process operator) (instance_of self.now first.now) (instances_of self.now others.now)) result }
+    {
+        let mut chain = self.side(first)?;
+        for value in others {
+            let instance = self.side(value)?;
+            chain = operator.compose(self.alloc, chain, instance)?;
+        }
+        Ok(chain.steps)
+    }
+
+    /// The chain of internal choices, of at least one, if it is within the limits.
+    fn choices(&self, first: &'v Value<A>, others: &'v [Value<A>]) -> Result<Target<A>, Memory>
+        ensures { IfOk result (λ t. target_of t ≡ within_limits (left_grouped InternalChoice (instance_of self.now first.now) (instances_of self.now others.now))) }
+    {
+        let mut chain = self.process(first)?;
+        for value in others {
+            let instance = self.process(value)?;
+            chain = either(self.alloc, chain, instance)?;
+        }
+        Ok(chain)
+    }
+
+    /// A choice between the chain of the first ones and the last one.
+    fn choose(
+        &self,
+        first: &'v Value<A>,
+        others: &'v [Value<A>],
+        last: &'v Value<A>,
+    ) -> Result<Vec<RuleStep<A>, A>, Memory>
+        ensures { IfOk result (λ steps. map answered_of steps.items ≡ (Tau, within_limits (left_grouped InternalChoice (instance_of self.now first.now) (instances_of self.now others.now))) ∷ (Tau, within_limits (instance_of self.now last.now)) ∷ []) }
+    {
+        let chain = self.choices(first, others)?;
+        let instance = self.process(last)?;
+        choice::taus(self.alloc, chain, instance)
+    }
+
+    /// The steps of `[]` over the values. Of none it is `STOP`.
+    #[cycle(steps)]
+    fn external(&self, values: &'v [Value<A>]) -> Result<Vec<RuleStep<A>, A>, Stuck>
+        ensures { Answers (script_of self.now.script.now) (chain ExternalChoice Stop (instances_of self.now values.now)) result }
+    {
+        match values.split_first() {
+            None => Ok(Vec::new(self.alloc)),
+            Some((first, others)) => self.chain(Looking::ExternalChoice, first, others),
+        }
+    }
+
+    /// The steps of `|||` over the values. Of none it is `SKIP`.
+    #[cycle(steps)]
+    fn interleaving(&self, values: &'v [Value<A>]) -> Result<Vec<RuleStep<A>, A>, Stuck>
+        ensures { Answers (script_of self.now.script.now) (chain Interleaving Skip (instances_of self.now values.now)) result }
+    {
+        match values.split_first() {
+            None => skip::steps(self.alloc, self.script),
+            Some((first, others)) => self.chain(Looking::Interleaving, first, others),
+        }
+    }
+
+    /// The steps of `|~|` over the values. It looks at an instance only where there is no other.
+    #[cycle(steps)]
+    fn internal(&self, values: &'v [Value<A>]) -> Result<Vec<RuleStep<A>, A>, Stuck>
+        ensures { AnswersChoices (script_of self.now.script.now) (instances_of self.now values.now) result }
+    {
+        let Some((last, before)) = values.split_last() else {
+            return Err(Stuck::Fault(Fault::Choice));
+        };
+        match before.split_first() {
+            None => Ok(self.side(last)?.steps),
+            Some((first, others)) => Ok(self.choose(first, others, last)?),
+        }
+    }
+}

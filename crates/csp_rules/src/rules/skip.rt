@@ -1,0 +1,20 @@
+//! `SKIP` ends by tick.
+
+ghost use Rattle.csp_semantics.specs.Syntax.Process.{Skip};
+ghost use Rattle.csp_term.specs.Script.{script_of};
+ghost use Rattle.csp_rules.specs.Answering.{Answers};
+
+use crate::rule_step::{RuleStep, Target, one_step};
+use csp_event_tests::Stuck;
+use csp_term::{Action, AllocHandle, Script, Term, TermForm};
+
+pub(crate) fn steps<A: AllocHandle>(
+    alloc: A,
+    script: &Script<A>,
+) -> Result<Vec<RuleStep<A>, A>, Stuck>
+    ensures { Answers (script_of script.now) Skip result }
+{
+    let _script = script;
+    let target = Target::Within(Term::new(alloc, TermForm::Omega)?);
+    Ok(one_step(alloc, Action::Tick, target)?)
+}

@@ -1,0 +1,44 @@
+use csp_event_sets::{EventSet, RenamingPair};
+use csp_event_tests::{EventTest, Images, Stuck};
+use csp_term::{Event, Script};
+use std::alloc::Global;
+
+/// Whether the set has the event.
+pub(crate) fn has(
+    alloc: Global,
+    script: &Script<Global>,
+    set: &EventSet<Global>,
+    event: &Event<Global>,
+) -> Result<bool, Stuck> {
+    let test = EventTest::of(alloc, script, set)?;
+    Ok(test.holds(event))
+}
+
+/// Why the set has no value, if it has none.
+pub(crate) fn stuck_of_set(
+    alloc: Global,
+    script: &Script<Global>,
+    set: &EventSet<Global>,
+) -> Option<Stuck> {
+    EventTest::of(alloc, script, set).err()
+}
+
+/// The images of the event by the pairs.
+pub(crate) fn images(
+    alloc: Global,
+    script: &Script<Global>,
+    pairs: &[RenamingPair<Global>],
+    event: Event<Global>,
+) -> Result<Vec<Event<Global>, Global>, Stuck> {
+    let images = Images::of(alloc, script, pairs)?;
+    Ok(images.of_event(alloc, event)?)
+}
+
+/// Why the pairs have no value, if they have none.
+pub(crate) fn stuck_of_renaming(
+    alloc: Global,
+    script: &Script<Global>,
+    pairs: &[RenamingPair<Global>],
+) -> Option<Stuck> {
+    Images::of(alloc, script, pairs).err()
+}

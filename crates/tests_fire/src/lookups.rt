@@ -1,0 +1,186 @@
+//! What is said of a set of events, behind `\\`, or of a renaming, each evaluated once:
+//!
+//! - `HAS` and `LACKS`: prefixes over events that are in the set, or are not.
+//! - `MAKES`: a prefix over an event, and behind it prefixes over its images, those by channels first.
+//! - `NONE`: the word of the first cause for which it has no value.
+
+use crate::evaluated::{has, images, stuck_of_renaming, stuck_of_set};
+use crate::event_sets::{event_set, pairs};
+use crate::rows::{event, holds};
+use csp_event_sets::{EventSet, RenamingPair};
+use csp_event_tests::Stuck;
+use csp_parse::{Name, Process};
+use csp_term::{Event, Script};
+use std::alloc::Global;
+use std::test::Fail;
+
+/// Adds the events of the prefixes.
+fn add_events(
+    alloc: Global,
+    script: &Script<Global>,
+    said: &Process<'_, Global>,
+    events: &mut Vec<Event<Global>, Global>,
+) -> Result<(), Fail> {
+    match said {
+        Process::Prefix(name, fields, rest) => {
+            events.push(event(alloc, script, *name, fields)?)?;
+            add_events(alloc, script, rest, events)
+        }
+        _ => Ok(()),
+    }
+}
+
+fn said_events(
+    alloc: Global,
+    script: &Script<Global>,
+    said: &Process<'_, Global>,
+) -> Result<Vec<Event<Global>, Global>, Fail> {
+    let mut events = Vec::new(alloc);
+    add_events(alloc, script, said, &mut events)?;
+    Ok(events)
+}
+
+/// Whether the set has each of the events, or none of them.
+fn have_all(
+    alloc: Global,
+    script: &Script<Global>,
+    set: &EventSet<Global>,
+    events: &[Event<Global>],
+    said: bool,
+) -> bool {
+    for event in events {
+        if has(alloc, script, set, event) != Ok(said) {
+            return false;
+        }
+    }
+    !events.is_empty()
+}
+
+/// Whether the first event has the others as its images.
+fn makes(
+    alloc: Global,
+    script: &Script<Global>,
+    pairs: &[RenamingPair<Global>],
+    mut events: Vec<Event<Global>, Global>,
+) -> bool {
+    if events.is_empty() {
+        return false;
+    }
+    let first = events.remove(0);
+    match images(alloc, script, pairs, first) {
+        Ok(found) => found == events,
+        Err(_) => false,
+    }
+}
+
+/// Whether there is nothing, for the cause of the word.
+fn is_cause(stuck: Option<Stuck>, said: &Process<'_, Global>) -> bool {
+    match (stuck, said) {
+        (Some(Stuck::Fault(cause)), Process::Call(word, _)) => cause.word() == word.text,
+        _ => false,
+    }
+}
+
+fn is_set_so(
+    alloc: Global,
+    script: &Script<Global>,
+    set: &EventSet<Global>,
+    name: Name<'_>,
+    said: &Process<'_, Global>,
+) -> Result<bool, Fail> {
+    if name.text == "NONE" {
+        return Ok(is_cause(stuck_of_set(alloc, script, set), said));
+    }
+    let events = said_events(alloc, script, said)?;
+    Ok(have_all(alloc, script, set, &events, name.text == "HAS"))
+}
+
+fn are_images_so(
+    alloc: Global,
+    script: &Script<Global>,
+    pairs: &[RenamingPair<Global>],
+    name: Name<'_>,
+    said: &Process<'_, Global>,
+) -> Result<bool, Fail> {
+    if name.text == "NONE" {
+        return Ok(is_cause(stuck_of_renaming(alloc, script, pairs), said));
+    }
+    let events = said_events(alloc, script, said)?;
+    Ok(makes(alloc, script, pairs, events))
+}
+
+/// Whether what is said of the set or of the renaming is so.
+pub(crate) fn is_so<'t>(
+    alloc: Global,
+    script: &Script<Global>,
+    of: &Process<'t, Global>,
+    name: Name<'t>,
+    said: &Process<'t, Global>,
+) -> Result<bool, Fail> {
+    match of {
+        Process::Hiding(_, set) => {
+            let set = event_set(alloc, set)?;
+            is_set_so(alloc, script, &set, name, said)
+        }
+        Process::Renaming(_, raw) => {
+            let pairs = pairs(alloc, raw)?;
+            are_images_so(alloc, script, &pairs, name, said)
+        }
+        _ => Err(Fail::new("no set and no renaming")),
+    }
+}
+
+const SETS: &str = "
+T = STOP \\ {c.0, a}
+HAS = a -> c!0 -> STOP
+LACKS = b -> c!1 -> f!0 -> STOP
+
+T = STOP \\ {| c, d.1 |}
+HAS = c!0 -> c!1 -> d!1!0 -> d!1!1 -> STOP
+LACKS = a -> d!0!1 -> STOP
+
+T = STOP \\ union({a}, {b})
+HAS = a -> b -> STOP
+LACKS = c!0 -> STOP
+T = STOP \\ inter({a, b}, {b, c.0})
+HAS = b -> STOP
+LACKS = a -> c!0 -> STOP
+T = STOP \\ diff({a, b}, {b, c.0})
+HAS = a -> STOP
+LACKS = b -> c!0 -> STOP
+
+-- A value outside of its field set, a field too few, and the first of two causes.
+T = STOP \\ {c.2}
+NONE = range
+T = STOP \\ {c}
+NONE = kind
+T = STOP \\ union({c.head(<>)}, {c.(1 % 0)})
+NONE = empty
+";
+
+#[test]
+fn a_set_of_events_has_its_events(rt: HostRuntime) -> Result<(), Fail> {
+    holds(&rt, rt.alloc(), SETS)
+}
+
+const RENAMINGS: &str = "
+T = STOP[[c <- f, c.1 <- a, a <- b]]
+MAKES = c!0 -> f!0 -> STOP
+MAKES = c!1 -> f!1 -> a -> STOP
+MAKES = a -> b -> STOP
+MAKES = b -> b -> STOP
+
+T = STOP[[a <- b, a <- a]]
+MAKES = a -> a -> b -> STOP
+
+-- The channels have other fields. The left side of a pair goes before the right one.
+T = STOP[[c <- d]]
+NONE = kind
+T = STOP[[c.head(<>) <- c.(1 % 0)]]
+NONE = empty
+";
+
+#[test]
+fn a_renaming_makes_its_images(rt: HostRuntime) -> Result<(), Fail> {
+    holds(&rt, rt.alloc(), RENAMINGS)
+}
