@@ -13,14 +13,14 @@ ghost use Rattle.csp_operators.specs.Composing.{AreSidesOf, composition_of, exte
 
 use crate::composition::Composition;
 use crate::context::{Context, Hand};
-use crate::rule_step::{RuleStep, Target, add_step, one_step};
 use crate::leave;
+use crate::rule_step::{RuleStep, Target, add_step, one_step};
 use crate::side::Side;
 use csp_event_tests::Stuck;
 use csp_expression::Binding;
 use csp_term::{Action, AllocHandle, Memory, ProcessOperator, Term};
 
-/// The steps of `P [] Q` by those of its sides.
+/// The steps of `P [] Q` by those of its sides, or the first cause of both. `Stuck::Memory` says that there is no room.
 pub fn by_sides<A: AllocHandle>(
     alloc: A,
     sides: Result<(Side<A>, Side<A>), Stuck>,
@@ -31,12 +31,8 @@ pub fn by_sides<A: AllocHandle>(
     Ok(between(alloc, left, right)?.steps)
 }
 
-/// `P [] Q`
-pub fn between<A: AllocHandle>(
-    alloc: A,
-    left: Side<A>,
-    right: Side<A>,
-) -> Result<Side<A>, Memory>
+/// `P [] Q` with its steps, for a longer chain. `Memory` says that there is no room.
+pub fn between<A: AllocHandle>(alloc: A, left: Side<A>, right: Side<A>) -> Result<Side<A>, Memory>
     ensures process { IfOk result (λ side. target_of side.process ≡ under_both ExternalChoice (target_of left.process) (target_of right.process)) }
     ensures steps { IfOk result (λ side. side_answers side ≡ external_answers (target_of left.process) (side_answers left) (target_of right.process) (side_answers right)) }
 {
@@ -73,7 +69,8 @@ fn under<A: AllocHandle>(
     Ok(Side { process, steps })
 }
 
-/// The steps of `P |~| Q`, of the terms with the values put in.
+/// The steps of `P |~| Q`, of the terms with the values put in. There is no cause, since neither side is looked at.
+/// `Stuck::Memory` says that there is no room.
 pub fn internal<A: AllocHandle>(
     alloc: A,
     bindings: &[Binding<'_, A>],
@@ -87,7 +84,7 @@ pub fn internal<A: AllocHandle>(
     Ok(taus(alloc, left, right)?)
 }
 
-/// A tau to each of the two.
+/// A tau to each of the two. `Memory` says that there is no room.
 pub fn taus<A: AllocHandle>(
     alloc: A,
     left: Target<A>,
@@ -100,8 +97,12 @@ pub fn taus<A: AllocHandle>(
     Ok(steps)
 }
 
-/// `P |~| Q`, if it is within the limits.
-pub fn either<A: AllocHandle>(alloc: A, left: Target<A>, right: Target<A>) -> Result<Target<A>, Memory>
+/// `P |~| Q`, if it is within the limits. `Memory` says that there is no room.
+pub fn either<A: AllocHandle>(
+    alloc: A,
+    left: Target<A>,
+    right: Target<A>,
+) -> Result<Target<A>, Memory>
     ensures { IfOk result (λ t. target_of t ≡ under_both InternalChoice (target_of left) (target_of right)) }
 {
     let composition = Composition::Operator(ProcessOperator::InternalChoice);

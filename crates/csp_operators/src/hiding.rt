@@ -64,6 +64,7 @@ fn step<A: AllocHandle>(
 }
 
 /// The steps of `P \ A` by those of its body. A cause of the set comes before those of the body.
+/// `Stuck::Memory` says that there is no room.
 pub fn by_body<A: AllocHandle>(
     alloc: A,
     script: &Script<A>,

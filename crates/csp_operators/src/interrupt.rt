@@ -10,15 +10,15 @@ ghost use Rattle.csp_operators.specs.Composing.{AreSidesOf, around_of, compositi
 
 use crate::composition::Composition;
 use crate::context::{Context, Hand};
-use crate::rule_step::RuleStep;
 use crate::leave;
+use crate::rule_step::RuleStep;
+use crate::sharing::Sharing;
 use crate::side::Side;
 use crate::stay::{self, AfterTick};
-use crate::sharing::Sharing;
 use csp_event_tests::Stuck;
 use csp_term::{AllocHandle, Memory, ProcessOperator};
 
-/// The steps of `P /\ Q` by those of its sides.
+/// The steps of `P /\ Q` by those of its sides, or the first cause of both. `Stuck::Memory` says that there is no room.
 pub fn by_sides<A: AllocHandle>(
     alloc: A,
     sides: Result<(Side<A>, Side<A>), Stuck>,

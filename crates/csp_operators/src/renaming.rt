@@ -70,6 +70,7 @@ fn add_one<A: AllocHandle>(
 }
 
 /// The steps of `P [[from <- to, ..]]` by those of its body. A cause of the pairs comes before those of the body.
+/// `Stuck::Memory` says that there is no room.
 pub fn by_body<A: AllocHandle>(
     alloc: A,
     script: &Script<A>,

@@ -28,7 +28,7 @@ pub struct RuleStep<A: AllocHandle> {
 }
 
 impl<A: AllocHandle> Target<A> {
-    /// The term with the values put in, if it is then within the limits.
+    /// The term with the values put in, if it is then within the limits. `Memory` says that there is no room.
     pub fn put_in(
         term: &Term<A>,
         bindings: &[Binding<'_, A>],
@@ -63,7 +63,7 @@ impl<A: AllocHandle> Target<A> {
     }
 }
 
-/// The one step of a rule that has no other.
+/// The one step of a rule that has no other. `Memory` says that there is no room.
 pub fn one_step<A: AllocHandle>(
     alloc: A,
     action: Action<A>,

@@ -12,13 +12,13 @@ ghost use Rattle.csp_operators.specs.Composing.{sequential_answers};
 use crate::composition::Composition;
 use crate::context::{Context, Hand};
 use crate::rule_step::{RuleStep, Target};
-use crate::stay::{self, AfterTick};
 use crate::sharing::Sharing;
+use crate::stay::{self, AfterTick};
 use csp_event_tests::Stuck;
 use csp_expression::Binding;
 use csp_term::{AllocHandle, Memory, ProcessOperator, Term};
 
-/// The steps of `P ; Q` by those of its left side.
+/// The steps of `P ; Q` by those of its left side, or the first cause of that one. `Stuck::Memory` says that there is no room.
 pub fn by_left<A: AllocHandle>(
     alloc: A,
     bindings: &[Binding<'_, A>],

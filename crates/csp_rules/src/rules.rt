@@ -25,9 +25,9 @@ mod sequential;
 mod side;
 mod skip;
 
-use csp_operators::RuleStep;
 use csp_event_tests::Stuck;
 use csp_expression::Binding;
+use csp_operators::RuleStep;
 use csp_term::{AllocHandle, ProcessOperator, Script, Term, TermForm};
 
 /// The rule steps of the term with the values put in, in no order, of which one may be there more than once: one that
@@ -87,7 +87,9 @@ fn binary<'v, A: AllocHandle>(
 {
     match operator {
         ProcessOperator::ExternalChoice => choice::external(alloc, script, bindings, left, right),
-        ProcessOperator::InternalChoice => csp_operators::choice::internal(alloc, bindings, left, right),
+        ProcessOperator::InternalChoice => csp_operators::choice::internal(
+            alloc, bindings, left, right,
+        ),
         ProcessOperator::Sequential => sequential::steps(alloc, script, bindings, left, right),
         ProcessOperator::Interleaving => parallel::interleaving(
             alloc, script, bindings, left, right,

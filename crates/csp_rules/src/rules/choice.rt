@@ -7,10 +7,10 @@ ghost use Rattle.csp_term.specs.Script.{script_of};
 ghost use Rattle.csp_term.specs.Term.{process_of};
 ghost use Rattle.csp_operators.specs.Answering.{Answers};
 
-use csp_operators::{RuleStep, choice};
 use crate::rules::side;
 use csp_event_tests::Stuck;
 use csp_expression::Binding;
+use csp_operators::{RuleStep, choice};
 use csp_term::{AllocHandle, Script, Term};
 
 /// The steps of `P [] Q`.

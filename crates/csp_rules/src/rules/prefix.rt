@@ -9,10 +9,10 @@ ghost use Rattle.csp_term.specs.Script.{script_of};
 ghost use Rattle.csp_term.specs.Term.{process_of};
 ghost use Rattle.csp_operators.specs.Answering.{Answers};
 
-use csp_operators::RuleStep;
 use crate::rules::communications::{Front, Walk, look_for};
 use csp_event_tests::Stuck;
 use csp_expression::Binding;
+use csp_operators::RuleStep;
 use csp_term::{AllocHandle, ChannelId, Fault, Field, Script, Term};
 
 pub(crate) fn steps<'v, A: AllocHandle>(

@@ -8,11 +8,11 @@ ghost use Rattle.csp_term.specs.Script.{script_of};
 ghost use Rattle.csp_term.specs.Term.{process_of};
 ghost use Rattle.csp_operators.specs.Answering.{Answers};
 
-use csp_operators::{RuleStep, renaming};
 use crate::rules;
 use csp_event_sets::{RenamingPair, put_in_pairs};
 use csp_event_tests::Stuck;
 use csp_expression::Binding;
+use csp_operators::{RuleStep, renaming};
 use csp_term::{AllocHandle, Script, Term};
 
 #[cycle(steps)]

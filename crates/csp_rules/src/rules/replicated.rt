@@ -19,9 +19,7 @@ use crate::rules::{side, skip};
 use csp_event_tests::Stuck;
 use csp_expression::{Binding, Expr};
 use csp_operators::{RuleStep, Side, Target, choice, parallel};
-use csp_term::{
-    AllocHandle, Fault, Memory, Name, ReplicatedOperator, Script, Term, bind,
-};
+use csp_term::{AllocHandle, Fault, Memory, Name, ReplicatedOperator, Script, Term, bind};
 use csp_value::Value;
 
 // Where a value is made on the way, what is lent for longer is lent again (`&*`), for as long as that value lives.
