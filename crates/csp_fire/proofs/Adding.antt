@@ -5,7 +5,7 @@ use Rattle.std.specs.List.{slice_get}
 use Rattle.csp_semantics.specs.Syntax.Value.{Action, action_eq}
 use Rattle.csp_semantics.specs.Syntax.Process.{Process}
 use Rattle.csp_value.proofs.Sameness.{Tells}
-use Rattle.csp_rules.proofs.Telling.{eq_of}
+use Rattle.csp_operators.proofs.Telling.{eq_of}
 use Rattle.csp_fire.specs.Offering.{actions_of, actions_once, behind_action}
 
 abbrev last_from : Action → List Action → Action

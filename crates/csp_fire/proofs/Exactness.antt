@@ -14,9 +14,9 @@ use Rattle.csp_semantics.specs.Meaning.Stepping.{Steps}
 use Rattle.csp_semantics.specs.Meaning.Transitions.{IsNotStuck, RuleStep, by_step}
 use Rattle.csp_semantics.specs.Laws.Statements.{IsOneOf, StepsAre}
 use Rattle.csp_semantics.proofs.Rising.{all_that_is_one}
-use Rattle.csp_rules.specs.Answering.{Answered, IsAnswered, all_within, within_limits}
+use Rattle.csp_operators.specs.Answering.{Answered, IsAnswered, all_within, within_limits}
 use Rattle.csp_fire.specs.Offering.{IsFormByAnswer, IsFormBySteps, IsFormWithin, actions_of, has_tau, has_tick, is_tau, is_tick, offers_of}
-use Rattle.csp_rules.proofs.Answered.{among_steps, contains_one_of, one_of_contains, step_among}
+use Rattle.csp_operators.proofs.Answered.{among_steps, contains_one_of, one_of_contains, step_among}
 use Rattle.csp_event_tests.proofs.Truths.{or_cases, or_first, or_second}
 use Rattle.csp_fire.proofs.Acting.{acts_from, acts_has, acts_rise}
 

@@ -27,7 +27,7 @@ use Rattle.csp_fire.specs.contracts.form.StepOrd.TheImpl as impl
 use Rattle.csp_fire.specs.contracts.form.StepPartialEq.TheImpl as equality
 use Rattle.csp_fire.specs.contracts.form.StepOrd.TheImpl.Laws as laws
 use Rattle.csp_fire.specs.Form.{step_of}
-use Rattle.csp_rules.proofs.Answered.{contains_one_of, one_of_contains}
+use Rattle.csp_operators.proofs.Answered.{contains_one_of, one_of_contains}
 
 -- ---- keeping each once, by what it stands for
 

@@ -6,7 +6,7 @@ use Rattle.csp_semantics.specs.Syntax.Process.{Process}
 use Rattle.csp_semantics.specs.Meaning.Expansions.{Form, Fired, FiredLarge, step_cmp}
 use Rattle.csp_semantics.specs.Meaning.Offers.{RisesBy}
 use Rattle.csp_semantics.specs.Meaning.Stepping.{Steps}
-use Rattle.csp_rules.specs.Answering.{Answered, all_within}
+use Rattle.csp_operators.specs.Answering.{Answered, all_within}
 
 abbrev pub is_tau : Action → Bool
 is_tau Tau = true

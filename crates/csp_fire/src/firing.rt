@@ -6,7 +6,7 @@ ghost use Rattle.csp_term.specs.Term.{process_of};
 ghost use Rattle.csp_term.specs.Script.{script_of};
 ghost use Rattle.csp_fire.specs.Form.{form_of, step_of};
 ghost use Rattle.std.specs.Option.{option_map};
-ghost use Rattle.csp_rules.specs.Answering.{all_within, answered_of};
+ghost use Rattle.csp_operators.specs.Answering.{all_within, answered_of};
 ghost use Rattle.csp_fire.specs.Offering.{IsFormByAnswer, IsFormBySteps};
 
 use crate::expansion::Expansion;

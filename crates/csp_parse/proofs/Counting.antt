@@ -20,10 +20,10 @@ low_front : (n : Nest) (front rest : List PlacedToken) → AreLow n (front ++ re
 low_front n [] rest h low = low
 low_front n (t ∷ ts) rest h low = low_front (after_token (nesting t.token) n) ts rest h.1 h.0
 
-is_low : (a : List PlacedToken) → AreLow start a → IsLow a
+pub is_low : (a : List PlacedToken) → AreLow start a → IsLow a
 is_low a h front rest e = low_front start front rest (subst (AreLow start) e h) (omega arith)
 
-last_declaration : (a b : List PlacedToken) (ds : RawScript) (d : RawDeclaration) → IsLowScript a ds → IsDeclaration b d → IsLow b → IsLowScript (a ++ b) (ds ++ d ∷ [])
+pub last_declaration : (a b : List PlacedToken) (ds : RawScript) (d : RawDeclaration) → IsLowScript a ds → IsDeclaration b d → IsLow b → IsLowScript (a ++ b) (ds ++ d ∷ [])
 last_declaration a b ds d IsLowScript.none h low = subst (λ ts. IsLowScript ts (d ∷ [])) (append-nil ([] ++ b)) (and_one h low none)
 last_declaration a b ds d (IsLowScript.and_one {a = a1} {b = b1} {d = e} {ds = es} k l ks) h low =
     subst (λ ts. IsLowScript ts (e ∷ es ++ d ∷ [])) (sym (append_assoc a1 b1 b)) (and_one k l (last_declaration b1 b es d ks h low))

@@ -79,19 +79,19 @@ plain (NameToken cs) e = refl
 plain (NumberToken n) e = absurd (cc e)
 
 -- the tokens, and t behind them, with their height
-abbrev Fine : List PlacedToken → PlacedToken → Type 0
+abbrev pub Fine : List PlacedToken → PlacedToken → Type 0
 Fine before t = (l : List PlacedToken) × IsLatest before l × (tokens_height (l ++ t ∷ []) ≤ greatest_height)
 
-joined : (a b : List PlacedToken) (s u : RawScript) → IsScript a s → IsScript b u → IsScript (a ++ b) (s ++ u)
+pub joined : (a b : List PlacedToken) (s u : RawScript) → IsScript a s → IsScript b u → IsScript (a ++ b) (s ++ u)
 joined x y s u IsScript.no_declarations k = k
 joined x y s u (IsScript.declarations {a} {b} {d} {ds} one rest) k =
     subst (λ ts. IsScript ts (d ∷ (ds ++ u))) (sym (append_assoc a b y)) (declarations one (joined b y ds u rest k))
 
 -- two ways to divide a list
-abbrev Divided : List PlacedToken → List PlacedToken → List PlacedToken → PlacedToken → List PlacedToken → Type 0
+abbrev pub Divided : List PlacedToken → List PlacedToken → List PlacedToken → PlacedToken → List PlacedToken → Type 0
 Divided a b x t y = ((z : List PlacedToken) × (x ≡ a ++ z) × (b ≡ z ++ t ∷ y)) ⊎ ((z : List PlacedToken) × (a ≡ x ++ t ∷ z))
 
-divided : (a b x : List PlacedToken) (t : PlacedToken) (y : List PlacedToken) → a ++ b ≡ x ++ t ∷ y → Divided a b x t y
+pub divided : (a b x : List PlacedToken) (t : PlacedToken) (y : List PlacedToken) → a ++ b ≡ x ++ t ∷ y → Divided a b x t y
 divided [] b x t y e = inl (x, refl, e)
 divided (u ∷ us) b [] t y e = let same : u ≡ t = cc e in inr (us, ap (λ v. v ∷ us) same)
 divided (u ∷ us) b (v ∷ vs) t y e =
@@ -103,7 +103,7 @@ divided (u ∷ us) b (v ∷ vs) t y e =
     ]
 
 -- the first token of a script begins a declaration
-first_begins : (t : PlacedToken) (ts us : List PlacedToken) (s : RawScript) → IsLowScript us s → us ≡ t ∷ ts → begins outside t.token ≡ true
+pub first_begins : (t : PlacedToken) (ts us : List PlacedToken) (s : RawScript) → IsLowScript us s → us ≡ t ∷ ts → begins outside t.token ≡ true
 first_begins t ts us s IsLowScript.none e = absurd (cc e)
 first_begins t ts us s (IsLowScript.and_one {a = a} {b = b} {d = d} h low rest) e =
     let whole = declaration a d h in
@@ -116,7 +116,7 @@ not_higher : (a : List PlacedToken) (t : PlacedToken) → begins outside t.token
 not_higher a t e = ap nest_height (after_both start a (t ∷ []) ∙ ap (λ x. after_token x (after_tokens start a)) (plain t.token e))
 
 -- at the end of a declaration
-fine_at_end : (w : List PlacedToken) (s : RawScript) (a : List PlacedToken) (d : RawDeclaration) (t : PlacedToken) → IsScript w s → IsDeclaration a d → IsLow a → begins outside t.token ≡ true → Fine (w ++ a) t
+pub fine_at_end : (w : List PlacedToken) (s : RawScript) (a : List PlacedToken) (d : RawDeclaration) (t : PlacedToken) → IsScript w s → IsDeclaration a d → IsLow a → begins outside t.token ≡ true → Fine (w ++ a) t
 fine_at_end w s a d t script h low e =
     let whole = declaration a d h in
     let made : IsDeclaration (whole.first ∷ whole.others ++ []) d = subst (λ x. IsDeclaration x d) (whole.is ∙ sym (append-nil (whole.first ∷ whole.others))) h in
@@ -125,7 +125,7 @@ fine_at_end w s a d t script h low e =
     (a, is_latest, subst (λ n. n ≤ greatest_height) (sym (not_higher a t e)) height)
 
 -- within a declaration
-fine_within : (w : List PlacedToken) (s : RawScript) (a : List PlacedToken) (d : RawDeclaration) (u : PlacedToken) (us : List PlacedToken) (t : PlacedToken) (z : List PlacedToken) → IsScript w s → IsDeclaration a d → IsLow a →
+pub fine_within : (w : List PlacedToken) (s : RawScript) (a : List PlacedToken) (d : RawDeclaration) (u : PlacedToken) (us : List PlacedToken) (t : PlacedToken) (z : List PlacedToken) → IsScript w s → IsDeclaration a d → IsLow a →
     a ≡ u ∷ us ++ t ∷ z → Fine (w ++ u ∷ us) t
 fine_within w s a d u us t z script h low e =
     let cut : a ≡ (u ∷ us ++ t ∷ []) ++ z = e ∙ sym (append_assoc (u ∷ us) (t ∷ []) z) in

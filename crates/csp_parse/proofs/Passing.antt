@@ -1,5 +1,5 @@
 -- Tokens that are passed one after another.
-use Rattle.std.proofs.Common.{◌≡◌, ◌∙◌, ℕ, ◌+◌, ◌<◌, ◌≤◌, List, [], ◌∷◌, ◌++◌, length, map, drop, get_or, refl, sym, ap, subst, append_assoc, drop-cons, add-one, arith, Result, Ok, Err, IfOk}
+use Rattle.std.proofs.Common.{◌≡◌, ◌∙◌, ℕ, ◌+◌, ◌<◌, ◌≤◌, List, [], ◌∷◌, ◌++◌, length, map, drop, get_or, refl, sym, ap, subst, append_assoc, drop-cons, drop_of_length-le, add-one, arith, Result, Ok, Err, IfOk}
 use Rattle.csp_semantics.specs.Text.Token.{PlacedToken, NameToken}
 use Rattle.csp_semantics.specs.Text.Grammar.{IsWord, word, IsSign, sign, IsName, name, IsNumber, number}
 use Rattle.csp_semantics.specs.Text.Height.{Nest, nesting, after_token, after_tokens, nest_height, greatest_height}
@@ -8,6 +8,8 @@ use Rattle.csp_lex.specs.declared.kinds.TokenKind.TheVariants as kind
 use Rattle.csp_lex.specs.declared.keywords.Keyword as keywords
 use Rattle.csp_lex.specs.declared.signs.Sign as signs
 use Rattle.csp_lex.specs.Tokens.{placed_token, keyword_of, sign_of}
+use Rattle.csp_parse.specs.declared.stops.Stopped.{Stopped}
+use Rattle.csp_parse.specs.Deciding.{IsStopOfOne, under, IsStopOfCount, over}
 use Rattle.csp_parse.specs.Reading.{Standing, CountsFirst, AreLow, IsFirst, IsNext, PassesOne, Splits, Passes, Reads}
 
 -- what holds in any case
@@ -19,23 +21,35 @@ first_of : (ts : List Token) → 0 < length ts → Token
 first_of [] some = absurd (omega (arith, some))
 first_of (t ∷ ts) some = t
 
+-- the token at a place, which is some token behind the end
+token_at : (ts : List Token) (n : ℕ) → n < length ts → PlacedToken
+token_at ts n within = placed_token (get_or ts n (first_of ts (omega arith)))
+
+left_at : (ts : List Token) (n : ℕ) (left : List PlacedToken) (within : n < length ts) → left ≡ map placed_token (drop (n + 1) ts) → map placed_token (drop n ts) ≡ token_at ts n within ∷ left
+unfolding token_at
+left_at ts n left within is =
+    let t = first_of ts (omega arith) in
+    ap (map placed_token) (drop-cons ts n t within ∙ ap (λ k. get_or ts n t ∷ drop k ts) (sym (add-one n))) ∙ ap (λ us. placed_token (get_or ts n t) ∷ us) (sym is)
+
+pub none_left : (ts : List Token) (n : ℕ) → length ts ≤ n → map placed_token (drop n ts) ≡ []
+none_left ts n past = ap (map placed_token) (drop_of_length-le ts past)
+
 -- the token at a place is passed
 pub passes_one : (ts : List Token) (n : ℕ) (after : Standing) (nest : Nest) → n < length ts → after.left ≡ map placed_token (drop (n + 1) ts) → (nest_height nest ≤ greatest_height → CountsFirst nest after.left after.nest) →
     PassesOne (record { left = map placed_token (drop n ts); nest = nest }) after
-passes_one ts n after nest within is counts =
-    let some : 0 < length ts = omega arith in
-    let t = first_of ts some in
-    record {
-      token = placed_token (get_or ts n t);
-      splits = ap (map placed_token) (drop-cons ts n t within ∙ ap (λ k. get_or ts n t ∷ drop k ts) (sym (add-one n))) ∙ ap (λ us. placed_token (get_or ts n t) ∷ us) (sym is);
-      counts = counts;
-    }
+passes_one ts n after nest within is counts = record { token = token_at ts n within; splits = left_at ts n after.left within is; counts = counts }
 
-after_both : (n : Nest) (a b : List PlacedToken) → after_tokens n (a ++ b) ≡ after_tokens (after_tokens n a) b
+-- the token at a place is passed, and the next one is not counted
+pub stops_one : (ts : List Token) (n : ℕ) (after : Standing) (nest : Nest) → n < length ts → after.left ≡ map placed_token (drop (n + 1) ts) → {e : Stopped} → IsStopOfCount nest after.left e →
+    IsStopOfOne (record { left = map placed_token (drop n ts); nest = nest }) after e
+stops_one ts n after nest within is (over counted) = under (record { token = token_at ts n within; splits = left_at ts n after.left within is; over = counted })
+stops_one ts n after nest within is IsStopOfCount.memory = IsStopOfOne.memory
+
+pub after_both : (n : Nest) (a b : List PlacedToken) → after_tokens n (a ++ b) ≡ after_tokens (after_tokens n a) b
 after_both n [] b = refl
 after_both n (t ∷ ts) b = after_both (after_token (nesting t.token) n) ts b
 
-low_both : (n : Nest) (a b : List PlacedToken) → AreLow n a → AreLow (after_tokens n a) b → AreLow n (a ++ b)
+pub low_both : (n : Nest) (a b : List PlacedToken) → AreLow n a → AreLow (after_tokens n a) b → AreLow n (a ++ b)
 low_both n [] b one two = two
 low_both n (t ∷ ts) b one two = (one.0, low_both (after_token (nesting t.token) n) ts b one.1 two)
 

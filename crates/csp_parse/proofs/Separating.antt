@@ -33,23 +33,23 @@ more_parts s Is f y xs ys list m r is =
       is = subst (AreSeparated s Is (list.front ++ m.front ++ r.front)) (sym (ap (map f) is ∙ map-append f xs (y ∷ []))) (last_separated s Is list.front m.front r.front (map f xs) (f y) list.is m.is r.is);
     }
 
-names_are : {a : List PlacedToken} {ns : List RawName} → AreSeparated CommaSign IsName a ns → AreNames a ns
+pub names_are : {a : List PlacedToken} {ns : List RawName} → AreSeparated CommaSign IsName a ns → AreNames a ns
 names_are (one a n h) = grammar.one_name h
 names_are (more a n h m hs) = grammar.more_names h m (names_are hs)
 
-alternatives_are : {a : List PlacedToken} {ns : List RawName} → AreSeparated BarSign IsName a ns → AreAlternatives a ns
+pub alternatives_are : {a : List PlacedToken} {ns : List RawName} → AreSeparated BarSign IsName a ns → AreAlternatives a ns
 alternatives_are (one a n h) = grammar.one_alternative h
 alternatives_are (more a n h m hs) = grammar.more_alternatives h m (alternatives_are hs)
 
-events_are : {a : List PlacedToken} {es : List RawEvent} → AreSeparated CommaSign IsEvent a es → AreEvents a es
+pub events_are : {a : List PlacedToken} {es : List RawEvent} → AreSeparated CommaSign IsEvent a es → AreEvents a es
 events_are (one a e h) = grammar.one_event h
 events_are (more a e h m hs) = grammar.more_events h m (events_are hs)
 
-pairs_are : {a : List PlacedToken} {ps : List RawPair} → AreSeparated CommaSign IsPair a ps → ArePairs a ps
+pub pairs_are : {a : List PlacedToken} {ps : List RawPair} → AreSeparated CommaSign IsPair a ps → ArePairs a ps
 pairs_are (one a p (pair x m y)) = grammar.one_pair x m y
 pairs_are (more a p (pair x m y) n hs) = grammar.more_pairs x m y n (pairs_are hs)
 
-domains_are : {a : List PlacedToken} {ds : List RawDomain} → AreSeparated DotSign (IsDomainAt level.Atom) a ds → AreDomains a ds
+pub domains_are : {a : List PlacedToken} {ds : List RawDomain} → AreSeparated DotSign (IsDomainAt level.Atom) a ds → AreDomains a ds
 domains_are (one a d (domain t ts e h)) = grammar.one_domain t ts h
 domains_are (more a d (domain t ts e h) m hs) = grammar.more_domains t ts h m (domains_are hs)
 

@@ -31,7 +31,7 @@ binary_words text.InterWord o a e w = subst (IsBinaryWord a) (same e) (grammar.i
 binary_words text.DiffWord o a e w = subst (IsBinaryWord a) (same e) (grammar.diff_word w)
 binary_words _ o a e w = absurd (cc e)
 
-comparing : (t : PlacedToken) (x : text.Token) (o : pure.Binary) → t.token ≡ x → comparison_of x ≡ Some o → IsComparing (t ∷ []) o
+pub comparing : (t : PlacedToken) (x : text.Token) (o : pure.Binary) → t.token ≡ x → comparison_of x ≡ Some o → IsComparing (t ∷ []) o
 comparing t (text.SignToken text.SameSign) o i e = subst (IsComparing (t ∷ [])) (same e) (grammar.same (sign t i))
 comparing t (text.SignToken text.DiffersSign) o i e = subst (IsComparing (t ∷ [])) (same e) (grammar.differs (sign t i))
 comparing t (text.SignToken text.LessSign) o i e = subst (IsComparing (t ∷ [])) (same e) (grammar.less (sign t i))
@@ -59,7 +59,7 @@ multiplying_is t (text.SignToken text.TimesSign) o i e = subst (IsMultiplying (t
 multiplying_is t (text.SignToken text.PercentSign) o i e = subst (IsMultiplying (t ∷ [])) (same e) (grammar.percent (sign t i))
 multiplying_is t _ o i e = absurd (cc e)
 
-operators : (l : Level) (t : PlacedToken) (x : text.Token) (o : pure.Binary) → t.token ≡ x → operator_at l x ≡ Some o → IsOperatorAt l (t ∷ []) o
+pub operators : (l : Level) (t : PlacedToken) (x : text.Token) (o : pure.Binary) → t.token ≡ x → operator_at l x ≡ Some o → IsOperatorAt l (t ∷ []) o
 operators level.Disjunction t x o i e = or_is t x o i e
 operators level.Conjunction t x o i e = and_is t x o i e
 operators level.Sum t x o i e = adding_is t x o i e

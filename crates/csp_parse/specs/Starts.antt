@@ -51,11 +51,3 @@ pub data IsLaterField : List PlacedToken → RawField → Type 0 where
   output : {a b : List PlacedToken} {e : RawExpression} → IsSign OutputSign a → IsAtom b e → IsLaterField (a ++ b) (RawGiven e)
   input : {a b : List PlacedToken} {n : RawName} → IsSign InputSign a → IsName b n → IsLaterField (a ++ b) (RawInput n)
   input_from : {a b c d : List PlacedToken} {n : RawName} {e : RawExpression} → IsSign InputSign a → IsName b n → IsSign ColonSign c → IsAtom d e → IsLaterField (a ++ b ++ c ++ d) (RawInputFrom n e)
-
--- What stands in brackets is read, with the brackets around it.
-pub record ReadsInBrackets {A : Type 0} (before after : Standing) (i : Inner A) : Type 0 where
-  pub behind_opening : Standing
-  pub behind_inside : Standing
-  pub opens : Passes (IsSign OpenRoundSign) before behind_opening
-  pub inside : ReadsInner behind_opening behind_inside i
-  pub closes : Passes (IsSign CloseRoundSign) behind_inside after

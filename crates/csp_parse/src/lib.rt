@@ -2,8 +2,8 @@
 //!
 //! `parse` reads the tokens once, and each of its choices is made by the next token. By its contract a
 //! tree that it answers is one that the grammar gives these tokens, with each name's spelling and place,
-//! and no token is too high for its declaration. That every such script is read, and which refusal stands
-//! where, is only tested.
+//! and no token is too high for its declaration; and a refusal is the one that the definitions give these
+//! tokens, at its place. So every script within the limit of heights is read, as long as there is memory.
 #![tactic(auto)]
 
 mod declarations;
@@ -19,15 +19,20 @@ mod processes;
 mod read_declarations;
 mod read_events;
 mod read_expressions;
+mod read_fields;
 mod read_processes;
+mod read_starts;
 mod refusals;
 mod starts;
+mod stops;
 
-ghost use Rattle.std.specs.Prelude.{IfOk, map};
+ghost use Rattle.std.specs.Prelude.{IfOk, IfErr, map};
 ghost use Rattle.csp_semantics.specs.Text.Grammar.{IsScript};
 ghost use Rattle.csp_semantics.specs.Text.Height.{HasNoneTooHigh};
+ghost use Rattle.csp_lex.specs.Places.{place_of};
 ghost use Rattle.csp_lex.specs.Tokens.{placed_token};
 ghost use Rattle.csp_parse.specs.Declarations.{script_of};
+ghost use Rattle.csp_parse.specs.Stopping.{IsRefusalOf};
 
 use csp_lex::TokenList;
 pub use declarations::{Declaration, Domain, Model, Raw};
@@ -52,6 +57,11 @@ pub fn parse<'a, A: Allocator + Copy, B: Allocator>(
 ) -> Result<Raw<'a, A>, Refused>
     ensures tree { IfOk result (λ raw. IsScript (map placed_token list.now.tokens.items) (script_of raw)) }
     ensures low { IfOk result (λ _. HasNoneTooHigh (map placed_token list.now.tokens.items)) }
+    ensures refusal { IfErr result (λ refused. IsRefusalOf (map placed_token list.now.tokens.items) (place_of list.now.end) refused) }
 {
-    parsers::Parser::new(alloc, list).script()
+    let mut parser = parsers::Parser::new(alloc, list);
+    match parser.script() {
+        Ok(raw) => Ok(raw),
+        Err(stopped) => Err(parser.refusal(stopped, list.end)),
+    }
 }

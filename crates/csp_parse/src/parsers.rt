@@ -1,15 +1,17 @@
-ghost use Rattle.std.specs.Prelude.{◌≡◌, ◌<◌, ◌≤◌, ℕ, List, [], true, IfOk, IfSome, IfNone, length, map};
+ghost use Rattle.std.specs.Prelude.{◌≡◌, ◌<◌, ◌≤◌, ℕ, List, [], true, false, IfOk, IfErr, IfSome, IfNone, length, map};
 ghost use Rattle.csp_semantics.specs.Text.Token.{SignToken};
 ghost use Rattle.csp_semantics.specs.Text.Height.{token_fault};
 ghost use Rattle.csp_semantics.specs.Text.Grammar.{IsSign, IsWord, IsName};
 ghost use Rattle.csp_lex.specs.Tokens.{keyword_of, sign_of, token_of, placed_token};
 ghost use Rattle.csp_lex.specs.declared.kinds.TokenKind.TheVariants as kinds;
 ghost use Rattle.csp_parse.specs.Names.{name_of};
-ghost use Rattle.csp_parse.specs.Refusals.{fault_of};
+ghost use Rattle.csp_lex.specs.Places.{place_of};
+ghost use Rattle.csp_parse.specs.Refusals.{fault_of, IsRefusalAt};
 
 use crate::names::Name;
 use crate::nests::{GREATEST_HEIGHT, Nest, nesting_of};
 use crate::refusals::{GrammarFault, Refused};
+use crate::stops::Stopped;
 use csp_lex::{Keyword, Place, Sign, Token, TokenKind, TokenList};
 use std::alloc::Allocator;
 
@@ -20,14 +22,15 @@ pub(crate) struct Parser<'t, 'a, A: Allocator> {
     tokens: &'t [Token<'a>],
     /// the number of tokens that are passed
     position: usize,
-    /// the place behind the text
-    end: Place,
     /// where the token behind the next one stands in the next one's declaration
     nest: Nest<A>,
 }
 
 impl<'t, 'a, A: Allocator + Copy> Parser<'t, 'a, A> {
     ghost use Rattle.csp_semantics.specs.Text.Height.{nest_height, greatest_height};
+    ghost use Rattle.csp_parse.specs.declared.stops.Stopped.TheVariants.{Memory};
+    ghost use Rattle.csp_parse.specs.Deciding.{nothing, Ends, Done, IsStop, IsStopOfOne, IsStopOfCount};
+    ghost use Rattle.csp_parse.specs.Forms.{HasTree, Next};
     ghost use Rattle.csp_parse.specs.Nests.{start, nest_of};
     ghost use Rattle.csp_parse.specs.Reading.{left_of, standing_of, CountsFirst, IsFirst, IsNext, PassesOne, Passes, Reads, ReadsBehind};
 
@@ -39,7 +42,6 @@ impl<'t, 'a, A: Allocator + Copy> Parser<'t, 'a, A> {
             alloc,
             tokens: &list.tokens,
             position: 0,
-            end: list.end,
             nest: Nest::new(alloc),
         }
     }
@@ -63,7 +65,8 @@ impl<'t, 'a, A: Allocator + Copy> Parser<'t, 'a, A> {
 
     /// Whether the next token is this sign.
     pub(crate) fn is_at(&self, sign: Sign) -> bool
-        ensures { result ≡ true → IsNext (kinds.Sign sign) (left_of self.now) }
+        ensures yes { result ≡ true → IsNext (kinds.Sign sign) (left_of self.now) }
+        ensures no { result ≡ false → ¬ (IsNext (kinds.Sign sign) (left_of self.now)) }
     {
         match self.kind() {
             Some(TokenKind::Sign(next)) => next == sign,
@@ -73,7 +76,8 @@ impl<'t, 'a, A: Allocator + Copy> Parser<'t, 'a, A> {
 
     /// Whether the next token is this keyword.
     pub(crate) fn is_at_word(&self, keyword: Keyword) -> bool
-        ensures { result ≡ true → IsNext (kinds.Keyword keyword) (left_of self.now) }
+        ensures yes { result ≡ true → IsNext (kinds.Keyword keyword) (left_of self.now) }
+        ensures no { result ≡ false → ¬ (IsNext (kinds.Keyword keyword) (left_of self.now)) }
     {
         match self.kind() {
             Some(TokenKind::Keyword(next)) => next == keyword,
@@ -81,91 +85,112 @@ impl<'t, 'a, A: Allocator + Copy> Parser<'t, 'a, A> {
         }
     }
 
-    /// The refusal of the next token, or of the end.
-    pub(crate) fn refused(&self) -> Refused {
-        match self.next() {
-            Some(token) => Refused::Grammar {
+    /// Whether the next token is a name.
+    pub(crate) fn is_at_name(&self) -> bool
+        ensures yes { result ≡ true → IsNext kinds.Name (left_of self.now) }
+        ensures no { result ≡ false → ¬ (IsNext kinds.Name (left_of self.now)) }
+    {
+        matches!(self.kind(), Some(TokenKind::Name))
+    }
+
+    /// The refusal where a reader stopped, of a text with this place behind it.
+    pub(crate) fn refusal(&self, stopped: Stopped, end: Place) -> Refused
+        ensures { IsRefusalAt (place_of end) (left_of self.now) stopped result }
+    {
+        match (stopped, self.next()) {
+            (Stopped::Memory, _) => Refused::Memory,
+            (Stopped::Here, Some(token)) => Refused::Grammar {
                 fault: fault_at(token.kind),
                 place: token.place,
             },
-            None => Refused::Grammar {
+            (Stopped::High, Some(token)) => Refused::Grammar {
+                fault: GrammarFault::Nested,
+                place: token.place,
+            },
+            (_, None) => Refused::Grammar {
                 fault: GrammarFault::UnexpectedEnd,
-                place: self.end,
+                place: end,
             },
         }
     }
 
     /// Takes the next token as the first one of a declaration.
-    pub(crate) fn begin_declaration(&mut self) -> Result<(), Refused>
+    pub(crate) fn begin_declaration(&mut self) -> Result<(), Stopped>
         ensures same { left_of self.new ≡ left_of self.old }
         ensures counts { IfOk result (λ _. CountsFirst start (left_of self.new) (nest_of self.new.nest)) }
+        ensures stops { IfErr result (λ stopped. stopped ≡ Memory) }
     {
         self.nest.begin();
         self.count_next()
     }
 
     /// Counts the next token in its declaration, and refuses it where it is too high.
-    fn count_next(&mut self) -> Result<(), Refused>
+    fn count_next(&mut self) -> Result<(), Stopped>
         ensures same { left_of self.new ≡ left_of self.old }
         ensures counts { IfOk result (λ _. nest_height (nest_of self.old.nest) ≤ greatest_height → CountsFirst (nest_of self.old.nest) (left_of self.new) (nest_of self.new.nest)) }
+        ensures stops { IfErr result (λ stopped. IsStopOfCount (nest_of self.old.nest) (left_of self.new) stopped) }
     {
         let Some(token) = self.next() else {
             return Ok(());
         };
         self.nest.count(nesting_of(token.kind))?;
         if self.nest.height() > GREATEST_HEIGHT {
-            return Err(Refused::Grammar {
-                fault: GrammarFault::Nested,
-                place: token.place,
-            });
+            return Err(Stopped::High);
         }
         Ok(())
     }
 
     /// Passes the next token, and refuses the end.
-    pub(crate) fn pass(&mut self) -> Result<(), Refused>
+    pub(crate) fn pass(&mut self) -> Result<(), Stopped>
         ensures one { IfOk result (λ _. PassesOne (standing_of self.old) (standing_of self.new)) }
+        ensures stops { IfErr result (λ stopped. IsStopOfOne (standing_of self.old) (standing_of self.new) stopped) }
         ensures shorter { IfOk result (λ _. length (left_of self.new) < length (left_of self.old)) }
     {
         if self.position >= self.tokens.len() {
-            return Err(self.refused());
+            return Err(Stopped::Here);
         }
         self.position += 1;
         self.count_next()
     }
 
     /// Passes this sign, which is to be next.
-    pub(crate) fn sign(&mut self, sign: Sign) -> Result<(), Refused>
+    pub(crate) fn sign(&mut self, sign: Sign) -> Result<(), Stopped>
         ensures passes { IfOk result (λ _. Passes (IsSign (sign_of sign)) (standing_of self.old) (standing_of self.new)) }
+        ensures ends { IfOk result (λ _. Ends (IsSign (sign_of sign)) nothing (standing_of self.old) (standing_of self.new)) }
+        ensures stops { IfErr result (λ stopped. IsStop (IsSign (sign_of sign)) nothing (standing_of self.old) (standing_of self.new) stopped) }
         ensures shorter { IfOk result (λ _. length (left_of self.new) < length (left_of self.old)) }
     {
         if !self.is_at(sign) {
-            return Err(self.refused());
+            return Err(Stopped::Here);
         }
         self.pass()
     }
 
     /// Passes this keyword, which is to be next.
-    pub(crate) fn word(&mut self, keyword: Keyword) -> Result<(), Refused>
+    pub(crate) fn word(&mut self, keyword: Keyword) -> Result<(), Stopped>
         ensures passes { IfOk result (λ _. Passes (IsWord (keyword_of keyword)) (standing_of self.old) (standing_of self.new)) }
+        ensures ends { IfOk result (λ _. Ends (IsWord (keyword_of keyword)) nothing (standing_of self.old) (standing_of self.new)) }
+        ensures stops { IfErr result (λ stopped. IsStop (IsWord (keyword_of keyword)) nothing (standing_of self.old) (standing_of self.new) stopped) }
         ensures shorter { IfOk result (λ _. length (left_of self.new) < length (left_of self.old)) }
     {
         if !self.is_at_word(keyword) {
-            return Err(self.refused());
+            return Err(Stopped::Here);
         }
         self.pass()
     }
 
     /// Passes a name, which is to be next.
-    pub(crate) fn name(&mut self) -> Result<Name<'a>, Refused>
+    pub(crate) fn name(&mut self) -> Result<Name<'a>, Stopped>
         ensures reads { IfOk result (λ name. Reads IsName (standing_of self.old) (standing_of self.new) (name_of name)) }
+        ensures ends { IfOk result (λ _. Ends (HasTree IsName) nothing (standing_of self.old) (standing_of self.new)) }
+        ensures stops { IfErr result (λ stopped. IsStop (HasTree IsName) nothing (standing_of self.old) (standing_of self.new) stopped) }
         ensures shorter { IfOk result (λ _. length (left_of self.new) < length (left_of self.old)) }
     {
         let Some(token) = self.next() else {
-            return Err(self.refused());
+            return Err(Stopped::Here);
         };
         let TokenKind::Name = token.kind else {
-            return Err(self.refused());
+            return Err(Stopped::Here);
         };
         self.pass()?;
         Ok(Name {
@@ -175,8 +200,10 @@ impl<'t, 'a, A: Allocator + Copy> Parser<'t, 'a, A> {
     }
 
     /// This sign, and a name behind it.
-    pub(crate) fn name_behind(&mut self, sign: Sign) -> Result<Name<'a>, Refused>
+    pub(crate) fn name_behind(&mut self, sign: Sign) -> Result<Name<'a>, Stopped>
         ensures reads { IfOk result (λ name. ReadsBehind (IsSign (sign_of sign)) IsName (standing_of self.old) (standing_of self.new) (name_of name)) }
+        ensures done { IfOk result (λ _. Done (Next (sign_of sign) (HasTree IsName)) nothing (standing_of self.old) (standing_of self.new)) }
+        ensures stops { IfErr result (λ stopped. IsStop (Next (sign_of sign) (HasTree IsName)) nothing (standing_of self.old) (standing_of self.new) stopped) }
         ensures shorter { IfOk result (λ _. length (left_of self.new) < length (left_of self.old)) }
     {
         self.sign(sign)?;

@@ -1,11 +1,11 @@
-ghost use Rattle.std.specs.Prelude.{◌≡◌, IfOk, map};
+ghost use Rattle.std.specs.Prelude.{◌≡◌, IfOk, IfErr, map};
 ghost use Rattle.csp_lex.specs.Tokens.{sign_of};
 
 use crate::event_sets::EventSet;
 use crate::events::Pair;
 use crate::expressions::Expression;
 use crate::names::Name;
-use crate::refusals::Refused;
+use crate::stops::Stopped;
 use csp_lex::Sign;
 use std::alloc::Allocator;
 
@@ -113,6 +113,7 @@ pub enum Process<'a, A: Allocator> {
 
 impl<'a, A: Allocator + Copy> Process<'a, A> {
     ghost use Rattle.csp_semantics.specs.Text.Raw.{RawStop, RawSkip, RawCall, RawPrefix, RawGuard, RawIf, RawInfix, RawGeneralisedParallel, RawAlphabetisedParallel, RawHiding, RawRenaming, RawReplicated};
+    ghost use Rattle.csp_parse.specs.declared.stops.Stopped.TheVariants.{Memory};
     ghost use Rattle.csp_parse.specs.Events.{pair_of};
     ghost use Rattle.csp_parse.specs.EventSets.{event_set_of};
     ghost use Rattle.csp_parse.specs.Expressions.{expression_of, expressions_of};
@@ -120,23 +121,26 @@ impl<'a, A: Allocator + Copy> Process<'a, A> {
     ghost use Rattle.csp_parse.specs.Processes.{field_of, infix_of, replicator_of, process_in, process_of};
 
     // Alone, so that no other function holds a process in its own place, which makes proofs long.
-    fn boxed(self, alloc: A) -> Result<Box<Process<'a, A>, A>, Refused>
-        ensures { IfOk result (λ p. process_in p ≡ process_of self.entry) }
+    fn boxed(self, alloc: A) -> Result<Box<Process<'a, A>, A>, Stopped>
+        ensures makes { IfOk result (λ p. process_in p ≡ process_of self.entry) }
+        ensures stops { IfErr result (λ stopped. stopped ≡ Memory) }
     {
         let process = Box::new(alloc, self)?;
         Ok(process)
     }
 
     /// `STOP`
-    pub(crate) fn stop(alloc: A) -> Result<Box<Process<'a, A>, A>, Refused>
-        ensures { IfOk result (λ p. process_in p ≡ RawStop) }
+    pub(crate) fn stop(alloc: A) -> Result<Box<Process<'a, A>, A>, Stopped>
+        ensures makes { IfOk result (λ p. process_in p ≡ RawStop) }
+        ensures stops { IfErr result (λ stopped. stopped ≡ Memory) }
     {
         Process::Stop.boxed(alloc)
     }
 
     /// `SKIP`
-    pub(crate) fn skip(alloc: A) -> Result<Box<Process<'a, A>, A>, Refused>
-        ensures { IfOk result (λ p. process_in p ≡ RawSkip) }
+    pub(crate) fn skip(alloc: A) -> Result<Box<Process<'a, A>, A>, Stopped>
+        ensures makes { IfOk result (λ p. process_in p ≡ RawSkip) }
+        ensures stops { IfErr result (λ stopped. stopped ≡ Memory) }
     {
         Process::Skip.boxed(alloc)
     }
@@ -146,8 +150,9 @@ impl<'a, A: Allocator + Copy> Process<'a, A> {
         alloc: A,
         name: Name<'a>,
         arguments: Vec<Expression<'a, A>, A>,
-    ) -> Result<Box<Process<'a, A>, A>, Refused>
-        ensures { IfOk result (λ p. process_in p ≡ RawCall (name_of name.entry) (expressions_of arguments.entry.items)) }
+    ) -> Result<Box<Process<'a, A>, A>, Stopped>
+        ensures makes { IfOk result (λ p. process_in p ≡ RawCall (name_of name.entry) (expressions_of arguments.entry.items)) }
+        ensures stops { IfErr result (λ stopped. stopped ≡ Memory) }
     {
         Process::Call(name, arguments).boxed(alloc)
     }
@@ -158,8 +163,9 @@ impl<'a, A: Allocator + Copy> Process<'a, A> {
         channel: Name<'a>,
         fields: Vec<Field<'a, A>, A>,
         body: Box<Process<'a, A>, A>,
-    ) -> Result<Box<Process<'a, A>, A>, Refused>
-        ensures { IfOk result (λ p. process_in p ≡ RawPrefix (name_of channel.entry) (map field_of fields.entry.items) (process_in body.entry)) }
+    ) -> Result<Box<Process<'a, A>, A>, Stopped>
+        ensures makes { IfOk result (λ p. process_in p ≡ RawPrefix (name_of channel.entry) (map field_of fields.entry.items) (process_in body.entry)) }
+        ensures stops { IfErr result (λ stopped. stopped ≡ Memory) }
     {
         Process::Prefix(channel, fields, body).boxed(alloc)
     }
@@ -169,8 +175,9 @@ impl<'a, A: Allocator + Copy> Process<'a, A> {
         alloc: A,
         condition: Expression<'a, A>,
         body: Box<Process<'a, A>, A>,
-    ) -> Result<Box<Process<'a, A>, A>, Refused>
-        ensures { IfOk result (λ p. process_in p ≡ RawGuard (expression_of condition.entry) (process_in body.entry)) }
+    ) -> Result<Box<Process<'a, A>, A>, Stopped>
+        ensures makes { IfOk result (λ p. process_in p ≡ RawGuard (expression_of condition.entry) (process_in body.entry)) }
+        ensures stops { IfErr result (λ stopped. stopped ≡ Memory) }
     {
         Process::Guard(condition, body).boxed(alloc)
     }
@@ -181,8 +188,9 @@ impl<'a, A: Allocator + Copy> Process<'a, A> {
         condition: Expression<'a, A>,
         first: Box<Process<'a, A>, A>,
         second: Box<Process<'a, A>, A>,
-    ) -> Result<Box<Process<'a, A>, A>, Refused>
-        ensures { IfOk result (λ p. process_in p ≡ RawIf (expression_of condition.entry) (process_in first.entry) (process_in second.entry)) }
+    ) -> Result<Box<Process<'a, A>, A>, Stopped>
+        ensures makes { IfOk result (λ p. process_in p ≡ RawIf (expression_of condition.entry) (process_in first.entry) (process_in second.entry)) }
+        ensures stops { IfErr result (λ stopped. stopped ≡ Memory) }
     {
         Process::If(condition, first, second).boxed(alloc)
     }
@@ -193,8 +201,9 @@ impl<'a, A: Allocator + Copy> Process<'a, A> {
         operator: Infix,
         left: Box<Process<'a, A>, A>,
         right: Box<Process<'a, A>, A>,
-    ) -> Result<Box<Process<'a, A>, A>, Refused>
-        ensures { IfOk result (λ p. process_in p ≡ RawInfix (infix_of operator) (process_in left.entry) (process_in right.entry)) }
+    ) -> Result<Box<Process<'a, A>, A>, Stopped>
+        ensures makes { IfOk result (λ p. process_in p ≡ RawInfix (infix_of operator) (process_in left.entry) (process_in right.entry)) }
+        ensures stops { IfErr result (λ stopped. stopped ≡ Memory) }
     {
         Process::Infix(operator, left, right).boxed(alloc)
     }
@@ -205,8 +214,9 @@ impl<'a, A: Allocator + Copy> Process<'a, A> {
         left: Box<Process<'a, A>, A>,
         shared: EventSet<'a, A>,
         right: Box<Process<'a, A>, A>,
-    ) -> Result<Box<Process<'a, A>, A>, Refused>
-        ensures { IfOk result (λ p. process_in p ≡ RawGeneralisedParallel (process_in left.entry) (event_set_of shared.entry) (process_in right.entry)) }
+    ) -> Result<Box<Process<'a, A>, A>, Stopped>
+        ensures makes { IfOk result (λ p. process_in p ≡ RawGeneralisedParallel (process_in left.entry) (event_set_of shared.entry) (process_in right.entry)) }
+        ensures stops { IfErr result (λ stopped. stopped ≡ Memory) }
     {
         Process::GeneralisedParallel(left, shared, right).boxed(alloc)
     }
@@ -218,8 +228,9 @@ impl<'a, A: Allocator + Copy> Process<'a, A> {
         of_left: EventSet<'a, A>,
         of_right: EventSet<'a, A>,
         right: Box<Process<'a, A>, A>,
-    ) -> Result<Box<Process<'a, A>, A>, Refused>
-        ensures { IfOk result (λ p. process_in p ≡ RawAlphabetisedParallel (process_in left.entry) (event_set_of of_left.entry) (event_set_of of_right.entry) (process_in right.entry)) }
+    ) -> Result<Box<Process<'a, A>, A>, Stopped>
+        ensures makes { IfOk result (λ p. process_in p ≡ RawAlphabetisedParallel (process_in left.entry) (event_set_of of_left.entry) (event_set_of of_right.entry) (process_in right.entry)) }
+        ensures stops { IfErr result (λ stopped. stopped ≡ Memory) }
     {
         Process::AlphabetisedParallel(left, of_left, of_right, right).boxed(alloc)
     }
@@ -229,8 +240,9 @@ impl<'a, A: Allocator + Copy> Process<'a, A> {
         alloc: A,
         body: Box<Process<'a, A>, A>,
         hidden: EventSet<'a, A>,
-    ) -> Result<Box<Process<'a, A>, A>, Refused>
-        ensures { IfOk result (λ p. process_in p ≡ RawHiding (process_in body.entry) (event_set_of hidden.entry)) }
+    ) -> Result<Box<Process<'a, A>, A>, Stopped>
+        ensures makes { IfOk result (λ p. process_in p ≡ RawHiding (process_in body.entry) (event_set_of hidden.entry)) }
+        ensures stops { IfErr result (λ stopped. stopped ≡ Memory) }
     {
         Process::Hiding(body, hidden).boxed(alloc)
     }
@@ -240,8 +252,9 @@ impl<'a, A: Allocator + Copy> Process<'a, A> {
         alloc: A,
         body: Box<Process<'a, A>, A>,
         pairs: Vec<Pair<'a, A>, A>,
-    ) -> Result<Box<Process<'a, A>, A>, Refused>
-        ensures { IfOk result (λ p. process_in p ≡ RawRenaming (process_in body.entry) (map pair_of pairs.entry.items)) }
+    ) -> Result<Box<Process<'a, A>, A>, Stopped>
+        ensures makes { IfOk result (λ p. process_in p ≡ RawRenaming (process_in body.entry) (map pair_of pairs.entry.items)) }
+        ensures stops { IfErr result (λ stopped. stopped ≡ Memory) }
     {
         Process::Renaming(body, pairs).boxed(alloc)
     }
@@ -253,8 +266,9 @@ impl<'a, A: Allocator + Copy> Process<'a, A> {
         name: Name<'a>,
         set: Expression<'a, A>,
         body: Box<Process<'a, A>, A>,
-    ) -> Result<Box<Process<'a, A>, A>, Refused>
-        ensures { IfOk result (λ p. process_in p ≡ RawReplicated (replicator_of operator) (name_of name.entry) (expression_of set.entry) (process_in body.entry)) }
+    ) -> Result<Box<Process<'a, A>, A>, Stopped>
+        ensures makes { IfOk result (λ p. process_in p ≡ RawReplicated (replicator_of operator) (name_of name.entry) (expression_of set.entry) (process_in body.entry)) }
+        ensures stops { IfErr result (λ stopped. stopped ≡ Memory) }
     {
         Process::Replicated(operator, name, set, body).boxed(alloc)
     }

@@ -1,5 +1,6 @@
-ghost use Rattle.std.specs.Prelude.{◌≡◌, ◌<◌, ◌≤◌, IfOk, length, map};
+ghost use Rattle.std.specs.Prelude.{◌≡◌, ◌<◌, ◌≤◌, IfOk, IfErr, length, map};
 ghost use Rattle.csp_semantics.specs.Text.Grammar.{IsName, IsExpression, AreDomains, IsModel, IsDeclaration};
+ghost use Rattle.csp_semantics.specs.Text.Token.{BarSign, DotSign};
 ghost use Rattle.csp_lex.specs.Tokens.{sign_of};
 ghost use Rattle.csp_parse.specs.Declarations.{domain_of, model_of, declaration_of, script_of};
 ghost use Rattle.csp_parse.specs.Levels.{IsDomainAt};
@@ -11,16 +12,24 @@ use crate::declarations::{Declaration, Domain, Model, Raw};
 use crate::levels::Level;
 use crate::names::Name;
 use crate::parsers::Parser;
-use crate::refusals::Refused;
-use csp_lex::{Keyword, Sign, TokenKind};
+use crate::stops::Stopped;
+use csp_lex::{Keyword, Sign};
 use std::alloc::Allocator;
 
 impl<'t, 'a, A: Allocator + Copy> Parser<'t, 'a, A> {
+    ghost use Rattle.csp_parse.specs.Continuing.{continues};
+    ghost use Rattle.csp_parse.specs.Deciding.{nothing, only, Ends, Done, IsStop};
+    ghost use Rattle.csp_parse.specs.DeclarationForms.{IsDatatype, IsNametype, IsChannels, IsEquation, Parameters, IsAssertion, channels_go_on, declaration_goes_on};
+    ghost use Rattle.csp_parse.specs.Forms.{HasTree};
+    ghost use Rattle.csp_parse.specs.ProcessForms.{continues_process};
     ghost use Rattle.csp_parse.specs.Reading.{left_of, standing_of, Standing, Reads};
+    ghost use Rattle.csp_parse.specs.Stopping.{IsScriptStop};
+    ghost use Rattle.csp_parse.specs.declared.levels.Level.TheVariants.{Disjunction};
 
     /// All declarations that are left.
-    pub(crate) fn script(&mut self) -> Result<Raw<'a, A>, Refused>
-        ensures { IfOk result (λ raw. IsLowScript (left_of self.old) (script_of raw)) }
+    pub(crate) fn script(&mut self) -> Result<Raw<'a, A>, Stopped>
+        ensures reads { IfOk result (λ raw. IsLowScript (left_of self.old) (script_of raw)) }
+        ensures stops { IfErr result (λ stopped. IsScriptStop (left_of self.old) (left_of self.new) stopped) }
     {
         let mut declarations = Vec::new(self.alloc);
         'script: loop {
@@ -33,23 +42,35 @@ impl<'t, 'a, A: Allocator + Copy> Parser<'t, 'a, A> {
         }
     }
 
-    fn declaration(&mut self) -> Result<Declaration<'a, A>, Refused>
+    fn declaration(&mut self) -> Result<Declaration<'a, A>, Stopped>
         ensures reads { IfOk result (λ r. Reads IsDeclaration (standing_of self.old) (standing_of self.new) (declaration_of r)) }
+        ensures done { IfOk result (λ _. Done (HasTree IsDeclaration) declaration_goes_on (standing_of self.old) (standing_of self.new)) }
+        ensures stops { IfErr result (λ stopped. IsStop (HasTree IsDeclaration) declaration_goes_on (standing_of self.old) (standing_of self.new) stopped) }
         ensures shorter { IfOk result (λ _. length (left_of self.new) < length (left_of self.old)) }
     {
-        match self.kind() {
-            Some(TokenKind::Keyword(Keyword::Datatype)) => self.datatype(),
-            Some(TokenKind::Keyword(Keyword::Nametype)) => self.nametype(),
-            Some(TokenKind::Keyword(Keyword::Channel)) => self.channels(),
-            Some(TokenKind::Keyword(Keyword::Assert)) => self.assertion(),
-            Some(TokenKind::Name) => self.equation(),
-            _ => Err(self.refused()),
+        if self.is_at_word(Keyword::Datatype) {
+            return self.datatype();
         }
+        if self.is_at_word(Keyword::Nametype) {
+            return self.nametype();
+        }
+        if self.is_at_word(Keyword::Channel) {
+            return self.channels();
+        }
+        if self.is_at_word(Keyword::Assert) {
+            return self.assertion();
+        }
+        if self.is_at_name() {
+            return self.equation();
+        }
+        Err(Stopped::Here)
     }
 
     /// A datatype, whose keyword is next.
-    fn datatype(&mut self) -> Result<Declaration<'a, A>, Refused>
+    fn datatype(&mut self) -> Result<Declaration<'a, A>, Stopped>
         ensures reads { IfOk result (λ r. Reads IsDeclaration (standing_of self.old) (standing_of self.new) (declaration_of r)) }
+        ensures ends { IfOk result (λ _. Ends IsDatatype (only BarSign) (standing_of self.old) (standing_of self.new)) }
+        ensures stops { IfErr result (λ stopped. IsStop IsDatatype (only BarSign) (standing_of self.old) (standing_of self.new) stopped) }
         ensures shorter { IfOk result (λ _. length (left_of self.new) < length (left_of self.old)) }
     {
         self.word(Keyword::Datatype)?;
@@ -60,8 +81,10 @@ impl<'t, 'a, A: Allocator + Copy> Parser<'t, 'a, A> {
     }
 
     /// A nametype, whose keyword is next.
-    fn nametype(&mut self) -> Result<Declaration<'a, A>, Refused>
+    fn nametype(&mut self) -> Result<Declaration<'a, A>, Stopped>
         ensures reads { IfOk result (λ r. Reads IsDeclaration (standing_of self.old) (standing_of self.new) (declaration_of r)) }
+        ensures done { IfOk result (λ _. Done IsNametype (continues Disjunction) (standing_of self.old) (standing_of self.new)) }
+        ensures stops { IfErr result (λ stopped. IsStop IsNametype (continues Disjunction) (standing_of self.old) (standing_of self.new) stopped) }
         ensures shorter { IfOk result (λ _. length (left_of self.new) < length (left_of self.old)) }
     {
         self.word(Keyword::Nametype)?;
@@ -72,8 +95,10 @@ impl<'t, 'a, A: Allocator + Copy> Parser<'t, 'a, A> {
     }
 
     /// Channels, whose keyword is next.
-    fn channels(&mut self) -> Result<Declaration<'a, A>, Refused>
+    fn channels(&mut self) -> Result<Declaration<'a, A>, Stopped>
         ensures reads { IfOk result (λ r. Reads IsDeclaration (standing_of self.old) (standing_of self.new) (declaration_of r)) }
+        ensures done { IfOk result (λ _. Done IsChannels channels_go_on (standing_of self.old) (standing_of self.new)) }
+        ensures stops { IfErr result (λ stopped. IsStop IsChannels channels_go_on (standing_of self.old) (standing_of self.new) stopped) }
         ensures shorter { IfOk result (λ _. length (left_of self.new) < length (left_of self.old)) }
     {
         self.word(Keyword::Channel)?;
@@ -88,8 +113,10 @@ impl<'t, 'a, A: Allocator + Copy> Parser<'t, 'a, A> {
     }
 
     /// An equation, whose name is next.
-    fn equation(&mut self) -> Result<Declaration<'a, A>, Refused>
+    fn equation(&mut self) -> Result<Declaration<'a, A>, Stopped>
         ensures reads { IfOk result (λ r. Reads IsDeclaration (standing_of self.old) (standing_of self.new) (declaration_of r)) }
+        ensures done { IfOk result (λ _. Done IsEquation continues_process (standing_of self.old) (standing_of self.new)) }
+        ensures stops { IfErr result (λ stopped. IsStop IsEquation continues_process (standing_of self.old) (standing_of self.new) stopped) }
         ensures shorter { IfOk result (λ _. length (left_of self.new) < length (left_of self.old)) }
     {
         let name = self.name()?;
@@ -105,8 +132,10 @@ impl<'t, 'a, A: Allocator + Copy> Parser<'t, 'a, A> {
     }
 
     /// The rest of an equation, behind its name, whose parameters are next.
-    fn equation_with(&mut self, name: Name<'a>) -> Result<Declaration<'a, A>, Refused>
+    fn equation_with(&mut self, name: Name<'a>) -> Result<Declaration<'a, A>, Stopped>
         ensures continues { IfOk result (λ r. (before : Standing) → Reads IsName before (standing_of self.old) (name_of name.entry) → Reads IsDeclaration before (standing_of self.new) (declaration_of r)) }
+        ensures done { IfOk result (λ _. Done Parameters continues_process (standing_of self.old) (standing_of self.new)) }
+        ensures stops { IfErr result (λ stopped. IsStop Parameters continues_process (standing_of self.old) (standing_of self.new) stopped) }
         ensures not_longer { IfOk result (λ _. length (left_of self.new) ≤ length (left_of self.old)) }
     {
         self.sign(Sign::OpenRound)?;
@@ -121,12 +150,14 @@ impl<'t, 'a, A: Allocator + Copy> Parser<'t, 'a, A> {
     }
 
     /// An assertion, whose keyword is next.
-    fn assertion(&mut self) -> Result<Declaration<'a, A>, Refused>
+    fn assertion(&mut self) -> Result<Declaration<'a, A>, Stopped>
         ensures reads { IfOk result (λ r. Reads IsDeclaration (standing_of self.old) (standing_of self.new) (declaration_of r)) }
+        ensures done { IfOk result (λ _. Done IsAssertion continues_process (standing_of self.old) (standing_of self.new)) }
+        ensures stops { IfErr result (λ stopped. IsStop IsAssertion continues_process (standing_of self.old) (standing_of self.new) stopped) }
         ensures shorter { IfOk result (λ _. length (left_of self.new) < length (left_of self.old)) }
     {
         let Some(first) = self.next() else {
-            return Err(self.refused());
+            return Err(Stopped::Here);
         };
         self.word(Keyword::Assert)?;
         let specification = self.process()?;
@@ -140,8 +171,10 @@ impl<'t, 'a, A: Allocator + Copy> Parser<'t, 'a, A> {
         })
     }
 
-    fn model(&mut self) -> Result<Model, Refused>
+    fn model(&mut self) -> Result<Model, Stopped>
         ensures reads { IfOk result (λ r. Reads IsModel (standing_of self.old) (standing_of self.new) (model_of r)) }
+        ensures ends { IfOk result (λ _. Ends (HasTree IsModel) nothing (standing_of self.old) (standing_of self.new)) }
+        ensures stops { IfErr result (λ stopped. IsStop (HasTree IsModel) nothing (standing_of self.old) (standing_of self.new) stopped) }
         ensures shorter { IfOk result (λ _. length (left_of self.new) < length (left_of self.old)) }
     {
         if self.is_at(Sign::Traces) {
@@ -153,8 +186,10 @@ impl<'t, 'a, A: Allocator + Copy> Parser<'t, 'a, A> {
     }
 
     /// Names with a sign between.
-    fn names(&mut self, between: Sign) -> Result<Vec<Name<'a>, A>, Refused>
+    fn names(&mut self, between: Sign) -> Result<Vec<Name<'a>, A>, Stopped>
         ensures reads { IfOk result (λ r. Reads (AreSeparated (sign_of between) IsName) (standing_of self.old) (standing_of self.new) (map name_of r.items)) }
+        ensures ends { IfOk result (λ _. Ends (HasTree (AreSeparated (sign_of between) IsName)) (only (sign_of between)) (standing_of self.old) (standing_of self.new)) }
+        ensures stops { IfErr result (λ stopped. IsStop (HasTree (AreSeparated (sign_of between) IsName)) (only (sign_of between)) (standing_of self.old) (standing_of self.new) stopped) }
         ensures shorter { IfOk result (λ _. length (left_of self.new) < length (left_of self.old)) }
     {
         let mut names = Vec::new(self.alloc);
@@ -168,12 +203,14 @@ impl<'t, 'a, A: Allocator + Copy> Parser<'t, 'a, A> {
     }
 
     /// The set that an expression of a level is.
-    fn domain(&mut self, level: Level) -> Result<Domain<'a, A>, Refused>
+    fn domain(&mut self, level: Level) -> Result<Domain<'a, A>, Stopped>
         ensures reads { IfOk result (λ r. Reads (IsDomainAt level) (standing_of self.old) (standing_of self.new) (domain_of r)) }
+        ensures done { IfOk result (λ _. Done (HasTree (IsDomainAt level)) (continues level) (standing_of self.old) (standing_of self.new)) }
+        ensures stops { IfErr result (λ stopped. IsStop (HasTree (IsDomainAt level)) (continues level) (standing_of self.old) (standing_of self.new) stopped) }
         ensures shorter { IfOk result (λ _. length (left_of self.new) < length (left_of self.old)) }
     {
         let Some(first) = self.next() else {
-            return Err(self.refused());
+            return Err(Stopped::Here);
         };
         let set = self.expression(level)?;
         Ok(Domain {
@@ -183,8 +220,10 @@ impl<'t, 'a, A: Allocator + Copy> Parser<'t, 'a, A> {
     }
 
     /// The sets of a channel's fields, with a dot between.
-    fn domains(&mut self) -> Result<Vec<Domain<'a, A>, A>, Refused>
+    fn domains(&mut self) -> Result<Vec<Domain<'a, A>, A>, Stopped>
         ensures reads { IfOk result (λ r. Reads AreDomains (standing_of self.old) (standing_of self.new) (map domain_of r.items)) }
+        ensures done { IfOk result (λ _. Done (HasTree AreDomains) (only DotSign) (standing_of self.old) (standing_of self.new)) }
+        ensures stops { IfErr result (λ stopped. IsStop (HasTree AreDomains) (only DotSign) (standing_of self.old) (standing_of self.new) stopped) }
         ensures shorter { IfOk result (λ _. length (left_of self.new) < length (left_of self.old)) }
     {
         let mut domains = Vec::new(self.alloc);

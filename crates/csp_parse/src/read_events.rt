@@ -1,8 +1,11 @@
-ghost use Rattle.std.specs.Prelude.{◌≡◌, ◌<◌, ◌≤◌, IfOk, length, map};
+ghost use Rattle.std.specs.Prelude.{◌≡◌, ◌<◌, ◌≤◌, IfOk, IfErr, length, map};
 ghost use Rattle.std.specs.Option.{option_map};
+ghost use Rattle.csp_semantics.specs.Text.Token.{DotSign};
 ghost use Rattle.csp_semantics.specs.Text.Grammar.{IsSign, AreDotted, IsEvent, AreEvents, ArePairs, IsEventSet};
 ghost use Rattle.csp_semantics.specs.Text.Raw.{RawEnumeration, RawProductions};
 ghost use Rattle.csp_lex.specs.Tokens.{keyword_of, sign_of};
+ghost use Rattle.csp_lex.specs.declared.kinds.TokenKind.TheVariants as kinds;
+ghost use Rattle.csp_parse.specs.declared.stops.Stopped.TheVariants.{Memory};
 ghost use Rattle.csp_parse.specs.Events.{event_of, pair_of};
 ghost use Rattle.csp_parse.specs.EventSets.{event_set_of, operator_of};
 ghost use Rattle.csp_parse.specs.Expressions.{expressions_of};
@@ -14,16 +17,21 @@ use crate::events::{Event, Pair};
 use crate::expressions::Expression;
 use crate::levels::Level;
 use crate::parsers::Parser;
-use crate::refusals::Refused;
+use crate::stops::Stopped;
 use csp_lex::{Keyword, Sign, TokenKind};
 use std::alloc::Allocator;
 
 impl<'t, 'a, A: Allocator + Copy> Parser<'t, 'a, A> {
-    ghost use Rattle.csp_parse.specs.Reading.{left_of, standing_of, Reads, ReadsBehind};
+    ghost use Rattle.csp_parse.specs.Deciding.{nothing, only, Done, IsStop};
+    ghost use Rattle.csp_parse.specs.EventForms.{lists_events, Enumeration, Productions};
+    ghost use Rattle.csp_parse.specs.Forms.{HasTree, Next};
+    ghost use Rattle.csp_parse.specs.Reading.{left_of, standing_of, IsNext, Reads, ReadsBehind};
 
     /// Atoms with a dot before each.
-    fn dotted(&mut self) -> Result<Vec<Expression<'a, A>, A>, Refused>
+    fn dotted(&mut self) -> Result<Vec<Expression<'a, A>, A>, Stopped>
         ensures reads { IfOk result (λ r. Reads AreDotted (standing_of self.old) (standing_of self.new) (expressions_of r.items)) }
+        ensures done { IfOk result (λ _. Done (HasTree AreDotted) (only DotSign) (standing_of self.old) (standing_of self.new)) }
+        ensures stops { IfErr result (λ stopped. IsStop (HasTree AreDotted) (only DotSign) (standing_of self.old) (standing_of self.new) stopped) }
         ensures not_longer { IfOk result (λ _. length (left_of self.new) ≤ length (left_of self.old)) }
     {
         let mut fields = Vec::new(self.alloc);
@@ -34,8 +42,10 @@ impl<'t, 'a, A: Allocator + Copy> Parser<'t, 'a, A> {
         Ok(fields)
     }
 
-    fn event(&mut self) -> Result<Event<'a, A>, Refused>
+    fn event(&mut self) -> Result<Event<'a, A>, Stopped>
         ensures reads { IfOk result (λ r. Reads IsEvent (standing_of self.old) (standing_of self.new) (event_of r)) }
+        ensures done { IfOk result (λ _. Done (HasTree IsEvent) (only DotSign) (standing_of self.old) (standing_of self.new)) }
+        ensures stops { IfErr result (λ stopped. IsStop (HasTree IsEvent) (only DotSign) (standing_of self.old) (standing_of self.new) stopped) }
         ensures shorter { IfOk result (λ _. length (left_of self.new) < length (left_of self.old)) }
     {
         let channel = self.name()?;
@@ -44,8 +54,10 @@ impl<'t, 'a, A: Allocator + Copy> Parser<'t, 'a, A> {
     }
 
     /// Events with a comma between.
-    fn events(&mut self) -> Result<Vec<Event<'a, A>, A>, Refused>
+    fn events(&mut self) -> Result<Vec<Event<'a, A>, A>, Stopped>
         ensures reads { IfOk result (λ r. Reads AreEvents (standing_of self.old) (standing_of self.new) (map event_of r.items)) }
+        ensures done { IfOk result (λ _. Done (HasTree AreEvents) lists_events (standing_of self.old) (standing_of self.new)) }
+        ensures stops { IfErr result (λ stopped. IsStop (HasTree AreEvents) lists_events (standing_of self.old) (standing_of self.new) stopped) }
         ensures shorter { IfOk result (λ _. length (left_of self.new) < length (left_of self.old)) }
     {
         let mut events = Vec::new(self.alloc);
@@ -59,8 +71,10 @@ impl<'t, 'a, A: Allocator + Copy> Parser<'t, 'a, A> {
         Ok(events)
     }
 
-    fn pair(&mut self) -> Result<Pair<'a, A>, Refused>
+    fn pair(&mut self) -> Result<Pair<'a, A>, Stopped>
         ensures reads { IfOk result (λ r. Reads IsPair (standing_of self.old) (standing_of self.new) (pair_of r)) }
+        ensures done { IfOk result (λ _. Done (HasTree IsPair) (only DotSign) (standing_of self.old) (standing_of self.new)) }
+        ensures stops { IfErr result (λ stopped. IsStop (HasTree IsPair) (only DotSign) (standing_of self.old) (standing_of self.new) stopped) }
         ensures shorter { IfOk result (λ _. length (left_of self.new) < length (left_of self.old)) }
     {
         let from = self.event()?;
@@ -70,8 +84,10 @@ impl<'t, 'a, A: Allocator + Copy> Parser<'t, 'a, A> {
     }
 
     /// The pairs of a renaming, with a comma between.
-    pub(crate) fn pairs(&mut self) -> Result<Vec<Pair<'a, A>, A>, Refused>
+    pub(crate) fn pairs(&mut self) -> Result<Vec<Pair<'a, A>, A>, Stopped>
         ensures reads { IfOk result (λ r. Reads ArePairs (standing_of self.old) (standing_of self.new) (map pair_of r.items)) }
+        ensures done { IfOk result (λ _. Done (HasTree ArePairs) lists_events (standing_of self.old) (standing_of self.new)) }
+        ensures stops { IfErr result (λ stopped. IsStop (HasTree ArePairs) lists_events (standing_of self.old) (standing_of self.new) stopped) }
         ensures shorter { IfOk result (λ _. length (left_of self.new) < length (left_of self.old)) }
     {
         let mut pairs = Vec::new(self.alloc);
@@ -87,21 +103,33 @@ impl<'t, 'a, A: Allocator + Copy> Parser<'t, 'a, A> {
 
     /// A set of events.
     #[cycle(event_set)]
-    pub(crate) fn event_set(&mut self) -> Result<EventSet<'a, A>, Refused>
+    pub(crate) fn event_set(&mut self) -> Result<EventSet<'a, A>, Stopped>
         ensures reads { IfOk result (λ r. Reads IsEventSet (standing_of self.old) (standing_of self.new) (event_set_of r)) }
+        ensures done { IfOk result (λ _. Done (HasTree IsEventSet) nothing (standing_of self.old) (standing_of self.new)) }
+        ensures stops { IfErr result (λ stopped. IsStop (HasTree IsEventSet) nothing (standing_of self.old) (standing_of self.new) stopped) }
         ensures shorter { IfOk result (λ _. length (left_of self.new) < length (left_of self.old)) }
     {
-        match self.kind() {
-            Some(TokenKind::Keyword(keyword)) => self.combined_set(keyword),
-            Some(TokenKind::Sign(Sign::OpenProductions)) => self.productions(),
-            _ => self.enumeration(),
+        if self.is_at(Sign::OpenProductions) {
+            return self.productions();
         }
+        if self.is_at(Sign::OpenBrace) {
+            return self.enumeration();
+        }
+        let Some(kind) = self.kind() else {
+            return Err(Stopped::Here);
+        };
+        let TokenKind::Keyword(keyword) = kind else {
+            return Err(Stopped::Here);
+        };
+        self.combined_set(keyword)
     }
 
     /// This sign, and a set of events behind it.
     #[cycle(event_set)]
-    pub(crate) fn event_set_behind(&mut self, sign: Sign) -> Result<EventSet<'a, A>, Refused>
+    pub(crate) fn event_set_behind(&mut self, sign: Sign) -> Result<EventSet<'a, A>, Stopped>
         ensures reads { IfOk result (λ r. ReadsBehind (IsSign (sign_of sign)) IsEventSet (standing_of self.old) (standing_of self.new) (event_set_of r)) }
+        ensures done { IfOk result (λ _. Done (Next (sign_of sign) (HasTree IsEventSet)) nothing (standing_of self.old) (standing_of self.new)) }
+        ensures stops { IfErr result (λ stopped. IsStop (Next (sign_of sign) (HasTree IsEventSet)) nothing (standing_of self.old) (standing_of self.new) stopped) }
         ensures shorter { IfOk result (λ _. length (left_of self.new) < length (left_of self.old)) }
     {
         self.sign(sign)?;
@@ -109,8 +137,10 @@ impl<'t, 'a, A: Allocator + Copy> Parser<'t, 'a, A> {
     }
 
     /// `{|`, events and `|}`.
-    fn productions(&mut self) -> Result<EventSet<'a, A>, Refused>
+    fn productions(&mut self) -> Result<EventSet<'a, A>, Stopped>
         ensures reads { IfOk result (λ r. Reads IsEventSet (standing_of self.old) (standing_of self.new) (event_set_of r)) }
+        ensures done { IfOk result (λ _. Done Productions nothing (standing_of self.old) (standing_of self.new)) }
+        ensures stops { IfErr result (λ stopped. IsStop Productions nothing (standing_of self.old) (standing_of self.new) stopped) }
         ensures shorter { IfOk result (λ _. length (left_of self.new) < length (left_of self.old)) }
     {
         self.sign(Sign::OpenProductions)?;
@@ -120,8 +150,10 @@ impl<'t, 'a, A: Allocator + Copy> Parser<'t, 'a, A> {
     }
 
     /// `{`, events and `}`.
-    fn enumeration(&mut self) -> Result<EventSet<'a, A>, Refused>
+    fn enumeration(&mut self) -> Result<EventSet<'a, A>, Stopped>
         ensures reads { IfOk result (λ r. Reads IsEventSet (standing_of self.old) (standing_of self.new) (event_set_of r)) }
+        ensures done { IfOk result (λ _. Done Enumeration nothing (standing_of self.old) (standing_of self.new)) }
+        ensures stops { IfErr result (λ stopped. IsStop Enumeration nothing (standing_of self.old) (standing_of self.new) stopped) }
         ensures shorter { IfOk result (λ _. length (left_of self.new) < length (left_of self.old)) }
     {
         self.sign(Sign::OpenBrace)?;
@@ -136,12 +168,14 @@ impl<'t, 'a, A: Allocator + Copy> Parser<'t, 'a, A> {
 
     /// Two sets of events that this keyword joins.
     #[cycle(event_set)]
-    fn combined_set(&mut self, keyword: Keyword) -> Result<EventSet<'a, A>, Refused>
+    fn combined_set(&mut self, keyword: Keyword) -> Result<EventSet<'a, A>, Stopped>
         ensures reads { IfOk result (λ r. Reads IsEventSet (standing_of self.old) (standing_of self.new) (event_set_of r)) }
+        ensures done { IfOk result (λ _. IsNext (kinds.Keyword keyword) (left_of self.old) → Done (HasTree IsEventSet) nothing (standing_of self.old) (standing_of self.new)) }
+        ensures stops { IfErr result (λ stopped. IsNext (kinds.Keyword keyword) (left_of self.old) → IsStop (HasTree IsEventSet) nothing (standing_of self.old) (standing_of self.new) stopped) }
         ensures shorter { IfOk result (λ _. length (left_of self.new) < length (left_of self.old)) }
     {
         let Some(operator) = set_operator(keyword) else {
-            return Err(self.refused());
+            return Err(Stopped::Here);
         };
         self.word(keyword)?;
         let left = self.event_set_behind(Sign::OpenRound)?;
@@ -157,8 +191,9 @@ fn joined<'a, A: Allocator + Copy>(
     operator: SetOperator,
     left: EventSet<'a, A>,
     right: EventSet<'a, A>,
-) -> Result<EventSet<'a, A>, Refused>
-    ensures { IfOk result (λ s. event_set_of s ≡ operator_of operator (event_set_of left.entry) (event_set_of right.entry)) }
+) -> Result<EventSet<'a, A>, Stopped>
+    ensures makes { IfOk result (λ s. event_set_of s ≡ operator_of operator (event_set_of left.entry) (event_set_of right.entry)) }
+    ensures stops { IfErr result (λ stopped. stopped ≡ Memory) }
 {
     let left = Box::new(alloc, left)?;
     let right = Box::new(alloc, right)?;

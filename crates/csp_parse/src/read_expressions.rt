@@ -1,7 +1,10 @@
-ghost use Rattle.std.specs.Prelude.{◌≡◌, ◌<◌, ◌≤◌, IfOk, length};
-ghost use Rattle.csp_semantics.specs.Text.Token.{OpenBraceSign};
+ghost use Rattle.std.specs.Prelude.{◌≡◌, ◌<◌, ◌≤◌, None, IfOk, IfErr, length};
+ghost use Rattle.csp_semantics.specs.Text.Token.{RangeSign, CloseBraceSign, LessSign, OpenBraceSign};
 ghost use Rattle.csp_semantics.specs.Text.Grammar.{IsSign, IsExpression, IsNegation, IsComparison, IsSum, IsAtom};
 ghost use Rattle.csp_semantics.specs.Text.Raw.{RawApply, RawCombine, RawRange};
+ghost use Rattle.csp_lex.specs.Tokens.{keyword_of};
+ghost use Rattle.csp_parse.specs.declared.stops.Stopped.TheVariants.{Memory};
+ghost use Rattle.csp_lex.specs.declared.kinds.TokenKind.TheVariants as kinds;
 ghost use Rattle.csp_parse.specs.Expressions.{expression_of, expressions_of};
 ghost use Rattle.csp_lex.specs.Tokens.{sign_of};
 ghost use Rattle.csp_parse.specs.Levels.{IsAt, stronger, AreListed, ReadsSigned, ReadsOperation, ReadsBracketed, ReadsTwo};
@@ -11,17 +14,25 @@ use crate::expressions::Expression;
 use crate::levels::{Level, binary_function, comparison, unary_function};
 use crate::operators::{BinaryOperator, UnaryOperator};
 use crate::parsers::Parser;
-use crate::refusals::Refused;
+use crate::stops::Stopped;
 use csp_lex::{Keyword, Sign, TokenKind};
 use std::alloc::Allocator;
 
 impl<'t, 'a, A: Allocator + Copy> Parser<'t, 'a, A> {
-    ghost use Rattle.csp_parse.specs.Reading.{left_of, standing_of, Standing, Passes, Reads, ReadsBehind, Extends};
+    ghost use Rattle.csp_parse.specs.AtomForms.{Whole, Bracketed, TwoBracketed, Items, Members, Inside};
+    ghost use Rattle.csp_parse.specs.Continuing.{continues, lists, HasOperators, IsChained, DoneOperation, IsStopOfOperation, IsRest, IsItem, IsAgainst, BehindAtom};
+    ghost use Rattle.csp_parse.specs.Deciding.{nothing, Done, IsStop};
+    ghost use Rattle.csp_parse.specs.Forms.{HasTree, Then, Repeated, Perhaps, Next};
+    ghost use Rattle.csp_parse.specs.Reading.{left_of, standing_of, Standing, IsNext, Passes, Reads, ReadsBehind, Extends};
+    ghost use Rattle.csp_parse.specs.Words.{unary_word, binary_word};
+    ghost use Rattle.csp_parse.specs.declared.levels.Level.TheVariants.{Disjunction, Negation, Comparison};
 
     /// An expression of a level.
     #[cycle(expression)]
-    pub(crate) fn expression(&mut self, level: Level) -> Result<Expression<'a, A>, Refused>
+    pub(crate) fn expression(&mut self, level: Level) -> Result<Expression<'a, A>, Stopped>
         ensures reads { IfOk result (λ e. Reads (IsAt level) (standing_of self.old) (standing_of self.new) (expression_of e)) }
+        ensures done { IfOk result (λ _. Done (HasTree (IsAt level)) (continues level) (standing_of self.old) (standing_of self.new)) }
+        ensures stops { IfErr result (λ stopped. IsStop (HasTree (IsAt level)) (continues level) (standing_of self.old) (standing_of self.new) stopped) }
         ensures shorter { IfOk result (λ _. length (left_of self.new) < length (left_of self.old)) }
     {
         match level {
@@ -44,8 +55,10 @@ impl<'t, 'a, A: Allocator + Copy> Parser<'t, 'a, A> {
         &mut self,
         sign: Sign,
         level: Level,
-    ) -> Result<Expression<'a, A>, Refused>
+    ) -> Result<Expression<'a, A>, Stopped>
         ensures reads { IfOk result (λ e. ReadsBehind (IsSign (sign_of sign)) (IsAt level) (standing_of self.old) (standing_of self.new) (expression_of e)) }
+        ensures done { IfOk result (λ _. Done (Next (sign_of sign) (HasTree (IsAt level))) (continues level) (standing_of self.old) (standing_of self.new)) }
+        ensures stops { IfErr result (λ stopped. IsStop (Next (sign_of sign) (HasTree (IsAt level))) (continues level) (standing_of self.old) (standing_of self.new) stopped) }
         ensures shorter { IfOk result (λ _. length (left_of self.new) < length (left_of self.old)) }
     {
         self.sign(sign)?;
@@ -54,8 +67,10 @@ impl<'t, 'a, A: Allocator + Copy> Parser<'t, 'a, A> {
 
     /// A chain of a level, whose operands are of the next stronger one.
     #[cycle(expression)]
-    fn chain_of(&mut self, level: Level, operands: Level) -> Result<Expression<'a, A>, Refused>
+    fn chain_of(&mut self, level: Level, operands: Level) -> Result<Expression<'a, A>, Stopped>
         ensures reads { IfOk result (λ e. operands ≡ stronger level → Reads (IsAt level) (standing_of self.old) (standing_of self.new) (expression_of e)) }
+        ensures done { IfOk result (λ _. operands ≡ stronger level → HasOperators level → Done (IsChained level) (continues level) (standing_of self.old) (standing_of self.new)) }
+        ensures stops { IfErr result (λ stopped. operands ≡ stronger level → HasOperators level → IsStop (IsChained level) (continues level) (standing_of self.old) (standing_of self.new) stopped) }
         ensures shorter { IfOk result (λ _. length (left_of self.new) < length (left_of self.old)) }
     {
         let first = self.expression(operands)?;
@@ -68,8 +83,10 @@ impl<'t, 'a, A: Allocator + Copy> Parser<'t, 'a, A> {
         &mut self,
         level: Level,
         first: Expression<'a, A>,
-    ) -> Result<Expression<'a, A>, Refused>
+    ) -> Result<Expression<'a, A>, Stopped>
         ensures extends { IfOk result (λ e. Extends (IsAt level) (IsAt level) (standing_of self.old) (standing_of self.new) (expression_of first.entry) (expression_of e)) }
+        ensures done { IfOk result (λ _. Done (IsRest level) (continues level) (standing_of self.old) (standing_of self.new)) }
+        ensures stops { IfErr result (λ stopped. IsStop (IsRest level) (continues level) (standing_of self.old) (standing_of self.new) stopped) }
         ensures not_longer { IfOk result (λ _. length (left_of self.new) ≤ length (left_of self.old)) }
     {
         let mut chain = first;
@@ -87,8 +104,10 @@ impl<'t, 'a, A: Allocator + Copy> Parser<'t, 'a, A> {
     pub(crate) fn compared(
         &mut self,
         first: Expression<'a, A>,
-    ) -> Result<Expression<'a, A>, Refused>
+    ) -> Result<Expression<'a, A>, Stopped>
         ensures extends { IfOk result (λ e. Extends IsSum IsComparison (standing_of self.old) (standing_of self.new) (expression_of first.entry) (expression_of e)) }
+        ensures done { IfOk result (λ _. Done (Perhaps IsAgainst) (continues Comparison) (standing_of self.old) (standing_of self.new)) }
+        ensures stops { IfErr result (λ stopped. IsStop (Perhaps IsAgainst) (continues Comparison) (standing_of self.old) (standing_of self.new) stopped) }
         ensures not_longer { IfOk result (λ _. length (left_of self.new) ≤ length (left_of self.old)) }
     {
         let Some(kind) = self.kind() else {
@@ -107,8 +126,10 @@ impl<'t, 'a, A: Allocator + Copy> Parser<'t, 'a, A> {
         operator: BinaryOperator,
         first: Expression<'a, A>,
         level: Level,
-    ) -> Result<Expression<'a, A>, Refused>
+    ) -> Result<Expression<'a, A>, Stopped>
         ensures reads { IfOk result (λ e. ReadsOperation level (binary_of operator) (expression_of first.entry) (standing_of self.old) (standing_of self.new) (expression_of e)) }
+        ensures done { IfOk result (λ _. DoneOperation level (standing_of self.old) (standing_of self.new)) }
+        ensures stops { IfErr result (λ stopped. IsStopOfOperation level (standing_of self.old) (standing_of self.new) stopped) }
         ensures shorter { IfOk result (λ _. length (left_of self.new) < length (left_of self.old)) }
     {
         self.pass()?;
@@ -118,8 +139,10 @@ impl<'t, 'a, A: Allocator + Copy> Parser<'t, 'a, A> {
 
     /// `not` any number of times, and a comparison.
     #[cycle(expression)]
-    fn negation(&mut self) -> Result<Expression<'a, A>, Refused>
+    fn negation(&mut self) -> Result<Expression<'a, A>, Stopped>
         ensures reads { IfOk result (λ e. Reads IsNegation (standing_of self.old) (standing_of self.new) (expression_of e)) }
+        ensures done { IfOk result (λ _. Done (HasTree IsNegation) (continues Negation) (standing_of self.old) (standing_of self.new)) }
+        ensures stops { IfErr result (λ stopped. IsStop (HasTree IsNegation) (continues Negation) (standing_of self.old) (standing_of self.new) stopped) }
         ensures shorter { IfOk result (λ _. length (left_of self.new) < length (left_of self.old)) }
     {
         if !self.is_at_word(Keyword::Not) {
@@ -132,18 +155,23 @@ impl<'t, 'a, A: Allocator + Copy> Parser<'t, 'a, A> {
 
     /// An expression without operators around it.
     #[cycle(expression)]
-    fn atom(&mut self) -> Result<Expression<'a, A>, Refused>
+    fn atom(&mut self) -> Result<Expression<'a, A>, Stopped>
         ensures reads { IfOk result (λ e. Reads IsAtom (standing_of self.old) (standing_of self.new) (expression_of e)) }
+        ensures done { IfOk result (λ _. Done (HasTree IsAtom) nothing (standing_of self.old) (standing_of self.new)) }
+        ensures stops { IfErr result (λ stopped. IsStop (HasTree IsAtom) nothing (standing_of self.old) (standing_of self.new) stopped) }
         ensures shorter { IfOk result (λ _. length (left_of self.new) < length (left_of self.old)) }
     {
-        match self.kind() {
-            Some(TokenKind::Number(value)) => {
+        let Some(kind) = self.kind() else {
+            return Err(Stopped::Here);
+        };
+        match kind {
+            TokenKind::Number(value) => {
                 self.pass()?;
                 Ok(Expression::Number(value))
             }
-            Some(TokenKind::Keyword(keyword)) => self.atom_of_word(keyword),
-            Some(TokenKind::Sign(sign)) => self.atom_of_sign(sign),
-            _ => {
+            TokenKind::Keyword(keyword) => self.atom_of_word(keyword),
+            TokenKind::Sign(sign) => self.atom_of_sign(sign),
+            TokenKind::Name => {
                 let name = self.name()?;
                 Ok(Expression::Use(name))
             }
@@ -152,8 +180,10 @@ impl<'t, 'a, A: Allocator + Copy> Parser<'t, 'a, A> {
 
     /// The atom that begins with this keyword.
     #[cycle(expression)]
-    fn atom_of_word(&mut self, keyword: Keyword) -> Result<Expression<'a, A>, Refused>
+    fn atom_of_word(&mut self, keyword: Keyword) -> Result<Expression<'a, A>, Stopped>
         ensures reads { IfOk result (λ e. Reads IsAtom (standing_of self.old) (standing_of self.new) (expression_of e)) }
+        ensures done { IfOk result (λ _. IsNext (kinds.Keyword keyword) (left_of self.old) → Done (HasTree IsAtom) nothing (standing_of self.old) (standing_of self.new)) }
+        ensures stops { IfErr result (λ stopped. IsNext (kinds.Keyword keyword) (left_of self.old) → IsStop (HasTree IsAtom) nothing (standing_of self.old) (standing_of self.new) stopped) }
         ensures shorter { IfOk result (λ _. length (left_of self.new) < length (left_of self.old)) }
     {
         if let Some(operator) = unary_function(keyword) {
@@ -170,8 +200,10 @@ impl<'t, 'a, A: Allocator + Copy> Parser<'t, 'a, A> {
     }
 
     /// The constant that this keyword is.
-    fn constant(&mut self, keyword: Keyword) -> Result<Expression<'a, A>, Refused>
+    fn constant(&mut self, keyword: Keyword) -> Result<Expression<'a, A>, Stopped>
         ensures reads { IfOk result (λ e. Reads IsAtom (standing_of self.old) (standing_of self.new) (expression_of e)) }
+        ensures done { IfOk result (λ _. IsNext (kinds.Keyword keyword) (left_of self.old) → unary_word (keyword_of keyword) ≡ None → binary_word (keyword_of keyword) ≡ None → Done (HasTree IsAtom) nothing (standing_of self.old) (standing_of self.new)) }
+        ensures stops { IfErr result (λ stopped. IsNext (kinds.Keyword keyword) (left_of self.old) → unary_word (keyword_of keyword) ≡ None → binary_word (keyword_of keyword) ≡ None → IsStop (HasTree IsAtom) nothing (standing_of self.old) (standing_of self.new) stopped) }
         ensures shorter { IfOk result (λ _. length (left_of self.new) < length (left_of self.old)) }
     {
         match keyword {
@@ -187,14 +219,16 @@ impl<'t, 'a, A: Allocator + Copy> Parser<'t, 'a, A> {
                 self.word(Keyword::Bool)?;
                 Ok(Expression::Booleans)
             }
-            _ => Err(self.refused()),
+            _ => Err(Stopped::Here),
         }
     }
 
     /// An expression in brackets.
     #[cycle(expression)]
-    fn bracketed(&mut self) -> Result<Expression<'a, A>, Refused>
+    fn bracketed(&mut self) -> Result<Expression<'a, A>, Stopped>
         ensures reads { IfOk result (λ e. ReadsBracketed (standing_of self.old) (standing_of self.new) (expression_of e)) }
+        ensures done { IfOk result (λ _. Done Bracketed nothing (standing_of self.old) (standing_of self.new)) }
+        ensures stops { IfErr result (λ stopped. IsStop Bracketed nothing (standing_of self.old) (standing_of self.new) stopped) }
         ensures shorter { IfOk result (λ _. length (left_of self.new) < length (left_of self.old)) }
     {
         let inner = self.expression_behind(Sign::OpenRound, Level::Disjunction)?;
@@ -204,8 +238,10 @@ impl<'t, 'a, A: Allocator + Copy> Parser<'t, 'a, A> {
 
     /// Two expressions in brackets.
     #[cycle(expression)]
-    fn two_arguments(&mut self) -> Result<(Expression<'a, A>, Expression<'a, A>), Refused>
+    fn two_arguments(&mut self) -> Result<(Expression<'a, A>, Expression<'a, A>), Stopped>
         ensures reads { IfOk result (λ r. ReadsTwo (standing_of self.old) (standing_of self.new) (expression_of r.0) (expression_of r.1)) }
+        ensures done { IfOk result (λ _. Done TwoBracketed nothing (standing_of self.old) (standing_of self.new)) }
+        ensures stops { IfErr result (λ stopped. IsStop TwoBracketed nothing (standing_of self.old) (standing_of self.new) stopped) }
         ensures shorter { IfOk result (λ _. length (left_of self.new) < length (left_of self.old)) }
     {
         let first = self.expression_behind(Sign::OpenRound, Level::Disjunction)?;
@@ -216,8 +252,10 @@ impl<'t, 'a, A: Allocator + Copy> Parser<'t, 'a, A> {
 
     /// The atom that begins with this sign.
     #[cycle(expression)]
-    fn atom_of_sign(&mut self, sign: Sign) -> Result<Expression<'a, A>, Refused>
+    fn atom_of_sign(&mut self, sign: Sign) -> Result<Expression<'a, A>, Stopped>
         ensures reads { IfOk result (λ e. Reads IsAtom (standing_of self.old) (standing_of self.new) (expression_of e)) }
+        ensures done { IfOk result (λ _. IsNext (kinds.Sign sign) (left_of self.old) → Done (HasTree IsAtom) nothing (standing_of self.old) (standing_of self.new)) }
+        ensures stops { IfErr result (λ stopped. IsNext (kinds.Sign sign) (left_of self.old) → IsStop (HasTree IsAtom) nothing (standing_of self.old) (standing_of self.new) stopped) }
         ensures shorter { IfOk result (λ _. length (left_of self.new) < length (left_of self.old)) }
     {
         match sign {
@@ -226,14 +264,16 @@ impl<'t, 'a, A: Allocator + Copy> Parser<'t, 'a, A> {
             Sign::OpenRound => self.bracketed(),
             Sign::Less => self.sequence(),
             Sign::OpenBrace => self.set(),
-            _ => Err(self.refused()),
+            _ => Err(Stopped::Here),
         }
     }
 
     /// This sign, and an atom behind it that the sign's operator is applied to.
     #[cycle(expression)]
-    fn signed(&mut self, sign: Sign, operator: UnaryOperator) -> Result<Expression<'a, A>, Refused>
+    fn signed(&mut self, sign: Sign, operator: UnaryOperator) -> Result<Expression<'a, A>, Stopped>
         ensures reads { IfOk result (λ e. ReadsSigned (sign_of sign) (unary_of operator) (standing_of self.old) (standing_of self.new) (expression_of e)) }
+        ensures done { IfOk result (λ _. Done (Next (sign_of sign) (HasTree IsAtom)) nothing (standing_of self.old) (standing_of self.new)) }
+        ensures stops { IfErr result (λ stopped. IsStop (Next (sign_of sign) (HasTree IsAtom)) nothing (standing_of self.old) (standing_of self.new) stopped) }
         ensures shorter { IfOk result (λ _. length (left_of self.new) < length (left_of self.old)) }
     {
         let operand = self.expression_behind(sign, Level::Atom)?;
@@ -242,8 +282,10 @@ impl<'t, 'a, A: Allocator + Copy> Parser<'t, 'a, A> {
 
     /// A sequence.
     #[cycle(expression)]
-    fn sequence(&mut self) -> Result<Expression<'a, A>, Refused>
+    fn sequence(&mut self) -> Result<Expression<'a, A>, Stopped>
         ensures reads { IfOk result (λ e. Reads IsAtom (standing_of self.old) (standing_of self.new) (expression_of e)) }
+        ensures done { IfOk result (λ _. Done (Then (IsSign LessSign) Items) nothing (standing_of self.old) (standing_of self.new)) }
+        ensures stops { IfErr result (λ stopped. IsStop (Then (IsSign LessSign) Items) nothing (standing_of self.old) (standing_of self.new) stopped) }
         ensures shorter { IfOk result (λ _. length (left_of self.new) < length (left_of self.old)) }
     {
         self.sign(Sign::Less)?;
@@ -259,8 +301,10 @@ impl<'t, 'a, A: Allocator + Copy> Parser<'t, 'a, A> {
 
     /// A set.
     #[cycle(expression)]
-    fn set(&mut self) -> Result<Expression<'a, A>, Refused>
+    fn set(&mut self) -> Result<Expression<'a, A>, Stopped>
         ensures reads { IfOk result (λ e. Reads IsAtom (standing_of self.old) (standing_of self.new) (expression_of e)) }
+        ensures done { IfOk result (λ _. Done (Then (IsSign OpenBraceSign) Inside) nothing (standing_of self.old) (standing_of self.new)) }
+        ensures stops { IfErr result (λ stopped. IsStop (Then (IsSign OpenBraceSign) Inside) nothing (standing_of self.old) (standing_of self.new) stopped) }
         ensures shorter { IfOk result (λ _. length (left_of self.new) < length (left_of self.old)) }
     {
         self.sign(Sign::OpenBrace)?;
@@ -273,8 +317,10 @@ impl<'t, 'a, A: Allocator + Copy> Parser<'t, 'a, A> {
 
     /// What stands behind the opening brace of a set that is not empty.
     #[cycle(expression)]
-    fn members(&mut self) -> Result<Expression<'a, A>, Refused>
+    fn members(&mut self) -> Result<Expression<'a, A>, Stopped>
         ensures continues { IfOk result (λ e. (before : Standing) → Passes (IsSign OpenBraceSign) before (standing_of self.old) → Reads IsAtom before (standing_of self.new) (expression_of e)) }
+        ensures done { IfOk result (λ _. Done (Then Whole Members) nothing (standing_of self.old) (standing_of self.new)) }
+        ensures stops { IfErr result (λ stopped. IsStop (Then Whole Members) nothing (standing_of self.old) (standing_of self.new) stopped) }
         ensures shorter { IfOk result (λ _. length (left_of self.new) < length (left_of self.old)) }
     {
         let first = self.expression(Level::Disjunction)?;
@@ -288,8 +334,10 @@ impl<'t, 'a, A: Allocator + Copy> Parser<'t, 'a, A> {
 
     /// The rest of a set from one number to another, behind the first one.
     #[cycle(expression)]
-    fn range(&mut self, first: Expression<'a, A>) -> Result<Expression<'a, A>, Refused>
+    fn range(&mut self, first: Expression<'a, A>) -> Result<Expression<'a, A>, Stopped>
         ensures continues { IfOk result (λ e. (before behind : Standing) → Passes (IsSign OpenBraceSign) before behind → Reads IsExpression behind (standing_of self.old) (expression_of first.entry) → Reads IsAtom before (standing_of self.new) (expression_of e)) }
+        ensures done { IfOk result (λ _. Done (Next RangeSign (Then Whole (IsSign CloseBraceSign))) nothing (standing_of self.old) (standing_of self.new)) }
+        ensures stops { IfErr result (λ stopped. IsStop (Next RangeSign (Then Whole (IsSign CloseBraceSign))) nothing (standing_of self.old) (standing_of self.new) stopped) }
         ensures not_longer { IfOk result (λ _. length (left_of self.new) ≤ length (left_of self.old)) }
     {
         let last = self.expression_behind(Sign::Range, Level::Disjunction)?;
@@ -303,8 +351,10 @@ impl<'t, 'a, A: Allocator + Copy> Parser<'t, 'a, A> {
         &mut self,
         level: Level,
         first: Expression<'a, A>,
-    ) -> Result<Vec<Expression<'a, A>, A>, Refused>
+    ) -> Result<Vec<Expression<'a, A>, A>, Stopped>
         ensures extends { IfOk result (λ all. Extends (IsAt level) (AreListed level) (standing_of self.old) (standing_of self.new) (expression_of first.entry) (expressions_of all.items)) }
+        ensures done { IfOk result (λ _. Done (Repeated (IsItem level)) (lists level) (standing_of self.old) (standing_of self.new)) }
+        ensures stops { IfErr result (λ stopped. IsStop (Repeated (IsItem level)) (lists level) (standing_of self.old) (standing_of self.new) stopped) }
         ensures not_longer { IfOk result (λ _. length (left_of self.new) ≤ length (left_of self.old)) }
     {
         let mut items = Vec::new(self.alloc);
@@ -320,8 +370,10 @@ impl<'t, 'a, A: Allocator + Copy> Parser<'t, 'a, A> {
     pub(crate) fn expression_from(
         &mut self,
         atom: Expression<'a, A>,
-    ) -> Result<Expression<'a, A>, Refused>
+    ) -> Result<Expression<'a, A>, Stopped>
         ensures extends { IfOk result (λ e. Extends IsAtom IsExpression (standing_of self.old) (standing_of self.new) (expression_of atom.entry) (expression_of e)) }
+        ensures done { IfOk result (λ _. Done BehindAtom (continues Disjunction) (standing_of self.old) (standing_of self.new)) }
+        ensures stops { IfErr result (λ stopped. IsStop BehindAtom (continues Disjunction) (standing_of self.old) (standing_of self.new) stopped) }
         ensures not_longer { IfOk result (λ _. length (left_of self.new) ≤ length (left_of self.old)) }
     {
         let product = self.chained(Level::Product, atom)?;
@@ -337,8 +389,9 @@ fn applied<'a, A: Allocator>(
     alloc: A,
     operator: UnaryOperator,
     operand: Expression<'a, A>,
-) -> Result<Expression<'a, A>, Refused>
-    ensures { IfOk result (λ e. expression_of e ≡ RawApply (unary_of operator) (expression_of operand.entry)) }
+) -> Result<Expression<'a, A>, Stopped>
+    ensures makes { IfOk result (λ e. expression_of e ≡ RawApply (unary_of operator) (expression_of operand.entry)) }
+    ensures stops { IfErr result (λ stopped. stopped ≡ Memory) }
 {
     let operand = Box::new(alloc, operand)?;
     Ok(Expression::Apply(operator, operand))
@@ -350,8 +403,9 @@ fn combined<'a, A: Allocator + Copy>(
     operator: BinaryOperator,
     left: Expression<'a, A>,
     right: Expression<'a, A>,
-) -> Result<Expression<'a, A>, Refused>
-    ensures { IfOk result (λ e. expression_of e ≡ RawCombine (binary_of operator) (expression_of left.entry) (expression_of right.entry)) }
+) -> Result<Expression<'a, A>, Stopped>
+    ensures makes { IfOk result (λ e. expression_of e ≡ RawCombine (binary_of operator) (expression_of left.entry) (expression_of right.entry)) }
+    ensures stops { IfErr result (λ stopped. stopped ≡ Memory) }
 {
     let left = Box::new(alloc, left)?;
     let right = Box::new(alloc, right)?;
@@ -363,8 +417,9 @@ fn ranged<'a, A: Allocator + Copy>(
     alloc: A,
     from: Expression<'a, A>,
     to: Expression<'a, A>,
-) -> Result<Expression<'a, A>, Refused>
-    ensures { IfOk result (λ e. expression_of e ≡ RawRange (expression_of from.entry) (expression_of to.entry)) }
+) -> Result<Expression<'a, A>, Stopped>
+    ensures makes { IfOk result (λ e. expression_of e ≡ RawRange (expression_of from.entry) (expression_of to.entry)) }
+    ensures stops { IfErr result (λ stopped. stopped ≡ Memory) }
 {
     let from = Box::new(alloc, from)?;
     let to = Box::new(alloc, to)?;

@@ -1,8 +1,6 @@
 ghost use Rattle.std.specs.Prelude.{◌≡◌};
-ghost use Rattle.csp_parse.specs.declared.refusals.Refused.TheVariants.{Memory};
 
 use csp_lex::Place;
-use std::alloc::{AllocError, AllocFailed};
 use std::fmt;
 use thiserror::Error;
 
@@ -57,20 +55,4 @@ pub enum Refused {
     /// Memory was refused, and nothing is said of the tokens.
     #[error("out of memory")]
     Memory,
-}
-
-impl From<AllocError> for Refused {
-    ghost from_gives = { λ _ refused. refused ≡ Memory };
-
-    fn from(_failed: AllocError) -> Refused {
-        Refused::Memory
-    }
-}
-
-impl<T: Drop> From<AllocFailed<T>> for Refused {
-    ghost from_gives = { λ _ refused. refused ≡ Memory };
-
-    fn from(_failed: AllocFailed<T>) -> Refused {
-        Refused::Memory
-    }
 }

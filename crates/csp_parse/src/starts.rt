@@ -1,4 +1,4 @@
-ghost use Rattle.std.specs.Prelude.{IfOk, map};
+ghost use Rattle.std.specs.Prelude.{◌≡◌, IfOk, IfErr, map};
 ghost use Rattle.csp_semantics.specs.Text.Grammar.{IsOperand};
 ghost use Rattle.csp_semantics.specs.Text.Raw.{RawPrefix, RawGuard};
 ghost use Rattle.csp_parse.specs.Expressions.{expression_of};
@@ -6,11 +6,13 @@ ghost use Rattle.csp_parse.specs.Names.{name_of};
 ghost use Rattle.csp_parse.specs.Processes.{field_of, process_in};
 ghost use Rattle.csp_parse.specs.Reading.{Standing, Reads};
 ghost use Rattle.csp_parse.specs.Starts.{ReadsStart};
+ghost use Rattle.csp_parse.specs.StartForms.{IsOperandStart};
+ghost use Rattle.csp_parse.specs.declared.stops.Stopped.TheVariants.{Memory};
 
 use crate::expressions::Expression;
 use crate::names::Name;
 use crate::processes::{Field, Process};
-use crate::refusals::Refused;
+use crate::stops::Stopped;
 use std::alloc::Allocator;
 
 /// What stands where an operand or an expression begins.
@@ -33,8 +35,10 @@ impl<'a, A: Allocator + Copy> Start<'a, A> {
         channel: Name<'a>,
         fields: Vec<Field<'a, A>, A>,
         body: Box<Process<'a, A>, A>,
-    ) -> Result<Start<'a, A>, Refused>
-        ensures { IfOk result (λ s. (before after : Standing) → Reads IsOperand before after (RawPrefix (name_of channel.entry) (map field_of fields.entry.items) (process_in body.entry)) → ReadsStart before after s) }
+    ) -> Result<Start<'a, A>, Stopped>
+        ensures makes { IfOk result (λ s. (before after : Standing) → Reads IsOperand before after (RawPrefix (name_of channel.entry) (map field_of fields.entry.items) (process_in body.entry)) → ReadsStart before after s) }
+        ensures operand { IfOk result (λ s. IsOperandStart s) }
+        ensures stops { IfErr result (λ stopped. stopped ≡ Memory) }
     {
         let prefix = Process::prefix(alloc, channel, fields, body)?;
         Ok(Start::Operand(prefix))
@@ -45,8 +49,10 @@ impl<'a, A: Allocator + Copy> Start<'a, A> {
         alloc: A,
         condition: Expression<'a, A>,
         body: Box<Process<'a, A>, A>,
-    ) -> Result<Start<'a, A>, Refused>
-        ensures { IfOk result (λ s. (before after : Standing) → Reads IsOperand before after (RawGuard (expression_of condition.entry) (process_in body.entry)) → ReadsStart before after s) }
+    ) -> Result<Start<'a, A>, Stopped>
+        ensures makes { IfOk result (λ s. (before after : Standing) → Reads IsOperand before after (RawGuard (expression_of condition.entry) (process_in body.entry)) → ReadsStart before after s) }
+        ensures operand { IfOk result (λ s. IsOperandStart s) }
+        ensures stops { IfErr result (λ stopped. stopped ≡ Memory) }
     {
         let guard = Process::guard(alloc, condition, body)?;
         Ok(Start::Operand(guard))

@@ -13,8 +13,9 @@ use Rattle.csp_semantics.specs.Laws.Statements.{IsOneOf}
 use Rattle.csp_semantics.proofs.Stepping.{exact}
 use Rattle.csp_event_tests.specs.declared.stuck.Stuck.{Stuck}
 use Rattle.csp_event_tests.specs.declared.stuck.Stuck.TheVariants as stuck
-use Rattle.csp_rules.specs.Answering.{Answers, Binds, IsAnswered, SeesAll, within_limits}
-use Rattle.csp_rules.proofs.Answered.{answered_by}
+use Rattle.csp_operators.specs.Answering.{Answers, IsAnswered, within_limits}
+use Rattle.csp_rules.specs.Arguments.{Binds, SeesAll}
+use Rattle.csp_operators.proofs.Answered.{answered_by}
 
 module _ (s : Script) (n : ℕ) (es : Expressions) where
   module _ (A : Type 0) where

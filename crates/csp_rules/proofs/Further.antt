@@ -8,10 +8,11 @@ use Rattle.csp_semantics.specs.Meaning.Evaluation.{Cause, ◌and_then◌}
 use Rattle.csp_semantics.specs.Meaning.Events.{Communication, each_list, with_value}
 use Rattle.csp_semantics.specs.Meaning.Stepping.{communication_steps}
 use Rattle.csp_semantics.specs.Meaning.Substitution.{put}
-use Rattle.csp_rules.specs.declared.rule_step.RuleStep.{RuleStep}
+use Rattle.csp_operators.specs.declared.rule_step.RuleStep.{RuleStep}
 use Rattle.csp_event_tests.specs.declared.stuck.Stuck.{Stuck}
 use Rattle.csp_event_tests.specs.declared.stuck.Stuck.TheVariants as stuck
-use Rattle.csp_rules.specs.Answering.{Finds, IsFurther, answered_of, behind_values, kept}
+use Rattle.csp_operators.specs.Answering.{answered_of, kept}
+use Rattle.csp_rules.specs.Communicating.{Finds, IsFurther, behind_values}
 
 -- ---- two lists of communications
 

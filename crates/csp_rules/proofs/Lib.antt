@@ -1,5 +1,3 @@
-pub mod Telling
-pub mod Answered
 pub mod Ruling
 pub mod Smaller
 pub mod Seeing
@@ -12,16 +10,4 @@ pub mod Members
 pub mod Twice
 pub mod Beginning
 pub mod Prefixing
-pub mod Past
-pub mod Composing
-pub mod Collecting
-pub mod Siding
-pub mod Same
-pub mod Operating
-pub mod Joining
-pub mod Changing
 pub mod Replicating
-pub mod Together
-pub mod Ended
-pub mod Sided
-pub mod Imaged

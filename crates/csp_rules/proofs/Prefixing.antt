@@ -12,11 +12,12 @@ use Rattle.csp_semantics.specs.Meaning.Transitions as rule
 use Rattle.csp_expression.specs.Fault.{cause_of}
 use Rattle.csp_semantics.specs.Laws.Statements.{IsOneOf}
 use Rattle.csp_semantics.proofs.Stepping.{exact}
-use Rattle.csp_rules.specs.declared.rule_step.RuleStep.{RuleStep}
+use Rattle.csp_operators.specs.declared.rule_step.RuleStep.{RuleStep}
 use Rattle.csp_event_tests.specs.declared.stuck.Stuck.{Stuck}
 use Rattle.csp_event_tests.specs.declared.stuck.Stuck.TheVariants as stuck
-use Rattle.csp_rules.specs.Answering.{Answered, Answers, Finds, IsAnswered, answered_of, behind_values, kept}
-use Rattle.csp_rules.proofs.Answered.{answered_by}
+use Rattle.csp_operators.specs.Answering.{Answered, Answers, IsAnswered, answered_of, kept}
+use Rattle.csp_rules.specs.Communicating.{Finds, behind_values}
+use Rattle.csp_operators.proofs.Answered.{answered_by}
 use Rattle.csp_rules.proofs.Beginning.{reaching, same_cause, same_communications, same_steps}
 use Rattle.csp_rules.proofs.Twice.{both_nothing}
 

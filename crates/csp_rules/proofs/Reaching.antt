@@ -6,8 +6,9 @@ use Rattle.csp_semantics.specs.Syntax.Value as pure
 use Rattle.csp_semantics.specs.Syntax.Process.{Process}
 use Rattle.csp_semantics.specs.Meaning.Events.{Communication}
 use Rattle.csp_semantics.specs.Meaning.Substitution.{Bindings, put}
-use Rattle.csp_rules.specs.declared.rule_step.RuleStep.{RuleStep}
-use Rattle.csp_rules.specs.Answering.{IsFurther, answered_of, behind_values, within_limits}
+use Rattle.csp_operators.specs.declared.rule_step.RuleStep.{RuleStep}
+use Rattle.csp_operators.specs.Answering.{answered_of, within_limits}
+use Rattle.csp_rules.specs.Communicating.{IsFurther, behind_values}
 
 -- the end of the fields
 abbrev pub last_one : Bindings → List Communication

@@ -27,22 +27,22 @@ use Rattle.csp_expression.specs.declared.eval_fault.EvalFault.TheVariants as eva
 use Rattle.csp_term.specs.declared.operator.ReplicatedOperator.{ReplicatedOperator}
 use Rattle.csp_term.specs.declared.operator.ReplicatedOperator.TheVariants as operator
 use Rattle.csp_term.specs.Term.{replicated_process}
-use Rattle.csp_rules.specs.declared.rule_step.RuleStep.{RuleStep}
+use Rattle.csp_operators.specs.declared.rule_step.RuleStep.{RuleStep}
 use Rattle.csp_rules.specs.declared.rules.replicated.Looking.{Looking}
 use Rattle.csp_rules.specs.declared.rules.replicated.Looking.TheVariants as looking
-use Rattle.csp_rules.specs.declared.rules.side.Side.{Side}
+use Rattle.csp_operators.specs.declared.side.Side.{Side}
 use Rattle.csp_event_tests.specs.declared.stuck.Stuck.{Stuck}
 use Rattle.csp_event_tests.specs.declared.stuck.Stuck.TheVariants as stuck
-use Rattle.csp_rules.specs.Answering.{Answered, Answers, IsAnswered, target_of, within_limits}
+use Rattle.csp_operators.specs.Answering.{Answered, Answers, IsAnswered, target_of, within_limits}
 use Rattle.csp_event_tests.specs.Stuck.{stuck_by_value}
-use Rattle.csp_rules.specs.Composing.{HaveSameSteps, IsSideOf, parallel_answers, side_answers, under_both}
+use Rattle.csp_operators.specs.Composing.{HaveSameSteps, IsSideOf, parallel_answers, side_answers, under_both}
 use Rattle.csp_rules.specs.Replicating.{AnswersChoices, looking_answers, looking_process}
-use Rattle.csp_rules.proofs.Composing.{limits_under_both}
-use Rattle.csp_rules.proofs.Joining.{interleaving_answered}
-use Rattle.csp_rules.proofs.Operating.{external_answered, internal_answered}
-use Rattle.csp_rules.proofs.Past.{external_first, external_second, interleaving_first, interleaving_second, internal_first, internal_second}
+use Rattle.csp_operators.proofs.Composing.{limits_under_both}
+use Rattle.csp_operators.proofs.Joining.{interleaving_answered}
+use Rattle.csp_operators.proofs.Operating.{external_answered, internal_answered}
+use Rattle.csp_operators.proofs.Past.{external_first, external_second, interleaving_first, interleaving_second, internal_first, internal_second}
 use Rattle.csp_rules.proofs.Ruling.{answered}
-use Rattle.csp_rules.proofs.Same.{answered_by_same}
+use Rattle.csp_operators.proofs.Same.{answered_by_same}
 use Rattle.csp_rules.proofs.Twice.{both_bound, both_nothing, put_twice}
 
 -- ---- instances

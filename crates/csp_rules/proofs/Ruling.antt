@@ -8,11 +8,12 @@ use Rattle.csp_semantics.specs.Meaning.Events.{condition}
 use Rattle.csp_semantics.specs.Meaning.Faults.{cause_in, in_branch}
 use Rattle.csp_semantics.specs.Meaning.Transitions as rule
 use Rattle.csp_semantics.proofs.Causes.{if_cause}
-use Rattle.csp_rules.specs.declared.rule_step.RuleStep.{RuleStep}
+use Rattle.csp_operators.specs.declared.rule_step.RuleStep.{RuleStep}
 use Rattle.csp_event_tests.specs.declared.stuck.Stuck.{Stuck}
 use Rattle.csp_event_tests.specs.declared.stuck.Stuck.TheVariants as stuck
-use Rattle.csp_rules.specs.Answering.{Answers, Decides, IsAnswered}
-use Rattle.csp_rules.proofs.Answered.{answered_by}
+use Rattle.csp_operators.specs.Answering.{Answers, IsAnswered}
+use Rattle.csp_rules.specs.Arguments.{Decides}
+use Rattle.csp_operators.proofs.Answered.{answered_by}
 
 module _ (s : Script) (p q : Process) (same : (x : Action) (u : Process) → (rule.RuleStep s q x u → rule.RuleStep s p x u) × (rule.RuleStep s p x u → rule.RuleStep s q x u)) (cause : cause_in s q ≡ cause_in s p) where
   -- a term with the causes and the steps of another one is answered as that

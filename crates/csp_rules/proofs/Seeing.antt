@@ -14,7 +14,7 @@ use Rattle.csp_semantics.specs.Meaning.Substitution.{Bindings, put_expression, p
 use Rattle.csp_expression.specs.Bindings.{puts}
 use Rattle.csp_expression.proofs.ExpressionPutting.{put_list}
 use Rattle.csp_expression.proofs.Evaluating.{value_more, value_stops}
-use Rattle.csp_rules.specs.Answering.{SeesAll, seen_values}
+use Rattle.csp_rules.specs.Arguments.{SeesAll, seen_values}
 use Rattle.csp_event_tests.specs.Stuck.{stuck_by_value}
 
 -- the values of the first i arguments with the values put in are these

@@ -13,9 +13,9 @@ use Rattle.csp_value.specs.Value.{value_of, values_of}
 use Rattle.csp_expression.specs.declared.eval_fault.EvalFault.{EvalFault}
 use Rattle.csp_expression.specs.declared.eval_fault.EvalFault.TheVariants as eval
 use Rattle.csp_expression.specs.Evaluation.{Sees}
-use Rattle.csp_rules.specs.declared.rule_step.RuleStep.{RuleStep}
+use Rattle.csp_operators.specs.declared.rule_step.RuleStep.{RuleStep}
 use Rattle.std.specs.declared.vec.Vec.{Vec}
-use Rattle.csp_rules.specs.Answering.{Finds}
+use Rattle.csp_rules.specs.Communicating.{Finds}
 use Rattle.csp_event_tests.specs.Stuck.{stuck_by_value}
 
 module _ (types : Types) (bs : Bindings) (fs : List Field) (set : List pure.Value) (sets : List (List pure.Value)) where

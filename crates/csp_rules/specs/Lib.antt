@@ -1,5 +1,3 @@
-pub mod Answering
-pub mod Composing
-pub mod Sharing
+pub mod Arguments
+pub mod Communicating
 pub mod Replicating
-pub mod Together

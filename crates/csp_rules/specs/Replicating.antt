@@ -10,14 +10,14 @@ use Rattle.csp_value.specs.Value.{value_of}
 use Rattle.csp_expression.specs.Bindings.{bindings_of}
 use Rattle.csp_expression.specs.declared.fault.Fault.TheVariants as fault
 use Rattle.csp_term.specs.Term.{process_of}
-use Rattle.csp_rules.specs.declared.rule_step.RuleStep.{RuleStep}
+use Rattle.csp_operators.specs.declared.rule_step.RuleStep.{RuleStep}
 use Rattle.csp_rules.specs.declared.rules.replicated.Instances.{Instances}
 use Rattle.csp_rules.specs.declared.rules.replicated.Looking.{Looking}
 use Rattle.csp_rules.specs.declared.rules.replicated.Looking.TheVariants as looking
 use Rattle.csp_event_tests.specs.declared.stuck.Stuck.{Stuck}
 use Rattle.csp_event_tests.specs.declared.stuck.Stuck.TheVariants as stuck
-use Rattle.csp_rules.specs.Answering.{Answered, Answers}
-use Rattle.csp_rules.specs.Composing.{external_answers, parallel_answers}
+use Rattle.csp_operators.specs.Answering.{Answered, Answers}
+use Rattle.csp_operators.specs.Composing.{external_answers, parallel_answers}
 
 -- the process with the value put in for the name, under the bindings
 abbrev pub instance_of : {A : Type 0} → Instances A → Value A → Process

@@ -7,7 +7,7 @@ ghost use Rattle.csp_semantics.specs.Meaning.Substitution.{put};
 ghost use Rattle.csp_expression.specs.Bindings.{bindings_of};
 ghost use Rattle.csp_term.specs.Term.{binary_process, process_of};
 ghost use Rattle.csp_term.specs.Script.{script_of};
-ghost use Rattle.csp_rules.specs.Answering.{Answers};
+ghost use Rattle.csp_operators.specs.Answering.{Answers};
 
 mod call;
 mod choice;
@@ -17,7 +17,6 @@ mod conditional;
 mod guard;
 mod hiding;
 mod interrupt;
-mod leave;
 mod parallel;
 mod prefix;
 mod renaming;
@@ -25,11 +24,10 @@ mod replicated;
 mod sequential;
 mod side;
 mod skip;
-mod stay;
 
-use crate::rule_step::RuleStep;
 use csp_event_tests::Stuck;
 use csp_expression::Binding;
+use csp_operators::RuleStep;
 use csp_term::{AllocHandle, ProcessOperator, Script, Term, TermForm};
 
 /// The rule steps of the term with the values put in, in no order, of which one may be there more than once: one that
@@ -89,7 +87,9 @@ fn binary<'v, A: AllocHandle>(
 {
     match operator {
         ProcessOperator::ExternalChoice => choice::external(alloc, script, bindings, left, right),
-        ProcessOperator::InternalChoice => choice::internal(alloc, script, bindings, left, right),
+        ProcessOperator::InternalChoice => csp_operators::choice::internal(
+            alloc, bindings, left, right,
+        ),
         ProcessOperator::Sequential => sequential::steps(alloc, script, bindings, left, right),
         ProcessOperator::Interleaving => parallel::interleaving(
             alloc, script, bindings, left, right,

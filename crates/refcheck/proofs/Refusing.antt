@@ -1,11 +1,28 @@
 -- The one word of a command line, and the refusal of the text that it names.
-use Rattle.std.proofs.Common.{◌≡◌, ℕ, List, [], ◌∷◌, length, get_or, refl, arith}
+use Rattle.std.proofs.Common.{◌≡◌, Result, IfErr, ℕ, List, [], ◌∷◌, length, get_or, refl, arith}
+use Rattle.std.specs.Result.{IsErr, IsErrAnd}
+use Rattle.std.proofs.lemmas.Result.{err_from_is_err_and}
 use Rattle.std.specs.Borrow.{Bor}
+use Rattle.csp_semantics.specs.Text.Place.{Place}
+use Rattle.csp_semantics.specs.Text.Reading.{of_grammar}
+use Rattle.csp_semantics.specs.Text.Token.{PlacedToken, AreTokens}
+use Rattle.csp_parse.specs.Stopping as parsing
+use Rattle.csp_parse.specs.declared.refusals.Refused as parser
+use Rattle.csp_parse.specs.declared.refusals.Refused.TheVariants as parser_fault
 use Rattle.refcheck.specs.declared.reader.ReadFault.{ReadFault}
 use Rattle.refcheck.specs.declared.reader.ReadFault.TheVariants as fault
-use Rattle.refcheck.specs.Reading.{IsRefusalOf}
+use Rattle.refcheck.specs.Reading.{of_parser, IsRefusalOf}
 use Rattle.refcheck.specs.Refusal.{of_text}
 use Rattle.refcheck.specs.Running.{IsCause, texts_of}
+
+-- what the parser refuses of a text's tokens is refused of the text
+pub of_tokens : (bytes : List ℕ) (tokens : List PlacedToken) (end : Place) (refused : parser.Refused) → AreTokens bytes tokens end → parsing.IsRefusalOf tokens end refused → IsRefusalOf bytes (of_parser refused)
+of_tokens bytes tokens end (parser_fault.Grammar f p) are is = of_grammar {tokens = tokens} {end = end} are is
+of_tokens bytes tokens end parser_fault.Memory are is = tt
+
+-- a refusal is handed on
+pub handed : {T : Type 0} (r : Result T ReadFault) {why : ReadFault} (P : ReadFault → Type 0) → IsErr r × IsErrAnd r (λ e. e ≡ why) → P why → IfErr r P
+handed r P same said = let p = err_from_is_err_and r same.1 in rw (p.1, p.2) said
 
 pub one_word : (words : List (Bor (List ℕ))) (other : Bor (List ℕ)) → length words ≡ 1 → texts_of words ≡ (get_or words 0 other).now ∷ []
 one_word [] other one = absurd (omega arith)

@@ -4,7 +4,7 @@ use Rattle.std.specs.Str.{chars}
 use Rattle.std.specs.String.{string_bytes}
 use Rattle.csp_semantics.specs.Text.Part.{StandOnce}
 use Rattle.csp_semantics.specs.Text.Raw.{RawScript}
-use Rattle.csp_semantics.specs.Text.Reading.{IsRead}
+use Rattle.csp_semantics.specs.Text.Reading.{OfGrammar, IsRead, IsReadingRefusal}
 use Rattle.csp_semantics.specs.Text.Token.{IsTextRefusal}
 use Rattle.csp_term.specs.declared.script.Channel.{Channel}
 use Rattle.csp_term.specs.Script.{field_sets_of}
@@ -12,6 +12,7 @@ use Rattle.csp_lex.specs.Places.{place_of}
 use Rattle.csp_lex.specs.Refusals.{fault_of}
 use Rattle.csp_lex.specs.declared.refusals.Refused as lexer
 use Rattle.csp_lex.specs.declared.refusals.Refused.TheVariants as lexer_fault
+use Rattle.csp_parse.specs.Refusals as grammar
 use Rattle.csp_parse.specs.declared.refusals.Refused as parser
 use Rattle.csp_parse.specs.declared.refusals.Refused.TheVariants as parser_fault
 use Rattle.refcheck.specs.declared.reader.ReadFault.{ReadFault}
@@ -47,9 +48,9 @@ IsOutside fault.Part = ⊤
 IsOutside fault.Memory = ⊤
 IsOutside _ = ⊥
 
--- A text without tokens is refused by the rules of tokens, and only a script is refused as outside the part.
+-- A text is refused by the rules of tokens, or behind them by the grammar, and only a script is refused as outside the part.
 abbrev pub IsRefusalOf : List ℕ → ReadFault → Type 0
 IsRefusalOf bytes (fault.Text f p) = IsTextRefusal bytes (fault_of f) (place_of p)
-IsRefusalOf bytes (fault.Grammar f p) = ⊤
+IsRefusalOf bytes (fault.Grammar f p) = IsReadingRefusal bytes (OfGrammar (grammar.fault_of f)) (place_of p)
 IsRefusalOf bytes fault.Part = (raw : RawScript) × IsRead bytes raw
 IsRefusalOf bytes fault.Memory = ⊤

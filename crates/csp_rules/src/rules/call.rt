@@ -10,11 +10,12 @@ ghost use Rattle.csp_expression.specs.Bindings.{bindings_of};
 ghost use Rattle.csp_expression.specs.Evaluation.{table_of};
 ghost use Rattle.csp_expression.specs.Expression.{expressions_of};
 ghost use Rattle.csp_term.specs.Script.{script_of};
-ghost use Rattle.csp_rules.specs.Answering.{Answers, Binds, SeesAll, seen_values};
+ghost use Rattle.csp_operators.specs.Answering.{Answers};
+ghost use Rattle.csp_rules.specs.Arguments.{Binds, SeesAll, seen_values};
 
-use crate::rule_step::{RuleStep, Target, one_step};
 use csp_event_tests::Stuck;
 use csp_expression::{Binding, Expr, Seen, TypeTable};
+use csp_operators::{RuleStep, Target, one_step};
 use csp_term::{Action, AllocHandle, EquationId, Fault, Name, Script};
 
 pub(crate) fn steps<A: AllocHandle>(

@@ -14,12 +14,12 @@ ghost use Rattle.csp_expression.specs.Expression.{expression_of};
 ghost use Rattle.csp_term.specs.Field.{fields_of};
 ghost use Rattle.csp_term.specs.Script.{field_values};
 ghost use Rattle.csp_term.specs.Term.{process_of};
-ghost use Rattle.csp_rules.specs.Answering.{Finds, lent_values};
+ghost use Rattle.csp_rules.specs.Communicating.{Finds, lent_values};
 ghost use Rattle.csp_event_tests.specs.Testing.{sets_of};
 
-use crate::rule_step::{RuleStep, Target};
 use csp_event_tests::Stuck;
 use csp_expression::{Binding, Expr, TypeTable};
+use csp_operators::{RuleStep, Target};
 use csp_term::{Action, AllocHandle, ChannelId, Event, Fault, Field, Memory, Name, Term, bind};
 use csp_value::{FieldSet, Value};
 use smallvec::SmallVec;

@@ -6,7 +6,7 @@ ghost use Rattle.csp_expression.specs.Evaluation.{table_of};
 ghost use Rattle.csp_semantics.specs.Meaning.Substitution.{put_expression};
 ghost use Rattle.csp_expression.specs.Bindings.{bindings_of};
 ghost use Rattle.csp_expression.specs.Expression.{expression_of};
-ghost use Rattle.csp_rules.specs.Answering.{Decides};
+ghost use Rattle.csp_rules.specs.Arguments.{Decides};
 
 use csp_event_tests::Stuck;
 use csp_expression::{Binding, Expr, TypeTable};

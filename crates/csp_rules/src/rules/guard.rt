@@ -6,13 +6,13 @@ ghost use Rattle.csp_expression.specs.Bindings.{bindings_of};
 ghost use Rattle.csp_expression.specs.Expression.{expression_of};
 ghost use Rattle.csp_term.specs.Script.{script_of};
 ghost use Rattle.csp_term.specs.Term.{process_of};
-ghost use Rattle.csp_rules.specs.Answering.{Answers};
+ghost use Rattle.csp_operators.specs.Answering.{Answers};
 
-use crate::rule_step::RuleStep;
 use crate::rules;
 use crate::rules::condition::condition;
 use csp_event_tests::Stuck;
 use csp_expression::{Binding, Expr};
+use csp_operators::RuleStep;
 use csp_term::{AllocHandle, Script, Term};
 
 #[cycle(steps)]

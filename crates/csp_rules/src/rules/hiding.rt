@@ -1,72 +1,19 @@
-//! `P \ A` does what `P` does, and the events of `A` as tau. A tick ends all.
+//! `P \ A` by the steps of `P`.
 
-ghost use Rattle.std.specs.Prelude.{◌≡◌, ◌∷◌, [], IfOk, cond, map};
-ghost use Rattle.csp_semantics.specs.Syntax.Process as pure;
 ghost use Rattle.csp_semantics.specs.Syntax.Process.{Hiding};
-ghost use Rattle.csp_semantics.specs.Syntax.Value.{Ev, Tau};
 ghost use Rattle.csp_semantics.specs.Meaning.Substitution.{put};
-ghost use Rattle.csp_value.specs.Action.{action_of, event_of};
 ghost use Rattle.csp_expression.specs.Bindings.{bindings_of};
 ghost use Rattle.csp_event_sets.specs.Events.{event_set_of};
 ghost use Rattle.csp_term.specs.Script.{script_of};
 ghost use Rattle.csp_term.specs.Term.{process_of};
-ghost use Rattle.csp_rules.specs.Answering.{Answers, answered_of, target_of};
-ghost use Rattle.csp_rules.specs.Composing.{each_answer, frame_of, hide_answer, under_limits};
-ghost use Rattle.csp_event_tests.specs.Testing.{AreSorted, listed_in, test_of};
+ghost use Rattle.csp_operators.specs.Answering.{Answers};
 
-use crate::composition::Frame;
-use crate::rule_step::{RuleStep, Target};
 use crate::rules;
 use csp_event_sets::EventSet;
-use csp_event_tests::{EventTest, Stuck};
+use csp_event_tests::Stuck;
 use csp_expression::Binding;
-use csp_term::{Action, AllocHandle, Event, Memory, Script, Term};
-
-/// What is seen of the event.
-fn hidden_event<A: AllocHandle>(test: &EventTest<A>, event: Event<A>) -> Action<A>
-    requires { AreSorted (listed_in test.now) }
-    ensures { action_of result ≡ cond (test_of test.now (event_of event)) Tau (Ev (event_of event)) }
-{
-    if test.holds(&event) {
-        Action::Tau
-    } else {
-        Action::Event(event)
-    }
-}
-
-/// The step of the body under the operator, with what is seen of its action.
-fn under<A: AllocHandle>(
-    alloc: A,
-    frame: &Frame<A>,
-    action: Action<A>,
-    target: Target<A>,
-) -> Result<RuleStep<A>, Memory>
-    ensures { IfOk result (λ s. answered_of s ≡ (action_of action, under_limits (frame_of frame.now) (target_of target))) }
-{
-    let target = frame.of(alloc, target)?;
-    Ok(RuleStep { action, target })
-}
-
-fn step<A: AllocHandle>(
-    alloc: A,
-    frame: &Frame<A>,
-    test: &EventTest<A>,
-    of_body: RuleStep<A>,
-) -> Result<RuleStep<A>, Memory>
-    requires { AreSorted (listed_in test.now) }
-    ensures { IfOk result (λ s. answered_of s ∷ [] ≡ hide_answer (test_of test.now) (under_limits (frame_of frame.now)) (action_of of_body.action) (target_of of_body.target)) }
-{
-    let RuleStep { action, target } = of_body;
-    match action {
-        Action::Tick => {
-            let target = Target::omega(alloc)?;
-            let action = Action::Tick;
-            Ok(RuleStep { action, target })
-        }
-        Action::Tau => under(alloc, frame, Action::Tau, target),
-        Action::Event(event) => under(alloc, frame, hidden_event(test, event), target),
-    }
-}
+use csp_operators::{RuleStep, hiding};
+use csp_term::{AllocHandle, Script, Term};
 
 #[cycle(steps)]
 pub(crate) fn steps<'v, A: AllocHandle>(
@@ -80,40 +27,5 @@ pub(crate) fn steps<'v, A: AllocHandle>(
 {
     let body = rules::steps(alloc, script, bindings, body);
     let hidden = hidden.put_in(bindings, alloc)?;
-    by_body(alloc, script, hidden, body)
-}
-
-/// The steps of `P \ A` by those of its body. A cause of the set comes before those of the body.
-fn by_body<A: AllocHandle>(
-    alloc: A,
-    script: &Script<A>,
-    hidden: EventSet<A>,
-    body: Result<Vec<RuleStep<A>, A>, Stuck>,
-) -> Result<Vec<RuleStep<A>, A>, Stuck>
-    ensures { (p : pure.Process) → Answers (script_of script.now) p body → Answers (script_of script.now) (Hiding p (event_set_of hidden)) result }
-{
-    let test = EventTest::of(alloc, script, &hidden)?;
-    let body = body?;
-    let frame = Frame::Hiding(hidden);
-    let steps = without(alloc, &frame, &test, body);
-    drop(frame);
-    drop(test);
-    Ok(steps?)
-}
-
-/// The steps by those of the body.
-fn without<A: AllocHandle>(
-    alloc: A,
-    frame: &Frame<A>,
-    test: &EventTest<A>,
-    body: Vec<RuleStep<A>, A>,
-) -> Result<Vec<RuleStep<A>, A>, Memory>
-    requires { AreSorted (listed_in test.now) }
-    ensures { IfOk result (λ steps. map answered_of steps.items ≡ each_answer (hide_answer (test_of test.now) (under_limits (frame_of frame.now))) (map answered_of body.items)) }
-{
-    let mut steps = Vec::new(alloc);
-    for of_body in body {
-        steps.push(step(alloc, frame, test, of_body)?)?;
-    }
-    Ok(steps)
+    hiding::by_body(alloc, script, hidden, body)
 }

@@ -7,12 +7,12 @@ ghost use Rattle.csp_expression.specs.Bindings.{bindings_of};
 ghost use Rattle.csp_term.specs.Field.{fields_of};
 ghost use Rattle.csp_term.specs.Script.{script_of};
 ghost use Rattle.csp_term.specs.Term.{process_of};
-ghost use Rattle.csp_rules.specs.Answering.{Answers};
+ghost use Rattle.csp_operators.specs.Answering.{Answers};
 
-use crate::rule_step::RuleStep;
 use crate::rules::communications::{Front, Walk, look_for};
 use csp_event_tests::Stuck;
 use csp_expression::Binding;
+use csp_operators::RuleStep;
 use csp_term::{AllocHandle, ChannelId, Fault, Field, Script, Term};
 
 pub(crate) fn steps<'v, A: AllocHandle>(

@@ -11,19 +11,15 @@ ghost use Rattle.csp_expression.specs.Bindings.{bindings_of};
 ghost use Rattle.csp_expression.specs.Expression.{expression_of};
 ghost use Rattle.csp_term.specs.Script.{script_of};
 ghost use Rattle.csp_term.specs.Term.{process_of, replicated_process};
-ghost use Rattle.csp_rules.specs.Answering.{Answers, answered_of, target_of, within_limits};
-ghost use Rattle.csp_rules.specs.Composing.{HaveSameSteps, IsSideOf, side_answers, under_both};
+ghost use Rattle.csp_operators.specs.Answering.{Answers, answered_of, target_of, within_limits};
+ghost use Rattle.csp_operators.specs.Composing.{HaveSameSteps, IsSideOf, side_answers, under_both};
 ghost use Rattle.csp_rules.specs.Replicating.{AnswersChoices, instance_of, instances_of, looking_answers, looking_process};
 
-use crate::composition::Composition;
-use crate::rule_step::{RuleStep, Target};
-use crate::rules::side::Side;
-use crate::rules::{choice, parallel, skip};
+use crate::rules::{side, skip};
 use csp_event_tests::Stuck;
 use csp_expression::{Binding, Expr};
-use csp_term::{
-    AllocHandle, Fault, Memory, Name, ProcessOperator, ReplicatedOperator, Script, Term, bind,
-};
+use csp_operators::{RuleStep, Side, Target, choice, parallel};
+use csp_term::{AllocHandle, Fault, Memory, Name, ReplicatedOperator, Script, Term, bind};
 use csp_value::Value;
 
 // Where a value is made on the way, what is lent for longer is lent again (`&*`), for as long as that value lives.
@@ -84,16 +80,6 @@ impl Looking {
     }
 }
 
-/// `P |~| Q`, if it is within the limits.
-fn either<A: AllocHandle>(alloc: A, left: Target<A>, right: Target<A>) -> Result<Target<A>, Memory>
-    ensures { IfOk result (λ t. target_of t ≡ under_both InternalChoice (target_of left) (target_of right)) }
-{
-    let composition = Composition::Operator(ProcessOperator::InternalChoice);
-    let target = composition.of(alloc, left, right);
-    drop(composition);
-    target
-}
-
 /// The name and the process of a replicated operator, under the bindings around it.
 #[derive(Drop)]
 struct Instances<'v, 'b, A: AllocHandle> {
@@ -111,7 +97,7 @@ impl<'v, 'b, A: AllocHandle> Instances<'v, 'b, A> {
         ensures { IsSideOf (script_of self.now.script.now) (instance_of self.now value.now) result }
     {
         let bindings = bind(self.name, value, self.bindings, self.alloc)?;
-        Side::under(self.alloc, self.script, &bindings, self.body)
+        side::under(self.alloc, self.script, &bindings, self.body)
     }
 
     /// The instance of the value, if it is within the limits.
@@ -147,7 +133,7 @@ impl<'v, 'b, A: AllocHandle> Instances<'v, 'b, A> {
         let mut chain = self.process(first)?;
         for value in others {
             let instance = self.process(value)?;
-            chain = either(self.alloc, chain, instance)?;
+            chain = choice::either(self.alloc, chain, instance)?;
         }
         Ok(chain)
     }

@@ -1,53 +1,44 @@
-//! Processes as parts of a composition.
+//! The sides of an operator.
 
 ghost use Rattle.csp_semantics.specs.Meaning.Substitution.{put};
 ghost use Rattle.csp_expression.specs.Bindings.{bindings_of};
 ghost use Rattle.csp_term.specs.Script.{script_of};
 ghost use Rattle.csp_term.specs.Term.{process_of};
-ghost use Rattle.csp_rules.specs.Composing.{AreSidesOf, IsSideOf};
+ghost use Rattle.csp_operators.specs.Composing.{AreSidesOf, IsSideOf};
 
-use crate::rule_step::{RuleStep, Target};
 use crate::rules;
 use csp_event_tests::Stuck;
 use csp_expression::Binding;
+use csp_operators::{Side, Target};
 use csp_term::{AllocHandle, Script, Term};
 
-/// A process that a rule looks at: itself, if it is within the limits, and its steps.
-#[derive(Drop)]
-pub(crate) struct Side<A: AllocHandle> {
-    pub(crate) process: Target<A>,
-    pub(crate) steps: Vec<RuleStep<A>, A>,
+/// The term with the values put in.
+#[cycle(steps)]
+pub(crate) fn under<'v, A: AllocHandle>(
+    alloc: A,
+    script: &'v Script<A>,
+    bindings: &[Binding<'v, A>],
+    term: &'v Term<A>,
+) -> Result<Side<A>, Stuck>
+    ensures { IsSideOf (script_of script.now) (put (bindings_of bindings.now) (process_of term.now)) result }
+{
+    let steps = rules::steps(alloc, script, bindings, term)?;
+    let process = Target::put_in(term, bindings, alloc)?;
+    Ok(Side { process, steps })
 }
 
-impl<A: AllocHandle> Side<A> {
-    /// The term with the values put in.
-    #[cycle(steps)]
-    pub(crate) fn under<'v>(
-        alloc: A,
-        script: &'v Script<A>,
-        bindings: &[Binding<'v, A>],
-        term: &'v Term<A>,
-    ) -> Result<Side<A>, Stuck>
-        ensures { IsSideOf (script_of script.now) (put (bindings_of bindings.now) (process_of term.now)) result }
-    {
-        let steps = rules::steps(alloc, script, bindings, term)?;
-        let process = Target::put_in(term, bindings, alloc)?;
-        Ok(Side { process, steps })
-    }
-
-    /// Both sides of an operator, or why one of them has no steps: the left one's reason before the right one's.
-    #[cycle(steps)]
-    pub(crate) fn both<'v>(
-        alloc: A,
-        script: &'v Script<A>,
-        bindings: &[Binding<'v, A>],
-        left: &'v Term<A>,
-        right: &'v Term<A>,
-    ) -> Result<(Side<A>, Side<A>), Stuck>
-        ensures { AreSidesOf (script_of script.now) (put (bindings_of bindings.now) (process_of left.now)) (put (bindings_of bindings.now) (process_of right.now)) result }
-    {
-        let left = Side::under(alloc, script, bindings, left)?;
-        let right = Side::under(alloc, script, bindings, right)?;
-        Ok((left, right))
-    }
+/// Both sides of an operator, or why one of them has no steps: the left one's reason before the right one's.
+#[cycle(steps)]
+pub(crate) fn both<'v, A: AllocHandle>(
+    alloc: A,
+    script: &'v Script<A>,
+    bindings: &[Binding<'v, A>],
+    left: &'v Term<A>,
+    right: &'v Term<A>,
+) -> Result<(Side<A>, Side<A>), Stuck>
+    ensures { AreSidesOf (script_of script.now) (put (bindings_of bindings.now) (process_of left.now)) (put (bindings_of bindings.now) (process_of right.now)) result }
+{
+    let left = under(alloc, script, bindings, left)?;
+    let right = under(alloc, script, bindings, right)?;
+    Ok((left, right))
 }

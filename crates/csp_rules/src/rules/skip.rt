@@ -2,10 +2,10 @@
 
 ghost use Rattle.csp_semantics.specs.Syntax.Process.{Skip};
 ghost use Rattle.csp_term.specs.Script.{script_of};
-ghost use Rattle.csp_rules.specs.Answering.{Answers};
+ghost use Rattle.csp_operators.specs.Answering.{Answers};
 
-use crate::rule_step::{RuleStep, Target, one_step};
 use csp_event_tests::Stuck;
+use csp_operators::{RuleStep, Target, one_step};
 use csp_term::{Action, AllocHandle, Script, Term, TermForm};
 
 pub(crate) fn steps<A: AllocHandle>(

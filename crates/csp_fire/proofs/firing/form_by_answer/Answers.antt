@@ -3,7 +3,7 @@ use Rattle.std.proofs.Common.{◌≡◌, IfOk, Option, Some, None, map, refl, sy
 use Rattle.std.specs.Option.{option_map}
 use Rattle.csp_semantics.specs.Meaning.Expansions.{FiredLarge}
 use Rattle.csp_semantics.specs.Meaning.Stepping.{Steps}
-use Rattle.csp_rules.specs.Answering.{all_within, answered_of}
+use Rattle.csp_operators.specs.Answering.{all_within, answered_of}
 use Rattle.csp_fire.specs.Form.{form_of, step_of}
 use Rattle.csp_fire.specs.Offering.{IsFormWithin}
 use Rattle.csp_fire.proofs.firing.form_by_answer.Goals as goal

@@ -9,9 +9,9 @@ use Rattle.csp_semantics.proofs.Putting.{put_nothing}
 use Rattle.csp_term.specs.Term.{process_of}
 use Rattle.csp_term.specs.Script.{script_of}
 use Rattle.csp_expression.proofs.Answering.{if_ok-map}
-use Rattle.csp_rules.specs.declared.rule_step.RuleStep.{RuleStep}
+use Rattle.csp_operators.specs.declared.rule_step.RuleStep.{RuleStep}
 use Rattle.csp_event_tests.specs.declared.stuck.Stuck.{Stuck}
-use Rattle.csp_rules.specs.Answering.{Answers, answered_of}
+use Rattle.csp_operators.specs.Answering.{Answers, answered_of}
 use Rattle.csp_fire.specs.Form.{form_of}
 use Rattle.csp_fire.specs.Offering.{IsFormByAnswer}
 use Rattle.csp_fire.proofs.Exactness.{form_by_answer}

@@ -5,7 +5,7 @@ use Rattle.csp_parse.specs.Operators.{binary_of}
 use Rattle.csp_parse.proofs.Trees.{tree_of_combine}
 use Rattle.csp_parse.proofs.read_expressions.combined.Goals as goal
 
-pub returns : goal.returns
-returns g c =
+pub returns-clause-makes : goal.returns-clause-makes
+returns-clause-makes g c =
     tree_of_combine g.row.A.Denot c.args.operator c.in_ok-left.left c.in_ok-right.right
     ∙ ap₂ (λ e f. RawCombine (binary_of c.args.operator) (expression_of e) (expression_of f)) c.in_ok-left.ensures.ok c.in_ok-right.ensures.ok

@@ -23,16 +23,16 @@ use Rattle.csp_event_sets.specs.Events.{event_set_of, renaming_pairs_of}
 use Rattle.csp_expression.specs.Bindings.{bindings_of}
 use Rattle.csp_term.specs.Script.{script_of}
 use Rattle.csp_term.specs.Term.{binary_process, process_of, process_of_form, replicated_process}
-use Rattle.csp_rules.specs.declared.rule_step.RuleStep.{RuleStep}
+use Rattle.csp_operators.specs.declared.rule_step.RuleStep.{RuleStep}
 use Rattle.csp_event_tests.specs.declared.stuck.Stuck.{Stuck}
-use Rattle.csp_rules.specs.declared.rules.side.Side.{Side}
-use Rattle.csp_rules.specs.Answering.{Answers, IsAnswered, answered_of}
+use Rattle.csp_operators.specs.declared.side.Side.{Side}
+use Rattle.csp_operators.specs.Answering.{Answers, IsAnswered, answered_of}
 use Rattle.csp_event_tests.specs.Stuck.{stuck_by_value}
-use Rattle.csp_rules.specs.Composing.{AreSidesOf, IsSideOf}
+use Rattle.csp_operators.specs.Composing.{AreSidesOf, IsSideOf}
 use Rattle.csp_rules.specs.Replicating.{AnswersChoices, instance_of, instances_of, looking_process}
 use Rattle.csp_rules.proofs.Members.{no_members}
 use Rattle.csp_rules.proofs.Replicating.{external_by_chain, grouped_more, instances_are, interleaving_by_chain, internal_by_chain, last_choice, mapped_more, mapped_split, no_set, put_replicated, seen_elements, set_stuck, stuck_at_first, stuck_behind, two_sides}
-use Rattle.csp_rules.proofs.Siding.{side_of_stuck, stuck_at_first_side, stuck_at_second_side, stuck_of_side}
+use Rattle.csp_operators.proofs.Siding.{side_of_stuck, stuck_at_first_side, stuck_at_second_side, stuck_of_side}
 use Rattle.csp_rules.proofs.Smaller.{alphabetised_height, binary_height, branch_height, generalised_height, guard_height, height_of, hiding_height, renaming_height, replicated_height}
 use Rattle.csp_rules.proofs.Ruling.{guarded, closed, first_branch, second_branch, guard_stuck, if_stuck, ended, stopped}
 use Rattle.csp_semantics.specs.Meaning.Events.{renaming}
@@ -198,7 +198,7 @@ binary-returns-in-ExternalChoice g t c =
 pub binary-returns-in-InternalChoice : goal.binary-returns-in-InternalChoice
 binary-returns-in-InternalChoice g t c =
     let P : ProcessOperator → Type 0 = λ op. Answers (script_of c.args.script.now) (put (bindings_of c.args.bindings.now) (binary_process op (process_of c.args.left.now) (process_of c.args.right.now))) c.internal.result in
-    subst P (sym c.in-InternalChoice.is) c.internal.ensures
+    subst P (sym c.in-InternalChoice.is) (c.internal.ensures (script_of c.args.script.now))
 
 pub binary-returns-in-Sequential : goal.binary-returns-in-Sequential
 binary-returns-in-Sequential g t c =
@@ -215,11 +215,11 @@ binary-returns-in-Interrupt g t c =
     let P : ProcessOperator → Type 0 = λ op. Answers (script_of c.args.script.now) (put (bindings_of c.args.bindings.now) (binary_process op (process_of c.args.left.now) (process_of c.args.right.now))) c.steps-in-Interrupt.result in
     subst P (sym c.in-Interrupt.is) c.steps-in-Interrupt.ensures
 
-pub side::Side::under-returns : goal.side::Side::under-returns
-side::Side::under-returns g t c = (c.in_ok-process.ensures, c.in_ok-steps.ensures)
+pub side::under-returns : goal.side::under-returns
+side::under-returns g t c = (c.in_ok-process.ensures, c.in_ok-steps.ensures)
 
-pub side::Side::under-returns-in_err-steps : goal.side::Side::under-returns-in_err-steps
-side::Side::under-returns-in_err-steps g t c =
+pub side::under-returns-in_err-steps : goal.side::under-returns-in_err-steps
+side::under-returns-in_err-steps g t c =
     let script = script_of c.args.script.now in
     let whole = put (bindings_of c.args.bindings.now) (process_of c.args.term.now) in
     let p = err_from_is_err_and c.from_residual.result c.from_residual.ensures.1 in
@@ -261,11 +261,11 @@ steps-returns-in-Replicated g t c =
     sym c.form.ensures ∙ ap process_of_form w.is ∙ of_replicated g.row.A.Denot w.operator w.name w.set w.body
     in let P : pure.Process → Type 0 = λ p. Answers (script_of c.args.script.now) (put (bindings_of c.args.bindings.now) p) c.steps-in-Replicated.result in subst P (sym is) c.steps-in-Replicated.ensures
 
-pub side::Side::under-steps-requires : goal.side::Side::under-steps-requires
-side::Side::under-steps-requires g t c κs within = (omega (arith, c.decreases), (within, elim g.met.A.AllocHandle.small [ inl e ↦ rw (e.0, e.1) (lit< tt) | inr e ↦ rw (e.0, e.1) (lit< tt) ]))
+pub side::under-steps-requires : goal.side::under-steps-requires
+side::under-steps-requires g t c κs within = (omega (arith, c.decreases), (within, elim g.met.A.AllocHandle.small [ inl e ↦ rw (e.0, e.1) (lit< tt) | inr e ↦ rw (e.0, e.1) (lit< tt) ]))
 
-pub side::Side::under-drop-steps-requires-room-T-Destruct : goal.side::Side::under-drop-steps-requires-room-T-Destruct
-side::Side::under-drop-steps-requires-room-T-Destruct g t c κs within = elim g.met.A.AllocHandle.small [ inl e ↦ rw (e.0, e.1) (lit< tt) | inr e ↦ rw (e.0, e.1) (lit< tt) ]
+pub side::under-drop-steps-requires-room-T-Destruct : goal.side::under-drop-steps-requires-room-T-Destruct
+side::under-drop-steps-requires-room-T-Destruct g t c κs within = elim g.met.A.AllocHandle.small [ inl e ↦ rw (e.0, e.1) (lit< tt) | inr e ↦ rw (e.0, e.1) (lit< tt) ]
 
 -- ---- replicated operators
 
@@ -454,11 +454,11 @@ replicated::Instances::internal-returns-in_ok-choose-in-Some-split_first g t c =
 
 -- ---- parallel compositions
 
-pub side::Side::both-returns : goal.side::Side::both-returns
-side::Side::both-returns g t c = (c.in_ok-left.ensures, c.in_ok-right.ensures)
+pub side::both-returns : goal.side::both-returns
+side::both-returns g t c = (c.in_ok-left.ensures, c.in_ok-right.ensures)
 
-pub side::Side::both-returns-in_err-left : goal.side::Side::both-returns-in_err-left
-side::Side::both-returns-in_err-left g t c =
+pub side::both-returns-in_err-left : goal.side::both-returns-in_err-left
+side::both-returns-in_err-left g t c =
     let script = script_of c.args.script.now in
     let left = put (bindings_of c.args.bindings.now) (process_of c.args.left.now) in
     let right = put (bindings_of c.args.bindings.now) (process_of c.args.right.now) in
@@ -466,8 +466,8 @@ side::Side::both-returns-in_err-left g t c =
     let P : Result (Side g.row.A.Denot × Side g.row.A.Denot) Stuck → Type 0 = λ r. AreSidesOf script left right r in
     subst P (sym (p.1 ∙ ap Err p.2)) (stuck_at_first_side g.row.A.Denot script left right c.in_err-left.field-0.0 c.in_err-left.ensures)
 
-pub side::Side::both-returns-in_err-right : goal.side::Side::both-returns-in_err-right
-side::Side::both-returns-in_err-right g t c =
+pub side::both-returns-in_err-right : goal.side::both-returns-in_err-right
+side::both-returns-in_err-right g t c =
     let script = script_of c.args.script.now in
     let left = put (bindings_of c.args.bindings.now) (process_of c.args.left.now) in
     let right = put (bindings_of c.args.bindings.now) (process_of c.args.right.now) in
@@ -522,5 +522,5 @@ renaming::steps-returns g t c =
     let P : List pure.RenamingPair → Type 0 = λ rs. Answers (script_of c.args.script.now) (pure.Renaming body rs) c.by_body.result in
     subst P c.in_ok-pairs.ensures (c.by_body.ensures body c.steps-body.ensures)
 
-pub side::Side::both-drop-left-requires-in_err-right-room-T-Destruct : goal.side::Side::both-drop-left-requires-in_err-right-room-T-Destruct
-side::Side::both-drop-left-requires-in_err-right-room-T-Destruct g t c κs within = elim g.met.A.AllocHandle.small [ inl e ↦ rw (e.0, e.1) (lit< tt) | inr e ↦ rw (e.0, e.1) (lit< tt) ]
+pub side::both-drop-left-requires-in_err-right-room-T-Destruct : goal.side::both-drop-left-requires-in_err-right-room-T-Destruct
+side::both-drop-left-requires-in_err-right-room-T-Destruct g t c κs within = elim g.met.A.AllocHandle.small [ inl e ↦ rw (e.0, e.1) (lit< tt) | inr e ↦ rw (e.0, e.1) (lit< tt) ]

@@ -2,7 +2,7 @@
 use Rattle.std.proofs.Common.{◌+◌, ◌*◌, max, take, Ok}
 use Rattle.csp_semantics.specs.Meaning.Transitions.{left_grouped}
 use Rattle.csp_term.specs.Script.{script_of}
-use Rattle.csp_rules.specs.Composing.{IsSideOf}
+use Rattle.csp_operators.specs.Composing.{IsSideOf}
 use Rattle.csp_rules.specs.Replicating.{instance_of, instances_of, looking_process}
 use Rattle.csp_rules.proofs.Smaller.{height_of}
 use Rattle.csp_rules.proofs.rules.+steps.Given as goal
@@ -13,11 +13,11 @@ decreases-conditional::steps g l = 1 + 6 * max (height_of l.first.now) (height_o
 abbrev pub decreases-guard::steps : goal.decreases-guard::steps
 decreases-guard::steps g l = 1 + 6 * height_of l.body.now
 
-abbrev pub decreases-side::Side::under : goal.decreases-side::Side::under
-decreases-side::Side::under g l = 1 + 6 * height_of l.term.now
+abbrev pub decreases-side::under : goal.decreases-side::under
+decreases-side::under g l = 1 + 6 * height_of l.term.now
 
-abbrev pub decreases-side::Side::both : goal.decreases-side::Side::both
-decreases-side::Side::both g l = 2 + 6 * max (height_of l.left.now) (height_of l.right.now)
+abbrev pub decreases-side::both : goal.decreases-side::both
+decreases-side::both g l = 2 + 6 * max (height_of l.left.now) (height_of l.right.now)
 
 abbrev pub decreases-binary : goal.decreases-binary
 decreases-binary g l = 4 + 6 * max (height_of l.left.now) (height_of l.right.now)

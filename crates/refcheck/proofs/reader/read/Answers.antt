@@ -8,6 +8,7 @@ use Rattle.csp_term.specs.Script.{script_of}
 use Rattle.csp_semantics.specs.Text.Part.{IsScriptOf, IsScriptOfText}
 use Rattle.refcheck.specs.Reading.{IsOutside, IsRefusalOf}
 use Rattle.refcheck.proofs.Outside.{outside}
+use Rattle.refcheck.proofs.Refusing.{handed, of_tokens}
 use Rattle.refcheck.proofs.reader.read.Goals as goal
 
 pub returns-clause-script : goal.returns-clause-script
@@ -23,3 +24,9 @@ returns-clause-refused g c =
     let tree = raw.script_of c.in_ok-tree.tree in
     let is_read : IsRead c.args.text.now tree = read {tokens = map placed_token list.tokens.items} {end = place_of list.end} c.in_ok-list.ensures.tokens (c.in_ok-tree.ensures.tree, c.in_ok-tree.ensures.low) in
     IfErr-weaker c.script.result IsOutside (λ fault. IsRefusalOf c.args.text.now fault) (λ fault is. outside c.args.text.now tree fault is_read is) c.script.ensures.refused
+
+pub returns-in_err-tree-clause-refused : goal.returns-in_err-tree-clause-refused
+returns-in_err-tree-clause-refused g c =
+    let list = c.in_ok-list.list in
+    handed c.from_residual-in_err-tree.result _ c.from_residual-in_err-tree.ensures
+    (of_tokens c.args.text.now (map placed_token list.tokens.items) (place_of list.end) c.in_err-tree.field-0.0 c.in_ok-list.ensures.tokens c.in_err-tree.ensures.refusal)

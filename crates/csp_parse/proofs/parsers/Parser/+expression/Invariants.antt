@@ -1,4 +1,6 @@
 use Rattle.std.proofs.Common.{◌≤◌, length, ◌+◌, ◌*◌}
+use Rattle.csp_parse.specs.Continuing.{continues, lists, IsStep, IsItem}
+use Rattle.csp_parse.proofs.Repeating.{Repeats}
 use Rattle.csp_parse.specs.Expressions.{expression_of, expressions_of}
 use Rattle.csp_parse.specs.Levels.{IsAt, AreListed, rank}
 use Rattle.csp_parse.specs.Reading.{left_of, standing_of, Extends}
@@ -61,6 +63,7 @@ decreases-range g l = 32 * length (left_of l.self.now) + 1
 abbrev pub invariant-chained-loop-kind : goal.invariant-chained-loop-kind
 invariant-chained-loop-kind g l = record {
   chain : Extends (IsAt l.level) (IsAt l.level) (standing_of l.fn.self) (standing_of l.self) (expression_of l.fn.first) (expression_of l.chain);
+  rest : Repeats (IsStep l.level) (continues l.level) (standing_of l.fn.self) (standing_of l.self);
   not_longer : length (left_of l.self) ≤ length (left_of l.fn.self);
 }
 
@@ -70,6 +73,7 @@ decreases-chained-loop-kind g l = length (left_of l.self)
 abbrev pub invariant-listed-loop-level : goal.invariant-listed-loop-level
 invariant-listed-loop-level g l = record {
   list : Extends (IsAt l.level) (AreListed l.level) (standing_of l.fn.self) (standing_of l.self) (expression_of l.fn.first) (expressions_of l.items.items);
+  rest : Repeats (IsItem l.level) (lists l.level) (standing_of l.fn.self) (standing_of l.self);
   not_longer : length (left_of l.self) ≤ length (left_of l.fn.self);
 }
 

@@ -2,6 +2,7 @@ use Rattle.std.proofs.Common.{◌≤◌, length, ◌+◌, ◌*◌}
 use Rattle.csp_semantics.specs.Text.Grammar.{IsOperand, IsChain}
 use Rattle.csp_parse.specs.Processes.{infix_of, process_in}
 use Rattle.csp_parse.specs.Reading.{left_of, standing_of, Continues}
+use Rattle.csp_parse.proofs.JoinTurns.{ChainSoFar}
 use Rattle.csp_parse.proofs.parsers.Parser.+process.Given as goal
 
 abbrev pub decreases-process : goal.decreases-process
@@ -82,6 +83,7 @@ decreases-inner_process g l = 32 * length (left_of l.self.now) + 32
 abbrev pub invariant-chain-loop-operator : goal.invariant-chain-loop-operator
 invariant-chain-loop-operator g l = record {
   continues : Continues IsOperand (IsChain (infix_of l.operator)) (standing_of l.fn.self) (standing_of l.self) (process_in l.fn.first) (process_in l.chain);
+  links : ChainSoFar (infix_of l.operator) (standing_of l.fn.self) (standing_of l.self);
   not_longer : length (left_of l.self) ≤ length (left_of l.fn.self);
 }
 

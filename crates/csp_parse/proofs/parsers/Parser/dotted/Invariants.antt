@@ -1,5 +1,9 @@
 use Rattle.std.proofs.Common.{◌≤◌, length}
-use Rattle.csp_semantics.specs.Text.Grammar.{AreDotted}
+use Rattle.csp_semantics.specs.Text.Grammar.{IsAtom, AreDotted}
+use Rattle.csp_semantics.specs.Text.Token.{DotSign}
+use Rattle.csp_parse.specs.Deciding.{only}
+use Rattle.csp_parse.specs.Forms.{HasTree, Next}
+use Rattle.csp_parse.proofs.Repeating.{Repeats}
 use Rattle.csp_parse.specs.Expressions.{expressions_of}
 use Rattle.csp_parse.specs.Reading.{left_of, standing_of, Reads}
 use Rattle.csp_parse.proofs.parsers.Parser.dotted.Given as goal
@@ -7,6 +11,7 @@ use Rattle.csp_parse.proofs.parsers.Parser.dotted.Given as goal
 abbrev pub invariant-loop-self : goal.invariant-loop-self
 invariant-loop-self g l = record {
   list : Reads AreDotted (standing_of l.fn.self) (standing_of l.self) (expressions_of l.fields.items);
+  rest : Repeats (Next DotSign (HasTree IsAtom)) (only DotSign) (standing_of l.fn.self) (standing_of l.self);
   not_longer : length (left_of l.self) ≤ length (left_of l.fn.self);
 }
 

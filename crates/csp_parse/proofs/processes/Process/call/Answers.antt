@@ -3,5 +3,5 @@ use Rattle.std.proofs.lemmas.Result.{IfOk-weaker}
 use Rattle.csp_parse.proofs.ProcessTrees.{tree_of_call}
 use Rattle.csp_parse.proofs.processes.Process.call.Goals as goal
 
-pub returns : goal.returns
-returns g c = IfOk-weaker c.boxed.result _ _ (λ _ same. same ∙ tree_of_call g.row.A.Denot c.args.name c.args.arguments) c.boxed.ensures
+pub returns-clause-makes : goal.returns-clause-makes
+returns-clause-makes g c = IfOk-weaker c.boxed.result _ _ (λ _ same. same ∙ tree_of_call g.row.A.Denot c.args.name c.args.arguments) c.boxed.ensures.makes

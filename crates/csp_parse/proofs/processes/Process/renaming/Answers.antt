@@ -3,5 +3,5 @@ use Rattle.std.proofs.lemmas.Result.{IfOk-weaker}
 use Rattle.csp_parse.proofs.ProcessTrees.{tree_of_renaming}
 use Rattle.csp_parse.proofs.processes.Process.renaming.Goals as goal
 
-pub returns : goal.returns
-returns g c = IfOk-weaker c.boxed.result _ _ (λ _ same. same ∙ tree_of_renaming g.row.A.Denot c.args.body c.args.pairs) c.boxed.ensures
+pub returns-clause-makes : goal.returns-clause-makes
+returns-clause-makes g c = IfOk-weaker c.boxed.result _ _ (λ _ same. same ∙ tree_of_renaming g.row.A.Denot c.args.body c.args.pairs) c.boxed.ensures.makes

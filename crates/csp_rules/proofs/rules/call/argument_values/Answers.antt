@@ -12,7 +12,7 @@ use Rattle.csp_expression.specs.Evaluation.{table_of}
 use Rattle.csp_expression.specs.Expression.{expressions_of}
 use Rattle.csp_expression.proofs.ExpressionPutting.{put_list}
 use Rattle.csp_event_tests.specs.declared.stuck.Stuck.{Stuck}
-use Rattle.csp_rules.specs.Answering.{SeesAll}
+use Rattle.csp_rules.specs.Arguments.{SeesAll}
 use Rattle.csp_rules.proofs.Seeing.{seen_more, seen_none}
 use Rattle.csp_rules.proofs.rules.call.argument_values.Goals as goal
 

@@ -6,7 +6,7 @@ use Rattle.csp_value.specs.Value.{value_of}
 use Rattle.csp_expression.specs.declared.name.Name.{Name}
 use Rattle.csp_expression.specs.declared.substitution.Binding.{Binding}
 use Rattle.csp_expression.specs.Evaluation.{seen_value}
-use Rattle.csp_rules.specs.Answering.{seen_values}
+use Rattle.csp_rules.specs.Arguments.{seen_values}
 use Rattle.csp_rules.proofs.Parameters.{next_parameter, not_as_many}
 use Rattle.csp_rules.proofs.rules.call.parameter_bindings.Goals as goal
 

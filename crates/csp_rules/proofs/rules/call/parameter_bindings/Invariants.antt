@@ -1,7 +1,7 @@
 use Rattle.std.proofs.Common.{◌≡◌, Ok, map, take}
 use Rattle.csp_semantics.specs.Meaning.Events.{parameter_bindings}
 use Rattle.csp_expression.specs.Bindings.{bindings_of}
-use Rattle.csp_rules.specs.Answering.{seen_values}
+use Rattle.csp_rules.specs.Arguments.{seen_values}
 use Rattle.csp_rules.proofs.rules.call.parameter_bindings.Given as goal
 
 abbrev pub invariant-loop-place : goal.invariant-loop-place

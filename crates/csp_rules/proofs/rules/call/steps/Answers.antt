@@ -14,9 +14,10 @@ use Rattle.csp_expression.specs.Expression.{expressions_of}
 use Rattle.csp_term.specs.Script.{equation_of, script_of}
 use Rattle.csp_term.specs.Term.{process_of}
 use Rattle.csp_expression.proofs.Forming.{get_none, get_some}
-use Rattle.csp_rules.specs.declared.rule_step.RuleStep.{RuleStep}
+use Rattle.csp_operators.specs.declared.rule_step.RuleStep.{RuleStep}
 use Rattle.csp_event_tests.specs.declared.stuck.Stuck.{Stuck}
-use Rattle.csp_rules.specs.Answering.{Answered, Answers, Binds, IsAnswered, seen_values, within_limits}
+use Rattle.csp_operators.specs.Answering.{Answered, Answers, IsAnswered, within_limits}
+use Rattle.csp_rules.specs.Arguments.{Binds, seen_values}
 use Rattle.csp_rules.proofs.Calling.{bindings_stuck, goes_to, one_call, unknown, values_stuck}
 use Rattle.csp_rules.proofs.rules.call.steps.Goals as goal
 

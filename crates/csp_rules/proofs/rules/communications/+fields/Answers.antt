@@ -15,10 +15,10 @@ use Rattle.csp_expression.specs.Expression.{expression_of}
 use Rattle.csp_term.specs.Field.{field_of, fields_of}
 use Rattle.csp_term.specs.Term.{process_of}
 use Rattle.csp_expression.proofs.Forming.{set_is}
-use Rattle.csp_rules.specs.declared.rule_step.RuleStep.{RuleStep}
+use Rattle.csp_operators.specs.declared.rule_step.RuleStep.{RuleStep}
 use Rattle.std.specs.declared.vec.Vec.{Vec}
 use Rattle.csp_event_tests.specs.declared.stuck.Stuck.{Stuck}
-use Rattle.csp_rules.specs.Answering.{Finds, lent_values}
+use Rattle.csp_rules.specs.Communicating.{Finds, lent_values}
 use Rattle.csp_event_tests.specs.Testing.{sets_of}
 use Rattle.csp_rules.proofs.Further.{FoundSoFar, none_so_far, one_further, stopped_at, with_one}
 use Rattle.csp_rules.proofs.Members.{no_members}

@@ -10,7 +10,7 @@ use Rattle.csp_expression.specs.Evaluation.{table_of}
 use Rattle.csp_term.specs.Script.{field_values}
 use Rattle.csp_term.specs.Field.{fields_of}
 use Rattle.csp_term.specs.Term.{process_of}
-use Rattle.csp_rules.specs.Answering.{lent_values}
+use Rattle.csp_rules.specs.Communicating.{lent_values}
 use Rattle.csp_event_tests.specs.Testing.{sets_of}
 use Rattle.csp_rules.proofs.Further.{FoundSoFar}
 use Rattle.csp_rules.proofs.rules.communications.+fields.Given as goal

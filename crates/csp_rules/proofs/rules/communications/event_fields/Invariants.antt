@@ -1,6 +1,6 @@
 use Rattle.std.proofs.Common.{◌≡◌, take}
 use Rattle.csp_value.specs.Value.{values_of}
-use Rattle.csp_rules.specs.Answering.{lent_values}
+use Rattle.csp_rules.specs.Communicating.{lent_values}
 use Rattle.csp_rules.proofs.rules.communications.event_fields.Given as goal
 
 abbrev pub invariant-loop-value : goal.invariant-loop-value

@@ -5,7 +5,8 @@ use Rattle.csp_semantics.specs.Meaning.Substitution.{put}
 use Rattle.csp_value.specs.Value.{values_of}
 use Rattle.csp_expression.specs.Bindings.{bindings_of}
 use Rattle.csp_term.specs.Term.{process_of}
-use Rattle.csp_rules.specs.Answering.{lent_values, within_limits}
+use Rattle.csp_operators.specs.Answering.{within_limits}
+use Rattle.csp_rules.specs.Communicating.{lent_values}
 use Rattle.csp_rules.proofs.Reaching.{last_one, reached}
 use Rattle.csp_rules.proofs.rules.communications.reach.Goals as goal
 

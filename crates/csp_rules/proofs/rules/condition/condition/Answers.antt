@@ -2,7 +2,7 @@
 use Rattle.std.proofs.Common.{Bool, Result, sym, ◌∙◌, ap, subst}
 use Rattle.csp_semantics.specs.Meaning.Evaluation.{Cause, ◌and_then◌}
 use Rattle.csp_semantics.specs.Meaning.Events.{truth_of}
-use Rattle.csp_rules.specs.Answering.{Decides}
+use Rattle.csp_rules.specs.Arguments.{Decides}
 use Rattle.csp_rules.proofs.rules.condition.condition.Goals as goal
 
 pub returns : goal.returns

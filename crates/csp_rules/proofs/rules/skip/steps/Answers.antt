@@ -4,7 +4,7 @@ use Rattle.csp_semantics.specs.Syntax.Process.{Skip}
 use Rattle.csp_semantics.specs.Syntax.Value.{Tick}
 use Rattle.csp_term.specs.Script.{script_of}
 use Rattle.csp_term.proofs.Forms.{of_omega_term}
-use Rattle.csp_rules.specs.Answering.{Answered, IsAnswered}
+use Rattle.csp_operators.specs.Answering.{Answered, IsAnswered}
 use Rattle.csp_rules.proofs.Ruling.{skipped}
 use Rattle.csp_rules.proofs.rules.skip.steps.Goals as goal
 

@@ -4,7 +4,7 @@ use Rattle.std.proofs.lemmas.List.{take_all}
 use Rattle.csp_semantics.specs.Syntax.Process.{Process, InternalChoice}
 use Rattle.csp_semantics.specs.Meaning.Transitions.{left_grouped}
 use Rattle.csp_value.specs.declared.value.Value.{Value}
-use Rattle.csp_rules.specs.Answering.{target_of, within_limits}
+use Rattle.csp_operators.specs.Answering.{target_of, within_limits}
 use Rattle.csp_rules.specs.Replicating.{instance_of, instances_of}
 use Rattle.csp_rules.proofs.Replicating.{choice_within, grouped_more, mapped_more}
 use Rattle.csp_rules.proofs.rules.replicated.Instances.choices.Goals as goal

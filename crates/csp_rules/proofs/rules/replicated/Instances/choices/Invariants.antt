@@ -2,7 +2,7 @@
 use Rattle.std.proofs.Common.{◌≡◌, take}
 use Rattle.csp_semantics.specs.Syntax.Process.{InternalChoice}
 use Rattle.csp_semantics.specs.Meaning.Transitions.{left_grouped}
-use Rattle.csp_rules.specs.Answering.{target_of, within_limits}
+use Rattle.csp_operators.specs.Answering.{target_of, within_limits}
 use Rattle.csp_rules.specs.Replicating.{instance_of, instances_of}
 use Rattle.csp_rules.proofs.rules.replicated.Instances.choices.Given as goal
 

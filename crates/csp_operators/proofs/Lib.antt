@@ -1,0 +1,14 @@
+pub mod Telling
+pub mod Answered
+pub mod Past
+pub mod Composing
+pub mod Collecting
+pub mod Siding
+pub mod Same
+pub mod Operating
+pub mod Joining
+pub mod Changing
+pub mod Together
+pub mod Ended
+pub mod Sided
+pub mod Imaged

@@ -1,0 +1,12 @@
+-- The step of the side, in the composition.
+use Rattle.std.proofs.Common.{◌≡◌, ◌∷◌, ◌++◌, [], Option, map, subst}
+use Rattle.std.specs.Result.{OnOk}
+use Rattle.csp_semantics.specs.Syntax.Process.{Process}
+use Rattle.csp_value.specs.Action.{action_of}
+use Rattle.csp_operators.specs.Answering.{answered_of}
+use Rattle.csp_operators.proofs.stay.add_around.Goals as goal
+
+pub returns : goal.returns
+returns g c =
+    let P : Option Process → Type 0 = λ t. OnOk c.add_step.result (map answered_of c.add_step.new.steps.items ≡ map answered_of c.args.steps.now.items ++ (action_of c.args.action, t) ∷ []) in
+    subst P c.in_ok-target.ensures c.add_step.ensures

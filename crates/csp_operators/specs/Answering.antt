@@ -1,0 +1,57 @@
+-- What the rules answer of a term, and why they answer nothing.
+use Rattle.std.specs.Prelude.{◌≡◌, ⊤, cond, List, [], ◌∷◌, map, Contains, Option, Some, None, Result, Ok, Err}
+use Rattle.std.specs.Option.{option_map}
+use Rattle.std.specs.declared.vec.Vec.{Vec}
+use Rattle.csp_semantics.specs.Syntax.Value as pure
+use Rattle.csp_semantics.specs.Syntax.Process.{Process, Script}
+use Rattle.csp_semantics.specs.Meaning.Limits.{fits}
+use Rattle.csp_semantics.specs.Meaning.Faults.{cause_in}
+use Rattle.csp_semantics.specs.Meaning.Stepping.{Steps}
+use Rattle.csp_semantics.specs.Meaning.Transitions as rule
+use Rattle.csp_value.specs.Action.{action_of}
+use Rattle.csp_expression.specs.Fault.{cause_of}
+use Rattle.csp_term.specs.Term.{process_of}
+use Rattle.csp_operators.specs.declared.rule_step.RuleStep.{RuleStep}
+use Rattle.csp_operators.specs.declared.rule_step.Target.{Target}
+use Rattle.csp_operators.specs.declared.rule_step.Target.TheVariants as target
+use Rattle.csp_event_tests.specs.declared.stuck.Stuck.{Stuck}
+use Rattle.csp_event_tests.specs.declared.stuck.Stuck.TheVariants as stuck
+
+-- ---- steps that may lead past the limits
+
+-- A step as it is answered: its action, and its target, if that is within the limits.
+abbrev pub Answered : Type 0
+Answered = pure.Action × Option Process
+
+-- what is answered of a target
+abbrev pub within_limits : Process → Option Process
+within_limits u = cond (fits u) (Some u) None
+
+-- what is answered of a step
+abbrev pub kept : pure.Action × Process → Answered
+kept s = (s.0, within_limits s.1)
+
+abbrev pub target_of : {A : Type 0} → Target A → Option Process
+target_of (target.Within t) = Some (process_of t)
+target_of target.Past = None
+
+abbrev pub answered_of : {A : Type 0} → RuleStep A → Answered
+answered_of s = (action_of s.action, target_of s.target)
+
+-- No rule for the term has a cause, what is answered are its rule steps, and each of its rule steps is answered.
+pub record IsAnswered (s : Script) (p : Process) (steps : List Answered) : Type 0 where
+  pub no_cause : cause_in s p ≡ None
+  pub sound : (x : pure.Action) (t : Option Process) → Contains steps (x, t) → (u : Process) × rule.RuleStep s p x u × (t ≡ within_limits u)
+  pub complete : (x : pure.Action) (u : Process) → rule.RuleStep s p x u → Contains steps (x, within_limits u)
+
+-- The rule steps of the term, or the first cause. Refused memory says nothing.
+abbrev pub Answers : {A : Type 0} → Script → Process → Result (Vec (RuleStep A) A) Stuck → Type 0
+Answers s p (Ok steps) = IsAnswered s p (map answered_of steps.items)
+Answers s p (Err (stuck.Fault c)) = cause_in s p ≡ Some (cause_of c)
+Answers s p (Err stuck.Memory) = ⊤
+
+-- the steps, where none leads past the limits
+abbrev pub all_within : List Answered → Option Steps
+all_within [] = Some []
+all_within ((x, None) ∷ ss) = None
+all_within ((x, Some u) ∷ ss) = option_map (λ us. (x, u) ∷ us) (all_within ss)

@@ -1,0 +1,150 @@
+-- What is answered of composed terms, by what is answered of their parts.
+use Rattle.std.specs.Prelude.{◌≡◌, ⊤, Bool, true, false, ◌&&◌, ◌↔◌, Contains, List, [], ◌∷◌, ◌++◌, cond, map, Option, Some, None, Result, Ok, Err}
+use Rattle.std.specs.Option.{option_or}
+use Rattle.csp_semantics.specs.Syntax.Value.{Action, Event, Tau, Tick, Ev, event_eq}
+use Rattle.csp_semantics.specs.Syntax.Process.{Process, Omega, ExternalChoice, Sequential, Interrupt, AlphabetisedParallel, GeneralisedParallel, Hiding, Renaming, Script}
+use Rattle.csp_semantics.specs.Meaning.Faults.{cause_in}
+use Rattle.csp_semantics.specs.Meaning.Stepping.{always}
+use Rattle.csp_expression.specs.Fault.{cause_of}
+use Rattle.csp_term.specs.Term.{binary_process}
+use Rattle.csp_event_sets.specs.Events.{event_set_of, renaming_pairs_of}
+use Rattle.csp_operators.specs.declared.composition.Composition.{Composition}
+use Rattle.csp_operators.specs.declared.composition.Composition.TheVariants as composition
+use Rattle.csp_operators.specs.declared.composition.Frame.{Frame}
+use Rattle.csp_operators.specs.declared.composition.Frame.TheVariants as frame
+use Rattle.csp_operators.specs.declared.context.Context.{Context}
+use Rattle.csp_operators.specs.declared.context.Hand.{Hand}
+use Rattle.csp_operators.specs.declared.context.Hand.TheVariants as hand
+use Rattle.csp_operators.specs.declared.side.Side.{Side}
+use Rattle.csp_event_tests.specs.declared.stuck.Stuck.{Stuck}
+use Rattle.csp_event_tests.specs.declared.stuck.Stuck.TheVariants as stuck
+use Rattle.csp_operators.specs.Answering.{Answered, IsAnswered, answered_of, target_of, within_limits}
+
+-- ---- operators
+
+abbrev pub composition_of : {A : Type 0} → Composition A → Process → Process → Process
+composition_of (composition.Operator op) p q = binary_process op p q
+composition_of (composition.Generalised shared) p q = GeneralisedParallel p (event_set_of shared) q
+composition_of (composition.Alphabetised own other) p q = AlphabetisedParallel p (event_set_of own) (event_set_of other) q
+
+abbrev pub frame_of : {A : Type 0} → Frame A → Process → Process
+frame_of (frame.Hiding hidden) p = Hiding p (event_set_of hidden)
+frame_of (frame.Renaming pairs) p = Renaming p (renaming_pairs_of pairs.items)
+
+-- what is answered of a target under an operator
+abbrev pub under_limits : (Process → Process) → Option Process → Option Process
+under_limits under (Some t) = within_limits (under t)
+under_limits under None = None
+
+-- what is answered of two targets under an operator
+abbrev pub under_both : (Process → Process → Process) → Option Process → Option Process → Option Process
+under_both under (Some t) o = under_limits (under t) o
+under_both under None o = None
+
+-- the side that moves with the other one
+abbrev pub on_side : Hand → (Option Process → Option Process → Option Process) → Option Process → Option Process → Option Process
+on_side hand.Left of_two other t = of_two t other
+on_side hand.Right of_two other t = of_two other t
+
+-- what is answered of a target in the place of the side that moves
+abbrev pub around_of : {A : Type 0} → Context A → Option Process → Option Process
+around_of c t = on_side c.hand (under_both (composition_of c.composition.now)) (target_of c.other.now) t
+
+-- the same steps, in whatever order and however often
+abbrev pub HaveSameSteps : List Answered → List Answered → Type 0
+HaveSameSteps bs cs = (b : Answered) → Contains bs b ↔ Contains cs b
+
+-- ---- what is made of each step
+
+-- what f makes of what is answered of each step, in turn
+abbrev pub each_answer : (Action → Option Process → List Answered) → List Answered → List Answered
+each_answer f [] = []
+each_answer f (b ∷ bs) = f b.0 b.1 ++ each_answer f bs
+
+-- tau stays under the operator, and a visible action leaves it
+abbrev pub leave_answer : (Option Process → Option Process) → Action → Option Process → List Answered
+leave_answer under Tau t = (Tau, under t) ∷ []
+leave_answer under Tick t = (Tick, t) ∷ []
+leave_answer under (Ev e) t = (Ev e, t) ∷ []
+
+-- what a side does alone: it stays under the operator, and tick becomes what is given
+abbrev pub stay_answer : (Event → Bool) → (Option Process → Option Process) → List Answered → Action → Option Process → List Answered
+stay_answer free under ended Tau t = (Tau, under t) ∷ []
+stay_answer free under ended Tick t = ended
+stay_answer free under ended (Ev e) t = cond (free e) ((Ev e, under t) ∷ []) []
+
+-- ---- sides
+
+abbrev pub side_answers : {A : Type 0} → Side A → List Answered
+side_answers side = map answered_of side.steps.items
+
+-- A process with its rule steps, or the first cause. Refused memory says nothing.
+abbrev pub IsSideOf : {A : Type 0} → Script → Process → Result (Side A) Stuck → Type 0
+IsSideOf s p (Ok side) = (target_of side.process ≡ within_limits p) × IsAnswered s p (side_answers side)
+IsSideOf s p (Err (stuck.Fault c)) = cause_in s p ≡ Some (cause_of c)
+IsSideOf s p (Err stuck.Memory) = ⊤
+
+-- Two processes with their rule steps, or the first cause of both, the first one's before the second's.
+abbrev pub AreSidesOf : {A : Type 0} → Script → Process → Process → Result (Side A × Side A) Stuck → Type 0
+AreSidesOf s p q (Ok sides) = IsSideOf s p (Ok sides.0) × IsSideOf s q (Ok sides.1)
+AreSidesOf s p q (Err (stuck.Fault c)) = option_or (cause_in s p) (cause_in s q) ≡ Some (cause_of c)
+AreSidesOf s p q (Err stuck.Memory) = ⊤
+
+-- ---- operators of two processes, by what is answered of each of them and of its steps
+
+-- a visible action of either leaves the operator
+abbrev pub left_answers : (Process → Process → Process) → Option Process → List Answered → Option Process → List Answered → List Answered
+left_answers under o bs r cs = each_answer (leave_answer (λ t. under_both under t r)) bs ++ each_answer (leave_answer (λ u. under_both under o u)) cs
+
+abbrev pub external_answers : Option Process → List Answered → Option Process → List Answered → List Answered
+external_answers o bs r cs = left_answers ExternalChoice o bs r cs
+
+abbrev pub sequential_answers : List Answered → Option Process → List Answered
+sequential_answers bs r = each_answer (stay_answer always (λ t. under_both Sequential t r) ((Tau, r) ∷ [])) bs
+
+-- the first stays under the operator and ends it, and a visible action of the second leaves it
+abbrev pub ended_or_left_answers : (Process → Process → Process) → Option Process → List Answered → Option Process → List Answered → List Answered
+ended_or_left_answers under o bs r cs = each_answer (stay_answer always (λ t. under_both under t r) ((Tick, Some Omega) ∷ [])) bs ++ each_answer (leave_answer (λ u. under_both under o u)) cs
+
+abbrev pub interrupt_answers : Option Process → List Answered → Option Process → List Answered → List Answered
+interrupt_answers o bs r cs = ended_or_left_answers Interrupt o bs r cs
+
+abbrev pub meet_answer : (Event → Bool) → (Process → Process → Process) → Action → Option Process → Action → Option Process → List Answered
+meet_answer shared under (Ev e) t (Ev f) u = cond (event_eq e f && shared e) ((Ev e, under_both under t u) ∷ []) []
+meet_answer shared under _ t _ u = []
+
+-- whether a process is known to have ended
+abbrev pub is_omega : Process → Bool
+is_omega Omega = true
+is_omega _ = false
+
+abbrev pub has_ended : Option Process → Bool
+has_ended (Some p) = is_omega p
+has_ended None = false
+
+-- all ticks where both have ended
+abbrev pub ended_answer : Option Process → Option Process → List Answered
+ended_answer o r = cond (has_ended o && has_ended r) ((Tick, Some Omega) ∷ []) []
+
+abbrev pub parallel_answers : (Event → Bool) → (Event → Bool) → (Event → Bool) → (Process → Process → Process) → Option Process → List Answered → Option Process → List Answered → List Answered
+parallel_answers left_free right_free shared under o bs r cs =
+    each_answer (stay_answer left_free (λ t. under_both under t r) ((Tau, under_both under (Some Omega) r) ∷ [])) bs ++
+    (each_answer (stay_answer right_free (λ u. under_both under o u) ((Tau, under_both under o (Some Omega)) ∷ [])) cs ++
+    (each_answer (λ x t. each_answer (meet_answer shared under x t) cs) bs ++ ended_answer o r))
+
+-- ---- operators of one process
+
+abbrev pub hide_answer : (Event → Bool) → (Option Process → Option Process) → Action → Option Process → List Answered
+hide_answer hidden under Tau t = (Tau, under t) ∷ []
+hide_answer hidden under Tick t = (Tick, Some Omega) ∷ []
+hide_answer hidden under (Ev e) t = cond (hidden e) ((Tau, under t) ∷ []) ((Ev e, under t) ∷ [])
+
+-- the same target for each image
+abbrev pub image_answers : Option Process → List Event → List Answered
+image_answers t [] = []
+image_answers t (f ∷ fs) = (Ev f, t) ∷ image_answers t fs
+
+abbrev pub rename_answer : (Event → List Event) → (Option Process → Option Process) → Action → Option Process → List Answered
+rename_answer images under Tau t = (Tau, under t) ∷ []
+rename_answer images under Tick t = (Tick, Some Omega) ∷ []
+rename_answer images under (Ev e) t = image_answers (under t) (images e)

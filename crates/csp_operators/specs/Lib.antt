@@ -1,0 +1,4 @@
+pub mod Answering
+pub mod Composing
+pub mod Sharing
+pub mod Together

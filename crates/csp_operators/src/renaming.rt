@@ -1,0 +1,105 @@
+//! `P [[from <- to, ..]]` does what `P` does, and each event as each of its images. A tick ends all.
+
+ghost use Rattle.std.specs.Prelude.{◌≡◌, ◌++◌, IfOk, OnOk, map};
+ghost use Rattle.csp_semantics.specs.Syntax.Process as pure;
+ghost use Rattle.csp_semantics.specs.Syntax.Process.{Renaming};
+ghost use Rattle.csp_semantics.specs.Meaning.Events.{or_itself};
+ghost use Rattle.csp_value.specs.Action.{action_of, event_of};
+ghost use Rattle.csp_event_sets.specs.Events.{renaming_pairs_of};
+ghost use Rattle.csp_term.specs.Script.{script_of};
+ghost use Rattle.csp_operators.specs.Answering.{Answers, answered_of, target_of};
+ghost use Rattle.csp_operators.specs.Composing.{each_answer, frame_of, image_answers, rename_answer, under_limits};
+ghost use Rattle.csp_event_tests.specs.Imaging.{PairsRise, found_images};
+
+use crate::composition::Frame;
+use crate::rule_step::{RuleStep, Target, add_step};
+use csp_event_sets::RenamingPair;
+use csp_event_tests::{Images, Stuck};
+use csp_term::{Action, AllocHandle, Event, Memory, Script};
+
+/// Adds a step by each image of the event.
+fn add_images<A: AllocHandle>(
+    alloc: A,
+    images: Vec<Event<A>, A>,
+    target: &Target<A>,
+    steps: &mut Vec<RuleStep<A>, A>,
+) -> Result<(), Memory>
+    ensures { OnOk result (map answered_of steps.new.items ≡ map answered_of steps.old.items ++ image_answers (target_of target.now) (map event_of images.items)) }
+{
+    for image in images {
+        let target = target.try_copy(alloc)?;
+        let action = Action::Event(image);
+        steps.push(RuleStep { action, target })?;
+    }
+    Ok(())
+}
+
+/// Adds the steps by the event's images.
+fn add_event<A: AllocHandle>(
+    alloc: A,
+    frame: &Frame<A>,
+    images: &Images<A>,
+    event: Event<A>,
+    target: Target<A>,
+    steps: &mut Vec<RuleStep<A>, A>,
+) -> Result<(), Memory>
+    requires { PairsRise images.now }
+    ensures { OnOk result (map answered_of steps.new.items ≡ map answered_of steps.old.items ++ image_answers (under_limits (frame_of frame.now) (target_of target)) (or_itself (event_of event) (found_images images.now (event_of event)))) }
+{
+    let target = frame.of(alloc, target)?;
+    let images = images.of_event(alloc, event)?;
+    add_images(alloc, images, &target, steps)
+}
+
+fn add_one<A: AllocHandle>(
+    alloc: A,
+    frame: &Frame<A>,
+    images: &Images<A>,
+    of_body: RuleStep<A>,
+    steps: &mut Vec<RuleStep<A>, A>,
+) -> Result<(), Memory>
+    requires { PairsRise images.now }
+    ensures { OnOk result (map answered_of steps.new.items ≡ map answered_of steps.old.items ++ rename_answer (λ e. or_itself e (found_images images.now e)) (under_limits (frame_of frame.now)) (action_of of_body.action) (target_of of_body.target)) }
+{
+    let RuleStep { action, target } = of_body;
+    match action {
+        Action::Tick => add_step(Action::Tick, Target::omega(alloc)?, steps),
+        Action::Tau => add_step(Action::Tau, frame.of(alloc, target)?, steps),
+        Action::Event(event) => add_event(alloc, frame, images, event, target, steps),
+    }
+}
+
+/// The steps of `P [[from <- to, ..]]` by those of its body. A cause of the pairs comes before those of the body.
+/// `Stuck::Memory` says that there is no room.
+pub fn by_body<A: AllocHandle>(
+    alloc: A,
+    script: &Script<A>,
+    pairs: Vec<RenamingPair<A>, A>,
+    body: Result<Vec<RuleStep<A>, A>, Stuck>,
+) -> Result<Vec<RuleStep<A>, A>, Stuck>
+    ensures { (p : pure.Process) → Answers (script_of script.now) p body → Answers (script_of script.now) (Renaming p (renaming_pairs_of pairs.items)) result }
+{
+    let images = Images::of(alloc, script, &pairs)?;
+    let body = body?;
+    let frame = Frame::Renaming(pairs);
+    let steps = renamed(alloc, &frame, &images, body);
+    drop(frame);
+    Ok(steps?)
+}
+
+/// The steps by those of the body.
+fn renamed<A: AllocHandle>(
+    alloc: A,
+    frame: &Frame<A>,
+    images: &Images<A>,
+    body: Vec<RuleStep<A>, A>,
+) -> Result<Vec<RuleStep<A>, A>, Memory>
+    requires { PairsRise images.now }
+    ensures { IfOk result (λ steps. map answered_of steps.items ≡ each_answer (rename_answer (λ e. or_itself e (found_images images.now e)) (under_limits (frame_of frame.now))) (map answered_of body.items)) }
+{
+    let mut steps = Vec::new(alloc);
+    for of_body in body {
+        add_one(alloc, frame, images, of_body, &mut steps)?;
+    }
+    Ok(steps)
+}

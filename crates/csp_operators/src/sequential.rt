@@ -1,0 +1,56 @@
+//! `P ; Q` does what `P` does until `P` ends, and goes on as `Q` by tau.
+
+ghost use Rattle.std.specs.Prelude.{◌≡◌, IfOk, map};
+ghost use Rattle.csp_semantics.specs.Syntax.Process as pure;
+ghost use Rattle.csp_semantics.specs.Syntax.Process.{Sequential};
+ghost use Rattle.csp_semantics.specs.Meaning.Substitution.{put};
+ghost use Rattle.csp_expression.specs.Bindings.{bindings_of};
+ghost use Rattle.csp_term.specs.Term.{process_of};
+ghost use Rattle.csp_operators.specs.Answering.{Answers, answered_of, target_of};
+ghost use Rattle.csp_operators.specs.Composing.{sequential_answers};
+
+use crate::composition::Composition;
+use crate::context::{Context, Hand};
+use crate::rule_step::{RuleStep, Target};
+use crate::sharing::Sharing;
+use crate::stay::{self, AfterTick};
+use csp_event_tests::Stuck;
+use csp_expression::Binding;
+use csp_term::{AllocHandle, Memory, ProcessOperator, Term};
+
+/// The steps of `P ; Q` by those of its left side, or the first cause of that one. `Stuck::Memory` says that there is no room.
+pub fn by_left<A: AllocHandle>(
+    alloc: A,
+    bindings: &[Binding<'_, A>],
+    left: Result<Vec<RuleStep<A>, A>, Stuck>,
+    right: &Term<A>,
+) -> Result<Vec<RuleStep<A>, A>, Stuck>
+    ensures { (s : pure.Script) (p : pure.Process) → Answers s p left → Answers s (Sequential p (put (bindings_of bindings.now) (process_of right.now))) result }
+{
+    let left = left?;
+    let right = Target::put_in(right, bindings, alloc)?;
+    Ok(before(alloc, left, &right)?)
+}
+
+/// The steps by those of the left side.
+fn before<A: AllocHandle>(
+    alloc: A,
+    left: Vec<RuleStep<A>, A>,
+    right: &Target<A>,
+) -> Result<Vec<RuleStep<A>, A>, Memory>
+    ensures { IfOk result (λ steps. map answered_of steps.items ≡ sequential_answers (map answered_of left.items) (target_of right.now)) }
+{
+    let composition = Composition::Operator(ProcessOperator::Sequential);
+    let sharing = Sharing::Nothing;
+    let context = Context {
+        composition: &composition,
+        hand: Hand::Left,
+        other: right,
+    };
+    let mut steps = Vec::new(alloc);
+    let added = stay::add(alloc, context, &sharing, AfterTick::Other, left, &mut steps);
+    drop(sharing);
+    drop(composition);
+    added?;
+    Ok(steps)
+}
