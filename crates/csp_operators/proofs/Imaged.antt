@@ -1,11 +1,11 @@
 -- A renamed process is answered by images with the same members.
-use Rattle.std.proofs.Common.{◌≡◌, zero, suc, ◌↔◌, List, [], ◌∷◌, ◌++◌, Contains, Option, Ok, Err, map, refl, sym, ◌∙◌, ap, ap₂, subst, arith}
+use Rattle.std.proofs.Common.{◌≡◌, zero, suc, List, [], ◌∷◌, ◌++◌, Contains, Option, Err, map, refl, sym, ◌∙◌, ap, ap₂, subst, arith}
 use Rattle.std.proofs.lemmas.List.{append_assoc, map-append}
 use Rattle.std.specs.Option.{option_or}
 use Rattle.std.specs.Result.{result_err}
 use Rattle.csp_semantics.specs.Syntax.Value.{Action, Event, Tau, Tick, Ev}
 use Rattle.csp_semantics.specs.Syntax.Process.{Process, RenamingPair, Renaming, Script}
-use Rattle.csp_semantics.specs.Meaning.Events.{images, images_by, or_itself, renaming}
+use Rattle.csp_semantics.specs.Meaning.Events.{images_by, or_itself, renaming}
 use Rattle.csp_semantics.specs.Meaning.Faults.{cause_in}
 use Rattle.csp_value.specs.declared.action.Event as concrete
 use Rattle.csp_value.specs.declared.action.Action.TheVariants as action

@@ -1,10 +1,9 @@
 -- Atoms: what the readers of their parts decide, their own do.
-use Rattle.std.proofs.Common.{◌≡◌, ◌∙◌, ◌⊎◌, ℕ, Bool, true, false, Option, Some, None, List, [], ◌∷◌, ◌++◌, inl, inr, refl, sym, ap, subst, arith}
+use Rattle.std.proofs.Common.{◌≡◌, ◌∙◌, ◌⊎◌, ℕ, Bool, true, false, Some, None, List, [], ◌∷◌, ◌++◌, inl, inr, refl, sym, ap, subst, arith}
 use Rattle.csp_semantics.specs.Syntax.Expression as pure
 use Rattle.csp_semantics.specs.Text.Token as text
 use Rattle.csp_semantics.specs.Text.Token.{Token, KeywordToken, SignToken, Sign, GreaterSign, CommaSign, RangeSign, OpenRoundSign, CloseRoundSign, LessSign, OpenBraceSign, CloseBraceSign, MinusSign, HashSign, TrueWord, FalseWord, BoolWord, PlacedToken}
-use Rattle.csp_semantics.specs.Text.Grammar as grammar
-use Rattle.csp_semantics.specs.Text.Grammar.{IsWord, IsSign, IsName, IsNumber, IsExpression, IsSum, IsAtom}
+use Rattle.csp_semantics.specs.Text.Grammar.{IsWord, IsSign, IsName, IsNumber, IsSum, IsAtom}
 use Rattle.csp_lex.specs.declared.keywords.Keyword.{Keyword}
 use Rattle.csp_lex.specs.declared.keywords.Keyword.TheVariants as keyword
 use Rattle.csp_lex.specs.declared.signs.Sign as lexed
@@ -25,13 +24,13 @@ use Rattle.csp_parse.specs.Words.{unary_word, binary_word}
 use Rattle.csp_parse.proofs.AtomsBegin.{bracketed_atom, unary_atom, binary_atom, negated_atom, length_atom, sequence_atom, set_atom}
 use Rattle.csp_parse.proofs.AtomsNext.{sign_narrows, word_narrows, name_narrows, number_narrows, unary_form, binary_form}
 use Rattle.csp_parse.proofs.Chaining.{avoids}
-use Rattle.csp_parse.proofs.Deciding.{Inhabited, Avoids, avoids_nothing, Narrows}
+use Rattle.csp_parse.proofs.Deciding.{Inhabited, Avoids, Narrows}
 use Rattle.csp_parse.proofs.Expressing.{some_atom, some_at, no_operator, told_at}
 use Rattle.csp_parse.proofs.Firsts.{begins_atom, begins_expression, first_of_atom, first_of_sum, first_of_expression}
 use Rattle.csp_parse.proofs.Passing.{unmoved}
 use Rattle.csp_parse.proofs.Repeating.{IsFirstIn, BeginsIn, Apart, first_before}
-use Rattle.csp_parse.proofs.Singles.{IsSingle, decides, single_done, single_stop, word_single, some_sign, some_word}
-use Rattle.csp_parse.proofs.Turning.{in_more, first_here, Turns, turn, finished, stopped, behind, behind_both, within_first, within_both, chosen, sign_begins, then_begins, begins_within, avoids_sign, avoids_sign_then, avoids_then, avoids_either, some_then, some_left, some_right, some_none, left_here, right_here}
+use Rattle.csp_parse.proofs.Singles.{IsSingle, decides, single_done, single_stop, word_single, some_sign}
+use Rattle.csp_parse.proofs.Turning.{in_more, first_here, Turns, behind, behind_both, within_first, within_both, chosen, sign_begins, then_begins, avoids_sign, avoids_sign_then, avoids_then, avoids_either, some_then, some_left, some_right, some_none, left_here, right_here}
 
 -- No tokens of the form stand here.
 pub not_there : {Is : List PlacedToken → Type 0} {c : Token → Type 0} {s : Standing} → Inhabited Is → Narrows Is (λ a. ⊥) c s → IsStop Is c s s stop.Here

@@ -1,5 +1,5 @@
 -- Expressions that begin with an atom, and what stands behind it.
-use Rattle.std.proofs.Common.{◌≡◌, ◌∙◌, ◌⊎◌, List, [], ◌∷◌, ◌++◌, inl, inr, refl, sym, ap, subst, append_assoc, append-nil}
+use Rattle.std.proofs.Common.{◌≡◌, ◌⊎◌, List, ◌++◌, inl, inr, sym, subst, append_assoc}
 use Rattle.csp_semantics.specs.Text.Token.{Token, KeywordToken, NotWord, PlacedToken}
 use Rattle.csp_semantics.specs.Text.Raw.{RawExpression}
 use Rattle.csp_semantics.specs.Text.Grammar.{IsWord, word, IsExpression, IsConjunction, IsNegation, IsComparison, IsSum, IsProduct, IsAtom}
@@ -11,7 +11,7 @@ use Rattle.csp_parse.specs.Levels.{IsAt, stronger}
 use Rattle.csp_parse.proofs.Chains.{product_chained, sum_chained, conjunction_chained, disjunction_chained, whole_chain}
 use Rattle.csp_parse.proofs.Comparing.{IsCompared, comparison_compared, compared_comparison}
 use Rattle.csp_parse.proofs.Operations.{alone}
-use Rattle.csp_parse.proofs.Repeating.{IsFirstIn, first_before}
+use Rattle.csp_parse.proofs.Repeating.{IsFirstIn}
 
 abbrev pub is_not : Token → Type 0
 is_not t = t ≡ KeywordToken NotWord

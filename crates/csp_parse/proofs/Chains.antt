@@ -1,5 +1,5 @@
 -- Chains of operators between expressions: what each operand's reader decides, the chain's does.
-use Rattle.std.proofs.Common.{◌≡◌, ◌<◌, List, [], ◌++◌, refl, sym, ap, subst, append_assoc, append-nil, arith}
+use Rattle.std.proofs.Common.{◌≡◌, List, [], ◌++◌, refl, sym, ap, subst, append_assoc, append-nil, arith}
 use Rattle.csp_semantics.specs.Syntax.Expression as pure
 use Rattle.csp_semantics.specs.Text.Token.{Token, OrWord, AndWord, PlacedToken}
 use Rattle.csp_semantics.specs.Text.Raw.{RawExpression, RawCombine}
@@ -8,8 +8,8 @@ use Rattle.csp_semantics.specs.Text.Grammar.{IsWord, word, IsSign, sign, IsAddin
 use Rattle.csp_parse.specs.declared.levels.Level.{Level}
 use Rattle.csp_parse.specs.declared.levels.Level.TheVariants as level
 use Rattle.csp_parse.specs.Continuing.{operator_rank, operates, continues, IsStep, IsRest, HasOperators, IsChained}
-use Rattle.csp_parse.specs.Forms.{HasTree, Then, both, never, again}
-use Rattle.csp_parse.specs.Levels.{IsAt, IsOperatorAt, stronger, rank}
+use Rattle.csp_parse.specs.Forms.{HasTree, both, never, again}
+use Rattle.csp_parse.specs.Levels.{IsAt, IsOperatorAt, stronger}
 use Rattle.csp_parse.proofs.Deciding.{Avoids}
 use Rattle.csp_parse.proofs.Repeating.{IsFirstIn, BeginsIn, Within, Apart, first_before, avoids_repeated, repeated_last}
 

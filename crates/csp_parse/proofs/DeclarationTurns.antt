@@ -1,8 +1,7 @@
 -- Declarations by their first token, equations and assertions: what the readers of their parts decide, their own do.
 use Rattle.std.proofs.Common.{◌≡◌, ◌∙◌, ◌⊎◌, ℕ, true, false, List, [], ◌∷◌, ◌++◌, inl, inr, refl, sym, ap, subst, append_assoc, append-nil, arith}
-use Rattle.csp_semantics.specs.Text.Token as text
-use Rattle.csp_semantics.specs.Text.Token.{Token, KeywordToken, SignToken, NameToken, DatatypeWord, NametypeWord, ChannelWord, AssertWord, CommaSign, BarSign, EqualsSign, OpenRoundSign, CloseRoundSign, TracesSign, FailuresSign, PlacedToken}
-use Rattle.csp_semantics.specs.Text.Raw.{RawName, RawDeclaration, RawDatatype, RawNametype, RawChannels, RawEquation, RawAssertion}
+use Rattle.csp_semantics.specs.Text.Token.{Token, KeywordToken, NameToken, DatatypeWord, NametypeWord, ChannelWord, AssertWord, CommaSign, BarSign, EqualsSign, OpenRoundSign, CloseRoundSign, TracesSign, FailuresSign, PlacedToken}
+use Rattle.csp_semantics.specs.Text.Raw.{RawName, RawDeclaration, RawNametype, RawChannels, RawEquation, RawAssertion}
 use Rattle.csp_semantics.specs.Text.Grammar as grammar
 use Rattle.csp_semantics.specs.Text.Grammar.{IsWord, IsSign, IsName, AreNames, AreAlternatives, IsModel, IsProcess, IsDeclaration}
 use Rattle.csp_lex.specs.declared.keywords.Keyword.TheVariants as keyword
@@ -14,7 +13,7 @@ use Rattle.csp_parse.specs.Continuing.{continues}
 use Rattle.csp_parse.specs.Deciding.{first, nothing, only, Ends, Done, IsStop}
 use Rattle.csp_parse.specs.DeclarationForms.{IsDatatype, IsNametype, IsChannels, Equated, Parameters, IsEquation, IsAssertion, channels_go_on, begins_declaration, declaration_goes_on}
 use Rattle.csp_parse.specs.Forms.{HasTree, Then, both, Either, Perhaps}
-use Rattle.csp_parse.specs.Levels.{IsDomainAt, domain}
+use Rattle.csp_parse.specs.Levels.{domain}
 use Rattle.csp_parse.specs.ProcessForms.{start_goes_on, joins_process, continues_process}
 use Rattle.csp_parse.specs.Reading.{Standing, IsNext, Reads}
 use Rattle.csp_parse.specs.Separated.{AreSeparated, one, more}
@@ -23,11 +22,11 @@ use Rattle.csp_parse.proofs.AtomsTurn.{not_there, none_in}
 use Rattle.csp_parse.proofs.Deciding.{Inhabited, Avoids, avoids_nothing}
 use Rattle.csp_parse.proofs.DomainsTurn.{WithDomains}
 use Rattle.csp_parse.proofs.ProcessTurns.{some_process}
-use Rattle.csp_parse.proofs.Repeating.{IsFirstIn, BeginsIn, Within, Apart, first_in, first_before, avoids_apart}
+use Rattle.csp_parse.proofs.Repeating.{IsFirstIn, BeginsIn, Within, Apart, first_in, avoids_apart}
 use Rattle.csp_parse.proofs.ScriptTurn.{declares, declaration_first}
 use Rattle.csp_parse.proofs.Separating.{names_are, alternatives_are}
 use Rattle.csp_parse.proofs.Singles.{some_sign, some_name, some_word}
-use Rattle.csp_parse.proofs.Turning.{Turns, turn, finished, chosen, behind, within_first, wider, sign_begins, word_begins, then_begins, begins_within, first_here, avoids_sign_then, some_then, some_right, left_here, right_here}
+use Rattle.csp_parse.proofs.Turning.{Turns, turn, finished, chosen, behind, within_first, wider, sign_begins, word_begins, then_begins, first_here, avoids_sign_then, some_then, some_right, left_here, right_here}
 
 -- names with a sign between
 separated_names : {a : List PlacedToken} {ns : List RawName} → AreNames a ns → AreSeparated CommaSign IsName a ns

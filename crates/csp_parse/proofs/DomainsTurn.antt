@@ -1,7 +1,7 @@
 -- Domains, nametypes and channels: what the readers of their parts decide, their own do.
-use Rattle.std.proofs.Common.{◌≡◌, ◌∙◌, ◌⊎◌, ℕ, Option, Some, None, List, [], ◌∷◌, ◌++◌, inl, inr, refl, sym, ap, subst, append_assoc, append-nil, arith}
-use Rattle.csp_semantics.specs.Text.Token.{Token, KeywordToken, SignToken, DotSign, CommaSign, ColonSign, EqualsSign, NametypeWord, ChannelWord, PlacedToken}
-use Rattle.csp_semantics.specs.Text.Raw.{RawName, RawExpression, RawDomain}
+use Rattle.std.proofs.Common.{◌≡◌, List, [], ◌∷◌, ◌++◌, inl, inr, refl, sym, subst}
+use Rattle.csp_semantics.specs.Text.Token.{SignToken, DotSign, CommaSign, ColonSign, EqualsSign, NametypeWord, ChannelWord, PlacedToken}
+use Rattle.csp_semantics.specs.Text.Raw.{RawExpression, RawDomain}
 use Rattle.csp_semantics.specs.Text.Grammar as grammar
 use Rattle.csp_semantics.specs.Text.Grammar.{IsWord, IsSign, IsName, AreDomains}
 use Rattle.csp_parse.specs.declared.levels.Level.{Level}
@@ -11,20 +11,20 @@ use Rattle.csp_parse.specs.declared.stops.Stopped.TheVariants as stop
 use Rattle.csp_parse.specs.Continuing.{continues}
 use Rattle.csp_parse.specs.DeclarationForms.{IsNametype, IsChannels, channels_go_on}
 use Rattle.csp_parse.specs.Deciding.{first, nothing, only, Stops, Done, IsStop}
-use Rattle.csp_parse.specs.Forms.{HasTree, Then, both, Perhaps, Parts}
+use Rattle.csp_parse.specs.Forms.{HasTree, Then, Perhaps, Parts}
 use Rattle.csp_parse.specs.Levels.{IsAt, IsDomainAt, domain}
-use Rattle.csp_parse.specs.Reading.{Standing, Passes}
+use Rattle.csp_parse.specs.Reading.{Standing}
 use Rattle.csp_parse.specs.Separated.{AreSeparated, one, more}
 use Rattle.csp_parse.proofs.AtomsTurn.{not_there, none_in}
 use Rattle.csp_parse.proofs.Chaining.{Told, parts_are, separated_are}
 use Rattle.csp_parse.proofs.Comparing.{perhaps_done, perhaps_stop, perhaps_none}
-use Rattle.csp_parse.proofs.Deciding.{Inhabited, Avoids, avoids_nothing, Narrows}
+use Rattle.csp_parse.proofs.Deciding.{Inhabited, Avoids, avoids_nothing}
 use Rattle.csp_parse.proofs.Expressing.{some_at, no_operator, not_ranked}
 use Rattle.csp_parse.proofs.Firsts.{begins_expression, of_either, first_of_atom, first_of_product, first_of_sum, first_of_comparison, first_of_negation, first_of_conjunction, first_of_expression}
 use Rattle.csp_parse.proofs.Repeating.{IsFirstIn, Within, stops_within}
 use Rattle.csp_parse.proofs.Separating.{domains_are}
 use Rattle.csp_parse.proofs.Singles.{some_sign, some_name}
-use Rattle.csp_parse.proofs.Turning.{Turns, turn, finished, stopped, behind, within_first, same_form, wider, sign_behind, sign_begins, then_begins, avoids_sign_then, some_then}
+use Rattle.csp_parse.proofs.Turning.{Turns, behind, within_first, same_form, wider, sign_begins, then_begins, avoids_sign_then, some_then}
 
 -- an expression of any level begins as expressions do
 first_at : (l : Level) (a : List PlacedToken) (e : RawExpression) → IsAt l a e → IsFirstIn begins_expression a

@@ -1,36 +1,34 @@
 -- Events, pairs and sets of events: what the readers of their parts decide, their own do.
-use Rattle.std.proofs.Common.{◌≡◌, ◌∙◌, ◌<◌, ◌⊎◌, ℕ, Option, Some, None, List, [], ◌∷◌, ◌++◌, inl, inr, refl, sym, ap, subst, append_assoc, append-nil, arith}
+use Rattle.std.proofs.Common.{◌≡◌, ◌∙◌, ◌⊎◌, ℕ, Some, None, List, [], ◌∷◌, ◌++◌, inl, inr, refl, sym, ap, subst, append_assoc}
 use Rattle.csp_semantics.specs.Text.Token as text
 use Rattle.csp_semantics.specs.Text.Token.{Token, KeywordToken, SignToken, NameToken, NumberToken, Keyword, Sign, DotSign, CommaSign, BackArrowSign, OpenRoundSign, CloseRoundSign, OpenBraceSign, CloseBraceSign, OpenProductionsSign, CloseProductionsSign, PlacedToken}
-use Rattle.csp_semantics.specs.Text.Raw.{RawName, RawEvent, RawExpressions, no_raw_expressions, RawEventSet, RawEnumeration, RawProductions, RawPair}
+use Rattle.csp_semantics.specs.Text.Raw.{RawName, RawEvent, RawExpressions, RawEventSet, RawEnumeration, RawProductions, RawPair}
 use Rattle.csp_semantics.specs.Text.Grammar as grammar
 use Rattle.csp_semantics.specs.Text.Grammar.{IsWord, word, IsSign, sign, IsName, name, IsAtom, AreDotted, IsEvent, AreEvents, IsSetWord, IsEventSet, ArePairs}
 use Rattle.csp_lex.specs.declared.keywords.Keyword as words
 use Rattle.csp_lex.specs.declared.signs.Sign.TheVariants as signs
 use Rattle.csp_lex.specs.declared.kinds.TokenKind.{TokenKind}
 use Rattle.csp_lex.specs.declared.kinds.TokenKind.TheVariants as kind
-use Rattle.csp_lex.specs.Tokens.{keyword_of, sign_of, token_of}
-use Rattle.csp_parse.specs.declared.levels.Level.TheVariants as level
+use Rattle.csp_lex.specs.Tokens.{keyword_of, token_of}
 use Rattle.csp_parse.specs.declared.stops.Stopped.{Stopped}
 use Rattle.csp_parse.specs.declared.stops.Stopped.TheVariants as stop
-use Rattle.csp_parse.specs.Continuing.{operator_rank, continues}
 use Rattle.csp_parse.specs.Deciding.{first, nothing, only, Done, IsStop}
-use Rattle.csp_parse.specs.EventForms.{lists_events, EventsInside, Enumeration, Productions, TwoSets, SetOfWord, SetOfSign, SetOf}
+use Rattle.csp_parse.specs.EventForms.{lists_events, EventsInside, Enumeration, Productions, TwoSets, SetOfWord, SetOf}
 use Rattle.csp_parse.specs.Forms.{HasTree, Then, both, Repeated, never, again, Next, Parts}
 use Rattle.csp_parse.specs.Reading.{Standing, IsKind, IsNext}
 use Rattle.csp_parse.specs.Separated.{AreSeparated, one, more, IsPair, pair}
 use Rattle.csp_parse.specs.Words.{set_word}
-use Rattle.csp_parse.proofs.AtomsBegin.{right_three, right_five, right_six}
+use Rattle.csp_parse.proofs.AtomsBegin.{right_three, right_six}
 use Rattle.csp_parse.proofs.AtomsNext.{first_kind}
 use Rattle.csp_parse.proofs.AtomsTurn.{not_there}
-use Rattle.csp_parse.proofs.Chaining.{Told, avoids, parts_are, separated_are}
+use Rattle.csp_parse.proofs.Chaining.{Told, parts_are, separated_are}
 use Rattle.csp_parse.proofs.Deciding.{Inhabited, Avoids, avoids_nothing, Narrows}
 use Rattle.csp_parse.proofs.Eventing.{set_words}
 use Rattle.csp_parse.proofs.Expressing.{some_atom}
-use Rattle.csp_parse.proofs.Repeating.{IsFirstIn, BeginsIn, Within, Apart, first_before}
+use Rattle.csp_parse.proofs.Repeating.{IsFirstIn, Apart, first_before}
 use Rattle.csp_parse.proofs.Separating.{events_are, pairs_are}
-use Rattle.csp_parse.proofs.Singles.{some_sign, some_word, some_name}
-use Rattle.csp_parse.proofs.Turning.{Turns, turn, finished, stopped, behind, behind_both, within_first, within_both, chosen, same_form, sign_begins, word_begins, then_begins, first_here, avoids_sign, avoids_sign_then, avoids_then, some_then, some_left, some_none, left_here, right_here, not_apart}
+use Rattle.csp_parse.proofs.Singles.{some_sign, some_name}
+use Rattle.csp_parse.proofs.Turning.{Turns, turn, stopped, behind, behind_both, within_first, within_both, chosen, same_form, sign_begins, then_begins, first_here, avoids_sign, avoids_sign_then, some_then, some_left, left_here, right_here}
 
 -- the token is a name
 abbrev pub is_name : Token → Type 0

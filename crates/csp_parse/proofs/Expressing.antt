@@ -1,8 +1,8 @@
 -- Expressions of each level: what the readers of their parts decide, their own do.
-use Rattle.std.proofs.Common.{Result, IfOk, IfErr, ◌≡◌, ◌∙◌, ◌<◌, ◌≤◌, ℕ, Option, Some, None, List, [], ◌∷◌, ◌++◌, inl, inr, refl, sym, ap, subst, arith}
+use Rattle.std.proofs.Common.{Result, IfOk, IfErr, ◌≡◌, ◌∙◌, ◌<◌, ℕ, Option, Some, None, List, [], ◌∷◌, ◌++◌, inl, inr, refl, sym, ap, subst, arith}
 use Rattle.csp_semantics.specs.Syntax.Expression as pure
 use Rattle.csp_semantics.specs.Text.Token.{Token, KeywordToken, SignToken, CommaSign, SameSign, DiffersSign, LessSign, AtMostSign, GreaterSign, AtLeastSign, PlusSign, MinusSign, CaretSign, TimesSign, PercentSign, OrWord, AndWord, NotWord, PlacedToken}
-use Rattle.csp_semantics.specs.Text.Raw.{RawExpression, RawUse, RawApply}
+use Rattle.csp_semantics.specs.Text.Raw.{RawUse, RawApply}
 use Rattle.csp_semantics.specs.Text.Grammar as grammar
 use Rattle.csp_semantics.specs.Text.Grammar.{IsWord, word, IsSign, sign, IsComparing, IsAdding, IsMultiplying, IsExpression, IsNegation, IsComparison, IsSum, IsAtom}
 use Rattle.csp_lex.specs.declared.kinds.TokenKind.{TokenKind}
@@ -12,12 +12,11 @@ use Rattle.csp_lex.specs.Tokens.{token_of}
 use Rattle.csp_parse.specs.declared.levels.Level.{Level}
 use Rattle.csp_parse.specs.declared.levels.Level.TheVariants as level
 use Rattle.csp_parse.specs.declared.stops.Stopped.{Stopped}
-use Rattle.csp_parse.specs.declared.stops.Stopped.TheVariants as stop
 use Rattle.csp_parse.specs.Continuing.{operator_rank, operates, continues, lists, IsStep, IsRest, HasOperators, IsChained, IsStopOfOperation, at_operator, at_operand, IsAgainst, BehindConjunction, BehindComparison, BehindSum, BehindProduct, BehindAtom}
-use Rattle.csp_parse.specs.Deciding.{first, nothing, only, Stops, Done, IsStop, here, IsStopOfOne}
-use Rattle.csp_parse.specs.Forms.{HasTree, Then, both, Repeated, Perhaps}
+use Rattle.csp_parse.specs.Deciding.{first, nothing, Stops, Done, IsStop, IsStopOfOne}
+use Rattle.csp_parse.specs.Forms.{HasTree, Then, both, Perhaps}
 use Rattle.csp_parse.specs.Levels.{IsAt, IsOperatorAt, stronger, rank}
-use Rattle.csp_parse.specs.Reading.{Standing, IsNext, PassesOne, Passes}
+use Rattle.csp_parse.specs.Reading.{Standing, IsNext, PassesOne}
 use Rattle.csp_parse.specs.Words.{comparison_of, operator_at}
 use Rattle.csp_parse.proofs.Chaining.{Told}
 use Rattle.csp_parse.proofs.Chains.{product_chained, sum_chained, conjunction_chained, disjunction_chained, operator_ranked, operator_apart, operator_within, operand_within, rest_avoids, whole_chain}
@@ -25,10 +24,10 @@ use Rattle.csp_parse.proofs.Comparing.{perhaps_done, perhaps_stop, perhaps_none,
 use Rattle.csp_parse.proofs.Deciding.{Inhabited, Avoids, avoids_nothing, Narrows, done_then, stop_first, stop_second}
 use Rattle.csp_parse.proofs.Firsts.{begins_atom, first_of_comparison}
 use Rattle.csp_parse.proofs.Operations.{alone}
-use Rattle.csp_parse.proofs.Passing.{unmoved, one_splits}
+use Rattle.csp_parse.proofs.Passing.{one_splits}
 use Rattle.csp_parse.proofs.Repeating.{IsFirstIn, BeginsIn, Within, avoids_apart, stops_within, Repeats, repeats_more, repeats_stop, repeats_end}
 use Rattle.csp_parse.proofs.Singles.{IsSingle, single_done, single_stop, some_name, word_single}
-use Rattle.csp_parse.proofs.Turning.{Turns, turn, finished, stopped, behind, within_first, chosen, same_form, wider, first_here, not_apart, wider_done, wider_stop, then_begins, avoids_then, some_then, some_none}
+use Rattle.csp_parse.proofs.Turning.{Turns, turn, stopped, behind, within_first, chosen, same_form, wider, first_here, not_apart, wider_done, wider_stop, then_begins, avoids_then, some_then, some_none}
 use Rattle.csp_parse.proofs.Wording.{comparing, operators}
 
 -- some expression of each level

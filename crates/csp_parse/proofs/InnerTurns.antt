@@ -1,6 +1,6 @@
 -- What stands in brackets: what the readers of its parts decide, its own does.
-use Rattle.std.proofs.Common.{◌≡◌, ◌∙◌, ◌⊎◌, List, [], ◌∷◌, ◌++◌, inl, inr, refl, sym, ap, subst, append_assoc, append-nil}
-use Rattle.csp_semantics.specs.Text.Token.{Token, KeywordToken, SignToken, IfWord, BoxSign, InternalSign, TripleBarSign, CloseRoundSign, PlacedToken}
+use Rattle.std.proofs.Common.{◌≡◌, ◌∙◌, ◌⊎◌, List, [], ◌++◌, inl, inr, refl, sym, ap, subst, append_assoc, append-nil}
+use Rattle.csp_semantics.specs.Text.Token.{Token, CloseRoundSign, PlacedToken}
 use Rattle.csp_semantics.specs.Text.Grammar.{IsSign, IsBase, IsProcess}
 use Rattle.csp_parse.specs.declared.stops.Stopped.{Stopped}
 use Rattle.csp_parse.specs.Deciding.{first, nothing, only, Begins, Done, IsStop}
@@ -14,7 +14,7 @@ use Rattle.csp_parse.proofs.NamesTurn.{EmptyOr}
 use Rattle.csp_parse.proofs.Parting.{Parted, parts, part_read, part_stops}
 use Rattle.csp_parse.proofs.Passing.{unmoved}
 use Rattle.csp_parse.proofs.ProcessTurns.{joins, joins_apart, start_within, avoids_empty, ProcessParts, parts_empty, base_operand, parts_process, opens_process, process_parted, process_on, no_process_parts}
-use Rattle.csp_parse.proofs.Repeating.{IsFirstIn, BeginsIn, Apart, avoids_apart, first_in, first_before}
+use Rattle.csp_parse.proofs.Repeating.{IsFirstIn, BeginsIn, Apart, avoids_apart}
 use Rattle.csp_parse.proofs.Singles.{some_sign}
 use Rattle.csp_parse.proofs.StartsTurn.{Empty, bare_name}
 use Rattle.csp_parse.proofs.Turning.{Turns, stopped, chosen, same_form, sign_begins, then_begins, first_here, not_apart, left_here}

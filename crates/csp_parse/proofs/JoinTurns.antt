@@ -1,5 +1,5 @@
 -- Processes by their next token: which form is read, and what the readers of its parts decide.
-use Rattle.std.proofs.Common.{◌≡◌, ◌∙◌, ◌⊎◌, Bool, true, false, List, [], ◌∷◌, ◌++◌, inl, inr, refl, sym, ap, subst, append-nil, arith}
+use Rattle.std.proofs.Common.{◌≡◌, ◌∙◌, ◌⊎◌, Bool, true, false, List, [], ◌∷◌, ◌++◌, inl, inr, refl, sym, ap, subst}
 use Rattle.csp_semantics.specs.Text.Token as text
 use Rattle.csp_semantics.specs.Text.Token.{Token, KeywordToken, SignToken, Sign, IfWord, ThenWord, ElseWord, ArrowSign, ColonSign, AtSign, GuardSign, BoxSign, InternalSign, TripleBarSign, DoubleBarSign, OpenSharedSign, CloseSharedSign, OpenRenamingSign, HidingSign, OpenRoundSign, OpenSquareSign, CloseSquareSign, PlacedToken}
 use Rattle.csp_semantics.specs.Text.Raw.{Infix, ExternalInfix, InternalInfix, SequentialInfix, InterleavingInfix, InterruptInfix, Replicator, ExternalReplicator, InternalReplicator, InterleavingReplicator}
@@ -9,25 +9,25 @@ use Rattle.csp_parse.specs.declared.levels.Level.TheVariants as level
 use Rattle.csp_parse.specs.declared.stops.Stopped.{Stopped}
 use Rattle.csp_parse.specs.Continuing.{continues}
 use Rattle.csp_parse.specs.Deciding.{first, nothing, only, Stops, Done, IsStop}
-use Rattle.csp_parse.specs.Forms.{HasTree, Then, both, Either, Repeated, Perhaps, Next}
-use Rattle.csp_parse.specs.ProcessForms.{continues_start, continues_process, fields_go_on, Operand, Expressed, Starting, Guarded, Conditional, ReplicatedBy, Replicated, Shared, Alphabets, ChainOf, Chained, BehindOperand, Suffixes, Begun}
+use Rattle.csp_parse.specs.Forms.{HasTree, Then, both, Repeated, Next}
+use Rattle.csp_parse.specs.ProcessForms.{continues_start, continues_process, fields_go_on, Operand, Expressed, Conditional, ReplicatedBy, Shared, Alphabets, ChainOf, BehindOperand, Suffixes, Begun}
 use Rattle.csp_parse.specs.Reading.{Standing}
 use Rattle.csp_parse.specs.StartForms.{BehindBase}
 use Rattle.csp_parse.specs.Words.{infix_sign, replicator_sign}
 use Rattle.csp_parse.proofs.Chaining.{Told}
-use Rattle.csp_parse.proofs.Deciding.{Inhabited, Avoids, Narrows, avoids_nothing}
+use Rattle.csp_parse.proofs.Deciding.{Inhabited, Avoids, avoids_nothing}
 use Rattle.csp_parse.proofs.EventsTurn.{is_name, some_set}
 use Rattle.csp_parse.proofs.Expressing.{no_operator, some_at, some_atom}
 use Rattle.csp_parse.proofs.Firsts.{begins_expression, first_of_expression}
 use Rattle.csp_parse.proofs.InnerTurns.{opens_no_expression}
 use Rattle.csp_parse.proofs.NamesTurn.{EmptyOr, both_empty, repeated_empty, empty_done}
 use Rattle.csp_parse.proofs.ProcessesBegin.{process_forms, conditional_process, replicated_process}
-use Rattle.csp_parse.proofs.ProcessTurns.{joins, starts_apart, start_within, operates_on, operand_joins, operand_opens, infix_operates, Joined, joined_begins, opens_process, some_operand, some_process, some_guarded}
-use Rattle.csp_parse.proofs.Repeating.{Repeats, IsFirstIn, BeginsIn, Within, Apart, first_in, first_before, first_stops, avoids_apart, avoids_repeated}
-use Rattle.csp_parse.proofs.Singles.{some_sign, some_name, some_word}
+use Rattle.csp_parse.proofs.ProcessTurns.{joins, starts_apart, start_within, operates_on, operand_joins, operand_opens, infix_operates, Joined, joined_begins, opens_process, some_operand, some_process}
+use Rattle.csp_parse.proofs.Repeating.{Repeats, IsFirstIn, BeginsIn, Within, Apart, first_in, first_before, first_stops, avoids_repeated}
+use Rattle.csp_parse.proofs.Singles.{some_sign, some_word}
 use Rattle.csp_parse.proofs.StartsTurn.{starts_otherwise, base_starts, name_before}
 use Rattle.csp_parse.proofs.SuffixesTurn.{renaming_begins, hiding_begins}
-use Rattle.csp_parse.proofs.Turning.{Turns, turn, chosen, same_form, behind, within_first, wider, sign_begins, word_begins, then_begins, begins_within, in_more, first_here, not_apart, avoids_word_then, avoids_sign_then, some_then, some_none, behind_both, within_both, wider_done, wider_stop}
+use Rattle.csp_parse.proofs.Turning.{Turns, turn, chosen, behind, within_first, wider, sign_begins, word_begins, then_begins, begins_within, in_more, first_here, not_apart, avoids_word_then, avoids_sign_then, some_then, some_none, behind_both, within_both, wider_done, wider_stop}
 
 -- what an operand begins with
 abbrev pub begins_operand : Token → Type 0

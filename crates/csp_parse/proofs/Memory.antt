@@ -1,7 +1,7 @@
 -- Refused memory says nothing of the tokens.
-use Rattle.std.proofs.Common.{◌≡◌, Result, IfOk, IfErr, sym, subst}
+use Rattle.std.proofs.Common.{◌≡◌, Result, IfErr, sym, subst}
 use Rattle.std.specs.Result.{IsErr, IsErrAnd}
-use Rattle.std.proofs.lemmas.Result.{err_from_is_err_and, IfOk-weaker, IfErr-weaker}
+use Rattle.std.proofs.lemmas.Result.{err_from_is_err_and, IfErr-weaker}
 use Rattle.csp_parse.specs.declared.stops.Stopped.{Stopped}
 use Rattle.csp_parse.specs.declared.stops.Stopped.TheVariants as stop
 use Rattle.csp_parse.specs.Deciding.{IsStop, IsStopOfCount}

@@ -1,5 +1,5 @@
 -- What stands behind a name, where an operand or an expression may begin with it.
-use Rattle.std.proofs.Common.{◌≡◌, ◌∙◌, ◌⊎◌, ◌≤◌, Bool, true, false, List, [], ◌∷◌, ◌++◌, inl, inr, refl, sym, ap, subst, append_assoc, append-nil, arith}
+use Rattle.std.proofs.Common.{◌≡◌, ◌∙◌, ◌⊎◌, ◌≤◌, Bool, true, false, List, [], ◌++◌, inl, inr, refl, sym, ap, subst, arith}
 use Rattle.csp_semantics.specs.Text.Token as text
 use Rattle.csp_semantics.specs.Text.Token.{Token, KeywordToken, SignToken, Sign, DotSign, OutputSign, InputSign, ArrowSign, GuardSign, OpenRoundSign, CloseRoundSign, PlacedToken}
 use Rattle.csp_semantics.specs.Text.Raw.{RawField}
@@ -8,18 +8,18 @@ use Rattle.csp_semantics.specs.Text.Grammar.{IsSign, sign, AreLaterFields, AreFi
 use Rattle.csp_parse.specs.declared.levels.Level.{Level}
 use Rattle.csp_parse.specs.declared.levels.Level.TheVariants as level
 use Rattle.csp_parse.specs.declared.stops.Stopped.{Stopped}
-use Rattle.csp_parse.specs.Continuing.{operator_rank, operates, continues, IsStep, IsRest, IsAgainst, BehindComparison, BehindSum, BehindProduct, BehindAtom}
+use Rattle.csp_parse.specs.Continuing.{operates, continues, IsRest, IsAgainst, BehindAtom}
 use Rattle.csp_parse.specs.Deciding.{first, nothing, only, Stops, Done, IsStop}
-use Rattle.csp_parse.specs.Forms.{HasTree, Then, both, Either, Repeated, never, again, Perhaps}
+use Rattle.csp_parse.specs.Forms.{Then, both, Either, Repeated, never, again, Perhaps}
 use Rattle.csp_parse.specs.Levels.{rank}
 use Rattle.csp_parse.specs.ProcessForms.{start_goes_on, continues_start, Operand, Guarded, BehindName, Arguments, Prefixed, Named}
 use Rattle.csp_parse.specs.Reading.{Standing}
 use Rattle.csp_parse.proofs.Chains.{step_begins}
 use Rattle.csp_parse.proofs.Comparing.{against_begins}
-use Rattle.csp_parse.proofs.Deciding.{Inhabited, Avoids, avoids_nothing, Narrows}
+use Rattle.csp_parse.proofs.Deciding.{Avoids, Narrows}
 use Rattle.csp_parse.proofs.Passing.{unmoved}
 use Rattle.csp_parse.proofs.Repeating.{IsFirstIn, BeginsIn, Within, Apart, first_in, first_before, first_stops, stops_within, avoids_apart}
-use Rattle.csp_parse.proofs.Turning.{Turns, turn, chosen, behind, within_first, sign_begins, then_begins, first_here, not_apart, in_more, right_here}
+use Rattle.csp_parse.proofs.Turning.{Turns, chosen, behind, within_first, sign_begins, then_begins, first_here, not_apart, in_more, right_here}
 
 -- tokens of the form are none, or begin with one of g
 abbrev pub EmptyOr : (Token → Type 0) → (List PlacedToken → Type 0) → Type 0

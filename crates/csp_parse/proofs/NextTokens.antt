@@ -1,5 +1,5 @@
 -- What the next token says of what is read, and what nothing that is read says.
-use Rattle.std.proofs.Common.{◌≡◌, ◌∙◌, ◌⊎◌, List, [], ◌∷◌, ◌++◌, inl, inr, refl, sym, ap, subst, append_assoc}
+use Rattle.std.proofs.Common.{◌≡◌, ◌⊎◌, List, [], ◌∷◌, ◌++◌, inl, inr, refl, sym, subst}
 use Rattle.csp_semantics.specs.Text.Token as text
 use Rattle.csp_semantics.specs.Text.Token.{Token, KeywordToken, SignToken, ArrowSign, GuardSign, CloseRoundSign, OpenRenamingSign, HidingSign, PlacedToken}
 use Rattle.csp_semantics.specs.Text.Grammar.{IsSign}
@@ -7,14 +7,12 @@ use Rattle.csp_lex.specs.declared.kinds.TokenKind.TheVariants as kind
 use Rattle.csp_lex.specs.declared.keywords.Keyword.TheVariants as keyword
 use Rattle.csp_lex.specs.declared.signs.Sign.TheVariants as signs
 use Rattle.csp_parse.specs.declared.levels.Level.TheVariants as level
-use Rattle.csp_parse.specs.declared.starts.Inner.TheVariants as inner
-use Rattle.csp_parse.specs.declared.starts.Start.TheVariants as start
 use Rattle.csp_parse.specs.Continuing.{continues}
 use Rattle.csp_parse.specs.Deciding.{only, Stops, Done}
 use Rattle.csp_parse.specs.Forms.{Either, Perhaps}
 use Rattle.csp_parse.specs.ProcessForms.{continues_start, continues_process, Guarded, ClosedProcess, ClosedExpression}
 use Rattle.csp_parse.specs.Reading.{Standing, IsNext, Passes}
-use Rattle.csp_parse.specs.StartForms.{Tells, OnlyGuard, OnlyBehindInner, BehindBase}
+use Rattle.csp_parse.specs.StartForms.{BehindBase}
 use Rattle.csp_parse.proofs.Comparing.{perhaps_done, perhaps_stop}
 use Rattle.csp_parse.proofs.Deciding.{Inhabited}
 use Rattle.csp_parse.proofs.JoinTurns.{opens_suffix}
@@ -23,7 +21,7 @@ use Rattle.csp_parse.proofs.ProcessTurns.{joins, base_empty, some_process}
 use Rattle.csp_parse.proofs.Repeating.{IsFirstIn}
 use Rattle.csp_parse.proofs.Singles.{some_sign}
 use Rattle.csp_parse.proofs.StartsTurn.{starts_otherwise}
-use Rattle.csp_parse.proofs.Turning.{Turns, in_more, not_apart, some_then, some_left}
+use Rattle.csp_parse.proofs.Turning.{Turns, not_apart, some_then, some_left}
 
 -- a suffix of a base
 pub suffix_next : (left : List PlacedToken) → IsNext (kind.Sign signs.OpenRenaming) left ⊎ IsNext (kind.Sign signs.Hiding) left → IsFirstIn opens_suffix left

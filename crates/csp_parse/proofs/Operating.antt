@@ -1,5 +1,5 @@
 -- What stands behind an atom where an operator is next: it is not empty.
-use Rattle.std.proofs.Common.{◌≡◌, ◌∙◌, ◌⊎◌, List, [], ◌∷◌, ◌++◌, inl, inr, refl, sym, ap, subst, append_assoc, append-nil, arith}
+use Rattle.std.proofs.Common.{◌≡◌, ◌∙◌, ◌⊎◌, List, [], ◌∷◌, ◌++◌, inl, inr, refl, sym, ap, subst, append-nil, arith}
 use Rattle.csp_semantics.specs.Syntax.Expression.{Binary}
 use Rattle.csp_semantics.specs.Text.Token as text
 use Rattle.csp_semantics.specs.Text.Token.{Token, KeywordToken, SignToken, GuardSign, PlacedToken}
@@ -9,7 +9,7 @@ use Rattle.csp_parse.specs.declared.levels.Level.{Level}
 use Rattle.csp_parse.specs.declared.levels.Level.TheVariants as level
 use Rattle.csp_parse.specs.Continuing.{continues, IsRest, BehindComparison, BehindSum, BehindProduct, BehindAtom}
 use Rattle.csp_parse.specs.Deciding.{first, only, Stops, Done}
-use Rattle.csp_parse.specs.Forms.{both, Repeated, never, again, Perhaps}
+use Rattle.csp_parse.specs.Forms.{both, never, again, Perhaps}
 use Rattle.csp_parse.specs.Levels.{IsOperatorAt, stronger}
 use Rattle.csp_parse.specs.ProcessForms.{continues_start, Guarded}
 use Rattle.csp_parse.specs.Reading.{Standing}

@@ -1,6 +1,6 @@
 -- Arguments of calls and fields of prefixes: what the readers of their parts decide, their own do.
 use Rattle.std.proofs.Common.{◌≡◌, ◌∙◌, ◌⊎◌, List, [], ◌∷◌, ◌++◌, inl, inr, refl, sym, ap, subst, append_assoc, append-nil}
-use Rattle.csp_semantics.specs.Text.Token.{Token, SignToken, Sign, CommaSign, DotSign, ColonSign, OutputSign, InputSign, OpenRoundSign, CloseRoundSign, PlacedToken}
+use Rattle.csp_semantics.specs.Text.Token.{Token, SignToken, DotSign, ColonSign, OutputSign, InputSign, OpenRoundSign, CloseRoundSign, PlacedToken}
 use Rattle.csp_semantics.specs.Text.Raw.{RawField, RawGiven, RawInput, RawInputFrom}
 use Rattle.csp_semantics.specs.Text.Grammar as grammar
 use Rattle.csp_semantics.specs.Text.Grammar.{IsSign, IsName, IsAtom, AreExpressions, AreLaterFields, AreFields}
@@ -8,22 +8,21 @@ use Rattle.csp_parse.specs.declared.levels.Level.TheVariants as level
 use Rattle.csp_parse.specs.declared.stops.Stopped.{Stopped}
 use Rattle.csp_parse.specs.AtomForms.{Whole}
 use Rattle.csp_parse.specs.Continuing.{continues, lists, IsItem}
-use Rattle.csp_parse.specs.Deciding.{nothing, only, Stops, Done, IsStop}
+use Rattle.csp_parse.specs.Deciding.{nothing, only, Done, IsStop}
 use Rattle.csp_parse.specs.Forms.{HasTree, Then, both, Either, Repeated, never, again, Perhaps, Next}
 use Rattle.csp_parse.specs.ProcessForms.{fields_go_on, Arguments}
 use Rattle.csp_parse.specs.Reading.{Standing}
-use Rattle.csp_parse.specs.Separated.{AreSeparated}
 use Rattle.csp_parse.specs.Starts.{IsLaterField, output, input, input_from}
-use Rattle.csp_parse.proofs.AtomsBegin.{right_three, right_four, expressions_parts, separated_expressions}
+use Rattle.csp_parse.proofs.AtomsBegin.{right_four, expressions_parts, separated_expressions}
 use Rattle.csp_parse.proofs.AtomsTurn.{list_avoids}
 use Rattle.csp_parse.proofs.Chaining.{avoids, separated_are}
 use Rattle.csp_parse.proofs.Comparing.{perhaps_done, perhaps_stop, perhaps_none}
 use Rattle.csp_parse.proofs.Deciding.{Inhabited, Avoids, avoids_nothing}
 use Rattle.csp_parse.proofs.EventsTurn.{Dots}
 use Rattle.csp_parse.proofs.Expressing.{no_operator, told_at, atom_done, atom_stop}
-use Rattle.csp_parse.proofs.Repeating.{IsFirstIn, BeginsIn, Within, Apart, first_before, avoids_apart, avoids_repeated, stops_within, Repeats, repeats_none, repeats_more, repeats_stop, repeats_end}
-use Rattle.csp_parse.proofs.Singles.{some_sign, some_name}
-use Rattle.csp_parse.proofs.Turning.{Turns, turn, stopped, behind, behind_both, within_first, within_both, same_form, then_map, wider_done, wider_stop, never_within, sign_begins, then_begins, in_more, avoids_sign_then, avoids_then, some_then, some_none, left_here, right_here}
+use Rattle.csp_parse.proofs.Repeating.{IsFirstIn, BeginsIn, Within, Apart, avoids_repeated, Repeats, repeats_more, repeats_stop, repeats_end}
+use Rattle.csp_parse.proofs.Singles.{some_sign}
+use Rattle.csp_parse.proofs.Turning.{Turns, turn, stopped, behind, behind_both, within_first, within_both, same_form, then_map, wider_done, wider_stop, never_within, sign_begins, then_begins, in_more, avoids_then, some_then, some_none, left_here, right_here}
 
 -- arguments in brackets, behind the opening one
 abbrev pub MoreArguments : List PlacedToken → Type 0

@@ -1,29 +1,26 @@
 -- Processes: what the readers of their parts decide, their own do.
-use Rattle.std.proofs.Common.{◌≡◌, ◌∙◌, ◌⊎◌, Bool, true, false, List, [], ◌∷◌, ◌++◌, inl, inr, refl, sym, ap, subst, append_assoc, append-nil, arith}
+use Rattle.std.proofs.Common.{◌≡◌, ◌⊎◌, Bool, true, false, List, [], ◌++◌, inl, inr, refl, sym, subst, append_assoc, append-nil}
 use Rattle.csp_semantics.specs.Text.Token as text
 use Rattle.csp_semantics.specs.Text.Token.{Token, KeywordToken, SignToken, Sign, StopWord, IfWord, ThenWord, ElseWord, ColonSign, AtSign, ArrowSign, GuardSign, BoxSign, InternalSign, TripleBarSign, DoubleBarSign, OpenSharedSign, CloseSharedSign, OpenRenamingSign, HidingSign, OpenRoundSign, CloseRoundSign, OpenSquareSign, CloseSquareSign, PlacedToken}
-use Rattle.csp_semantics.specs.Text.Raw.{RawProcess, RawStop, RawGuard, Infix, ExternalInfix, InternalInfix, SequentialInfix, InterleavingInfix, InterruptInfix, Replicator, ExternalReplicator, InternalReplicator, InterleavingReplicator}
+use Rattle.csp_semantics.specs.Text.Raw.{RawStop, RawGuard, Infix, ExternalInfix, InternalInfix, SequentialInfix, InterleavingInfix, InterruptInfix, Replicator, ExternalReplicator, InternalReplicator, InterleavingReplicator}
 use Rattle.csp_semantics.specs.Text.Grammar as grammar
 use Rattle.csp_semantics.specs.Text.Grammar.{IsWord, word, IsSign, sign, IsName, IsAtom, IsExpression, IsEventSet, IsRenamingPart, IsHidingPart, IsBase, IsOperand, IsProcess}
-use Rattle.csp_parse.specs.declared.levels.Level.TheVariants as level
 use Rattle.csp_parse.specs.declared.stops.Stopped.{Stopped}
 use Rattle.csp_parse.specs.declared.stops.Stopped.TheVariants as stop
-use Rattle.csp_parse.specs.Continuing.{continues}
-use Rattle.csp_parse.specs.Deciding.{first, nothing, only, Stops, Begins, Done, IsStop, here, high, memory}
-use Rattle.csp_parse.specs.Forms.{HasTree, Then, both, Either, Repeated, never, again, Perhaps}
-use Rattle.csp_parse.specs.ProcessForms.{start_goes_on, joins_process, continues_start, continues_process, Operand, Expressed, Starting, Guarded, Conditional, ReplicatedBy, Replicated, Shared, Alphabets, ChainOf, Chained, BehindOperand, Suffixes, Begun}
-use Rattle.csp_parse.specs.Reading.{Standing, Reads}
+use Rattle.csp_parse.specs.Deciding.{first, only, Stops, Begins, Done, IsStop, here, high, memory}
+use Rattle.csp_parse.specs.Forms.{HasTree, both, Either}
+use Rattle.csp_parse.specs.ProcessForms.{start_goes_on, joins_process, continues_start, continues_process, Operand, Expressed, Starting, Guarded, Conditional, ReplicatedBy, Replicated, Shared, Alphabets, Chained, BehindOperand, Suffixes, Begun}
+use Rattle.csp_parse.specs.Reading.{Standing}
 use Rattle.csp_parse.specs.StartForms.{BehindBase}
 use Rattle.csp_parse.specs.Words.{infix_sign, replicator_sign}
 use Rattle.csp_parse.proofs.Deciding.{Inhabited, Avoids}
-use Rattle.csp_parse.proofs.Firsts.{begins_expression, first_of_expression}
-use Rattle.csp_parse.proofs.NamesTurn.{EmptyOr, both_empty, perhaps_empty, repeated_empty, wider_empty, empty_done}
-use Rattle.csp_parse.proofs.Parting.{Parted, parts, PartRead, part_read, nothing_fits, part_stops}
-use Rattle.csp_parse.proofs.ProcessesBegin.{process_forms, conditional_process, replicated_process, begun_process}
+use Rattle.csp_parse.proofs.NamesTurn.{EmptyOr, both_empty, perhaps_empty, repeated_empty, wider_empty}
+use Rattle.csp_parse.proofs.Parting.{Parted, parts, part_read, nothing_fits, part_stops}
+use Rattle.csp_parse.proofs.ProcessesBegin.{process_forms, begun_process}
 use Rattle.csp_parse.proofs.Repeating.{IsFirstIn, BeginsIn, Within, Apart, stops_within, avoids_apart}
 use Rattle.csp_parse.proofs.Singles.{some_sign, some_word}
 use Rattle.csp_parse.proofs.SuffixesTurn.{renaming_begins, hiding_begins}
-use Rattle.csp_parse.proofs.Turning.{Turns, chosen, same_form, sign_begins, word_begins, then_begins, either_begins, begins_within, in_more, first_here, some_then}
+use Rattle.csp_parse.proofs.Turning.{Turns, chosen, sign_begins, word_begins, then_begins, either_begins, begins_within, in_more, first_here, some_then}
 
 -- the token joins a process with what stands behind it
 abbrev pub joins : Token → Type 0

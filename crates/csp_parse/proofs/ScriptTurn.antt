@@ -1,13 +1,13 @@
 -- Scripts: what the readers of declarations decide, the reader of a script does.
-use Rattle.std.proofs.Common.{◌≡◌, ◌∙◌, ◌≤◌, ◌<◌, ◌⊎◌, inl, inr, Bool, true, false, List, [], ◌∷◌, ◌++◌, refl, sym, ap, subst, append_assoc, append-nil, arith}
+use Rattle.std.proofs.Common.{◌≡◌, ◌∙◌, ◌≤◌, ◌<◌, Bool, true, false, List, [], ◌∷◌, ◌++◌, refl, sym, ap, subst, append_assoc, append-nil, arith}
 use Rattle.std.specs.Prelude.{⊤}
 use Rattle.std.proofs.lemmas.List.{append_cancel_left}
 use Rattle.csp_semantics.specs.Text.Place.{Place}
-use Rattle.csp_semantics.specs.Text.Token.{Token, KeywordToken, SignToken, NameToken, NumberToken, DatatypeWord, NametypeWord, ChannelWord, AssertWord, PlacedToken}
+use Rattle.csp_semantics.specs.Text.Token.{Token, KeywordToken, NameToken, DatatypeWord, NametypeWord, ChannelWord, AssertWord, PlacedToken}
 use Rattle.csp_semantics.specs.Text.Raw.{RawDeclaration, RawScript}
 use Rattle.csp_semantics.specs.Text.Grammar as grammar
 use Rattle.csp_semantics.specs.Text.Grammar.{IsDeclaration, IsScript, BeginsScript}
-use Rattle.csp_semantics.specs.Text.Height.{Nest, nesting, after_token, after_tokens, nest_height, tokens_height, greatest_height, BeginsDeclaration, IsLatest, latest, nothing, HasNoneTooHigh, GrammarFault, UnexpectedEnd, IsGrammarRefusal}
+use Rattle.csp_semantics.specs.Text.Height.{Nest, after_tokens, nest_height, tokens_height, greatest_height, BeginsDeclaration, latest, nothing, HasNoneTooHigh, GrammarFault, UnexpectedEnd, IsGrammarRefusal}
 use Rattle.csp_parse.specs.declared.refusals.Refused.{Refused}
 use Rattle.csp_lex.specs.declared.kinds.TokenKind.{TokenKind}
 use Rattle.csp_parse.specs.declared.stops.Stopped.{Stopped}

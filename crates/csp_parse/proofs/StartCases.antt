@@ -1,5 +1,5 @@
 -- What follows from a start, by which one it is.
-use Rattle.std.proofs.Common.{Result, Ok, Err, IfOk, ◌≡◌, ◌∙◌, ◌⊎◌, List, [], ◌∷◌, ◌++◌, inl, inr, refl, sym, ap, subst}
+use Rattle.std.proofs.Common.{Result, Ok, Err, IfOk, ◌≡◌, ◌∙◌, ◌⊎◌, List, [], ◌∷◌, ◌++◌, inl, inr, refl, sym, subst}
 use Rattle.std.proofs.lemmas.List.{append_cancel_right}
 use Rattle.csp_semantics.specs.Text.Token as text
 use Rattle.csp_semantics.specs.Text.Token.{Token, Keyword, KeywordToken, NameToken, SignToken, StopWord, SkipWord, IfWord, CloseRoundSign, OpenRoundSign, BoxSign, InternalSign, SemicolonSign, TripleBarSign, InterruptSign, OpenSharedSign, OpenSquareSign, PlacedToken}
@@ -30,7 +30,7 @@ use Rattle.csp_parse.specs.Reading.{Standing, IsNext, Passes, Reads}
 use Rattle.csp_parse.specs.Starts.{ReadsName, ReadsStart, ReadsInner}
 use Rattle.csp_parse.specs.StartForms.{Tells, IsBaseStart, OnlyStart, OnlyInner, BehindStart, StopsBehind, infix_written, replicator_written}
 use Rattle.csp_parse.specs.Words.{infix_sign, replicator_sign}
-use Rattle.csp_parse.proofs.Deciding.{Inhabited, avoids_nothing}
+use Rattle.csp_parse.proofs.Deciding.{avoids_nothing}
 use Rattle.csp_parse.proofs.EventsTurn.{is_name, name_is}
 use Rattle.csp_parse.proofs.Firsts.{begins_expression, first_of_expression}
 use Rattle.csp_parse.proofs.InnerTurns.{closed_form, behind_inner, behind_inner_process}

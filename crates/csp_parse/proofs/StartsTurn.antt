@@ -1,21 +1,21 @@
 -- Operands and expressions by their first token.
-use Rattle.std.proofs.Common.{◌≡◌, ◌∙◌, ◌⊎◌, ℕ, true, false, List, [], ◌∷◌, ◌++◌, inl, inr, refl, sym, ap, subst, append_assoc, append-nil}
-use Rattle.csp_semantics.specs.Text.Token.{Token, KeywordToken, SignToken, NameToken, Sign, NotWord, StopWord, SkipWord, OpenRoundSign, CloseRoundSign, GuardSign, ArrowSign, PlacedToken}
-use Rattle.csp_semantics.specs.Text.Raw.{RawName, RawExpression, RawProcess, RawCall, RawGuard, RawPrefix}
+use Rattle.std.proofs.Common.{◌≡◌, ◌∙◌, ◌⊎◌, List, [], ◌∷◌, ◌++◌, inl, inr, refl, sym, ap, subst, append_assoc, append-nil}
+use Rattle.csp_semantics.specs.Text.Token.{Token, KeywordToken, StopWord, SkipWord, OpenRoundSign, CloseRoundSign, GuardSign, PlacedToken}
+use Rattle.csp_semantics.specs.Text.Raw.{RawName, RawProcess, RawCall, RawGuard, RawPrefix}
 use Rattle.csp_semantics.specs.Text.Grammar as grammar
 use Rattle.csp_semantics.specs.Text.Grammar.{IsWord, word, IsSign, sign, IsName, IsAtom, IsExpression, AreExpressions, AreFields, IsBase, IsOperand, IsProcess}
 use Rattle.csp_lex.specs.declared.kinds.TokenKind.TheVariants as kind
 use Rattle.csp_lex.specs.declared.signs.Sign.TheVariants as signs
 use Rattle.csp_parse.specs.AtomForms.{Bracketed}
 use Rattle.csp_parse.specs.Continuing.{BehindAtom}
-use Rattle.csp_parse.specs.Deciding.{first, nothing, only, Stops}
+use Rattle.csp_parse.specs.Deciding.{first, nothing, only}
 use Rattle.csp_parse.specs.Forms.{HasTree, Then, both, Either, never, Perhaps}
 use Rattle.csp_parse.specs.ProcessForms.{continues_start, Operand, Expressed, Starting, Guarded, BehindName, Arguments, Prefixed, Named, ClosedProcess, ClosedExpression, BracketedStart}
 use Rattle.csp_parse.specs.Reading.{Standing, IsNext}
 use Rattle.csp_parse.proofs.AtomsBegin.{right_three, right_four}
 use Rattle.csp_parse.proofs.AtomsNext.{name_narrows, sign_narrows}
 use Rattle.csp_parse.proofs.BehindAtoms.{is_not, expression_opened, behind_atom, regroup}
-use Rattle.csp_parse.proofs.Deciding.{Narrows, stops_nothing}
+use Rattle.csp_parse.proofs.Deciding.{stops_nothing}
 use Rattle.csp_parse.proofs.EventsTurn.{is_name, name_is}
 use Rattle.csp_parse.proofs.Leaves.{sign_first}
 use Rattle.csp_parse.proofs.Repeating.{IsFirstIn, first_before}

@@ -1,5 +1,5 @@
 -- Renamings and hidings: what the readers of their parts decide, their own do.
-use Rattle.std.proofs.Common.{◌≡◌, ◌∙◌, List, [], ◌∷◌, ◌++◌, inl, inr, refl, sym, ap, subst}
+use Rattle.std.proofs.Common.{List, ◌++◌, inl, inr, sym, subst}
 use Rattle.csp_semantics.specs.Text.Token.{Token, SignToken, OpenRenamingSign, CloseRenamingSign, HidingSign, PlacedToken}
 use Rattle.csp_semantics.specs.Text.Raw.{RawEventSet, RawPair}
 use Rattle.csp_semantics.specs.Text.Grammar as grammar
@@ -12,9 +12,9 @@ use Rattle.csp_parse.specs.Reading.{Standing}
 use Rattle.csp_parse.proofs.AtomsBegin.{right_three}
 use Rattle.csp_parse.proofs.Deciding.{Inhabited, Avoids, avoids_nothing}
 use Rattle.csp_parse.proofs.EventsTurn.{some_pairs, some_set}
-use Rattle.csp_parse.proofs.Repeating.{IsFirstIn, BeginsIn, Within, Repeats, repeats_more, repeats_stop, repeats_end}
+use Rattle.csp_parse.proofs.Repeating.{IsFirstIn, BeginsIn, Repeats, repeats_more, repeats_stop, repeats_end}
 use Rattle.csp_parse.proofs.Singles.{some_sign}
-use Rattle.csp_parse.proofs.Turning.{Turns, turn, stopped, behind, within_first, same_form, sign_begins, then_begins, avoids_sign, some_then, sign_stops}
+use Rattle.csp_parse.proofs.Turning.{Turns, stopped, behind, within_first, same_form, sign_begins, then_begins, avoids_sign, some_then, sign_stops}
 
 -- a renaming
 abbrev pub ClosedPairs : List PlacedToken → Type 0

@@ -1,10 +1,8 @@
 -- What the tokens of a start are not, by what was read.
 use Rattle.std.proofs.Common.{◌≡◌, ◌∙◌, ◌⊎◌, List, [], ◌∷◌, ◌++◌, inl, inr, refl, sym, ap, subst, append_assoc, append-nil, arith}
 use Rattle.std.proofs.lemmas.List.{append_cancel_left, append_cancel_right}
-use Rattle.csp_semantics.specs.Text.Token as text
-use Rattle.csp_semantics.specs.Text.Token.{Token, KeywordToken, SignToken, GuardSign, OpenRoundSign, CloseRoundSign, PlacedToken}
+use Rattle.csp_semantics.specs.Text.Token.{Token, OpenRoundSign, CloseRoundSign, PlacedToken}
 use Rattle.csp_semantics.specs.Text.Raw.{RawProcess}
-use Rattle.csp_semantics.specs.Text.Grammar as grammar
 use Rattle.csp_semantics.specs.Text.Grammar.{IsSign, sign, IsName, IsBase, IsOperand, IsProcess}
 use Rattle.csp_lex.specs.declared.kinds.TokenKind.TheVariants as kind
 use Rattle.csp_lex.specs.declared.signs.Sign.TheVariants as signs
@@ -24,7 +22,7 @@ use Rattle.csp_parse.proofs.InnerTurns.{closing_apart}
 use Rattle.csp_parse.proofs.NamesTurn.{atom_empty, name_empty, goes_on_expression, prefixes, prefixed_begins, no_expression}
 use Rattle.csp_parse.proofs.Repeating.{IsFirstIn, Apart, first_before}
 use Rattle.csp_parse.proofs.Singles.{sign_single, name_single}
-use Rattle.csp_parse.proofs.StartsTurn.{Empty, NamedBase, NamedOperand, nothing_behind, name_opened, base_named, operand_named, ClosedGuard, ClosedAtom, base_bracketed, operand_bracketed, expression_bracketed, starts_otherwise, base_starts, name_before}
+use Rattle.csp_parse.proofs.StartsTurn.{Empty, NamedBase, NamedOperand, nothing_behind, name_opened, base_named, operand_named, ClosedGuard, base_bracketed, operand_bracketed, expression_bracketed, starts_otherwise, base_starts, name_before}
 use Rattle.csp_parse.proofs.Turning.{sign_begins, then_begins, first_here, not_apart, in_more, then_map}
 
 -- what was read in two steps

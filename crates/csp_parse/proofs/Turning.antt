@@ -1,15 +1,15 @@
 -- A form that is read in steps: what the reader of the rest decides, the reader of the whole does.
-use Rattle.std.proofs.Common.{Result, IfOk, IfErr, ◌≡◌, ◌∙◌, List, [], ◌∷◌, ◌++◌, inl, inr, refl, sym, ap, subst, append_assoc}
+use Rattle.std.proofs.Common.{Result, IfOk, IfErr, ◌≡◌, List, [], ◌∷◌, ◌++◌, inl, inr, sym, subst, append_assoc}
 use Rattle.std.proofs.lemmas.Result.{IfOk-weaker, IfErr-weaker}
 use Rattle.csp_semantics.specs.Text.Token.{Token, KeywordToken, SignToken, Keyword, Sign, PlacedToken}
 use Rattle.csp_semantics.specs.Text.Grammar.{IsWord, word, IsSign, sign}
 use Rattle.csp_parse.specs.declared.stops.Stopped.{Stopped}
-use Rattle.csp_parse.specs.Deciding.{first, nothing, only, Stops, Done, Fails, IsStop, here, high, memory}
-use Rattle.csp_parse.specs.Forms.{Then, both, Either, Repeated, never, again}
+use Rattle.csp_parse.specs.Deciding.{first, nothing, only, Stops, Done, IsStop, here, high, memory}
+use Rattle.csp_parse.specs.Forms.{Then, both, Either, Repeated, never}
 use Rattle.csp_parse.specs.Reading.{Standing, Passes}
 use Rattle.csp_parse.proofs.Deciding.{Inhabited, Avoids, avoids_nothing, done_then, stop_first, stop_second, Narrows, stop_chosen, done_chosen}
-use Rattle.csp_parse.proofs.Repeating.{IsFirstIn, BeginsIn, Within, Apart, avoids_apart, avoids_repeated, stops_within, first_in, first_before}
-use Rattle.csp_parse.proofs.Singles.{single_done, sign_single, some_sign, word_single, some_word}
+use Rattle.csp_parse.proofs.Repeating.{IsFirstIn, BeginsIn, Within, Apart, avoids_apart, stops_within, first_in, first_before}
+use Rattle.csp_parse.proofs.Singles.{single_done, sign_single, word_single}
 
 -- From here on it is the form Rest that decides whether the tokens from before are of the form Is.
 pub record Turns (Is : List PlacedToken → Type 0) (c : Token → Type 0) (before : Standing) (Rest : List PlacedToken → Type 0) (d : Token → Type 0) (now : Standing) : Type 0 where

@@ -1,5 +1,5 @@
 -- The parts that a rule looks at stand less high than the whole.
-use Rattle.std.proofs.Common.{◌≡◌, ℕ, suc, max, List, refl, sym, ◌∙◌, ap}
+use Rattle.std.proofs.Common.{◌≡◌, ℕ, suc, max, refl, sym, ◌∙◌, ap}
 use Rattle.std.specs.declared.vec.Vec.{Vec}
 use Rattle.csp_semantics.specs.Meaning.Faults.{height}
 use Rattle.csp_semantics.specs.Syntax.Expression.{Expression}

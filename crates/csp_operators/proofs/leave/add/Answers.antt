@@ -1,5 +1,5 @@
 -- Each step of the side that moves, in turn.
-use Rattle.std.proofs.Common.{◌++◌, List, map, refl, sym, ◌∙◌, ap}
+use Rattle.std.proofs.Common.{◌++◌, map, refl, ◌∙◌, ap}
 use Rattle.std.proofs.lemmas.Iterator.Adapters.{YieldsList-from_vec}
 use Rattle.std.proofs.lemmas.Iterator.Consumers.{YieldsList-end}
 use Rattle.csp_value.specs.Action.{action_of}

@@ -1,5 +1,5 @@
 -- Each step of the body, in turn.
-use Rattle.std.proofs.Common.{List, [], map, ◌∙◌, ap}
+use Rattle.std.proofs.Common.{[], map, ◌∙◌, ap}
 use Rattle.std.proofs.lemmas.Iterator.Adapters.{YieldsList-from_vec}
 use Rattle.std.proofs.lemmas.Iterator.Consumers.{YieldsList-end}
 use Rattle.csp_semantics.specs.Meaning.Events.{or_itself}

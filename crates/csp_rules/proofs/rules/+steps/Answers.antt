@@ -35,7 +35,6 @@ use Rattle.csp_rules.proofs.Replicating.{external_by_chain, grouped_more, instan
 use Rattle.csp_operators.proofs.Siding.{side_of_stuck, stuck_at_first_side, stuck_at_second_side, stuck_of_side}
 use Rattle.csp_rules.proofs.Smaller.{alphabetised_height, binary_height, branch_height, generalised_height, guard_height, height_of, hiding_height, renaming_height, replicated_height}
 use Rattle.csp_rules.proofs.Ruling.{guarded, closed, first_branch, second_branch, guard_stuck, if_stuck, ended, stopped}
-use Rattle.csp_semantics.specs.Meaning.Events.{renaming}
 use Rattle.csp_rules.proofs.rules.+steps.Goals as goal
 
 nothing_in : {X : Type 0} (xs : List X) → length xs ≡ 0 → xs ≡ []

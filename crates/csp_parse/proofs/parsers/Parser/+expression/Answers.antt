@@ -1,15 +1,15 @@
-use Rattle.std.proofs.Common.{◌∙◌, [], ◌∷◌, ◌++◌, refl, sym, ap, subst, arith, IfOk, IfErr}
+use Rattle.std.proofs.Common.{◌∙◌, [], ◌∷◌, ◌++◌, refl, sym, ap, subst, arith, IfOk}
 use Rattle.std.specs.Option.{option_map}
 use Rattle.std.proofs.lemmas.Result.{IfOk-weaker, IfErr-weaker}
-use Rattle.csp_semantics.specs.Text.Token.{CommaSign, OpenRoundSign, CloseRoundSign, LessSign, GreaterSign, OpenBraceSign, CloseBraceSign, MinusSign, HashSign}
+use Rattle.csp_semantics.specs.Text.Token.{CloseRoundSign, GreaterSign, CloseBraceSign}
 use Rattle.csp_semantics.specs.Text.Raw.{RawSequence, RawSet}
-use Rattle.csp_semantics.specs.Text.Grammar.{IsExpression, IsConjunction, IsNegation, IsComparison, IsSum, IsProduct, IsAtom}
+use Rattle.csp_semantics.specs.Text.Grammar.{IsNegation, IsComparison, IsSum}
 use Rattle.csp_lex.specs.declared.kinds.TokenKind.TheVariants as kind
 use Rattle.csp_lex.specs.declared.signs.Sign.TheVariants as signs
-use Rattle.csp_lex.specs.Tokens.{keyword_of, sign_of}
+use Rattle.csp_lex.specs.Tokens.{keyword_of}
 use Rattle.csp_parse.specs.declared.levels.Level.TheVariants as level
 use Rattle.csp_parse.specs.Continuing.{continues, IsStopOfOperation, at_operator, at_operand}
-use Rattle.csp_parse.specs.Deciding.{nothing, memory}
+use Rattle.csp_parse.specs.Deciding.{memory}
 use Rattle.csp_parse.specs.Forms.{HasTree}
 use Rattle.csp_parse.specs.Expressions.{expression_of, expressions_of}
 use Rattle.csp_parse.specs.Levels.{IsAt, stronger}
@@ -17,12 +17,12 @@ use Rattle.csp_parse.specs.Operators.{unary_of, binary_of}
 use Rattle.csp_parse.specs.Reading.{left_of, standing_of, IsNext, Reads}
 use Rattle.csp_parse.specs.Words.{comparison_of, operator_at}
 use Rattle.csp_parse.proofs.Atoms.{number_atom, name_atom, negate_atom, length_atom, bracketed_atom, one_atom, two_atom, empty_sequence, empty_set, sequence_atom, set_atom, range_atom}
-use Rattle.csp_parse.proofs.AtomsTurn.{some_bracketed, some_two_bracketed, some_items, some_inside, last_in_brackets, last_stops_in_brackets, first_in_brackets, first_stops_in_brackets, no_items_here, items_here, item_behind, item_stops, items_behind, items_stop, no_members_here, members_here, member_behind, member_stops, range_here, no_range_here, last_behind, last_stops, members_behind, members_stop, negated_form, length_form, bracketed_form, sequence_form, set_form, no_sign_form, unary_here, binary_here, true_form, false_form, bool_form, no_word_form, name_form, number_form, name_at_end, number_done, number_stop, opens_none}
+use Rattle.csp_parse.proofs.AtomsTurn.{some_bracketed, some_two_bracketed, some_items, some_inside, last_in_brackets, last_stops_in_brackets, first_in_brackets, first_stops_in_brackets, no_items_here, items_here, item_behind, item_stops, items_behind, items_stop, no_members_here, members_here, member_behind, member_stops, range_here, no_range_here, last_behind, last_stops, members_behind, members_stop, negated_form, length_form, bracketed_form, sequence_form, set_form, no_sign_form, unary_here, binary_here, name_form, number_form, name_at_end, number_done, number_stop, opens_none}
 use Rattle.csp_parse.proofs.Chaining.{rest_step, rest_step_stop, rest_end}
 use Rattle.csp_parse.proofs.Deciding.{avoids_nothing}
-use Rattle.csp_parse.proofs.Expressing.{some_atom, some_at, disjunction_chains, conjunction_chains, sum_chains, product_chains, chain_form, chain_begun, chain_not_begun, is_operator, is_comparing, not_found, none_at_end, OperatorNext, chain_more, chain_stop_at, chain_end, comparison_begun, comparison_not_begun, ComparisonNext, compared_done, compared_stop_at, uncompared_done, negation_form, comparison_only, told_at, atom_done, atom_stop, done_at, stop_at, operand_at, operand_stop_at, not_next, not_not_next}
+use Rattle.csp_parse.proofs.Expressing.{some_at, disjunction_chains, conjunction_chains, sum_chains, product_chains, chain_form, chain_begun, chain_not_begun, is_operator, is_comparing, not_found, none_at_end, OperatorNext, chain_more, chain_stop_at, chain_end, comparison_begun, comparison_not_begun, ComparisonNext, compared_done, compared_stop_at, uncompared_done, negation_form, comparison_only, told_at, atom_done, atom_stop, done_at, stop_at, operand_at, operand_stop_at, not_next, not_not_next}
 use Rattle.csp_parse.proofs.Leaves.{name_done, name_fails, sign_first, sign_not_first, sign_done}
-use Rattle.csp_parse.proofs.Memory.{handed, memory_stops, memory_only, memory_here}
+use Rattle.csp_parse.proofs.Memory.{handed, memory_stops, memory_only}
 use Rattle.csp_parse.proofs.Repeating.{repeats_none}
 use Rattle.csp_parse.proofs.Turning.{turn, finished, stopped, whole, wider, never_within, sign_behind, word_behind, sign_stops, word_stops, within_first, all_done, all_stop}
 use Rattle.csp_parse.proofs.Listing.{first_listed, more_listed, sums_read, expressions_read}

@@ -1,21 +1,19 @@
-use Rattle.std.proofs.Common.{◌∙◌, [], ◌++◌, refl, sym, ap, subst, arith, inl, inr, IfOk, IfErr}
+use Rattle.std.proofs.Common.{◌∙◌, [], refl, sym, ap, subst, arith, inl, inr, IfOk, IfErr}
 use Rattle.std.proofs.lemmas.Result.{IfOk-weaker, IfErr-weaker}
 use Rattle.csp_semantics.specs.Text.Grammar.{IsAtom, IsExpression}
 use Rattle.csp_semantics.specs.Text.Raw.{RawCall}
-use Rattle.csp_semantics.specs.Text.Token.{StopWord, SkipWord, ArrowSign, GuardSign, CloseSharedSign, OpenSquareSign, CloseSquareSign, DoubleBarSign, CloseRoundSign}
+use Rattle.csp_semantics.specs.Text.Token.{GuardSign, CloseRoundSign}
 use Rattle.csp_lex.specs.Tokens.{sign_of}
 use Rattle.csp_parse.specs.Deciding.{only, Done, memory}
 use Rattle.csp_parse.specs.Expressions.{expressions_of}
-use Rattle.csp_parse.specs.Forms.{Either}
 use Rattle.csp_parse.specs.Names.{name_of}
-use Rattle.csp_parse.specs.ProcessForms.{continues_start, continues_process, ClosedProcess, ClosedExpression}
+use Rattle.csp_parse.specs.ProcessForms.{continues_start, continues_process}
 use Rattle.csp_parse.specs.Processes.{infix_of, replicator_of}
-use Rattle.csp_parse.specs.Reading.{left_of, standing_of, IsNext}
+use Rattle.csp_parse.specs.Reading.{left_of, standing_of}
 use Rattle.csp_parse.specs.Starts.{ReadsStart, ReadsInner}
 use Rattle.csp_parse.specs.StartForms.{Tells, OnlyStart, OnlyBehindName, OnlyGuard, OnlyInner, OnlyBehindInner, BehindStart, StopsBehind}
-use Rattle.csp_parse.specs.Words.{infix_sign, replicator_sign}
+use Rattle.csp_parse.specs.Words.{replicator_sign}
 use Rattle.csp_semantics.specs.Text.Grammar as grammar
-use Rattle.csp_lex.specs.declared.kinds.TokenKind.TheVariants as kind
 use Rattle.csp_lex.specs.declared.keywords.Keyword.TheVariants as keyword
 use Rattle.csp_lex.specs.declared.signs.Sign.TheVariants as signs
 use Rattle.csp_parse.specs.declared.starts.Start.TheVariants as start

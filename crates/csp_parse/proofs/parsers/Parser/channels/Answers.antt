@@ -10,7 +10,7 @@ use Rattle.csp_parse.specs.Reading.{left_of}
 use Rattle.csp_parse.proofs.Leaves.{sign_first, sign_not_first}
 use Rattle.csp_parse.proofs.Singles.{read}
 use Rattle.csp_parse.proofs.Turning.{turn, finished, stopped, sign_behind, word_behind}
-use Rattle.csp_parse.proofs.Memory.{handed, memory_stops}
+use Rattle.csp_parse.proofs.Memory.{handed}
 use Rattle.csp_parse.proofs.DomainsTurn.{channel_word_stops, channel_names, channel_names_stop, bare, colon_here, colon_stops, domains_last}
 use Rattle.csp_parse.proofs.parsers.Parser.channels.Goals as goal
 

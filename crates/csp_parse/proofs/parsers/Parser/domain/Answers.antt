@@ -1,7 +1,7 @@
 use Rattle.csp_lex.specs.Tokens.{placed_token}
 use Rattle.csp_parse.proofs.Declaring.{domain_read}
-use Rattle.csp_parse.proofs.Turning.{turn, finished, stopped, sign_behind}
-use Rattle.csp_parse.proofs.Memory.{handed, memory_stops}
+use Rattle.csp_parse.proofs.Turning.{finished, stopped}
+use Rattle.csp_parse.proofs.Memory.{handed}
 use Rattle.csp_parse.proofs.DomainsTurn.{domain_form, domain_at_end}
 use Rattle.csp_parse.proofs.parsers.Parser.domain.Goals as goal
 

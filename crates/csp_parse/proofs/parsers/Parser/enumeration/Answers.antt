@@ -7,9 +7,9 @@ use Rattle.csp_parse.proofs.ProcessTrees.{set_of_enumeration}
 use Rattle.csp_parse.proofs.Leaves.{sign_first, sign_not_first, sign_done}
 use Rattle.csp_parse.proofs.Turning.{turn, finished, stopped, sign_behind, sign_stops}
 use Rattle.csp_lex.specs.declared.signs.Sign.TheVariants as signs
-use Rattle.csp_parse.proofs.Memory.{handed, memory_stops}
+use Rattle.csp_parse.proofs.Memory.{handed}
 use Rattle.csp_parse.specs.Reading.{left_of}
-use Rattle.csp_semantics.specs.Text.Token.{OpenBraceSign, CloseBraceSign}
+use Rattle.csp_semantics.specs.Text.Token.{CloseBraceSign}
 use Rattle.csp_parse.proofs.EventsTurn.{no_events_here, events_here, events_behind, events_stop, some_events_inside}
 use Rattle.csp_parse.proofs.parsers.Parser.enumeration.Goals as goal
 

@@ -1,6 +1,6 @@
 use Rattle.csp_parse.proofs.Eventing.{event_read}
-use Rattle.csp_parse.proofs.Turning.{turn, finished, stopped, sign_behind}
-use Rattle.csp_parse.proofs.Memory.{handed, memory_stops}
+use Rattle.csp_parse.proofs.Turning.{finished, stopped}
+use Rattle.csp_parse.proofs.Memory.{handed}
 use Rattle.csp_parse.proofs.EventsTurn.{name_first, name_not_first}
 use Rattle.csp_parse.proofs.Leaves.{name_done}
 use Rattle.csp_parse.proofs.parsers.Parser.event.Goals as goal

@@ -1,7 +1,7 @@
 use Rattle.std.proofs.lemmas.Result.{IfOk-weaker}
 use Rattle.csp_parse.proofs.Leaves.{name_done}
 use Rattle.csp_parse.proofs.Memory.{handed}
-use Rattle.csp_parse.proofs.Singles.{read, some_name}
+use Rattle.csp_parse.proofs.Singles.{some_name}
 use Rattle.csp_parse.proofs.Turning.{sign_behind, sign_stops, finished, all_stop}
 use Rattle.csp_parse.proofs.parsers.Parser.name_behind.Goals as goal
 

@@ -1,6 +1,6 @@
 use Rattle.csp_parse.proofs.Declaring.{nametype_read}
 use Rattle.csp_parse.proofs.Turning.{turn, finished, stopped, sign_behind, word_behind}
-use Rattle.csp_parse.proofs.Memory.{handed, memory_stops}
+use Rattle.csp_parse.proofs.Memory.{handed}
 use Rattle.csp_parse.proofs.Leaves.{name_done}
 use Rattle.csp_parse.proofs.DomainsTurn.{nametype_word_stops, nametype_name, nametype_name_stops, nametype_equals_stops}
 use Rattle.csp_parse.proofs.parsers.Parser.nametype.Goals as goal

@@ -1,6 +1,6 @@
 use Rattle.csp_parse.proofs.Eventing.{pair_read}
 use Rattle.csp_parse.proofs.Turning.{turn, finished, stopped, sign_behind}
-use Rattle.csp_parse.proofs.Memory.{handed, memory_stops}
+use Rattle.csp_parse.proofs.Memory.{handed}
 use Rattle.csp_parse.proofs.EventsTurn.{from_read, from_stops, arrow_stops}
 use Rattle.csp_parse.proofs.parsers.Parser.pair.Goals as goal
 

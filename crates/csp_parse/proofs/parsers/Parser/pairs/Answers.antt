@@ -4,7 +4,7 @@ use Rattle.csp_parse.specs.Events.{pair_of}
 use Rattle.csp_parse.specs.Separated.{IsPair}
 use Rattle.csp_parse.proofs.Separating.{first_part, more_parts, pairs_read}
 use Rattle.csp_parse.proofs.Leaves.{sign_first, sign_not_first, sign_done}
-use Rattle.csp_parse.proofs.Turning.{turn, finished, stopped, sign_behind}
+use Rattle.csp_parse.proofs.Turning.{finished, stopped}
 use Rattle.csp_lex.specs.declared.signs.Sign.TheVariants as signs
 use Rattle.csp_parse.proofs.Memory.{handed, memory_stops}
 use Rattle.csp_parse.specs.Reading.{left_of}

@@ -9,7 +9,7 @@ use Rattle.csp_parse.specs.Reading.{left_of}
 use Rattle.csp_parse.proofs.Leaves.{sign_done, sign_first, sign_not_first}
 use Rattle.csp_parse.proofs.Memory.{handed, memory_here}
 use Rattle.csp_parse.proofs.Repeating.{repeats_none}
-use Rattle.csp_parse.proofs.SuffixesTurn.{renaming_form, renaming_sign_stops, pairs_behind, pairs_stop, renamings_end, hiding_form, hiding_sign_stops, hidings_end, one_suffix, suffix_stop}
+use Rattle.csp_parse.proofs.SuffixesTurn.{renaming_form, renaming_sign_stops, pairs_behind, pairs_stop, renamings_end, one_suffix, suffix_stop}
 use Rattle.csp_parse.proofs.Turning.{turn, finished, stopped, sign_behind}
 use Rattle.csp_parse.proofs.parsers.Parser.renamed.Goals as goal
 

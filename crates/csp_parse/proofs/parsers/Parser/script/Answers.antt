@@ -1,7 +1,7 @@
 use Rattle.std.proofs.Common.{refl, subst, sym}
 use Rattle.csp_parse.specs.Declarations.{declaration_of}
 use Rattle.csp_parse.specs.Reading.{left_of, IsNext}
-use Rattle.csp_parse.specs.Stopping.{IsScriptStop, memory}
+use Rattle.csp_parse.specs.Stopping.{memory}
 use Rattle.csp_parse.proofs.Counting.{no_declarations_read, more_declarations_read, whole_script}
 use Rattle.csp_parse.proofs.Memory.{handed, memory_is}
 use Rattle.csp_parse.proofs.ScriptTurn.{script_begun, script_more, script_stop, so_far_at, something_next, script_refused}
