@@ -241,71 +241,96 @@ fn over<A: Allocator>(
     shown.push_str(" @ ")
 }
 
-fn process<A: Allocator>(shown: &mut String, item: &Process<'_, A>) -> Result<(), AllocError> {
+fn call<A: Allocator>(
+    shown: &mut String,
+    name: Name<'_>,
+    arguments: &[Expression<'_, A>],
+) -> Result<(), AllocError> {
+    shown.push_str(name.text)?;
+    shown.push_str("(")?;
+    listed(shown, arguments)
+}
+
+/// `(c!e?x -> `.
+fn prefix<A: Allocator>(
+    shown: &mut String,
+    channel: Name<'_>,
+    items: &[Field<'_, A>],
+) -> Result<(), AllocError> {
+    shown.push_str("(")?;
+    shown.push_str(channel.text)?;
+    fields(shown, items)?;
+    shown.push_str(" -> ")
+}
+
+/// A condition between two words.
+fn condition<A: Allocator>(
+    shown: &mut String,
+    before: &str,
+    condition: &Expression<'_, A>,
+    behind: &str,
+) -> Result<(), AllocError> {
+    shown.push_str(before)?;
+    expression(shown, condition)?;
+    shown.push_str(behind)
+}
+
+/// What stands before the first process in one.
+fn opening<A: Allocator>(shown: &mut String, item: &Process<'_, A>) -> Result<(), AllocError> {
     match item {
-        Process::Stop => return shown.push_str("STOP"),
-        Process::Skip => return shown.push_str("SKIP"),
-        Process::Call(name, arguments) => {
-            shown.push_str(name.text)?;
-            shown.push_str("(")?;
-            listed(shown, arguments)?;
-        }
-        Process::Prefix(channel, items, body) => {
-            shown.push_str("(")?;
-            shown.push_str(channel.text)?;
-            fields(shown, items)?;
-            shown.push_str(" -> ")?;
-            process(shown, body)?;
-        }
-        Process::Guard(condition, body) => {
-            shown.push_str("(")?;
-            expression(shown, condition)?;
-            shown.push_str(" & ")?;
-            process(shown, body)?;
-        }
-        Process::If(condition, left, right) => {
-            shown.push_str("(if ")?;
-            expression(shown, condition)?;
-            shown.push_str(" then ")?;
-            process(shown, left)?;
-            shown.push_str(" else ")?;
-            process(shown, right)?;
-        }
-        Process::Infix(operator, left, right) => {
-            shown.push_str("(")?;
-            process(shown, left)?;
-            shown.push_str(infix(*operator))?;
-            process(shown, right)?;
-        }
-        Process::GeneralisedParallel(left, shared, right) => {
-            shown.push_str("(")?;
-            process(shown, left)?;
+        Process::Stop => shown.push_str("STOP"),
+        Process::Skip => shown.push_str("SKIP"),
+        Process::Call(name, arguments) => call(shown, *name, arguments),
+        Process::Prefix(channel, items, _) => prefix(shown, *channel, items),
+        Process::Guard(test, _) => condition(shown, "(", test, " & "),
+        Process::If(test, _, _) => condition(shown, "(if ", test, " then "),
+        Process::Replicated(operator, name, set, _) => over(shown, *operator, *name, set),
+        _ => shown.push_str("("),
+    }
+}
+
+/// What stands behind the first process.
+fn between<A: Allocator>(shown: &mut String, item: &Process<'_, A>) -> Result<(), AllocError> {
+    match item {
+        Process::If(_, _, _) => shown.push_str(" else "),
+        Process::Infix(operator, _, _) => shown.push_str(infix(*operator)),
+        Process::GeneralisedParallel(_, shared, _) => {
             shown.push_str(" [| ")?;
             event_set(shown, shared)?;
-            shown.push_str(" |] ")?;
-            process(shown, right)?;
+            shown.push_str(" |] ")
         }
-        Process::AlphabetisedParallel(left, of_left, of_right, right) => {
-            shown.push_str("(")?;
-            process(shown, left)?;
-            alphabets(shown, of_left, of_right)?;
-            process(shown, right)?;
-        }
-        Process::Hiding(body, hidden) => {
-            shown.push_str("(")?;
-            process(shown, body)?;
+        Process::AlphabetisedParallel(_, left, right, _) => alphabets(shown, left, right),
+        Process::Hiding(_, hidden) => {
             shown.push_str(" hide ")?;
-            event_set(shown, hidden)?;
+            event_set(shown, hidden)
         }
-        Process::Renaming(body, renaming) => {
-            shown.push_str("(")?;
-            process(shown, body)?;
+        Process::Renaming(_, renaming) => {
             shown.push_str(" rename ")?;
-            pairs(shown, renaming)?;
+            pairs(shown, renaming)
         }
-        Process::Replicated(operator, name, set, body) => {
-            over(shown, *operator, *name, set)?;
+        _ => Ok(()),
+    }
+}
+
+fn process<A: Allocator>(shown: &mut String, item: &Process<'_, A>) -> Result<(), AllocError> {
+    opening(shown, item)?;
+    match item {
+        Process::Stop | Process::Skip => return Ok(()),
+        Process::Call(_, _) => {}
+        Process::Prefix(_, _, body)
+        | Process::Guard(_, body)
+        | Process::Replicated(_, _, _, body) => process(shown, body)?,
+        Process::Hiding(body, _) | Process::Renaming(body, _) => {
             process(shown, body)?;
+            between(shown, item)?;
+        }
+        Process::If(_, left, right)
+        | Process::Infix(_, left, right)
+        | Process::GeneralisedParallel(left, _, right)
+        | Process::AlphabetisedParallel(left, _, _, right) => {
+            process(shown, left)?;
+            between(shown, item)?;
+            process(shown, right)?;
         }
     }
     shown.push_str(")")
@@ -344,6 +369,42 @@ fn domains<A: Allocator>(shown: &mut String, items: &[Domain<'_, A>]) -> Result<
     Ok(())
 }
 
+fn channels<A: Allocator>(
+    shown: &mut String,
+    channels: &[Name<'_>],
+    sets: &[Domain<'_, A>],
+) -> Result<(), AllocError> {
+    shown.push_str("channel")?;
+    names(shown, channels)?;
+    domains(shown, sets)
+}
+
+fn equation<A: Allocator>(
+    shown: &mut String,
+    equation: Name<'_>,
+    parameters: &[Name<'_>],
+    body: &Process<'_, A>,
+) -> Result<(), AllocError> {
+    name(shown, equation)?;
+    names(shown, parameters)?;
+    shown.push_str(" = ")?;
+    process(shown, body)
+}
+
+fn refinement<A: Allocator>(
+    shown: &mut String,
+    specification: &Process<'_, A>,
+    model: Model,
+    implementation: &Process<'_, A>,
+) -> Result<(), AllocError> {
+    process(shown, specification)?;
+    shown.push_str(match model {
+        Model::Traces => " traces ",
+        Model::Failures => " failures ",
+    })?;
+    process(shown, implementation)
+}
+
 fn declaration<A: Allocator>(
     shown: &mut String,
     item: &Declaration<'_, A>,
@@ -365,24 +426,12 @@ fn declaration<A: Allocator>(
             name(shown, *nametype)?;
             domain(shown, set)?;
         }
-        Declaration::Channels {
-            names: channels,
-            domains: sets,
-        } => {
-            shown.push_str("channel")?;
-            names(shown, channels)?;
-            domains(shown, sets)?;
-        }
+        Declaration::Channels { names, domains } => channels(shown, names, domains)?,
         Declaration::Equation {
-            name: equation,
+            name,
             parameters,
             body,
-        } => {
-            name(shown, *equation)?;
-            names(shown, parameters)?;
-            shown.push_str(" = ")?;
-            process(shown, body)?;
-        }
+        } => equation(shown, *name, parameters, body)?,
         Declaration::Assertion {
             place,
             model,
@@ -390,12 +439,7 @@ fn declaration<A: Allocator>(
             implementation,
         } => {
             write!(shown, "assert {place} ")?;
-            process(shown, specification)?;
-            shown.push_str(match model {
-                Model::Traces => " traces ",
-                Model::Failures => " failures ",
-            })?;
-            process(shown, implementation)?;
+            refinement(shown, specification, *model, implementation)?;
         }
     }
     shown.push_str("; ")
