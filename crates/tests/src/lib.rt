@@ -19,3 +19,5 @@ mod reports;
 mod scripts;
 #[cfg(test)]
 mod searches;
+#[cfg(test)]
+mod shown;
