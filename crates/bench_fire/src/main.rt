@@ -148,7 +148,7 @@ fn substitute_often(alloc: Global) -> Result<()> {
         value: &value,
     };
     for _ in 0..SUBSTITUTIONS {
-        let put = term.subst(&[binding], alloc)?;
+        let put = term.subst(alloc, &[binding])?;
         ensure!(put != term, "no value was put in");
     }
     Ok(())

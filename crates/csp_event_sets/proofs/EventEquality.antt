@@ -4,15 +4,15 @@ use mir.Syntax
 use Rattle.std.proofs.Common.{Bool, sym, ap, ◌∙◌}
 use Rattle.std.specs.declared.alloc.Allocator as allocator
 use Rattle.std.specs.Ordering.{is_eq}
-use Rattle.csp_semantics.specs.Syntax.Order.{event_set_cmp}
-use Rattle.csp_semantics.proofs.Equalities.{is_eq-Equal}
-use Rattle.csp_semantics.proofs.ProcessOrder.{event_set_same, event_set_refl}
+use Rattle.csp_syntax.specs.Order.{event_set_cmp}
+use Rattle.csp_syntax.proofs.Equalities.{is_eq-Equal}
+use Rattle.csp_syntax.proofs.ProcessOrder.{event_set_same, event_set_refl}
 use Rattle.csp_event_sets.specs.declared.event_set.EventSet.{EventSet}
 use Rattle.csp_event_sets.specs.contracts.event_set.EventSetPartialEq.TheImpl as impl
 use Rattle.csp_event_sets.specs.contracts.event_set.EventSetOrd.TheImpl.Laws as laws
 use Rattle.csp_event_sets.specs.Events.{event_set_of}
 use Rattle.csp_event_sets.proofs.EventOrder.{cmp, ordered}
-use Rattle.csp_expression.proofs.Sameness.{Tells}
+use Rattle.csp_value.proofs.Sameness.{Tells}
 
 module _ (R : RattleType.RattleType) (A : allocator.Ghosts R.Denot) (ad dd : Syntax.Dict) where
   abbrev pub event_set_eq : EventSet R.Denot → EventSet R.Denot → Bool

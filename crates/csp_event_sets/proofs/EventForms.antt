@@ -2,13 +2,14 @@
 use Rattle.std.proofs.Common.{◌≡◌, sym, ◌∙◌, ap}
 use Rattle.std.specs.declared.boxed.Box.{Box}
 use Rattle.std.specs.declared.vec.Vec.{Vec}
-use Rattle.csp_semantics.specs.Syntax.Process as pure
+use Rattle.csp_syntax.specs.Process as pure
+use Rattle.csp_syntax.specs.declared.event_set_operator.EventSetOperator.{EventSetOperator}
+use Rattle.csp_syntax.specs.Operators.{combined}
 use Rattle.csp_event_sets.specs.declared.event_expression.EventExpression.{EventExpression}
-use Rattle.csp_event_sets.specs.declared.operator.EventSetOperator.{EventSetOperator}
 use Rattle.csp_event_sets.specs.declared.event_set.EventSet.{EventSet, fold-roll-EventSet}
 use Rattle.csp_event_sets.specs.declared.event_set.EventSet.TheVariants as views
 use Rattle.csp_event_sets.specs.declared.event_set.EventSet.TheOpen as layer
-use Rattle.csp_event_sets.specs.Events.{combined, event_expressions_of, event_set_of, event_set_step}
+use Rattle.csp_event_sets.specs.Events.{event_expressions_of, event_set_of, event_set_step}
 
 module _ (A : Type 0) where
   pub of_enumeration : (es : Vec (EventExpression A) A) → event_set_of {A = A} (views.Enumeration es) ≡ pure.Enumeration (event_expressions_of es.items)

@@ -1,13 +1,14 @@
 -- The sizes and the depths of events, of sets of events and of renaming pairs.
 use Rattle.std.proofs.Common.{◌≡◌, ℕ, ◌+◌, max, List, [], ◌∷◌, refl, sym, ap, arith}
 use Rattle.std.proofs.Math.Nat.{max-eq_left}
-use Rattle.csp_semantics.specs.Syntax.Process as pure
+use Rattle.csp_syntax.specs.Process as pure
+use Rattle.csp_syntax.specs.declared.event_set_operator.EventSetOperator.{EventSetOperator}
+use Rattle.csp_syntax.specs.declared.event_set_operator.EventSetOperator.TheVariants as operator
+use Rattle.csp_syntax.specs.Operators.{combined}
 use Rattle.csp_semantics.specs.Meaning.Limits.{events_depth, events_size, event_set_depth, event_set_size, pairs_depth, pairs_size}
 use Rattle.csp_event_sets.specs.declared.event_expression.EventExpression.{EventExpression}
-use Rattle.csp_event_sets.specs.declared.operator.EventSetOperator.{EventSetOperator}
-use Rattle.csp_event_sets.specs.declared.operator.EventSetOperator.TheVariants as operator
 use Rattle.csp_event_sets.specs.declared.renaming_pair.RenamingPair.{RenamingPair}
-use Rattle.csp_event_sets.specs.Events.{combined, event_expression_of, event_expressions_of, renaming_pair_of, renaming_pairs_of}
+use Rattle.csp_event_sets.specs.Events.{event_expression_of, event_expressions_of, renaming_pair_of, renaming_pairs_of}
 
 abbrev pub event_size : {A : Type 0} → EventExpression A → ℕ
 event_size e = events_size (event_expression_of e ∷ [])

@@ -11,12 +11,14 @@ use Rattle.std.specs.declared.vec.Vec.{Vec}
 use Rattle.std.specs.declared.cmp.Ordering.{Ordering}
 use Rattle.std.specs.Ordering.{nat_cmp, ordering_then}
 use Rattle.std.specs.Cmp.Lexicographic.{slice_cmp}
-use Rattle.csp_semantics.specs.Syntax.Process as pure
-use Rattle.csp_semantics.specs.Syntax.Order.{event_expression_cmp, event_set_cmp, event_set_place, pair_cmp}
+use Rattle.csp_syntax.specs.Process as pure
+use Rattle.csp_syntax.specs.Order.{event_expression_cmp, event_set_cmp, event_set_place, pair_cmp}
+use Rattle.csp_syntax.specs.declared.event_set_operator.EventSetOperator.{EventSetOperator}
+use Rattle.csp_syntax.specs.declared.event_set_operator.EventSetOperator.TheVariants as operator
+use Rattle.csp_syntax.specs.contracts.event_set_operator.EventSetOperatorOrd.TheImpl as operator_impl
+use Rattle.csp_syntax.specs.Operators.{combined}
 use Rattle.csp_event_sets.specs.declared.event_expression.EventExpression.{EventExpression}
 use Rattle.csp_event_sets.specs.declared.renaming_pair.RenamingPair.{RenamingPair}
-use Rattle.csp_event_sets.specs.declared.operator.EventSetOperator.{EventSetOperator}
-use Rattle.csp_event_sets.specs.declared.operator.EventSetOperator.TheVariants as operator
 use Rattle.csp_event_sets.specs.declared.event_set.EventSet.{EventSet, roll-EventSet, map-EventSet, ind-EventSet}
 use Rattle.csp_event_sets.specs.declared.event_set.EventSet.TheVariants as views
 use Rattle.csp_event_sets.specs.declared.event_set.EventSet.TheOpen as layer
@@ -24,15 +26,14 @@ use Rattle.csp_event_sets.specs.declared.event_set.EventSet.TheBlock as block
 use Rattle.csp_event_sets.specs.declared.event_set.EventSet.TheFolds as folds
 use Rattle.csp_event_sets.specs.contracts.event_expression.EventExpressionOrd.TheImpl as event_impl
 use Rattle.csp_event_sets.specs.contracts.renaming_pair.RenamingPairOrd.TheImpl as pair_impl
-use Rattle.csp_event_sets.specs.contracts.operator.EventSetOperatorOrd.TheImpl as operator_impl
 use Rattle.csp_event_sets.specs.contracts.event_set.EventSetOrd.TheImpl as impl
 use Rattle.csp_event_sets.specs.contracts.event_set.EventSetOrd.TheImpl.Laws as laws
 use Rattle.csp_event_sets.specs.contracts.event_set.EventSet as contract
-use Rattle.csp_event_sets.specs.Events.{combined, event_expression_of, event_expressions_of, event_set_of, renaming_pair_of, renaming_pairs_of}
+use Rattle.csp_event_sets.specs.Events.{event_expression_of, event_expressions_of, event_set_of, renaming_pair_of, renaming_pairs_of}
 use Rattle.csp_event_sets.proofs.Apart.{event_sets}
 use Rattle.csp_event_sets.proofs.EventForms.{of_enumeration, of_productions, of_combined}
 use Rattle.csp_expression.proofs.ExpressionOrder.{lists_ordered as expressions_ordered}
-use Rattle.csp_event_sets.proofs.Slices.{slices_ordered}
+use Rattle.csp_value.proofs.Slices.{slices_ordered}
 use Rattle.csp_expression.proofs.Variants.{Ranks, first_or, no_more, none, one_more, one_at, either, either_holds}
 
 -- ---- operators

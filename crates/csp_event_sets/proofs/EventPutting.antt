@@ -2,24 +2,24 @@
 use Rattle.std.proofs.Common.{◌≡◌, List, [], ◌∷◌, map, refl, sym, ◌∙◌, ap, ap₂}
 use Rattle.std.specs.declared.boxed.Box.{Box}
 use Rattle.std.specs.declared.vec.Vec.{Vec}
-use Rattle.csp_semantics.specs.Syntax.Expression.{to_expressions}
-use Rattle.csp_semantics.specs.Syntax.Process as pure
+use Rattle.csp_syntax.specs.Expression.{to_expressions}
+use Rattle.csp_syntax.specs.Process as pure
+use Rattle.csp_syntax.specs.declared.event_set_operator.EventSetOperator.{EventSetOperator}
+use Rattle.csp_syntax.specs.declared.event_set_operator.EventSetOperator.TheVariants as operator
+use Rattle.csp_syntax.specs.Operators.{combined}
 use Rattle.csp_semantics.specs.Meaning.Substitution.{Bindings, put_event, put_event_set, put_events, put_pairs}
 use Rattle.csp_value.specs.declared.name.ChannelId.{ChannelId}
 use Rattle.csp_expression.specs.declared.expr.Expr.{Expr}
 use Rattle.csp_event_sets.specs.declared.event_expression.EventExpression.{EventExpression}
-use Rattle.csp_event_sets.specs.declared.operator.EventSetOperator.{EventSetOperator}
-use Rattle.csp_event_sets.specs.declared.operator.EventSetOperator.TheVariants as operator
 use Rattle.csp_event_sets.specs.declared.renaming_pair.RenamingPair.{RenamingPair}
 use Rattle.csp_event_sets.specs.declared.event_set.EventSet.{EventSet}
 use Rattle.csp_event_sets.specs.declared.event_set.EventSet.TheVariants as views
 use Rattle.csp_expression.specs.Bindings.{puts}
-use Rattle.csp_event_sets.specs.Events.{put_pair}
+use Rattle.csp_event_sets.specs.Events.{put_pair, event_expression_of, event_expressions_of, event_set_of, renaming_pair_of, renaming_pairs_of}
 use Rattle.csp_expression.specs.Expression.{expressions_of}
-use Rattle.csp_event_sets.specs.Events.{combined, event_expression_of, event_expressions_of, event_set_of, renaming_pair_of, renaming_pairs_of}
 use Rattle.csp_event_sets.proofs.EventForms.{of_combined, of_enumeration, of_productions}
 use Rattle.csp_expression.proofs.ExpressionPutting.{put_list}
-use Rattle.csp_expression.proofs.Nothing.{put_nothing_in_event}
+use Rattle.csp_semantics.proofs.Putting.{put_nothing_in_event}
 
 pub put_fields_of : {A : Type 0} (bs : Bindings) (c : ChannelId) (es all : Vec (Expr A) A) (read : List (Expr A)) → read ≡ es.items → expressions_of all.items ≡ puts bs read →
     event_expression_of {A = A} (record { channel = c; fields = all }) ≡ put_event bs (event_expression_of {A = A} (record { channel = c; fields = es }))

@@ -4,4 +4,3 @@ pub mod EventForms
 pub mod EventMeasures
 pub mod EventOrder
 pub mod EventPutting
-pub mod Slices

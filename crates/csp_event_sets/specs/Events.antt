@@ -1,13 +1,12 @@
 -- The events, the sets of events and the renamings that those of the code stand for.
 use Rattle.std.specs.Prelude.{List, map}
 use Rattle.std.specs.Box.{box_value}
-use Rattle.csp_semantics.specs.Syntax.Expression.{to_expressions}
-use Rattle.csp_semantics.specs.Syntax.Process as pure
+use Rattle.csp_syntax.specs.Expression.{to_expressions}
+use Rattle.csp_syntax.specs.Process as pure
+use Rattle.csp_syntax.specs.Operators.{combined}
 use Rattle.csp_semantics.specs.Meaning.Substitution.{Bindings, put_event}
 use Rattle.csp_event_sets.specs.declared.event_expression.EventExpression.{EventExpression}
 use Rattle.csp_event_sets.specs.declared.renaming_pair.RenamingPair.{RenamingPair}
-use Rattle.csp_event_sets.specs.declared.operator.EventSetOperator.{EventSetOperator}
-use Rattle.csp_event_sets.specs.declared.operator.EventSetOperator.TheVariants as operator
 use Rattle.csp_event_sets.specs.declared.event_set.EventSet.{EventSet}
 use Rattle.csp_event_sets.specs.declared.event_set.EventSet.TheOpen as layer
 use Rattle.csp_event_sets.specs.declared.event_set.EventSet.TheFolds.{fold-EventSet}
@@ -18,12 +17,6 @@ event_expression_of e = record { channel = e.channel.0; fields = to_expressions 
 
 abbrev pub event_expressions_of : {A : Type 0} → List (EventExpression A) → List pure.EventExpression
 event_expressions_of es = map event_expression_of es
-
--- two sets under an operator
-abbrev pub combined : EventSetOperator → pure.EventSet → pure.EventSet → pure.EventSet
-combined operator.Union a b = pure.EventUnion a b
-combined operator.Intersection a b = pure.EventIntersection a b
-combined operator.Difference a b = pure.EventDifference a b
 
 -- one layer, with the sets of the parts in their places
 abbrev pub event_set_step : {A : Type 0} → layer.EventSet-F A pure.EventSet → pure.EventSet

@@ -20,7 +20,7 @@ impl<A: Allocator + Copy> EventExpression<A> {
     pub fn try_copy(&self, alloc: A) -> Result<EventExpression<A>, Memory>
         ensures { IfOk result (λ copy. event_expression_of copy ≡ event_expression_of self.now) }
     {
-        self.put_in(&[], alloc)
+        self.put_in(alloc, &[])
     }
 }
 

@@ -9,13 +9,12 @@ mod event_expression;
 mod event_set;
 pub mod laws;
 mod limits;
-mod operator;
 mod renaming_pair;
 mod substitution;
 
+pub use csp_syntax::EventSetOperator;
 pub use event_expression::EventExpression;
 pub use event_set::EventSet;
 pub use limits::{are_pairs_within_depth, room_left_by_pairs};
-pub use operator::EventSetOperator;
 pub use renaming_pair::RenamingPair;
 pub use substitution::put_in_pairs;

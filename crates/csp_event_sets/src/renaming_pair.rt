@@ -20,7 +20,7 @@ impl<A: Allocator + Copy> RenamingPair<A> {
     pub fn try_copy(&self, alloc: A) -> Result<RenamingPair<A>, Memory>
         ensures { IfOk result (λ copy. renaming_pair_of copy ≡ renaming_pair_of self.now) }
     {
-        self.put_in(&[], alloc)
+        self.put_in(alloc, &[])
     }
 }
 

@@ -3,8 +3,7 @@
 ghost use Rattle.std.specs.Prelude.{◌≡◌, IfOk};
 ghost use Rattle.csp_semantics.specs.Meaning.Substitution.{put_event, put_event_set, put_events, put_pairs};
 ghost use Rattle.csp_expression.specs.Bindings.{bindings_of};
-ghost use Rattle.csp_event_sets.specs.Events.{put_pair};
-ghost use Rattle.csp_event_sets.specs.Events.{event_expression_of, event_expressions_of, event_set_of, renaming_pair_of, renaming_pairs_of};
+ghost use Rattle.csp_event_sets.specs.Events.{put_pair, event_expression_of, event_expressions_of, event_set_of, renaming_pair_of, renaming_pairs_of};
 
 use crate::event_expression::EventExpression;
 use crate::event_set::EventSet;
@@ -17,12 +16,12 @@ impl<A: Allocator + Copy> EventExpression<A> {
     /// The event in the given allocator with each name of the list replaced by its value. `Memory` where there is no room.
     pub fn put_in(
         &self,
-        bindings: &[Binding<'_, A>],
         alloc: A,
+        bindings: &[Binding<'_, A>],
     ) -> Result<EventExpression<A>, Memory>
         ensures { IfOk result (λ put. event_expression_of put ≡ put_event (bindings_of bindings.now) (event_expression_of self.now)) }
     {
-        let fields = put_in_all(&self.fields, bindings, alloc)?;
+        let fields = put_in_all(alloc, &self.fields, bindings)?;
         Ok(EventExpression {
             channel: self.channel,
             fields,
@@ -32,11 +31,11 @@ impl<A: Allocator + Copy> EventExpression<A> {
 
 impl<A: Allocator + Copy> RenamingPair<A> {
     /// The pair in the given allocator with each name of the list replaced by its value. `Memory` where there is no room.
-    pub fn put_in(&self, bindings: &[Binding<'_, A>], alloc: A) -> Result<RenamingPair<A>, Memory>
+    pub fn put_in(&self, alloc: A, bindings: &[Binding<'_, A>]) -> Result<RenamingPair<A>, Memory>
         ensures { IfOk result (λ put. renaming_pair_of put ≡ put_pair (bindings_of bindings.now) (renaming_pair_of self.now)) }
     {
-        let from = self.from.put_in(bindings, alloc)?;
-        let to = self.to.put_in(bindings, alloc)?;
+        let from = self.from.put_in(alloc, bindings)?;
+        let to = self.to.put_in(alloc, bindings)?;
         Ok(RenamingPair { from, to })
     }
 }
@@ -44,19 +43,19 @@ impl<A: Allocator + Copy> RenamingPair<A> {
 impl<A: Allocator + Copy> EventSet<A> {
     /// The set in the given allocator with each name of the list replaced by its value. `Memory` where there is no room.
     #[tactic(auto, using(crate::proofs::EventPutting::put_combined))]
-    pub fn put_in(&self, bindings: &[Binding<'_, A>], alloc: A) -> Result<EventSet<A>, Memory>
+    pub fn put_in(&self, alloc: A, bindings: &[Binding<'_, A>]) -> Result<EventSet<A>, Memory>
         ensures { IfOk result (λ put. event_set_of put ≡ put_event_set (bindings_of bindings.now) (event_set_of self.now)) }
     {
         match self {
             EventSet::Enumeration(events) => {
-                Ok(EventSet::Enumeration(put_in_events(events, bindings, alloc)?))
+                Ok(EventSet::Enumeration(put_in_events(alloc, events, bindings)?))
             }
             EventSet::Productions(events) => {
-                Ok(EventSet::Productions(put_in_events(events, bindings, alloc)?))
+                Ok(EventSet::Productions(put_in_events(alloc, events, bindings)?))
             }
             EventSet::Combine(operator, left, right) => {
-                let left = Box::new(alloc, left.put_in(bindings, alloc)?)?;
-                let right = Box::new(alloc, right.put_in(bindings, alloc)?)?;
+                let left = Box::new(alloc, left.put_in(alloc, bindings)?)?;
+                let right = Box::new(alloc, right.put_in(alloc, bindings)?)?;
                 Ok(EventSet::Combine(*operator, left, right))
             }
         }
@@ -65,30 +64,30 @@ impl<A: Allocator + Copy> EventSet<A> {
 
 /// Each event with the values put in, in order, or `Memory` where there is no room.
 fn put_in_events<A: Allocator + Copy>(
+    alloc: A,
     events: &[EventExpression<A>],
     bindings: &[Binding<'_, A>],
-    alloc: A,
 ) -> Result<Vec<EventExpression<A>, A>, Memory>
     ensures { IfOk result (λ all. event_expressions_of all.items ≡ put_events (bindings_of bindings.now) (event_expressions_of events.now)) }
 {
     let mut all = Vec::new(alloc);
     for event in events {
-        all.push(event.put_in(bindings, alloc)?)?;
+        all.push(event.put_in(alloc, bindings)?)?;
     }
     Ok(all)
 }
 
 /// Each pair with the values put in, in order, or `Memory` where there is no room.
 pub fn put_in_pairs<A: Allocator + Copy>(
+    alloc: A,
     pairs: &[RenamingPair<A>],
     bindings: &[Binding<'_, A>],
-    alloc: A,
 ) -> Result<Vec<RenamingPair<A>, A>, Memory>
     ensures { IfOk result (λ all. renaming_pairs_of all.items ≡ put_pairs (bindings_of bindings.now) (renaming_pairs_of pairs.now)) }
 {
     let mut all = Vec::new(alloc);
     for pair in pairs {
-        all.push(pair.put_in(bindings, alloc)?)?;
+        all.push(pair.put_in(alloc, bindings)?)?;
     }
     Ok(all)
 }

@@ -6,19 +6,19 @@ use Rattle.std.specs.List.{list_any}
 use Rattle.std.specs.List.Sorted.{IsPermutation, IsSortedBy}
 use Rattle.std.specs.Ordering.{is_lt}
 use Rattle.std.proofs.lemmas.List.Sorted.{IsPermutation-map, list_any-IsPermutation}
-use Rattle.csp_semantics.specs.Syntax.Value as pure
-use Rattle.csp_semantics.specs.Syntax.Process as process
+use Rattle.csp_syntax.specs.Value as pure
+use Rattle.csp_syntax.specs.Process as process
+use Rattle.csp_syntax.specs.declared.event_set_operator.EventSetOperator.{EventSetOperator}
+use Rattle.csp_syntax.specs.declared.event_set_operator.EventSetOperator.TheVariants as operator
+use Rattle.csp_syntax.specs.Operators.{combined}
 use Rattle.csp_semantics.specs.Meaning.Evaluation.{Cause, ◌and_then◌}
 use Rattle.csp_semantics.specs.Meaning.Events.{begins_with, beginning_of, each, event_test}
 use Rattle.csp_semantics.specs.Meaning.Events as events
 use Rattle.csp_value.specs.declared.action.Event.{Event}
 use Rattle.csp_value.specs.Action.{event_of}
-use Rattle.csp_event_sets.specs.declared.operator.EventSetOperator.{EventSetOperator}
-use Rattle.csp_event_sets.specs.declared.operator.EventSetOperator.TheVariants as operator
-use Rattle.csp_event_sets.specs.Events.{combined}
 use Rattle.csp_expression.specs.Fault.{cause_of}
-use Rattle.csp_event_tests.specs.declared.stuck.Stuck.{Stuck}
-use Rattle.csp_event_tests.specs.declared.stuck.Stuck.TheVariants as stuck
+use Rattle.csp_expression.specs.declared.eval_fault.EvalFault.{EvalFault}
+use Rattle.csp_expression.specs.declared.eval_fault.EvalFault.TheVariants as eval
 use Rattle.csp_event_tests.specs.declared.event_test.EventTest.{EventTest}
 use Rattle.csp_event_tests.specs.declared.event_test.EventTest.TheVariants as views
 use Rattle.csp_event_tests.specs.Testing.{AreSorted, IsBoxedTestOf, IsEventOf, IsTestOf, combined_test, listed_in, test_of}
@@ -42,9 +42,9 @@ module _ (A : Type 0) (s : process.Script) (es : List process.EventExpression) w
   )
 
 -- an event without a value is the cause
-pub test_stopped : (A : Type 0) (one : Result pure.Event Cause) (all : Result (pure.Event → Bool) Cause) (why : Stuck) → IsEventOf {A = A} (Err why) one → ((c : Cause) → one ≡ Err c → all ≡ Err c) → IsTestOf {A = A} (Err why) all
-test_stopped A one all (stuck.Fault c) is goes = goes (cause_of c) is
-test_stopped A one all stuck.Memory is goes = tt
+pub test_stopped : (A : Type 0) (one : Result pure.Event Cause) (all : Result (pure.Event → Bool) Cause) (why : EvalFault) → IsEventOf {A = A} (Err why) one → ((c : Cause) → one ≡ Err c → all ≡ Err c) → IsTestOf {A = A} (Err why) all
+test_stopped A one all (eval.Fault c) is goes = goes (cause_of c) is
+test_stopped A one all eval.Memory is goes = tt
 
 -- ---- two sets under an operator
 
@@ -59,18 +59,18 @@ module _ (s : process.Script) (op : EventSetOperator) (a b : process.EventSet) w
 
   module _ (A : Type 0) where
     -- the first has no test
-    pub first_stuck : (why : Stuck) → IsBoxedTestOf {A = A} (Err why) (event_test s a) → IsTestOf {A = A} (Err why) (event_test s (combined op a b))
-    first_stuck (stuck.Fault c) none = combined_is ∙ ap (λ r. r and_then λ f. event_test s b and_then λ g. Ok (combined_test op f g)) none
-    first_stuck stuck.Memory none = tt
+    pub first_stuck : (why : EvalFault) → IsBoxedTestOf {A = A} (Err why) (event_test s a) → IsTestOf {A = A} (Err why) (event_test s (combined op a b))
+    first_stuck (eval.Fault c) none = combined_is ∙ ap (λ r. r and_then λ f. event_test s b and_then λ g. Ok (combined_test op f g)) none
+    first_stuck eval.Memory none = tt
 
     module _ (l : Box (EventTest A) A) (left : IsBoxedTestOf (Ok l) (event_test s a)) where
       behind_first : event_test s (combined op a b) ≡ (event_test s b and_then λ g. Ok (combined_test op (test_of l.value) g))
       behind_first = combined_is ∙ ap (λ r. r and_then λ f. event_test s b and_then λ g. Ok (combined_test op f g)) left.0
 
       -- the second has none
-      pub second_stuck : (why : Stuck) → IsBoxedTestOf {A = A} (Err why) (event_test s b) → IsTestOf {A = A} (Err why) (event_test s (combined op a b))
-      second_stuck (stuck.Fault c) none = behind_first ∙ ap (λ r. r and_then λ g. Ok (combined_test op (test_of l.value) g)) none
-      second_stuck stuck.Memory none = tt
+      pub second_stuck : (why : EvalFault) → IsBoxedTestOf {A = A} (Err why) (event_test s b) → IsTestOf {A = A} (Err why) (event_test s (combined op a b))
+      second_stuck (eval.Fault c) none = behind_first ∙ ap (λ r. r and_then λ g. Ok (combined_test op (test_of l.value) g)) none
+      second_stuck eval.Memory none = tt
 
       -- both have one
       pub both_tested : (r : Box (EventTest A) A) → IsBoxedTestOf (Ok r) (event_test s b) → IsTestOf (Ok (views.Combine op l r)) (event_test s (combined op a b))

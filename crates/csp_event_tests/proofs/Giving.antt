@@ -3,10 +3,11 @@ use Rattle.std.proofs.Common.{◌≡◌, ℕ, zero, suc, ◌+◌, ◌<◌, nat_e
 use Rattle.std.proofs.lemmas.Bool.{eq-eqb, eqb-true}
 use Rattle.std.proofs.lemmas.List.{drop_more, length-map, length-take-le, map-append, take-append-drop, take_more}
 use Rattle.std.specs.Result.{result_err, result_ok}
-use Rattle.csp_semantics.specs.Syntax.Value.{Event, Value, has_value}
-use Rattle.csp_semantics.specs.Syntax.Expression.{Expression, Expressions, expression_and, to_expressions}
-use Rattle.csp_semantics.specs.Syntax.Process.{EventExpression, Script}
-use Rattle.csp_semantics.specs.Meaning.Evaluation.{Cause, IllKinded, OutOfRange, Types, ◌and_then◌, value}
+use Rattle.csp_syntax.specs.Value.{Event, Value, has_value}
+use Rattle.csp_syntax.specs.Expression.{Expression, Expressions, expression_and, to_expressions}
+use Rattle.csp_syntax.specs.Process.{EventExpression, Script}
+use Rattle.csp_syntax.specs.Types.{Types}
+use Rattle.csp_semantics.specs.Meaning.Evaluation.{Cause, IllKinded, OutOfRange, ◌and_then◌, value}
 use Rattle.csp_semantics.specs.Meaning.Events.{beginning_of, event_of, field_sets, given_values, in_field_set}
 use Rattle.csp_value.specs.declared.field_set.FieldSet.{FieldSet}
 use Rattle.csp_value.specs.declared.value.Value as code
@@ -16,8 +17,8 @@ use Rattle.csp_expression.specs.Expression.{expression_of, expressions_of}
 use Rattle.csp_expression.proofs.Forming.{get_none, get_some}
 use Rattle.csp_expression.specs.Fault.{cause_of}
 use Rattle.csp_term.specs.Script.{field_values}
-use Rattle.csp_event_tests.specs.declared.stuck.Stuck.{Stuck}
-use Rattle.csp_event_tests.specs.declared.stuck.Stuck.TheVariants as stuck
+use Rattle.csp_expression.specs.declared.eval_fault.EvalFault.{EvalFault}
+use Rattle.csp_expression.specs.declared.eval_fault.EvalFault.TheVariants as eval
 use Rattle.csp_event_tests.specs.Testing.{AreGivenBy, AreSetsOf, IsEventOf, IsGivenBy, given, sets_of}
 
 -- ---- what is left of a list
@@ -135,11 +136,11 @@ module _ (types : Types) where
         ∙ ap Ok (sym (map-append value_of all (v ∷ [])) ∙ ap values_of (sym pushed))
 
     -- it has no value
-    pub given_stops : (set : FieldSet A) (why : Stuck) → slice_get sets i ≡ Some set → IsGivenBy {A = A} (Err why) (given types (expression_of item) (field_values set)) → AreGivenBy {A = A} (Err why) (given_values types (to_expressions (expressions_of items)) (sets_of sets))
-    given_stops set (stuck.Fault c) at none =
+    pub given_stops : (set : FieldSet A) (why : EvalFault) → slice_get sets i ≡ Some set → IsGivenBy {A = A} (Err why) (given types (expression_of item) (field_values set)) → AreGivenBy {A = A} (Err why) (given_values types (to_expressions (expressions_of items)) (sets_of sets))
+    given_stops set (eval.Fault c) at none =
         ap (λ es. given_values types (to_expressions es) (sets_of sets)) split
         ∙ one_stops (expressions_of (take i items)) (values_of all) (sets_of sets) so_far (expression_of item) (expressions_of (drop (i + 1) items)) (field_values set) (cause_of c) (set_at set at) none
-    given_stops set stuck.Memory at none = tt
+    given_stops set eval.Memory at none = tt
 
     -- it has no set
     pub too_many : slice_get sets i ≡ None → given_values types (to_expressions (expressions_of items)) (sets_of sets) ≡ Err IllKinded
@@ -215,16 +216,16 @@ module _ (s : Script) (e : EventExpression) (c : Cause) where
 
 module _ (A : Type 0) (s : Script) (e : EventExpression) where
   -- without sets there is no beginning
-  pub sets_stuck : (why : Stuck) → AreSetsOf {A = A} (Err why) (field_sets s e.channel) → IsEventOf {A = A} (Err why) (beginning_of s e)
-  sets_stuck (stuck.Fault c) none = no_sets s e (cause_of c) none
-  sets_stuck stuck.Memory none = tt
+  pub sets_stuck : (why : EvalFault) → AreSetsOf {A = A} (Err why) (field_sets s e.channel) → IsEventOf {A = A} (Err why) (beginning_of s e)
+  sets_stuck (eval.Fault c) none = no_sets s e (cause_of c) none
+  sets_stuck eval.Memory none = tt
 
   -- nor without values
-  pub values_stuck : (sets : List (List Value)) → field_sets s e.channel ≡ Ok sets → (why : Stuck) → AreGivenBy {A = A} (Err why) (given_values s.types e.fields sets) → IsEventOf {A = A} (Err why) (beginning_of s e)
-  values_stuck sets has (stuck.Fault c) none = not_begun s e sets has (cause_of c) none
-  values_stuck sets has stuck.Memory none = tt
+  pub values_stuck : (sets : List (List Value)) → field_sets s e.channel ≡ Ok sets → (why : EvalFault) → AreGivenBy {A = A} (Err why) (given_values s.types e.fields sets) → IsEventOf {A = A} (Err why) (beginning_of s e)
+  values_stuck sets has (eval.Fault c) none = not_begun s e sets has (cause_of c) none
+  values_stuck sets has eval.Memory none = tt
 
   -- without a beginning there is no event
-  pub beginning_stuck : (why : Stuck) → IsEventOf {A = A} (Err why) (beginning_of s e) → IsEventOf {A = A} (Err why) (event_of s e)
-  beginning_stuck (stuck.Fault c) none = not_whole s e (cause_of c) none
-  beginning_stuck stuck.Memory none = tt
+  pub beginning_stuck : (why : EvalFault) → IsEventOf {A = A} (Err why) (beginning_of s e) → IsEventOf {A = A} (Err why) (event_of s e)
+  beginning_stuck (eval.Fault c) none = not_whole s e (cause_of c) none
+  beginning_stuck eval.Memory none = tt

@@ -11,17 +11,17 @@ use Rattle.std.proofs.Math.Dec.{eqb-suc-zero}
 use Rattle.std.proofs.lemmas.Bool.{eq-eqb, eqb-true}
 use Rattle.std.proofs.lemmas.Grind.{flat_map-append}
 use Rattle.std.proofs.lemmas.List.{append-nil, append_assoc, drop_more, map-append, take-append-drop, take_more}
-use Rattle.csp_semantics.specs.Syntax.Value as pure
-use Rattle.csp_semantics.specs.Syntax.Process as process
+use Rattle.csp_syntax.specs.Value as pure
+use Rattle.csp_syntax.specs.Process as process
 use Rattle.csp_semantics.specs.Meaning.Evaluation.{Cause, IllKinded, ◌and_then◌}
 use Rattle.csp_semantics.specs.Meaning.Events.{channel_images, event_images, field_sets, is_bare, or_itself, pair_images, renaming, same_sets}
 use Rattle.csp_semantics.specs.Meaning.Events as events
-use Rattle.csp_semantics.proofs.Equalities.{is_eq-Equal}
-use Rattle.csp_semantics.proofs.Orders.{event_total}
+use Rattle.csp_syntax.proofs.Equalities.{is_eq-Equal}
+use Rattle.csp_syntax.proofs.Orders.{event_total}
 use Rattle.csp_value.specs.declared.action.Event.{Event}
 use Rattle.csp_value.specs.declared.name.ChannelId.{ChannelId}
 use Rattle.csp_value.specs.Action.{event_of}
-use Rattle.csp_semantics.specs.Syntax.Expression.{to_expressions}
+use Rattle.csp_syntax.specs.Expression.{to_expressions}
 use Rattle.csp_expression.specs.declared.expr.Expr.{Expr}
 use Rattle.csp_expression.specs.Expression.{expressions_of}
 use Rattle.csp_expression.specs.Fault.{cause_of}
@@ -29,8 +29,8 @@ use Rattle.csp_event_sets.specs.declared.renaming_pair.RenamingPair.{RenamingPai
 use Rattle.csp_event_sets.specs.declared.event_expression.EventExpression.{EventExpression}
 use Rattle.csp_event_sets.specs.Events.{event_expression_of, renaming_pair_of, renaming_pairs_of}
 use Rattle.csp_event_tests.specs.declared.images.Images.{Images}
-use Rattle.csp_event_tests.specs.declared.stuck.Stuck.{Stuck}
-use Rattle.csp_event_tests.specs.declared.stuck.Stuck.TheVariants as stuck
+use Rattle.csp_expression.specs.declared.eval_fault.EvalFault.{EvalFault}
+use Rattle.csp_expression.specs.declared.eval_fault.EvalFault.TheVariants as eval
 use Rattle.csp_event_tests.specs.Imaging.{AreMade, IsImagesOf, Makes, MakesMore, channel_image, event_image, found_images}
 use Rattle.csp_event_tests.specs.Testing.{AreSetsOf, IsEventOf}
 use Rattle.csp_event_tests.proofs.Alike.{alike_both, alike_by, alike_moved, alike_then, alike_turned}
@@ -102,10 +102,10 @@ module _ (s : process.Script) where
               (alike_both (f e) (found_images images e) (g e ++ []) (g e) (so_far.2 e) (alike_by (g e ++ []) (g e) (append-nil (g e)))) (one.2 e),
         )
 
-    pub stops_at_pair : (why : Stuck) → MakesMore images (pair_images s (renaming_pair_of item)) (Err why) more → IsImagesOf {A = A} (Err why) (renaming s (renaming_pairs_of items))
-    stops_at_pair (stuck.Fault c) is =
+    pub stops_at_pair : (why : EvalFault) → MakesMore images (pair_images s (renaming_pair_of item)) (Err why) more → IsImagesOf {A = A} (Err why) (renaming s (renaming_pairs_of items))
+    stops_at_pair (eval.Fault c) is =
         ap (renaming s) whole ∙ renaming_stops (renaming_pairs_of (take i items)) (renaming_pairs_of (drop (i + 1) items)) (renaming_pair_of item) so_far.0 (cause_of c) so_far.1 is
-    stops_at_pair stuck.Memory is = tt
+    stops_at_pair eval.Memory is = tt
 
 -- ---- one pair
 
@@ -129,13 +129,13 @@ module _ (s : process.Script) (r : process.RenamingPair) where
 
 -- what has no event or no field sets has no images
 module _ (A : Type 0) (before after : Images A) (all : Result Image Cause) where
-  pub stopped_at_event : (one : Result pure.Event Cause) (why : Stuck) → IsEventOf {A = A} (Err why) one → ((c : Cause) → one ≡ Err c → all ≡ Err c) → MakesMore before all (Err why) after
-  stopped_at_event one (stuck.Fault c) is goes = goes (cause_of c) is
-  stopped_at_event one stuck.Memory is goes = tt
+  pub stopped_at_event : (one : Result pure.Event Cause) (why : EvalFault) → IsEventOf {A = A} (Err why) one → ((c : Cause) → one ≡ Err c → all ≡ Err c) → MakesMore before all (Err why) after
+  stopped_at_event one (eval.Fault c) is goes = goes (cause_of c) is
+  stopped_at_event one eval.Memory is goes = tt
 
-  pub stopped_at_sets : (one : Result (List (List pure.Value)) Cause) (why : Stuck) → AreSetsOf {A = A} (Err why) one → ((c : Cause) → one ≡ Err c → all ≡ Err c) → MakesMore before all (Err why) after
-  stopped_at_sets one (stuck.Fault c) is goes = goes (cause_of c) is
-  stopped_at_sets one stuck.Memory is goes = tt
+  pub stopped_at_sets : (one : Result (List (List pure.Value)) Cause) (why : EvalFault) → AreSetsOf {A = A} (Err why) one → ((c : Cause) → one ≡ Err c → all ≡ Err c) → MakesMore before all (Err why) after
+  stopped_at_sets one (eval.Fault c) is goes = goes (cause_of c) is
+  stopped_at_sets one eval.Memory is goes = tt
 
 -- no pairs
 pub none_named : {A : Type 0} (s : process.Script) (images : Images A) → images.channels.items ≡ [] → images.events.items ≡ [] → AreMade images (renaming s [])

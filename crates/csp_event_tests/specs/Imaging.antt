@@ -4,16 +4,15 @@ use Rattle.std.specs.List.{flat_map}
 use Rattle.std.specs.List.Sorted.{IsSortedBy}
 use Rattle.std.specs.Ordering.{is_lt, nat_cmp}
 use denote.Ref.{Bor}
-use Rattle.csp_semantics.specs.Syntax.Value as pure
+use Rattle.csp_syntax.specs.Value as pure
 use Rattle.csp_semantics.specs.Meaning.Evaluation.{Cause}
 use Rattle.csp_value.specs.declared.action.Event.{Event}
 use Rattle.csp_value.specs.declared.field_set.FieldSet.{FieldSet}
 use Rattle.csp_value.specs.declared.name.ChannelId.{ChannelId}
 use Rattle.csp_value.specs.Action.{event_of}
-use Rattle.csp_expression.specs.Fault.{cause_of}
+use Rattle.csp_expression.specs.Agreement.{AgreesBy}
 use Rattle.csp_event_tests.specs.declared.images.Images.{Images}
-use Rattle.csp_event_tests.specs.declared.stuck.Stuck.{Stuck}
-use Rattle.csp_event_tests.specs.declared.stuck.Stuck.TheVariants as stuck
+use Rattle.csp_expression.specs.declared.eval_fault.EvalFault.{EvalFault}
 
 -- the event on the other channel, where it is on the first
 abbrev pub channel_image : pure.Event → ChannelId × ChannelId → List pure.Event
@@ -46,13 +45,9 @@ abbrev pub AreMade : {A : Type 0} → Images A → Result (pure.Event → List p
 AreMade images r = (f : pure.Event → List pure.Event) × (r ≡ Ok f) × Makes images f
 
 -- the pairs of a renaming, or the first cause
-abbrev pub IsImagesOf : {A : Type 0} → Result (Images A) Stuck → Result (pure.Event → List pure.Event) Cause → Type 0
-IsImagesOf (Ok images) r = AreMade images r × PairsRise images
-IsImagesOf (Err (stuck.Fault c)) r = r ≡ Err (cause_of c)
-IsImagesOf (Err stuck.Memory) r = ⊤
+abbrev pub IsImagesOf : {A : Type 0} → Result (Images A) EvalFault → Result (pure.Event → List pure.Event) Cause → Type 0
+IsImagesOf = AgreesBy (λ images r. AreMade images r × PairsRise images)
 
 -- one more pair, or its cause
-abbrev pub MakesMore : {A : Type 0} → Images A → Result (pure.Event → List pure.Event) Cause → Result Unit Stuck → Images A → Type 0
-MakesMore before r (Ok u) after = (f : pure.Event → List pure.Event) × (r ≡ Ok f) × Makes after (λ e. found_images before e ++ f e)
-MakesMore before r (Err (stuck.Fault c)) after = r ≡ Err (cause_of c)
-MakesMore before r (Err stuck.Memory) after = ⊤
+abbrev pub MakesMore : {A : Type 0} → Images A → Result (pure.Event → List pure.Event) Cause → Result Unit EvalFault → Images A → Type 0
+MakesMore before r x after = AgreesBy (λ u r. (f : pure.Event → List pure.Event) × (r ≡ Ok f) × Makes after (λ e. found_images before e ++ f e)) x r

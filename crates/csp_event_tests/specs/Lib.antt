@@ -1,3 +1,2 @@
-pub mod Stuck
 pub mod Testing
 pub mod Imaging

@@ -7,9 +7,12 @@ use Rattle.std.specs.List.Sorted.{IsSortedBy}
 use Rattle.std.specs.Ordering.{is_lt}
 use Rattle.smallvec.specs.SmallVec.{SmallVec}
 use denote.Ref.{Bor}
-use Rattle.csp_semantics.specs.Syntax.Value as pure
-use Rattle.csp_semantics.specs.Syntax.Expression.{Expression}
-use Rattle.csp_semantics.specs.Meaning.Evaluation.{Cause, Types, ◌and_then◌, value}
+use Rattle.csp_syntax.specs.Value as pure
+use Rattle.csp_syntax.specs.Expression.{Expression}
+use Rattle.csp_syntax.specs.Types.{Types}
+use Rattle.csp_syntax.specs.declared.event_set_operator.EventSetOperator.{EventSetOperator}
+use Rattle.csp_syntax.specs.declared.event_set_operator.EventSetOperator.TheVariants as operator
+use Rattle.csp_semantics.specs.Meaning.Evaluation.{Cause, ◌and_then◌, value}
 use Rattle.csp_semantics.specs.Meaning.Events.{begins_with, in_field_set}
 use Rattle.csp_value.specs.declared.action.Event.{Event}
 use Rattle.csp_value.specs.declared.field_set.FieldSet.{FieldSet}
@@ -17,12 +20,9 @@ use Rattle.csp_value.specs.declared.name.ChannelId.{ChannelId}
 use Rattle.csp_value.specs.declared.value.Value.{Value}
 use Rattle.csp_value.specs.Action.{event_of}
 use Rattle.csp_value.specs.Value.{value_of, values_of}
-use Rattle.csp_expression.specs.Fault.{cause_of}
+use Rattle.csp_expression.specs.Agreement.{AgreesBy, AgreesWith}
 use Rattle.csp_term.specs.Script.{field_values}
-use Rattle.csp_event_sets.specs.declared.operator.EventSetOperator.{EventSetOperator}
-use Rattle.csp_event_sets.specs.declared.operator.EventSetOperator.TheVariants as operator
-use Rattle.csp_event_tests.specs.declared.stuck.Stuck.{Stuck}
-use Rattle.csp_event_tests.specs.declared.stuck.Stuck.TheVariants as stuck
+use Rattle.csp_expression.specs.declared.eval_fault.EvalFault.{EvalFault}
 use Rattle.csp_event_tests.specs.declared.event_test.EventTest.{EventTest}
 use Rattle.csp_event_tests.specs.declared.event_test.EventTest.TheOpen as layer
 use Rattle.csp_event_tests.specs.declared.event_test.EventTest.TheFolds.{fold-EventTest}
@@ -62,44 +62,32 @@ abbrev pub sets_of : {A : Type 0} → List (FieldSet A) → List (List pure.Valu
 sets_of ss = map field_values ss
 
 -- the field sets of a channel, or the cause where it has none
-abbrev pub AreSetsOf : {A : Type 0} → Result (Bor (List (FieldSet A))) Stuck → Result (List (List pure.Value)) Cause → Type 0
-AreSetsOf (Ok sets) r = r ≡ Ok (sets_of sets.now)
-AreSetsOf (Err (stuck.Fault c)) r = r ≡ Err (cause_of c)
-AreSetsOf (Err stuck.Memory) r = ⊤
+abbrev pub AreSetsOf : {A : Type 0} → Result (Bor (List (FieldSet A))) EvalFault → Result (List (List pure.Value)) Cause → Type 0
+AreSetsOf = AgreesWith (λ sets. sets_of sets.now)
 
 -- the value of a given field, which has to lie in its field set
 abbrev pub given : Types → Expression → List pure.Value → Result pure.Value Cause
 given types e set = value types e and_then λ v. in_field_set set v
 
-abbrev pub IsGivenBy : {A : Type 0} → Result (Value A) Stuck → Result pure.Value Cause → Type 0
-IsGivenBy (Ok v) r = r ≡ Ok (value_of v)
-IsGivenBy (Err (stuck.Fault c)) r = r ≡ Err (cause_of c)
-IsGivenBy (Err stuck.Memory) r = ⊤
+abbrev pub IsGivenBy : {A : Type 0} → Result (Value A) EvalFault → Result pure.Value Cause → Type 0
+IsGivenBy = AgreesWith value_of
 
 -- the same of several fields
-abbrev pub AreGivenBy : {A : Type 0} → Result (SmallVec (Value A)) Stuck → Result (List pure.Value) Cause → Type 0
-AreGivenBy (Ok vs) r = r ≡ Ok (values_of vs.items)
-AreGivenBy (Err (stuck.Fault c)) r = r ≡ Err (cause_of c)
-AreGivenBy (Err stuck.Memory) r = ⊤
+abbrev pub AreGivenBy : {A : Type 0} → Result (SmallVec (Value A)) EvalFault → Result (List pure.Value) Cause → Type 0
+AreGivenBy = AgreesWith (λ vs. values_of vs.items)
 
 -- the channel with these fields
 abbrev pub event_with : {A : Type 0} → ChannelId → List (Value A) → pure.Event
 event_with c vs = record { channel = c.0; fields = values_of vs }
 
 -- the event that is written, or the first cause
-abbrev pub IsEventOf : {A : Type 0} → Result (Event A) Stuck → Result pure.Event Cause → Type 0
-IsEventOf (Ok e) r = r ≡ Ok (event_of e)
-IsEventOf (Err (stuck.Fault c)) r = r ≡ Err (cause_of c)
-IsEventOf (Err stuck.Memory) r = ⊤
+abbrev pub IsEventOf : {A : Type 0} → Result (Event A) EvalFault → Result pure.Event Cause → Type 0
+IsEventOf = AgreesWith event_of
 
 -- the test that a set is, in whose lists events are found by halving, or the first cause
-abbrev pub IsTestOf : {A : Type 0} → Result (EventTest A) Stuck → Result (pure.Event → Bool) Cause → Type 0
-IsTestOf (Ok t) r = (r ≡ Ok (test_of t)) × AreSorted (listed_in t)
-IsTestOf (Err (stuck.Fault c)) r = r ≡ Err (cause_of c)
-IsTestOf (Err stuck.Memory) r = ⊤
+abbrev pub IsTestOf : {A : Type 0} → Result (EventTest A) EvalFault → Result (pure.Event → Bool) Cause → Type 0
+IsTestOf = AgreesBy (λ t r. (r ≡ Ok (test_of t)) × AreSorted (listed_in t))
 
 -- the same behind a pointer
-abbrev pub IsBoxedTestOf : {A : Type 0} → Result (Box (EventTest A) A) Stuck → Result (pure.Event → Bool) Cause → Type 0
-IsBoxedTestOf (Ok t) r = (r ≡ Ok (test_of (box_value t))) × AreSorted (listed_in (box_value t))
-IsBoxedTestOf (Err (stuck.Fault c)) r = r ≡ Err (cause_of c)
-IsBoxedTestOf (Err stuck.Memory) r = ⊤
+abbrev pub IsBoxedTestOf : {A : Type 0} → Result (Box (EventTest A) A) EvalFault → Result (pure.Event → Bool) Cause → Type 0
+IsBoxedTestOf = AgreesBy (λ t r. (r ≡ Ok (test_of (box_value t))) × AreSorted (listed_in (box_value t)))

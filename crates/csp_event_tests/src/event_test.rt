@@ -4,9 +4,9 @@ ghost use Rattle.std.specs.Prelude.{◌≡◌, map};
 ghost use Rattle.std.specs.List.{list_any};
 ghost use Rattle.std.specs.List.Sorted.{IsSortedBy};
 ghost use Rattle.std.specs.Ordering.{is_lt};
-ghost use Rattle.csp_semantics.specs.Syntax.Value.{event_cmp, event_eq};
-ghost use Rattle.csp_semantics.specs.Syntax.Process.{Enumeration, Productions};
-ghost use Rattle.csp_semantics.specs.Syntax.Expression.{to_expressions};
+ghost use Rattle.csp_syntax.specs.Value.{event_cmp, event_eq};
+ghost use Rattle.csp_syntax.specs.Process.{Enumeration, Productions};
+ghost use Rattle.csp_syntax.specs.Expression.{to_expressions};
 ghost use Rattle.csp_semantics.specs.Meaning.Events.{begins_with, beginning_of, event_of as written_event, event_test, field_sets, given_values};
 ghost use Rattle.csp_value.specs.Action.{event_of};
 ghost use Rattle.csp_expression.specs.Evaluation.{table_of};
@@ -15,9 +15,8 @@ ghost use Rattle.csp_event_sets.specs.Events.{event_expression_of, event_express
 ghost use Rattle.csp_term.specs.Script.{field_values, script_of};
 ghost use Rattle.csp_event_tests.specs.Testing.{AreGivenBy, AreSetsOf, AreSorted, IsBoxedTestOf, IsEventOf, IsGivenBy, IsTestOf, event_with, given, listed_in, sets_of, test_of};
 
-use crate::stuck::Stuck;
 use csp_event_sets::{EventExpression, EventSet, EventSetOperator};
-use csp_expression::{Expr, TypeTable};
+use csp_expression::{EvalFault, Expr, TypeTable};
 use csp_term::{AllocHandle, Channel, ChannelId, Event, Fault, Memory, Script};
 use csp_value::{FieldSet, Value};
 use smallvec::SmallVec;
@@ -37,12 +36,12 @@ pub enum EventTest<A: AllocHandle> {
 pub(crate) fn field_sets<A: AllocHandle>(
     script: &Script<A>,
     channel: ChannelId,
-) -> Result<&[FieldSet<A>], Stuck>
+) -> Result<&[FieldSet<A>], EvalFault>
     ensures { AreSetsOf result (field_sets (script_of script.now) channel.0) }
 {
     match script.channels.get(channel.0 as usize) {
         Some(declared) => Ok(&declared.fields),
-        None => Err(Stuck::Fault(Fault::Kind)),
+        None => Err(EvalFault::Fault(Fault::Kind)),
     }
 }
 
@@ -52,14 +51,14 @@ fn given_value<A: AllocHandle>(
     types: &TypeTable<A>,
     field: &Expr<A>,
     set: &FieldSet<A>,
-) -> Result<Value<A>, Stuck>
+) -> Result<Value<A>, EvalFault>
     ensures { IsGivenBy result (given (table_of types.now) (expression_of field.now) (field_values set.now)) }
 {
-    let value = field.eval(types, alloc)?;
+    let value = field.eval(alloc, types)?;
     if set.contains(&value) {
         Ok(value)
     } else {
-        Err(Stuck::Fault(Fault::Range))
+        Err(EvalFault::Fault(Fault::Range))
     }
 }
 
@@ -69,13 +68,13 @@ fn given_values<A: AllocHandle>(
     types: &TypeTable<A>,
     fields: &[Expr<A>],
     sets: &[FieldSet<A>],
-) -> Result<SmallVec<Value<A>, 2, A>, Stuck>
+) -> Result<SmallVec<Value<A>, 2, A>, EvalFault>
     ensures { AreGivenBy result (given_values (table_of types.now) (to_expressions (expressions_of fields.now)) (sets_of sets.now)) }
 {
     let mut values = SmallVec::new(alloc);
     for (place, field) in fields.iter().enumerate() {
         let Some(set) = sets.get(place) else {
-            return Err(Stuck::Fault(Fault::Kind));
+            return Err(EvalFault::Fault(Fault::Kind));
         };
         values.push(given_value(alloc, types, field, set)?)?;
     }
@@ -87,7 +86,7 @@ fn beginning<A: AllocHandle>(
     alloc: A,
     script: &Script<A>,
     written: &EventExpression<A>,
-) -> Result<Event<A>, Stuck>
+) -> Result<Event<A>, EvalFault>
     ensures { IsEventOf result (beginning_of (script_of script.now) (event_expression_of written.now)) }
 {
     let channel = written.channel;
@@ -101,7 +100,7 @@ pub(crate) fn whole_event<A: AllocHandle>(
     alloc: A,
     script: &Script<A>,
     written: &EventExpression<A>,
-) -> Result<Event<A>, Stuck>
+) -> Result<Event<A>, EvalFault>
     ensures { IsEventOf result (written_event (script_of script.now) (event_expression_of written.now)) }
 {
     let event = beginning(alloc, script, written)?;
@@ -109,7 +108,7 @@ pub(crate) fn whole_event<A: AllocHandle>(
     if event.fields.len() == sets.len() {
         Ok(event)
     } else {
-        Err(Stuck::Fault(Fault::Kind))
+        Err(EvalFault::Fault(Fault::Kind))
     }
 }
 
@@ -117,7 +116,7 @@ fn events<A: AllocHandle>(
     alloc: A,
     script: &Script<A>,
     written: &[EventExpression<A>],
-) -> Result<EventTest<A>, Stuck>
+) -> Result<EventTest<A>, EvalFault>
     ensures { IsTestOf result (event_test (script_of script.now) (Enumeration (event_expressions_of written.now))) }
 {
     let mut events = Vec::new(alloc);
@@ -132,7 +131,7 @@ fn beginnings<A: AllocHandle>(
     alloc: A,
     script: &Script<A>,
     written: &[EventExpression<A>],
-) -> Result<EventTest<A>, Stuck>
+) -> Result<EventTest<A>, EvalFault>
     ensures { IsTestOf result (event_test (script_of script.now) (Productions (event_expressions_of written.now))) }
 {
     let mut events = Vec::new(alloc);
@@ -148,7 +147,7 @@ fn boxed<A: AllocHandle>(
     alloc: A,
     script: &Script<A>,
     set: &EventSet<A>,
-) -> Result<Box<EventTest<A>, A>, Stuck>
+) -> Result<Box<EventTest<A>, A>, EvalFault>
     ensures { IsBoxedTestOf result (event_test (script_of script.now) (event_set_of set.now)) }
 {
     Ok(Box::new(alloc, EventTest::of(alloc, script, set)?)?)
@@ -209,10 +208,10 @@ fn is_begun<A: AllocHandle>(beginnings: &[Event<A>], event: &Event<A>) -> bool
 }
 
 impl<A: AllocHandle> EventTest<A> {
-    /// The test that the set is: `Stuck::Fault` has the first cause for which it is none, and `Stuck::Memory` says that
+    /// The test that the set is: `Fault` has the first cause for which it is none, and `Memory` says that
     /// there is no room for it.
     #[cycle(event_test)]
-    pub fn of(alloc: A, script: &Script<A>, set: &EventSet<A>) -> Result<EventTest<A>, Stuck>
+    pub fn of(alloc: A, script: &Script<A>, set: &EventSet<A>) -> Result<EventTest<A>, EvalFault>
         ensures { IsTestOf result (event_test (script_of script.now) (event_set_of set.now)) }
     {
         match set {

@@ -3,7 +3,7 @@
 ghost use Rattle.std.specs.Prelude.{◌≡◌, ◌&&◌, ◌++◌, IfOk, OnOk, map, nat_eq};
 ghost use Rattle.std.specs.List.{flat_map};
 ghost use Rattle.std.specs.Ordering.{is_lt, nat_cmp};
-ghost use Rattle.csp_semantics.specs.Syntax.Value.{event_cmp, event_eq};
+ghost use Rattle.csp_syntax.specs.Value.{event_cmp, event_eq};
 ghost use Rattle.csp_semantics.specs.Meaning.Events.{channel_images, event_images, is_bare, or_itself, pair_images, renaming, same_sets};
 ghost use Rattle.csp_value.specs.Action.{event_of};
 ghost use Rattle.csp_event_sets.specs.Events.{event_expression_of, renaming_pair_of, renaming_pairs_of};
@@ -12,8 +12,8 @@ ghost use Rattle.csp_event_tests.specs.Testing.{sets_of};
 ghost use Rattle.csp_event_tests.specs.Imaging.{ChannelsRise, EventsRise, MakesMore, IsImagesOf, PairsRise, channel_image, event_image, found_images};
 
 use crate::event_test::{field_sets, whole_event};
-use crate::stuck::Stuck;
 use csp_event_sets::{EventExpression, RenamingPair};
+use csp_expression::EvalFault;
 use csp_term::{AllocHandle, ChannelId, Event, Fault, Memory, Script};
 use csp_value::FieldSet;
 
@@ -92,7 +92,7 @@ impl<A: AllocHandle> Images<A> {
         alloc: A,
         script: &Script<A>,
         pair: &RenamingPair<A>,
-    ) -> Result<(), Stuck>
+    ) -> Result<(), EvalFault>
         ensures { MakesMore self.old (event_images (script_of script.now) (event_expression_of pair.now.from) (event_expression_of pair.now.to)) result self.new }
     {
         let from = whole_event(alloc, script, &pair.from)?;
@@ -106,13 +106,13 @@ impl<A: AllocHandle> Images<A> {
         script: &Script<A>,
         from: ChannelId,
         to: ChannelId,
-    ) -> Result<(), Stuck>
+    ) -> Result<(), EvalFault>
         ensures { MakesMore self.old (channel_images (script_of script.now) from.0 to.0) result self.new }
     {
         let sets = field_sets(script, from)?;
         let others = field_sets(script, to)?;
         if !same_sets(sets, others) {
-            return Err(Stuck::Fault(Fault::Kind));
+            return Err(EvalFault::Fault(Fault::Kind));
         }
         self.channels.push((from, to))?;
         Ok(())
@@ -124,7 +124,7 @@ impl<A: AllocHandle> Images<A> {
         alloc: A,
         script: &Script<A>,
         pair: &RenamingPair<A>,
-    ) -> Result<(), Stuck>
+    ) -> Result<(), EvalFault>
         ensures { MakesMore self.old (pair_images (script_of script.now) (renaming_pair_of pair.now)) result self.new }
     {
         if are_channels(pair) {
@@ -134,9 +134,13 @@ impl<A: AllocHandle> Images<A> {
         }
     }
 
-    /// What the pairs make of events: `Stuck::Fault` has the first cause for which that is nothing, and `Stuck::Memory`
+    /// What the pairs make of events: `Fault` has the first cause for which that is nothing, and `Memory`
     /// says that there is no room for it.
-    pub fn of(alloc: A, script: &Script<A>, pairs: &[RenamingPair<A>]) -> Result<Images<A>, Stuck>
+    pub fn of(
+        alloc: A,
+        script: &Script<A>,
+        pairs: &[RenamingPair<A>],
+    ) -> Result<Images<A>, EvalFault>
         ensures { IsImagesOf result (renaming (script_of script.now) (renaming_pairs_of pairs.now)) }
     {
         let mut images = Images {

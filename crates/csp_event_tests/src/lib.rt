@@ -7,8 +7,6 @@
 
 mod event_test;
 mod images;
-mod stuck;
 
 pub use event_test::EventTest;
 pub use images::Images;
-pub use stuck::Stuck;

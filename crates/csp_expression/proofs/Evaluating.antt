@@ -2,9 +2,10 @@
 use Rattle.std.proofs.Common.{◌≡◌, ℕ, ◌+◌, ◌<◌, List, [], ◌∷◌, ◌++◌, length, take, drop, get_or, Result, Ok, Err, refl, sym, ◌∙◌, ap}
 use Rattle.std.proofs.lemmas.List.{take_more, drop_more, take-append-drop, map-append}
 use Rattle.std.specs.declared.vec.Vec.{Vec}
-use Rattle.csp_semantics.specs.Syntax.Value as pure
-use Rattle.csp_semantics.specs.Syntax.Expression.{Expression, SequenceOf, SetOf, to_expressions}
-use Rattle.csp_semantics.specs.Meaning.Evaluation.{Cause, Types, ◌and_then◌, sequence, set_of, value, values}
+use Rattle.csp_syntax.specs.Value as pure
+use Rattle.csp_syntax.specs.Expression.{Expression, SequenceOf, SetOf, to_expressions}
+use Rattle.csp_syntax.specs.Types.{Types}
+use Rattle.csp_semantics.specs.Meaning.Evaluation.{Cause, ◌and_then◌, sequence, set_of, value, values}
 use Rattle.csp_value.specs.declared.value.Value.{Value}
 use Rattle.csp_value.specs.Value.{value_of, values_of}
 use Rattle.csp_expression.specs.declared.expr.Expr.{Expr}

@@ -4,15 +4,15 @@ use mir.Syntax
 use Rattle.std.proofs.Common.{Bool, sym, ap, ◌∙◌}
 use Rattle.std.specs.declared.alloc.Allocator as allocator
 use Rattle.std.specs.Ordering.{is_eq}
-use Rattle.csp_semantics.specs.Syntax.Order.{expression_cmp}
-use Rattle.csp_semantics.proofs.Equalities.{is_eq-Equal}
-use Rattle.csp_semantics.proofs.ProcessOrder.{expression_same, expression_refl}
+use Rattle.csp_syntax.specs.Order.{expression_cmp}
+use Rattle.csp_syntax.proofs.Equalities.{is_eq-Equal}
+use Rattle.csp_syntax.proofs.ProcessOrder.{expression_same, expression_refl}
 use Rattle.csp_expression.specs.declared.expr.Expr.{Expr}
 use Rattle.csp_expression.specs.contracts.expr.ExprPartialEq.TheImpl as impl
 use Rattle.csp_expression.specs.contracts.expr.ExprOrd.TheImpl.Laws as laws
 use Rattle.csp_expression.specs.Expression.{expression_of}
 use Rattle.csp_expression.proofs.ExpressionOrder.{cmp, ordered}
-use Rattle.csp_expression.proofs.Sameness.{Tells}
+use Rattle.csp_value.proofs.Sameness.{Tells}
 
 module _ (R : RattleType.RattleType) (A : allocator.Ghosts R.Denot) (ad dd : Syntax.Dict) where
   abbrev pub expression_eq : Expr R.Denot → Expr R.Denot → Bool

@@ -2,18 +2,19 @@
 use Rattle.std.proofs.Common.{◌≡◌, sym, ◌∙◌, ap}
 use Rattle.std.specs.declared.boxed.Box.{Box}
 use Rattle.std.specs.declared.vec.Vec.{Vec}
-use Rattle.csp_semantics.specs.Syntax.Expression as pure
+use Rattle.csp_syntax.specs.Expression as pure
+use Rattle.csp_syntax.specs.declared.operator.UnaryOperator.{UnaryOperator}
+use Rattle.csp_syntax.specs.declared.operator.BinaryOperator.{BinaryOperator}
+use Rattle.csp_syntax.specs.Operators.{unary_of, binary_of}
 use Rattle.csp_value.specs.declared.value.Value.{Value}
 use Rattle.csp_value.specs.Value.{value_of}
 use Rattle.csp_expression.specs.declared.name.Name.{Name}
 use Rattle.csp_expression.specs.declared.name.DatatypeId.{DatatypeId}
 use Rattle.csp_expression.specs.declared.name.NametypeId.{NametypeId}
-use Rattle.csp_expression.specs.declared.operator.UnaryOperator.{UnaryOperator}
-use Rattle.csp_expression.specs.declared.operator.BinaryOperator.{BinaryOperator}
 use Rattle.csp_expression.specs.declared.expr.Expr.{Expr, fold-roll-Expr}
 use Rattle.csp_expression.specs.declared.expr.Expr.TheVariants as views
 use Rattle.csp_expression.specs.declared.expr.Expr.TheOpen as layer
-use Rattle.csp_expression.specs.Expression.{unary_of, binary_of, expression_of, expressions_of, expression_step}
+use Rattle.csp_expression.specs.Expression.{expression_of, expressions_of, expression_step}
 
 module _ (A : Type 0) where
   pub of_literal : (v : Value A) → expression_of {A = A} (views.Literal v) ≡ pure.Literal (value_of v)

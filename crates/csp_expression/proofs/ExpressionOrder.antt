@@ -10,15 +10,18 @@ use Rattle.std.specs.declared.vec.Vec.{Vec}
 use Rattle.std.specs.declared.cmp.Ordering.{Ordering}
 use Rattle.std.specs.Ordering.{nat_cmp, ordering_then}
 use Rattle.std.specs.Cmp.Lexicographic.{slice_cmp}
-use Rattle.csp_semantics.specs.Syntax.Expression as pure
-use Rattle.csp_semantics.specs.Syntax.Order.{expression_cmp, expressions_cmp}
+use Rattle.csp_syntax.specs.Expression as pure
+use Rattle.csp_syntax.specs.Order.{expression_cmp, expressions_cmp}
+use Rattle.csp_syntax.specs.declared.operator.UnaryOperator.{UnaryOperator}
+use Rattle.csp_syntax.specs.declared.operator.BinaryOperator.{BinaryOperator}
+use Rattle.csp_syntax.specs.Operators.{binary_of, unary_of}
+use Rattle.csp_syntax.specs.contracts.operator.UnaryOperatorOrd.TheImpl as unary_impl
+use Rattle.csp_syntax.specs.contracts.operator.BinaryOperatorOrd.TheImpl as binary_impl
 use Rattle.csp_value.specs.declared.value.Value.{Value}
 use Rattle.csp_value.proofs.ValueOrder.{cmp as value_order, ordered as values_ordered}
 use Rattle.csp_expression.specs.declared.name.Name.{Name}
 use Rattle.csp_expression.specs.declared.name.DatatypeId.{DatatypeId}
 use Rattle.csp_expression.specs.declared.name.NametypeId.{NametypeId}
-use Rattle.csp_expression.specs.declared.operator.UnaryOperator.{UnaryOperator}
-use Rattle.csp_expression.specs.declared.operator.BinaryOperator.{BinaryOperator}
 use Rattle.csp_expression.specs.declared.expr.Expr.{Expr, roll-Expr, map-Expr, ind-Expr}
 use Rattle.csp_expression.specs.declared.expr.Expr.TheVariants as views
 use Rattle.csp_expression.specs.declared.expr.Expr.TheOpen as layer
@@ -27,15 +30,13 @@ use Rattle.csp_expression.specs.declared.expr.Expr.TheFolds as folds
 use Rattle.csp_expression.specs.contracts.expr.ExprOrd.TheImpl as impl
 use Rattle.csp_expression.specs.contracts.expr.ExprOrd.TheImpl.Laws as laws
 use Rattle.csp_expression.specs.contracts.expr.Expr as contract
-use Rattle.csp_expression.specs.Expression.{binary_of, expression_of, expressions_of, unary_of}
+use Rattle.csp_expression.specs.Expression.{expression_of, expressions_of}
 use Rattle.csp_expression.proofs.ExpressionForms.{of_literal, of_name, of_apply, of_combine, of_sequence, of_set, of_range, of_booleans, of_datatype, of_nametype}
 use Rattle.csp_expression.proofs.OperatorOrder.{unary_ordered, binary_ordered}
 use Rattle.std.specs.Prelude.{⊤}
 use Rattle.std.specs.declared.cmp.Ordering.TheVariants.{Equal}
 use Rattle.csp_expression.proofs.Variants.{Ranks, first_or, no_more, none, one_at, either, either_holds}
 use Rattle.csp_expression.proofs.Apart.{expressions}
-use Rattle.csp_expression.specs.contracts.operator.UnaryOperatorOrd.TheImpl as unary_impl
-use Rattle.csp_expression.specs.contracts.operator.BinaryOperatorOrd.TheImpl as binary_impl
 use Rattle.csp_value.specs.Value.{value_of}
 
 module _ (R : RattleType.RattleType) (A : allocator.Ghosts R.Denot) (ad dd : Syntax.Dict) where

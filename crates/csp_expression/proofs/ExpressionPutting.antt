@@ -1,6 +1,6 @@
 -- Values put into each expression of a list.
 use Rattle.std.proofs.Common.{◌≡◌, List, [], ◌∷◌, refl, ap}
-use Rattle.csp_semantics.specs.Syntax.Expression.{to_expressions, expression_and}
+use Rattle.csp_syntax.specs.Expression.{to_expressions, expression_and}
 use Rattle.csp_semantics.specs.Meaning.Substitution.{Bindings, put_expression, put_expressions}
 use Rattle.csp_expression.specs.declared.expr.Expr.{Expr}
 use Rattle.csp_expression.specs.Bindings.{puts}

@@ -1,7 +1,5 @@
 pub mod Answering
 pub mod ExpressionPutting
-pub mod Sameness
-pub mod Copying
 pub mod ExpressionForms
 pub mod OperatorOrder
 pub mod Variants
@@ -13,5 +11,4 @@ pub mod Evaluating
 pub mod Named
 pub mod Looking
 pub mod Forming
-pub mod Nothing
 pub mod Measures

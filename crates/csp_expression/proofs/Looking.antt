@@ -1,7 +1,7 @@
 -- Looking a name up in a list of bindings.
 use Rattle.std.proofs.Common.{◌≡◌, ℕ, ◌+◌, ◌<◌, nat_eq, cond, true, false, List, ◌∷◌, length, map, drop, get_or, Some, sym, ◌∙◌, ap}
 use Rattle.std.proofs.lemmas.List.{drop_more}
-use Rattle.csp_semantics.specs.Syntax.Value.{Value}
+use Rattle.csp_syntax.specs.Value.{Value}
 use Rattle.csp_semantics.specs.Meaning.Substitution.{bound}
 
 module _ {X : Type 0} (name : X → ℕ) (value : X → Value) (n : ℕ) (xs : List X) (i : ℕ) (x : X) where

@@ -4,7 +4,7 @@ use Rattle.std.proofs.lemmas.Int.{ints}
 use Rattle.std.specs.declared.cmp.Ordering.TheVariants.{Less}
 use Rattle.std.specs.Ordering.{is_lt}
 use Rattle.std.specs.Cmp.{int_cmp_is, nat_cmp_is}
-use Rattle.csp_semantics.specs.Syntax.Value.{Value, Integer, Constructor, Set, to_values, sorted_values}
+use Rattle.csp_syntax.specs.Value.{Value, Integer, Constructor, Set, to_values, sorted_values}
 use Rattle.csp_semantics.specs.Meaning.Evaluation.{Cause, Overflow, constructors, count_between, max_members, numbers_from, range, set_of}
 use Rattle.csp_value.proofs.Sets.{Rises, rising_alike, sorted_rise, sorted_have}
 use Rattle.csp_expression.specs.Evaluation.{numbers_up}

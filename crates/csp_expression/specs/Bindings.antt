@@ -1,8 +1,8 @@
 -- Names with the values that they stand for.
 use Rattle.std.specs.Prelude.{List, map, Option, Some, None}
 use denote.Ref.{Bor}
-use Rattle.csp_semantics.specs.Syntax.Value as pure
-use Rattle.csp_semantics.specs.Syntax.Expression.{Expression}
+use Rattle.csp_syntax.specs.Value as pure
+use Rattle.csp_syntax.specs.Expression.{Expression}
 use Rattle.csp_semantics.specs.Meaning.Substitution.{Bindings, put_expression}
 use Rattle.csp_value.specs.declared.value.Value.{Value}
 use Rattle.csp_value.specs.Value.{value_of}

@@ -1,31 +1,30 @@
 -- What an answer of an evaluation says, and what the types of the code stand for.
-use Rattle.std.specs.Prelude.{◌≡◌, ⊤, Bool, true, false, ℕ, zero, suc, List, [], ◌∷◌, map, Result, Ok, Err}
+use Rattle.std.specs.Prelude.{◌≡◌, Bool, true, false, ℕ, zero, suc, List, [], ◌∷◌, map, Result, Ok, Err}
 use Rattle.std.specs.declared.vec.Vec.{Vec}
-use Rattle.csp_semantics.specs.Syntax.Value as pure
-use Rattle.csp_semantics.specs.Syntax.Expression as expression
-use Rattle.csp_semantics.specs.Meaning.Evaluation.{Cause, Types}
+use Rattle.csp_syntax.specs.Value as pure
+use Rattle.csp_syntax.specs.Expression as expression
+use Rattle.csp_syntax.specs.Types.{Types}
+use Rattle.csp_semantics.specs.Meaning.Evaluation.{Cause}
 use Rattle.csp_value.specs.declared.set.SetOf.{SetOf}
 use Rattle.csp_value.specs.declared.value.Value.{Value}
 use Rattle.csp_value.specs.Value.{value_of, values_of, members_of}
 use Rattle.csp_expression.specs.declared.fault.Fault.{Fault}
 use Rattle.csp_expression.specs.declared.eval_fault.EvalFault.{EvalFault}
-use Rattle.csp_expression.specs.declared.eval_fault.EvalFault.TheVariants as variant
 use Rattle.csp_expression.specs.declared.seen.Seen.{Seen}
 use Rattle.csp_expression.specs.declared.seen.Seen.TheVariants as seen
 use Rattle.csp_expression.specs.declared.types.Constructors.{Constructors}
 use Rattle.csp_expression.specs.declared.types.TypeTable.{TypeTable}
 use Rattle.csp_expression.specs.Fault.{cause_of}
+use Rattle.csp_expression.specs.Agreement.{AgreesWith}
 
 -- the answer is this value, or this cause
 abbrev pub IsAnswer : {A : Type 0} → Result (Value A) Fault → Result pure.Value Cause → Type 0
 IsAnswer (Ok v) r = r ≡ Ok (value_of v)
 IsAnswer (Err c) r = r ≡ Err (cause_of c)
 
--- the same where memory is needed; refused memory says nothing
+-- the same where memory is needed
 abbrev pub Answers : {A : Type 0} → Result (Value A) EvalFault → Result pure.Value Cause → Type 0
-Answers (Ok v) r = r ≡ Ok (value_of v)
-Answers (Err (variant.Fault c)) r = r ≡ Err (cause_of c)
-Answers (Err variant.Memory) r = ⊤
+Answers = AgreesWith value_of
 
 -- the value that is seen
 abbrev pub seen_value : {A : Type 0} → Seen A → pure.Value
@@ -38,15 +37,11 @@ IsSeen (Ok v) r = r ≡ Ok (seen_value v)
 IsSeen (Err c) r = r ≡ Err (cause_of c)
 
 abbrev pub Sees : {A : Type 0} → Result (Seen A) EvalFault → Result pure.Value Cause → Type 0
-Sees (Ok v) r = r ≡ Ok (seen_value v)
-Sees (Err (variant.Fault c)) r = r ≡ Err (cause_of c)
-Sees (Err variant.Memory) r = ⊤
+Sees = AgreesWith seen_value
 
 -- and of several values
 abbrev pub AnswersAll : {A : Type 0} → Result (Vec (Value A) A) EvalFault → Result (List pure.Value) Cause → Type 0
-AnswersAll (Ok vs) r = r ≡ Ok (values_of vs.items)
-AnswersAll (Err (variant.Fault c)) r = r ≡ Err (cause_of c)
-AnswersAll (Err variant.Memory) r = ⊤
+AnswersAll = AgreesWith (λ vs. values_of vs.items)
 
 -- the operator makes its value of its operands without a part of them
 abbrev pub only_reads : expression.Binary → Bool

@@ -1,3 +1,4 @@
+pub mod Agreement
 pub mod Bindings
 pub mod Evaluation
 pub mod Expression

@@ -1,14 +1,14 @@
 //! Truth values and what connects them.
 
 ghost use Rattle.std.specs.Prelude.{◌≡◌};
-ghost use Rattle.csp_semantics.specs.Syntax.Expression as pure;
+ghost use Rattle.csp_syntax.specs.Expression as pure;
+ghost use Rattle.csp_syntax.specs.Operators.{binary_of};
 ghost use Rattle.csp_semantics.specs.Meaning.Evaluation.{apply, combine, decides};
 ghost use Rattle.csp_value.specs.Value.{value_of};
 ghost use Rattle.csp_expression.specs.Evaluation.{IsAnswer};
-ghost use Rattle.csp_expression.specs.Expression.{binary_of};
 
 use crate::fault::Fault;
-use crate::operator::BinaryOperator;
+use csp_syntax::BinaryOperator;
 use csp_value::Value;
 use std::alloc::Allocator;
 

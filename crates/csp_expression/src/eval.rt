@@ -1,23 +1,24 @@
 //! The value of an expression.
 
-ghost use Rattle.csp_semantics.specs.Syntax.Expression as pure;
-ghost use Rattle.csp_semantics.specs.Syntax.Expression.{to_expressions};
+ghost use Rattle.csp_syntax.specs.Expression as pure;
+ghost use Rattle.csp_syntax.specs.Expression.{to_expressions};
+ghost use Rattle.csp_syntax.specs.Operators.{binary_of, unary_of};
 ghost use Rattle.csp_semantics.specs.Meaning.Evaluation.{apply, combine, range_of, value, values};
 ghost use Rattle.csp_semantics.specs.Meaning.Substitution.{put_expression};
 ghost use Rattle.csp_expression.specs.Bindings.{bindings_of, puts};
 ghost use Rattle.std.specs.Prelude.{◌≡◌, true};
 ghost use Rattle.csp_value.specs.Value.{value_of};
 ghost use Rattle.csp_expression.specs.Evaluation.{Answers, AnswersAll, IsAnswer, Sees, only_reads, only_reads_operand, seen_value, table_of};
-ghost use Rattle.csp_expression.specs.Expression.{binary_of, expression_of, unary_of};
+ghost use Rattle.csp_expression.specs.Expression.{expression_of};
 
 use crate::eval_fault::EvalFault;
 use crate::expr::Expr;
 use crate::fault::Fault;
-use crate::operator::{BinaryOperator, UnaryOperator};
 use crate::seen::Seen;
 use crate::substitution::{Binding, bound};
 use crate::types::TypeTable;
 use crate::{arithmetic, comparison, connectives, ranges, sequences, sets};
+use csp_syntax::{BinaryOperator, UnaryOperator};
 use csp_value::Value;
 use std::alloc::Allocator;
 
@@ -25,11 +26,11 @@ impl<A: Allocator + Copy> Expr<A> {
     /// The value of the expression in the given allocator, or the first cause from left to right for which it has none.
     /// `and` and `or` look at their right side only where the left one does not decide. A name that no value was put in
     /// for, and an operand of the wrong kind, are `Kind`. `Memory` says nothing of the value.
-    #[tactic(auto, using(crate::proofs::Nothing::put_nothing))]
-    pub fn eval(&self, types: &TypeTable<A>, alloc: A) -> Result<Value<A>, EvalFault>
+    #[tactic(auto, using(csp_semantics::proofs::Putting::put_nothing_in_expression))]
+    pub fn eval(&self, alloc: A, types: &TypeTable<A>) -> Result<Value<A>, EvalFault>
         ensures { Answers result (value (table_of types.now) (expression_of self.now)) }
     {
-        Ok(self.look(types, &[], alloc)?.into_value(alloc)?)
+        Ok(self.look(alloc, types, &[])?.into_value(alloc)?)
     }
 
     /// The same for the expression with the values of the bindings put in. The value is lent where it lies in the
@@ -37,9 +38,9 @@ impl<A: Allocator + Copy> Expr<A> {
     #[cycle(eval)]
     pub fn look<'e>(
         &'e self,
+        alloc: A,
         types: &TypeTable<A>,
         bindings: &[Binding<'e, A>],
-        alloc: A,
     ) -> Result<Seen<'e, A>, EvalFault>
         ensures { Sees result (value (table_of types.now) (put_expression (bindings_of bindings.now) (expression_of self.now))) }
     {
@@ -50,33 +51,33 @@ impl<A: Allocator + Copy> Expr<A> {
                 None => Err(EvalFault::Fault(Fault::Kind)),
             },
             Expr::Apply(operator, operand) => {
-                let operand = operand.look(types, bindings, alloc)?;
-                apply(*operator, operand, alloc)
+                let operand = operand.look(alloc, types, bindings)?;
+                apply(alloc, *operator, operand)
             }
             Expr::Combine(operator, left, right) => {
-                let left = left.look(types, bindings, alloc)?;
+                let left = left.look(alloc, types, bindings)?;
                 if connectives::decides(*operator, left.value()) {
                     return Ok(left);
                 }
-                let right = right.look(types, bindings, alloc)?;
-                Ok(Seen::Made(combine(*operator, left, right, alloc)?))
+                let right = right.look(alloc, types, bindings)?;
+                Ok(Seen::Made(combine(alloc, *operator, left, right)?))
             }
             Expr::Sequence(items) => {
-                let values = look_at_all(items, types, bindings, alloc)?;
+                let values = look_at_all(alloc, items, types, bindings)?;
                 Ok(Seen::Made(sequences::sequence(values)?))
             }
             Expr::Set(members) => {
-                let values = look_at_all(members, types, bindings, alloc)?;
+                let values = look_at_all(alloc, members, types, bindings)?;
                 Ok(Seen::Made(sets::set_of_values(values)?))
             }
             Expr::Range(from, to) => {
-                let from = from.look(types, bindings, alloc)?;
-                let to = to.look(types, bindings, alloc)?;
-                Ok(Seen::Made(range(from, to, alloc)?))
+                let from = from.look(alloc, types, bindings)?;
+                let to = to.look(alloc, types, bindings)?;
+                Ok(Seen::Made(range(alloc, from, to)?))
             }
             Expr::Booleans => Ok(Seen::Made(ranges::booleans(alloc)?)),
-            Expr::Datatype(datatype) => Ok(Seen::Made(ranges::datatype(types, *datatype, alloc)?)),
-            Expr::Nametype(nametype) => Ok(Seen::Made(ranges::nametype(types, *nametype, alloc)?)),
+            Expr::Datatype(datatype) => Ok(Seen::Made(ranges::datatype(alloc, types, *datatype)?)),
+            Expr::Nametype(nametype) => Ok(Seen::Made(ranges::nametype(alloc, types, *nametype)?)),
         }
     }
 }
@@ -84,16 +85,16 @@ impl<A: Allocator + Copy> Expr<A> {
 /// The value of each expression with the values of the bindings put in, in order, or the first cause.
 #[cycle(eval)]
 fn look_at_all<'e, A: Allocator + Copy>(
+    alloc: A,
     expressions: &'e [Expr<A>],
     types: &TypeTable<A>,
     bindings: &[Binding<'e, A>],
-    alloc: A,
 ) -> Result<Vec<Value<A>, A>, EvalFault>
     ensures { AnswersAll result (values (table_of types.now) (to_expressions (puts (bindings_of bindings.now) expressions.now))) }
 {
     let mut all = Vec::new(alloc);
     for expression in expressions {
-        let seen = expression.look(types, bindings, alloc)?;
+        let seen = expression.look(alloc, types, bindings)?;
         all.push(seen.into_value(alloc)?)?;
     }
     Ok(all)
@@ -101,32 +102,32 @@ fn look_at_all<'e, A: Allocator + Copy>(
 
 /// `{e..f}`
 fn range<'e, A: Allocator + Copy>(
+    alloc: A,
     from: Seen<'e, A>,
     to: Seen<'e, A>,
-    alloc: A,
 ) -> Result<Value<A>, EvalFault>
     ensures { Answers result (range_of (seen_value from.entry) (seen_value to.entry)) }
 {
-    ranges::range(from.value(), to.value(), alloc)
+    ranges::range(alloc, from.value(), to.value())
 }
 
 /// What the operator makes of the operand's value.
 fn apply<'e, A: Allocator + Copy>(
+    alloc: A,
     operator: UnaryOperator,
     operand: Seen<'e, A>,
-    alloc: A,
 ) -> Result<Seen<'e, A>, EvalFault>
     ensures { Sees result (apply (unary_of operator) (seen_value operand.entry)) }
 {
     match operator {
         UnaryOperator::Head => Ok(sequences::head(operand)?),
-        UnaryOperator::Tail => tail(operand, alloc),
+        UnaryOperator::Tail => tail(alloc, operand),
         _ => Ok(Seen::Made(read_operand(operator, operand.value())?)),
     }
 }
 
 /// `tail(e)`
-fn tail<'e, A: Allocator + Copy>(operand: Seen<'e, A>, alloc: A) -> Result<Seen<'e, A>, EvalFault>
+fn tail<'e, A: Allocator + Copy>(alloc: A, operand: Seen<'e, A>) -> Result<Seen<'e, A>, EvalFault>
     ensures { Sees result (apply pure.Tail (seen_value operand.entry)) }
 {
     let operand = operand.into_value(alloc)?;
@@ -153,27 +154,27 @@ fn read_operand<A: Allocator + Copy>(
 
 /// What the operator makes of the operands' values.
 fn combine<'e, A: Allocator + Copy>(
+    alloc: A,
     operator: BinaryOperator,
     left: Seen<'e, A>,
     right: Seen<'e, A>,
-    alloc: A,
 ) -> Result<Value<A>, EvalFault>
     ensures { Answers result (combine (binary_of operator) (seen_value left.entry) (seen_value right.entry)) }
 {
     match operator {
-        BinaryOperator::Concatenate => concatenation(left, right, alloc),
-        BinaryOperator::Union => union(left, right, alloc),
-        BinaryOperator::Intersection => intersection(left, right, alloc),
-        BinaryOperator::Difference => difference(left, right, alloc),
+        BinaryOperator::Concatenate => concatenation(alloc, left, right),
+        BinaryOperator::Union => union(alloc, left, right),
+        BinaryOperator::Intersection => intersection(alloc, left, right),
+        BinaryOperator::Difference => difference(alloc, left, right),
         _ => Ok(read(operator, left.value(), right.value())?),
     }
 }
 
 /// `e^f`
 fn concatenation<'e, A: Allocator + Copy>(
+    alloc: A,
     left: Seen<'e, A>,
     right: Seen<'e, A>,
-    alloc: A,
 ) -> Result<Value<A>, EvalFault>
     ensures { Answers result (combine pure.Concatenate (seen_value left.entry) (seen_value right.entry)) }
 {
@@ -184,9 +185,9 @@ fn concatenation<'e, A: Allocator + Copy>(
 
 /// `union(e, f)`
 fn union<'e, A: Allocator + Copy>(
+    alloc: A,
     left: Seen<'e, A>,
     right: Seen<'e, A>,
-    alloc: A,
 ) -> Result<Value<A>, EvalFault>
     ensures { Answers result (combine pure.Union (seen_value left.entry) (seen_value right.entry)) }
 {
@@ -197,9 +198,9 @@ fn union<'e, A: Allocator + Copy>(
 
 /// `inter(e, f)`
 fn intersection<'e, A: Allocator + Copy>(
+    alloc: A,
     left: Seen<'e, A>,
     right: Seen<'e, A>,
-    alloc: A,
 ) -> Result<Value<A>, EvalFault>
     ensures { Answers result (combine pure.Intersection (seen_value left.entry) (seen_value right.entry)) }
 {
@@ -209,9 +210,9 @@ fn intersection<'e, A: Allocator + Copy>(
 
 /// `diff(e, f)`
 fn difference<'e, A: Allocator + Copy>(
+    alloc: A,
     left: Seen<'e, A>,
     right: Seen<'e, A>,
-    alloc: A,
 ) -> Result<Value<A>, EvalFault>
     ensures { Answers result (combine pure.Difference (seen_value left.entry) (seen_value right.entry)) }
 {

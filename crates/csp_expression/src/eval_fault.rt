@@ -1,4 +1,4 @@
-//! Why an expression has no value.
+//! Why nothing is answered.
 
 ghost use Rattle.std.specs.Prelude.{◌≡◌};
 
@@ -7,12 +7,13 @@ use csp_value::Memory;
 use std::alloc::AllocFailed;
 use thiserror::Error;
 
-/// Why the value of an expression is not answered.
+/// Why the value of an expression, a set of events, a renaming or the steps of a term are not answered.
 #[derive(Clone, Copy, Debug, PartialEq, Eq, Error)]
 pub enum EvalFault {
+    /// There is no room for the answer.
     #[error("out of memory")]
     Memory,
-    /// The expression has no value, for this cause.
+    /// A value is needed that does not exist. This is the first cause.
     #[error("there is no value")]
     Fault(Fault),
 }

@@ -4,7 +4,7 @@ ghost use Rattle.std.specs.Prelude.{◌≡◌, IfOk};
 ghost use Rattle.csp_expression.specs.Expression.{expression_of};
 
 use crate::name::{DatatypeId, Name, NametypeId};
-use crate::operator::{BinaryOperator, UnaryOperator};
+use csp_syntax::{BinaryOperator, UnaryOperator};
 use csp_value::{Memory, TryCopy, Value};
 use std::alloc::Allocator;
 
@@ -36,11 +36,11 @@ pub enum Expr<A: Allocator> {
 
 impl<A: Allocator + Copy> Expr<A> {
     /// An equal expression in the given allocator, or `Memory` where that has no room.
-    #[tactic(auto, using(crate::proofs::Nothing::put_nothing))]
+    #[tactic(auto, using(csp_semantics::proofs::Putting::put_nothing_in_expression))]
     pub fn try_copy(&self, alloc: A) -> Result<Expr<A>, Memory>
         ensures { IfOk result (λ copy. expression_of copy ≡ expression_of self.now) }
     {
-        self.put_in(&[], alloc)
+        self.put_in(alloc, &[])
     }
 }
 

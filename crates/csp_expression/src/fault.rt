@@ -1,8 +1,7 @@
 //! Why a rule has no value.
 
 ghost use Rattle.std.specs.Prelude.{◌≡◌};
-ghost use Rattle.csp_semantics.specs.Answers.Outcome.{cause_number};
-ghost use Rattle.csp_semantics.specs.Answers.Printing.{cause_word};
+ghost use Rattle.csp_semantics.specs.Meaning.Causes.{cause_number, cause_word};
 ghost use Rattle.csp_expression.specs.Fault.{cause_of};
 
 /// A cause for which a rule of a term needs a value that does not exist (this profile).

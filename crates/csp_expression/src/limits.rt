@@ -2,7 +2,7 @@
 
 ghost use Rattle.std.specs.Prelude.{◌≤◌, ◌-◌, ◌↔◌, IsTrue};
 ghost use Rattle.std.specs.Option.{SomeIff};
-ghost use Rattle.csp_semantics.specs.Syntax.Expression.{to_expressions};
+ghost use Rattle.csp_syntax.specs.Expression.{to_expressions};
 ghost use Rattle.csp_semantics.specs.Meaning.Limits.{expression_depth, expression_size, expressions_depth, expressions_size};
 ghost use Rattle.csp_expression.specs.Expression.{expression_of, expressions_of};
 

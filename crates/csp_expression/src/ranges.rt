@@ -1,7 +1,7 @@
 //! Sets that are named: ranges of numbers, both truth values, datatypes and nametypes.
 
 ghost use Rattle.std.specs.Prelude.{◌≡◌, ◌≤◌, ◌∷◌, [], true, false, map, slice_get};
-ghost use Rattle.csp_semantics.specs.Syntax.Value.{Truth};
+ghost use Rattle.csp_syntax.specs.Value.{Truth};
 ghost use Rattle.csp_semantics.specs.Meaning.Evaluation.{constructors, count_between, datatype_set, numbers_from, range, range_of, set_at, set_of};
 ghost use Rattle.csp_value.specs.Value.{value_of};
 ghost use Rattle.csp_expression.specs.Evaluation.{Answers, constructors_of, members_listed, table_of};
@@ -17,20 +17,20 @@ use std::alloc::Allocator;
 
 /// `{e..f}`, or `Overflow` where those are more than 1,024 numbers.
 pub(crate) fn range<A: Allocator + Copy>(
+    alloc: A,
     from: &Value<A>,
     to: &Value<A>,
-    alloc: A,
 ) -> Result<Value<A>, EvalFault>
     ensures { Answers result (range_of (value_of from.now) (value_of to.now)) }
 {
     match (from, to) {
-        (Value::Int(from), Value::Int(to)) => numbers(*from, *to, alloc),
+        (Value::Int(from), Value::Int(to)) => numbers(alloc, *from, *to),
         _ => Err(EvalFault::Fault(Fault::Kind)),
     }
 }
 
 /// The set of the numbers from one to another, both with them.
-fn numbers<A: Allocator + Copy>(from: i32, to: i32, alloc: A) -> Result<Value<A>, EvalFault>
+fn numbers<A: Allocator + Copy>(alloc: A, from: i32, to: i32) -> Result<Value<A>, EvalFault>
     ensures { Answers result (range from to) }
 {
     let count = count_between(from, to);
@@ -70,20 +70,20 @@ pub(crate) fn booleans<A: Allocator + Copy>(alloc: A) -> Result<Value<A>, EvalFa
 
 /// The set of the datatype's constructors, or `Overflow` where they are more than 1,024.
 pub(crate) fn datatype<A: Allocator + Copy>(
+    alloc: A,
     types: &TypeTable<A>,
     datatype: DatatypeId,
-    alloc: A,
 ) -> Result<Value<A>, EvalFault>
     ensures { Answers result (datatype_set (slice_get (table_of types.now).datatypes datatype.0)) }
 {
     match types.datatypes.get(datatype.0 as usize) {
-        Some(range) => all_of(*range, alloc),
+        Some(range) => all_of(alloc, *range),
         None => Err(EvalFault::Fault(Fault::Kind)),
     }
 }
 
 /// The set of the constructors.
-fn all_of<A: Allocator + Copy>(range: Constructors, alloc: A) -> Result<Value<A>, EvalFault>
+fn all_of<A: Allocator + Copy>(alloc: A, range: Constructors) -> Result<Value<A>, EvalFault>
     ensures { Answers result (set_of (constructors (constructors_of range))) }
 {
     if range.following as usize >= MAX_MEMBERS {
@@ -102,20 +102,20 @@ fn all_of<A: Allocator + Copy>(range: Constructors, alloc: A) -> Result<Value<A>
 
 /// The set that the nametype names, or `Overflow` where it has more than 1,024 members.
 pub(crate) fn nametype<A: Allocator + Copy>(
+    alloc: A,
     types: &TypeTable<A>,
     nametype: NametypeId,
-    alloc: A,
 ) -> Result<Value<A>, EvalFault>
     ensures { Answers result (set_at (slice_get (table_of types.now).nametypes nametype.0)) }
 {
     match types.nametypes.get(nametype.0 as usize) {
-        Some(set) => copy_of(set, alloc),
+        Some(set) => copy_of(alloc, set),
         None => Err(EvalFault::Fault(Fault::Kind)),
     }
 }
 
 /// A copy of the set as a value, or `Overflow` where it has more than 1,024 members.
-fn copy_of<A: Allocator + Copy>(original: &SetOf<A>, alloc: A) -> Result<Value<A>, EvalFault>
+fn copy_of<A: Allocator + Copy>(alloc: A, original: &SetOf<A>) -> Result<Value<A>, EvalFault>
     ensures { Answers result (set_of (members_listed original.now)) }
 {
     let copy = original.try_copy(alloc)?;

@@ -1,8 +1,8 @@
 //! Sequences.
 
 ghost use Rattle.std.specs.Prelude.{◌≡◌, ◌++◌, pos, Ok, IfOk};
-ghost use Rattle.csp_semantics.specs.Syntax.Expression as pure;
-ghost use Rattle.csp_semantics.specs.Syntax.Value.{Integer};
+ghost use Rattle.csp_syntax.specs.Expression as pure;
+ghost use Rattle.csp_syntax.specs.Value.{Integer};
 ghost use Rattle.csp_semantics.specs.Meaning.Evaluation.{apply, combine, sequence};
 ghost use Rattle.csp_value.specs.Value.{value_of, values_of};
 ghost use Rattle.csp_expression.specs.Evaluation.{Answers, IsAnswer, IsSeen, seen_value};

@@ -1,7 +1,7 @@
 //! Sets.
 
-ghost use Rattle.csp_semantics.specs.Syntax.Expression as pure;
-ghost use Rattle.csp_semantics.specs.Syntax.Value.{sorted_values, values_list};
+ghost use Rattle.csp_syntax.specs.Expression as pure;
+ghost use Rattle.csp_syntax.specs.Value.{sorted_values, values_list};
 ghost use Rattle.csp_semantics.specs.Meaning.Evaluation.{apply, combine, set_of};
 ghost use Rattle.csp_value.specs.Value.{members_of, value_of, values_of};
 ghost use Rattle.csp_expression.specs.Evaluation.{Answers, IsAnswer};

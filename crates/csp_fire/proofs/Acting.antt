@@ -4,9 +4,9 @@ use Rattle.std.specs.Prelude.{⊤}
 use Rattle.std.specs.declared.cmp.Ordering.{Ordering}
 use Rattle.std.specs.declared.cmp.Ordering.TheVariants.{Less, Equal, Greater}
 use Rattle.std.specs.Ordering.{is_eq, is_lt, ordering_then}
-use Rattle.csp_semantics.specs.Syntax.Value.{Action, action_cmp, action_eq, has_action}
-use Rattle.csp_semantics.specs.Syntax.Order.{process_cmp}
-use Rattle.csp_semantics.specs.Syntax.Process.{Process}
+use Rattle.csp_syntax.specs.Value.{Action, action_cmp, action_eq, has_action}
+use Rattle.csp_syntax.specs.Order.{process_cmp}
+use Rattle.csp_syntax.specs.Process.{Process}
 use Rattle.csp_semantics.specs.Meaning.Expansions.{step_cmp}
 use Rattle.csp_semantics.specs.Meaning.Offers.{IsRising, RisesBy}
 use Rattle.csp_semantics.specs.Meaning.Stepping.{Steps}

@@ -4,8 +4,8 @@ use Rattle.std.proofs.lemmas.Bool.{eqb-true}
 use Rattle.std.specs.List.{list_any}
 use Rattle.std.specs.Option.{option_map}
 use Rattle.std.specs.Ordering.{is_lt}
-use Rattle.csp_semantics.specs.Syntax.Value.{Action, Tau, Tick, Ev, Event, action_eq, has_action}
-use Rattle.csp_semantics.specs.Syntax.Process.{Process, Script}
+use Rattle.csp_syntax.specs.Value.{Action, Tau, Tick, Ev, Event, action_eq, has_action}
+use Rattle.csp_syntax.specs.Process.{Process, Script}
 use Rattle.csp_semantics.specs.Meaning.Limits.{fits}
 use Rattle.csp_semantics.specs.Meaning.Expansions.{Form, IsFired, IsFormOf, offers_cmp, step_cmp}
 use Rattle.csp_semantics.specs.Meaning.Faults.{cause_in}

@@ -1,8 +1,8 @@
 -- The acceptances of a term by its steps, which are sorted, each once.
 use Rattle.std.specs.Prelude.{◌≡◌, ◌↔◌, Contains, Bool, true, false, ◌&&◌, ◌||◌, nat_eq, cond, List, [], ◌∷◌, ◌++◌, length, map, Option, Some, None}
 use Rattle.std.specs.List.{list_any}
-use Rattle.csp_semantics.specs.Syntax.Value.{Action, Tau, Tick, action_eq}
-use Rattle.csp_semantics.specs.Syntax.Process.{Process}
+use Rattle.csp_syntax.specs.Value.{Action, Tau, Tick, action_eq}
+use Rattle.csp_syntax.specs.Process.{Process}
 use Rattle.csp_semantics.specs.Meaning.Expansions.{Form, Fired, FiredLarge, step_cmp}
 use Rattle.csp_semantics.specs.Meaning.Offers.{RisesBy}
 use Rattle.csp_semantics.specs.Meaning.Stepping.{Steps}

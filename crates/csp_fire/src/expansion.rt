@@ -20,7 +20,7 @@ pub struct Expansion<'s, A: AllocHandle> {
 
 impl<'s, A: AllocHandle> Model for Expansion<'s, A> {
     ghost use Rattle.csp_semantics.specs.Meaning.Expansions as meaning;
-    ghost use Rattle.csp_semantics.specs.Codes.Coding.{coded};
+    ghost use Rattle.csp_syntax.specs.Codes.Coding.{coded};
     ghost use Rattle.csp_semantics.specs.Codes.Expansions.{coding_expansion};
 
     ghost Value = { meaning.Expansion };

@@ -12,7 +12,7 @@ ghost use Rattle.csp_fire.specs.Offering.{IsFormByAnswer, IsFormBySteps};
 use crate::expansion::Expansion;
 use crate::form::{Form, Step};
 use crate::offers::offers;
-use csp_rules::{RuleStep, Stuck, Target, steps};
+use csp_rules::{EvalFault, RuleStep, Target, steps};
 use csp_term::{AllocHandle, Memory, Script, Term};
 
 /// Fires a closed term of the script. The expansion names the script and the term that were handed in.
@@ -43,8 +43,8 @@ fn form_of_term<A: AllocHandle>(
     }
     match steps(alloc, script, &[], term) {
         Ok(answered) => form_by_answer(alloc, answered),
-        Err(Stuck::Memory) => Err(Memory),
-        Err(Stuck::Fault(cause)) => Ok(Form::Faulty(cause)),
+        Err(EvalFault::Memory) => Err(Memory),
+        Err(EvalFault::Fault(cause)) => Ok(Form::Faulty(cause)),
     }
 }
 

@@ -1,6 +1,6 @@
 ghost use Rattle.std.specs.Prelude.{IfSome, IfNone, [], ◌∷◌, nat_eq};
-ghost use Rattle.csp_semantics.specs.Text.Fronts.{StopsAt};
-ghost use Rattle.csp_semantics.specs.Text.Token.{HasNoMark};
+ghost use Rattle.csp_text.specs.Fronts.{StopsAt};
+ghost use Rattle.csp_text.specs.Token.{HasNoMark};
 ghost use Rattle.csp_lex.specs.Cursors.{left_of, Passes, EndsComment};
 
 use crate::cursors::Cursor;

@@ -33,7 +33,7 @@ pub enum Keyword {
 }
 
 impl Keyword {
-    ghost use Rattle.csp_semantics.specs.Text.Token.{keyword_spelling, is_keyword};
+    ghost use Rattle.csp_text.specs.Token.{keyword_spelling, is_keyword};
     ghost use Rattle.csp_lex.specs.Tokens.{keyword_of};
 
     /// All keywords.
@@ -112,7 +112,7 @@ impl Keyword {
 
 impl fmt::Display for Keyword {
     ghost use Rattle.std.specs.Prelude.{Some};
-    ghost use Rattle.csp_semantics.specs.Text.Token.{keyword_spelling};
+    ghost use Rattle.csp_text.specs.Token.{keyword_spelling};
     ghost use Rattle.csp_lex.specs.Tokens.{keyword_of};
 
     ghost output = { λ keyword. Some (keyword_spelling (keyword_of keyword)) };

@@ -1,7 +1,7 @@
 ghost use Rattle.std.specs.Prelude.{◌≡◌, ◌≤◌, IfOk, IfErr, length};
-ghost use Rattle.csp_semantics.specs.Text.Token.{longest_text};
+ghost use Rattle.csp_text.specs.Token.{longest_text};
 ghost use Rattle.std.specs.Str.{IsUtf8, chars};
-ghost use Rattle.csp_semantics.specs.Text.Place.{place_after, first_place};
+ghost use Rattle.csp_text.specs.Place.{place_after, first_place};
 ghost use Rattle.csp_lex.specs.Places.{place_of};
 ghost use Rattle.csp_lex.specs.Refusals.{IsRefusalOf};
 

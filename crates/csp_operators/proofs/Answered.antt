@@ -1,7 +1,7 @@
 -- Steps among those that are answered.
 use Rattle.std.proofs.Common.{◌≡◌, zero, suc, List, [], ◌∷◌, map, Option, None, refl, sym, ap, inl, inr, Contains, arith}
-use Rattle.csp_semantics.specs.Syntax.Value.{Action}
-use Rattle.csp_semantics.specs.Syntax.Process.{Process, Script}
+use Rattle.csp_syntax.specs.Value.{Action}
+use Rattle.csp_syntax.specs.Process.{Process, Script}
 use Rattle.csp_semantics.specs.Meaning.Faults.{cause_in}
 use Rattle.csp_semantics.specs.Meaning.Stepping.{Steps}
 use Rattle.csp_semantics.specs.Laws.Statements.{IsOneOf, StepsAre}

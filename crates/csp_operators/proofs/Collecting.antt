@@ -1,8 +1,8 @@
 -- What is made of each step in turn, added behind what was there.
 use Rattle.std.proofs.Common.{◌≡◌, ℕ, ◌+◌, ◌≤◌, ◌<◌, List, [], ◌∷◌, ◌++◌, length, map, take, get_or, Option, refl, sym, ◌∙◌, ap, subst}
 use Rattle.std.proofs.lemmas.List.{append-nil, append_assoc, map-append, take_all, take_more}
-use Rattle.csp_semantics.specs.Syntax.Value.{Action}
-use Rattle.csp_semantics.specs.Syntax.Process.{Process}
+use Rattle.csp_syntax.specs.Value.{Action}
+use Rattle.csp_syntax.specs.Process.{Process}
 use Rattle.csp_value.specs.Action.{action_of}
 use Rattle.csp_operators.specs.declared.rule_step.RuleStep.{RuleStep}
 use Rattle.csp_operators.specs.Answering.{Answered, answered_of, target_of}

@@ -3,8 +3,8 @@ use Rattle.std.proofs.Common.{◌≡◌, zero, suc, List, [], ◌∷◌, ◌++�
 use Rattle.std.proofs.lemmas.List.{append_assoc, map-append}
 use Rattle.std.specs.Option.{option_or}
 use Rattle.std.specs.Result.{result_err}
-use Rattle.csp_semantics.specs.Syntax.Value.{Action, Event, Tau, Tick, Ev}
-use Rattle.csp_semantics.specs.Syntax.Process.{Process, RenamingPair, Renaming, Script}
+use Rattle.csp_syntax.specs.Value.{Action, Event, Tau, Tick, Ev}
+use Rattle.csp_syntax.specs.Process.{Process, RenamingPair, Renaming, Script}
 use Rattle.csp_semantics.specs.Meaning.Events.{images_by, or_itself, renaming}
 use Rattle.csp_semantics.specs.Meaning.Faults.{cause_in}
 use Rattle.csp_value.specs.declared.action.Event as concrete
@@ -13,8 +13,8 @@ use Rattle.csp_value.specs.Action.{event_of}
 use Rattle.csp_event_tests.specs.declared.images.Images.{Images}
 use Rattle.csp_operators.specs.declared.rule_step.RuleStep.{RuleStep}
 use Rattle.csp_operators.specs.declared.rule_step.Target.{Target}
-use Rattle.csp_event_tests.specs.declared.stuck.Stuck.{Stuck}
-use Rattle.csp_event_tests.specs.declared.stuck.Stuck.TheVariants as stuck
+use Rattle.csp_expression.specs.declared.eval_fault.EvalFault.{EvalFault}
+use Rattle.csp_expression.specs.declared.eval_fault.EvalFault.TheVariants as eval
 use Rattle.csp_operators.specs.Answering.{Answered, Answers, IsAnswered, answered_of, target_of}
 use Rattle.csp_operators.specs.Composing.{HaveSameSteps, each_answer, image_answers, rename_answer, under_limits}
 use Rattle.csp_event_tests.specs.Imaging.{AreMade, IsImagesOf, found_images}
@@ -94,6 +94,6 @@ renaming_by s p bs only rs found made =
     (same_renamed g f (λ e. itself_alike e (found_images found e) (made.0 e) (λ h. ((made.2 e h).1, (made.2 e h).0))) under bs) by_pairs
 
 -- pairs without images are the cause
-pub renaming_stuck : (A : Type 0) (s : Script) (p : Process) (rs : List RenamingPair) (why : Stuck) → IsImagesOf {A = A} (Err why) (renaming s rs) → Answers {A = A} s (Renaming p rs) (Err why)
-renaming_stuck A s p rs (stuck.Fault c) is = ap (λ r. option_or (result_err r) (cause_in s p)) is
-renaming_stuck A s p rs stuck.Memory is = tt
+pub renaming_stuck : (A : Type 0) (s : Script) (p : Process) (rs : List RenamingPair) (why : EvalFault) → IsImagesOf {A = A} (Err why) (renaming s rs) → Answers {A = A} s (Renaming p rs) (Err why)
+renaming_stuck A s p rs (eval.Fault c) is = ap (λ r. option_or (result_err r) (cause_in s p)) is
+renaming_stuck A s p rs eval.Memory is = tt

@@ -2,8 +2,8 @@
 use Rattle.std.proofs.Common.{◌≡◌, max, Bool, true, false, not, ◌&&◌, cond, List, [], ◌∷◌, ◌++◌, Option, Some, None, refl, sym, ◌∙◌, ap, ap₂, subst, arith}
 use Rattle.std.specs.Option.{option_or}
 use Rattle.std.specs.Result.{result_err}
-use Rattle.csp_semantics.specs.Syntax.Value.{Action, Event, Tau, Tick, Ev, event_eq}
-use Rattle.csp_semantics.specs.Syntax.Process.{EventSet, Process, Script, Omega, Interleaving, GeneralisedParallel, AlphabetisedParallel}
+use Rattle.csp_syntax.specs.Value.{Action, Event, Tau, Tick, Ev, event_eq}
+use Rattle.csp_syntax.specs.Process.{EventSet, Process, Script, Omega, Interleaving, GeneralisedParallel, AlphabetisedParallel}
 use Rattle.csp_semantics.specs.Meaning.Events.{event_test, has_event}
 use Rattle.csp_semantics.specs.Meaning.Faults.{cause_in, height}
 use Rattle.csp_semantics.specs.Meaning.Limits.{fits}

@@ -1,7 +1,7 @@
 -- A process is past the limits where a part of it is.
 use Rattle.std.proofs.Common.{◌≡◌, ℕ, ◌≤◌, nat_le, false, List, ⊎_elim, arith}
 use Rattle.std.proofs.lemmas.Bool.{and_cases, and_left, and_right, leb-false, lt-leb}
-use Rattle.csp_semantics.specs.Syntax.Process.{EventSet, RenamingPair, Process, ExternalChoice, InternalChoice, Sequential, Interleaving, Interrupt, GeneralisedParallel, AlphabetisedParallel, Hiding, Renaming}
+use Rattle.csp_syntax.specs.Process.{EventSet, RenamingPair, Process, ExternalChoice, InternalChoice, Sequential, Interleaving, Interrupt, GeneralisedParallel, AlphabetisedParallel, Hiding, Renaming}
 use Rattle.csp_semantics.specs.Meaning.Limits.{depth, fits, max_depth, max_size, size}
 
 -- what has a process past the limits as a part is past them

@@ -4,8 +4,8 @@ use Rattle.std.proofs.lemmas.List.{append_assoc}
 use Rattle.std.proofs.lemmas.List.Elements.{Contains-append_cases, Contains-append_left, Contains-append_right}
 use Rattle.std.proofs.lemmas.List.Sorted.{IsPermutation-map, IsPermutation-sym, Contains-permutation}
 use Rattle.std.specs.List.Sorted.{IsPermutation}
-use Rattle.csp_semantics.specs.Syntax.Value.{Action}
-use Rattle.csp_semantics.specs.Syntax.Process.{Process, Script}
+use Rattle.csp_syntax.specs.Value.{Action}
+use Rattle.csp_syntax.specs.Process.{Process, Script}
 use Rattle.csp_operators.specs.declared.rule_step.RuleStep.{RuleStep}
 use Rattle.csp_operators.specs.Answering.{Answered, IsAnswered, answered_of, within_limits}
 use Rattle.csp_operators.specs.Composing.{HaveSameSteps, each_answer}

@@ -1,6 +1,6 @@
 -- `==` of actions is that of the definitions.
 use Rattle.std.proofs.Common.{◌≡◌, Bool, true, subst}
-use Rattle.csp_semantics.specs.Syntax.Value.{Action, action_eq}
+use Rattle.csp_syntax.specs.Value.{Action, action_eq}
 use Rattle.csp_semantics.proofs.Offering.{action_refl, action_same}
 use Rattle.csp_value.proofs.Sameness.{Tells}
 use Rattle.csp_event_tests.proofs.Truths.{same_truth}

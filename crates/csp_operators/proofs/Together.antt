@@ -12,10 +12,10 @@ use Rattle.std.specs.Ordering.{is_eq, is_lt, is_some_and, ordering_index, orderi
 use Rattle.std.proofs.lemmas.List.{append-nil, append_assoc, get_or_default, get_or-drop, get_or-take, length-drop, length-take-le, map-append, take-append-drop, take_all, take_more}
 use Rattle.std.proofs.lemmas.List.Elements.{All-head, All-tail, All-weaker}
 use Rattle.std.proofs.lemmas.List.Sorted.{IsNonDecreasingBy-drop, searchable_from_sorted}
-use Rattle.csp_semantics.specs.Syntax.Value.{Action, Event, Tau, Tick, Ev, action_cmp, action_eq, event_eq}
-use Rattle.csp_semantics.specs.Syntax.Process.{Process}
-use Rattle.csp_semantics.proofs.Equalities.{event_refl}
-use Rattle.csp_semantics.proofs.Orders.{action_total}
+use Rattle.csp_syntax.specs.Value.{Action, Event, Tau, Tick, Ev, action_cmp, action_eq, event_eq}
+use Rattle.csp_syntax.specs.Process.{Process}
+use Rattle.csp_syntax.proofs.Equalities.{event_refl}
+use Rattle.csp_syntax.proofs.Orders.{action_total}
 use Rattle.csp_value.specs.Action.{action_of}
 use Rattle.csp_value.specs.contracts.action.ActionOrd.TheImpl.Laws as laws
 use Rattle.csp_value.specs.contracts.action.ActionPartialOrd.TheImpl as partial

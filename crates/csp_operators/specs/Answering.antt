@@ -2,20 +2,19 @@
 use Rattle.std.specs.Prelude.{◌≡◌, ⊤, cond, List, [], ◌∷◌, map, Contains, Option, Some, None, Result, Ok, Err}
 use Rattle.std.specs.Option.{option_map}
 use Rattle.std.specs.declared.vec.Vec.{Vec}
-use Rattle.csp_semantics.specs.Syntax.Value as pure
-use Rattle.csp_semantics.specs.Syntax.Process.{Process, Script}
+use Rattle.csp_syntax.specs.Value as pure
+use Rattle.csp_syntax.specs.Process.{Process, Script}
 use Rattle.csp_semantics.specs.Meaning.Limits.{fits}
 use Rattle.csp_semantics.specs.Meaning.Faults.{cause_in}
 use Rattle.csp_semantics.specs.Meaning.Stepping.{Steps}
 use Rattle.csp_semantics.specs.Meaning.Transitions as rule
 use Rattle.csp_value.specs.Action.{action_of}
-use Rattle.csp_expression.specs.Fault.{cause_of}
+use Rattle.csp_expression.specs.Agreement.{Agrees}
 use Rattle.csp_term.specs.Term.{process_of}
 use Rattle.csp_operators.specs.declared.rule_step.RuleStep.{RuleStep}
 use Rattle.csp_operators.specs.declared.rule_step.Target.{Target}
 use Rattle.csp_operators.specs.declared.rule_step.Target.TheVariants as target
-use Rattle.csp_event_tests.specs.declared.stuck.Stuck.{Stuck}
-use Rattle.csp_event_tests.specs.declared.stuck.Stuck.TheVariants as stuck
+use Rattle.csp_expression.specs.declared.eval_fault.EvalFault.{EvalFault}
 
 -- ---- steps that may lead past the limits
 
@@ -44,11 +43,9 @@ pub record IsAnswered (s : Script) (p : Process) (steps : List Answered) : Type 
   pub sound : (x : pure.Action) (t : Option Process) → Contains steps (x, t) → (u : Process) × rule.RuleStep s p x u × (t ≡ within_limits u)
   pub complete : (x : pure.Action) (u : Process) → rule.RuleStep s p x u → Contains steps (x, within_limits u)
 
--- The rule steps of the term, or the first cause. Refused memory says nothing.
-abbrev pub Answers : {A : Type 0} → Script → Process → Result (Vec (RuleStep A) A) Stuck → Type 0
-Answers s p (Ok steps) = IsAnswered s p (map answered_of steps.items)
-Answers s p (Err (stuck.Fault c)) = cause_in s p ≡ Some (cause_of c)
-Answers s p (Err stuck.Memory) = ⊤
+-- The rule steps of the term, or the first cause.
+abbrev pub Answers : {A : Type 0} → Script → Process → Result (Vec (RuleStep A) A) EvalFault → Type 0
+Answers s p x = Agrees (λ steps q. IsAnswered s q (map answered_of steps.items)) (λ c q. cause_in s q ≡ Some c) x p
 
 -- the steps, where none leads past the limits
 abbrev pub all_within : List Answered → Option Steps

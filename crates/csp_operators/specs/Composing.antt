@@ -1,12 +1,12 @@
 -- What is answered of composed terms, by what is answered of their parts.
 use Rattle.std.specs.Prelude.{◌≡◌, ⊤, Bool, true, false, ◌&&◌, ◌↔◌, Contains, List, [], ◌∷◌, ◌++◌, cond, map, Option, Some, None, Result, Ok, Err}
 use Rattle.std.specs.Option.{option_or}
-use Rattle.csp_semantics.specs.Syntax.Value.{Action, Event, Tau, Tick, Ev, event_eq}
-use Rattle.csp_semantics.specs.Syntax.Process.{Process, Omega, ExternalChoice, Sequential, Interrupt, AlphabetisedParallel, GeneralisedParallel, Hiding, Renaming, Script}
+use Rattle.csp_syntax.specs.Value.{Action, Event, Tau, Tick, Ev, event_eq}
+use Rattle.csp_syntax.specs.Process.{Process, Omega, ExternalChoice, Sequential, Interrupt, AlphabetisedParallel, GeneralisedParallel, Hiding, Renaming, Script}
+use Rattle.csp_syntax.specs.Operators.{binary_process}
 use Rattle.csp_semantics.specs.Meaning.Faults.{cause_in}
 use Rattle.csp_semantics.specs.Meaning.Stepping.{always}
-use Rattle.csp_expression.specs.Fault.{cause_of}
-use Rattle.csp_term.specs.Term.{binary_process}
+use Rattle.csp_expression.specs.Agreement.{Agrees}
 use Rattle.csp_event_sets.specs.Events.{event_set_of, renaming_pairs_of}
 use Rattle.csp_operators.specs.declared.composition.Composition.{Composition}
 use Rattle.csp_operators.specs.declared.composition.Composition.TheVariants as composition
@@ -16,8 +16,7 @@ use Rattle.csp_operators.specs.declared.context.Context.{Context}
 use Rattle.csp_operators.specs.declared.context.Hand.{Hand}
 use Rattle.csp_operators.specs.declared.context.Hand.TheVariants as hand
 use Rattle.csp_operators.specs.declared.side.Side.{Side}
-use Rattle.csp_event_tests.specs.declared.stuck.Stuck.{Stuck}
-use Rattle.csp_event_tests.specs.declared.stuck.Stuck.TheVariants as stuck
+use Rattle.csp_expression.specs.declared.eval_fault.EvalFault.{EvalFault}
 use Rattle.csp_operators.specs.Answering.{Answered, IsAnswered, answered_of, target_of, within_limits}
 
 -- ---- operators
@@ -78,17 +77,13 @@ stay_answer free under ended (Ev e) t = cond (free e) ((Ev e, under t) ∷ []) [
 abbrev pub side_answers : {A : Type 0} → Side A → List Answered
 side_answers side = map answered_of side.steps.items
 
--- A process with its rule steps, or the first cause. Refused memory says nothing.
-abbrev pub IsSideOf : {A : Type 0} → Script → Process → Result (Side A) Stuck → Type 0
-IsSideOf s p (Ok side) = (target_of side.process ≡ within_limits p) × IsAnswered s p (side_answers side)
-IsSideOf s p (Err (stuck.Fault c)) = cause_in s p ≡ Some (cause_of c)
-IsSideOf s p (Err stuck.Memory) = ⊤
+-- A process with its rule steps, or the first cause.
+abbrev pub IsSideOf : {A : Type 0} → Script → Process → Result (Side A) EvalFault → Type 0
+IsSideOf s p x = Agrees (λ side q. (target_of side.process ≡ within_limits q) × IsAnswered s q (side_answers side)) (λ c q. cause_in s q ≡ Some c) x p
 
 -- Two processes with their rule steps, or the first cause of both, the first one's before the second's.
-abbrev pub AreSidesOf : {A : Type 0} → Script → Process → Process → Result (Side A × Side A) Stuck → Type 0
-AreSidesOf s p q (Ok sides) = IsSideOf s p (Ok sides.0) × IsSideOf s q (Ok sides.1)
-AreSidesOf s p q (Err (stuck.Fault c)) = option_or (cause_in s p) (cause_in s q) ≡ Some (cause_of c)
-AreSidesOf s p q (Err stuck.Memory) = ⊤
+abbrev pub AreSidesOf : {A : Type 0} → Script → Process → Process → Result (Side A × Side A) EvalFault → Type 0
+AreSidesOf s p q x = Agrees {M = Process × Process} (λ sides m. IsSideOf s m.0 (Ok sides.0) × IsSideOf s m.1 (Ok sides.1)) (λ c m. option_or (cause_in s m.0) (cause_in s m.1) ≡ Some c) x (p, q)
 
 -- ---- operators of two processes, by what is answered of each of them and of its steps
 

@@ -2,13 +2,12 @@
 use Rattle.std.specs.Prelude.{◌≡◌, ⊤, Bool, true, false, not, ◌&&◌, List, [], ◌∷◌, Option, Some, Result, Ok, Err}
 use Rattle.std.specs.Option.{option_or}
 use Rattle.std.specs.Result.{result_err}
-use Rattle.csp_semantics.specs.Syntax.Value.{Event, Tau, Tick}
-use Rattle.csp_semantics.specs.Syntax.Process.{Process, Omega}
+use Rattle.csp_syntax.specs.Value.{Event, Tau, Tick}
+use Rattle.csp_syntax.specs.Process.{Process, Omega}
 use Rattle.csp_semantics.specs.Meaning.Evaluation.{Cause}
-use Rattle.csp_expression.specs.Fault.{cause_of}
+use Rattle.csp_expression.specs.Agreement.{Agrees}
 use Rattle.csp_event_tests.specs.declared.event_test.EventTest.{EventTest}
-use Rattle.csp_event_tests.specs.declared.stuck.Stuck.{Stuck}
-use Rattle.csp_event_tests.specs.declared.stuck.Stuck.TheVariants as stuck
+use Rattle.csp_expression.specs.declared.eval_fault.EvalFault.{EvalFault}
 use Rattle.csp_operators.specs.declared.context.Context.{Context}
 use Rattle.csp_operators.specs.declared.context.Hand.{Hand}
 use Rattle.csp_operators.specs.declared.context.Hand.TheVariants as hand
@@ -50,7 +49,5 @@ ended_by after.All c = (Tick, Some Omega) ∷ []
 ended_by after.Beside c = (Tau, around_of c (Some Omega)) ∷ []
 
 -- the tests of two sets, or the first cause of both, the first one's before the second's
-abbrev pub AreTestsOf : {A : Type 0} → Result (EventTest A × EventTest A) Stuck → Result (Event → Bool) Cause → Result (Event → Bool) Cause → Type 0
-AreTestsOf (Ok tests) r q = IsTestOf (Ok tests.0) r × IsTestOf (Ok tests.1) q
-AreTestsOf (Err (stuck.Fault c)) r q = option_or (result_err r) (result_err q) ≡ Some (cause_of c)
-AreTestsOf (Err stuck.Memory) r q = ⊤
+abbrev pub AreTestsOf : {A : Type 0} → Result (EventTest A × EventTest A) EvalFault → Result (Event → Bool) Cause → Result (Event → Bool) Cause → Type 0
+AreTestsOf x r q = Agrees {M = Result (Event → Bool) Cause × Result (Event → Bool) Cause} (λ tests m. IsTestOf (Ok tests.0) m.0 × IsTestOf (Ok tests.1) m.1) (λ c m. option_or (result_err m.0) (result_err m.1) ≡ Some c) x (r, q)

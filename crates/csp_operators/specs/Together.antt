@@ -2,7 +2,7 @@
 use Rattle.std.specs.Prelude.{Bool, false, List}
 use Rattle.std.specs.List.Sorted.{IsSortedByKey}
 use Rattle.std.specs.Ordering.{is_lt}
-use Rattle.csp_semantics.specs.Syntax.Value as pure
+use Rattle.csp_syntax.specs.Value as pure
 use Rattle.csp_value.specs.Action.{action_of}
 use Rattle.csp_operators.specs.declared.rule_step.RuleStep.{RuleStep}
 

@@ -2,9 +2,9 @@
 //! and looks at neither side.
 
 ghost use Rattle.std.specs.Prelude.{◌≡◌, ◌∷◌, [], IfOk, map};
-ghost use Rattle.csp_semantics.specs.Syntax.Process as pure;
-ghost use Rattle.csp_semantics.specs.Syntax.Value.{Tau};
-ghost use Rattle.csp_semantics.specs.Syntax.Process.{ExternalChoice, InternalChoice};
+ghost use Rattle.csp_syntax.specs.Process as pure;
+ghost use Rattle.csp_syntax.specs.Value.{Tau};
+ghost use Rattle.csp_syntax.specs.Process.{ExternalChoice, InternalChoice};
 ghost use Rattle.csp_semantics.specs.Meaning.Substitution.{put};
 ghost use Rattle.csp_expression.specs.Bindings.{bindings_of};
 ghost use Rattle.csp_term.specs.Term.{process_of};
@@ -16,15 +16,14 @@ use crate::context::{Context, Hand};
 use crate::leave;
 use crate::rule_step::{RuleStep, Target, add_step, one_step};
 use crate::side::Side;
-use csp_event_tests::Stuck;
-use csp_expression::Binding;
+use csp_expression::{Binding, EvalFault};
 use csp_term::{Action, AllocHandle, Memory, ProcessOperator, Term};
 
-/// The steps of `P [] Q` by those of its sides, or the first cause of both. `Stuck::Memory` says that there is no room.
+/// The steps of `P [] Q` by those of its sides, or the first cause of both. `Memory` says that there is no room.
 pub fn by_sides<A: AllocHandle>(
     alloc: A,
-    sides: Result<(Side<A>, Side<A>), Stuck>,
-) -> Result<Vec<RuleStep<A>, A>, Stuck>
+    sides: Result<(Side<A>, Side<A>), EvalFault>,
+) -> Result<Vec<RuleStep<A>, A>, EvalFault>
     ensures { (s : pure.Script) (p q : pure.Process) → AreSidesOf s p q sides → Answers s (ExternalChoice p q) result }
 {
     let (left, right) = sides?;
@@ -70,17 +69,17 @@ fn under<A: AllocHandle>(
 }
 
 /// The steps of `P |~| Q`, of the terms with the values put in. There is no cause, since neither side is looked at.
-/// `Stuck::Memory` says that there is no room.
+/// `Memory` says that there is no room.
 pub fn internal<A: AllocHandle>(
     alloc: A,
     bindings: &[Binding<'_, A>],
     left: &Term<A>,
     right: &Term<A>,
-) -> Result<Vec<RuleStep<A>, A>, Stuck>
+) -> Result<Vec<RuleStep<A>, A>, EvalFault>
     ensures { (s : pure.Script) → Answers s (put (bindings_of bindings.now) (InternalChoice (process_of left.now) (process_of right.now))) result }
 {
-    let left = Target::put_in(left, bindings, alloc)?;
-    let right = Target::put_in(right, bindings, alloc)?;
+    let left = Target::put_in(alloc, left, bindings)?;
+    let right = Target::put_in(alloc, right, bindings)?;
     Ok(taus(alloc, left, right)?)
 }
 

@@ -1,7 +1,7 @@
 //! Compositions of which one side moves.
 
 ghost use Rattle.std.specs.Prelude.{◌≡◌, IfOk, Some};
-ghost use Rattle.csp_semantics.specs.Syntax.Process.{Omega};
+ghost use Rattle.csp_syntax.specs.Process.{Omega};
 ghost use Rattle.csp_operators.specs.Answering.{target_of};
 ghost use Rattle.csp_operators.specs.Composing.{around_of};
 

@@ -1,9 +1,9 @@
 //! `P \ A` does what `P` does, and the events of `A` as tau. A tick ends all.
 
 ghost use Rattle.std.specs.Prelude.{◌≡◌, ◌∷◌, [], IfOk, cond, map};
-ghost use Rattle.csp_semantics.specs.Syntax.Process as pure;
-ghost use Rattle.csp_semantics.specs.Syntax.Process.{Hiding};
-ghost use Rattle.csp_semantics.specs.Syntax.Value.{Ev, Tau};
+ghost use Rattle.csp_syntax.specs.Process as pure;
+ghost use Rattle.csp_syntax.specs.Process.{Hiding};
+ghost use Rattle.csp_syntax.specs.Value.{Ev, Tau};
 ghost use Rattle.csp_value.specs.Action.{action_of, event_of};
 ghost use Rattle.csp_event_sets.specs.Events.{event_set_of};
 ghost use Rattle.csp_term.specs.Script.{script_of};
@@ -14,7 +14,8 @@ ghost use Rattle.csp_event_tests.specs.Testing.{AreSorted, listed_in, test_of};
 use crate::composition::Frame;
 use crate::rule_step::{RuleStep, Target};
 use csp_event_sets::EventSet;
-use csp_event_tests::{EventTest, Stuck};
+use csp_event_tests::EventTest;
+use csp_expression::EvalFault;
 use csp_term::{Action, AllocHandle, Event, Memory, Script};
 
 /// What is seen of the event.
@@ -64,13 +65,13 @@ fn step<A: AllocHandle>(
 }
 
 /// The steps of `P \ A` by those of its body. A cause of the set comes before those of the body.
-/// `Stuck::Memory` says that there is no room.
+/// `Memory` says that there is no room.
 pub fn by_body<A: AllocHandle>(
     alloc: A,
     script: &Script<A>,
     hidden: EventSet<A>,
-    body: Result<Vec<RuleStep<A>, A>, Stuck>,
-) -> Result<Vec<RuleStep<A>, A>, Stuck>
+    body: Result<Vec<RuleStep<A>, A>, EvalFault>,
+) -> Result<Vec<RuleStep<A>, A>, EvalFault>
     ensures { (p : pure.Process) → Answers (script_of script.now) p body → Answers (script_of script.now) (Hiding p (event_set_of hidden)) result }
 {
     let test = EventTest::of(alloc, script, &hidden)?;

@@ -1,9 +1,9 @@
 //! `P /\ Q` does what `P` does, until it ticks or `Q` does an event or ticks.
 
 ghost use Rattle.std.specs.Prelude.{◌≡◌, ◌++◌, ◌∷◌, [], IfOk, OnOk, Some, map};
-ghost use Rattle.csp_semantics.specs.Syntax.Process as pure;
-ghost use Rattle.csp_semantics.specs.Syntax.Process.{Interrupt, Omega};
-ghost use Rattle.csp_semantics.specs.Syntax.Value.{Tick};
+ghost use Rattle.csp_syntax.specs.Process as pure;
+ghost use Rattle.csp_syntax.specs.Process.{Interrupt, Omega};
+ghost use Rattle.csp_syntax.specs.Value.{Tick};
 ghost use Rattle.csp_semantics.specs.Meaning.Stepping.{always};
 ghost use Rattle.csp_operators.specs.Answering.{Answers, answered_of, target_of};
 ghost use Rattle.csp_operators.specs.Composing.{AreSidesOf, around_of, composition_of, each_answer, ended_or_left_answers, side_answers, stay_answer};
@@ -15,14 +15,14 @@ use crate::rule_step::RuleStep;
 use crate::sharing::Sharing;
 use crate::side::Side;
 use crate::stay::{self, AfterTick};
-use csp_event_tests::Stuck;
+use csp_expression::EvalFault;
 use csp_term::{AllocHandle, Memory, ProcessOperator};
 
-/// The steps of `P /\ Q` by those of its sides, or the first cause of both. `Stuck::Memory` says that there is no room.
+/// The steps of `P /\ Q` by those of its sides, or the first cause of both. `Memory` says that there is no room.
 pub fn by_sides<A: AllocHandle>(
     alloc: A,
-    sides: Result<(Side<A>, Side<A>), Stuck>,
-) -> Result<Vec<RuleStep<A>, A>, Stuck>
+    sides: Result<(Side<A>, Side<A>), EvalFault>,
+) -> Result<Vec<RuleStep<A>, A>, EvalFault>
     ensures { (s : pure.Script) (p q : pure.Process) → AreSidesOf s p q sides → Answers s (Interrupt p q) result }
 {
     let (left, right) = sides?;

@@ -1,8 +1,8 @@
 //! `P [[from <- to, ..]]` does what `P` does, and each event as each of its images. A tick ends all.
 
 ghost use Rattle.std.specs.Prelude.{◌≡◌, ◌++◌, IfOk, OnOk, map};
-ghost use Rattle.csp_semantics.specs.Syntax.Process as pure;
-ghost use Rattle.csp_semantics.specs.Syntax.Process.{Renaming};
+ghost use Rattle.csp_syntax.specs.Process as pure;
+ghost use Rattle.csp_syntax.specs.Process.{Renaming};
 ghost use Rattle.csp_semantics.specs.Meaning.Events.{or_itself};
 ghost use Rattle.csp_value.specs.Action.{action_of, event_of};
 ghost use Rattle.csp_event_sets.specs.Events.{renaming_pairs_of};
@@ -14,7 +14,8 @@ ghost use Rattle.csp_event_tests.specs.Imaging.{PairsRise, found_images};
 use crate::composition::Frame;
 use crate::rule_step::{RuleStep, Target, add_step};
 use csp_event_sets::RenamingPair;
-use csp_event_tests::{Images, Stuck};
+use csp_event_tests::Images;
+use csp_expression::EvalFault;
 use csp_term::{Action, AllocHandle, Event, Memory, Script};
 
 /// Adds a step by each image of the event.
@@ -70,13 +71,13 @@ fn add_one<A: AllocHandle>(
 }
 
 /// The steps of `P [[from <- to, ..]]` by those of its body. A cause of the pairs comes before those of the body.
-/// `Stuck::Memory` says that there is no room.
+/// `Memory` says that there is no room.
 pub fn by_body<A: AllocHandle>(
     alloc: A,
     script: &Script<A>,
     pairs: Vec<RenamingPair<A>, A>,
-    body: Result<Vec<RuleStep<A>, A>, Stuck>,
-) -> Result<Vec<RuleStep<A>, A>, Stuck>
+    body: Result<Vec<RuleStep<A>, A>, EvalFault>,
+) -> Result<Vec<RuleStep<A>, A>, EvalFault>
     ensures { (p : pure.Process) → Answers (script_of script.now) p body → Answers (script_of script.now) (Renaming p (renaming_pairs_of pairs.items)) result }
 {
     let images = Images::of(alloc, script, &pairs)?;

@@ -2,7 +2,7 @@
 
 ghost use Rattle.std.specs.Prelude.{◌≡◌, ◌++◌, ◌∷◌, [], IfOk, OnOk, Some, map};
 ghost use Rattle.csp_semantics.specs.Meaning.Substitution.{put};
-ghost use Rattle.csp_semantics.specs.Syntax.Process.{Omega};
+ghost use Rattle.csp_syntax.specs.Process.{Omega};
 ghost use Rattle.csp_value.specs.Action.{action_of};
 ghost use Rattle.csp_expression.specs.Bindings.{bindings_of};
 ghost use Rattle.csp_term.specs.Term.{process_of};
@@ -30,13 +30,13 @@ pub struct RuleStep<A: AllocHandle> {
 impl<A: AllocHandle> Target<A> {
     /// The term with the values put in, if it is then within the limits. `Memory` says that there is no room.
     pub fn put_in(
+        alloc: A,
         term: &Term<A>,
         bindings: &[Binding<'_, A>],
-        alloc: A,
     ) -> Result<Target<A>, Memory>
         ensures { IfOk result (λ t. target_of t ≡ within_limits (put (bindings_of bindings.now) (process_of term.now))) }
     {
-        match term.subst(bindings, alloc) {
+        match term.subst(alloc, bindings) {
             Ok(target) => Ok(Target::Within(target)),
             Err(TermFault::TooLarge) => Ok(Target::Past),
             Err(TermFault::Memory) => Err(Memory),

@@ -1,8 +1,8 @@
 //! `P ; Q` does what `P` does until `P` ends, and goes on as `Q` by tau.
 
 ghost use Rattle.std.specs.Prelude.{◌≡◌, IfOk, map};
-ghost use Rattle.csp_semantics.specs.Syntax.Process as pure;
-ghost use Rattle.csp_semantics.specs.Syntax.Process.{Sequential};
+ghost use Rattle.csp_syntax.specs.Process as pure;
+ghost use Rattle.csp_syntax.specs.Process.{Sequential};
 ghost use Rattle.csp_semantics.specs.Meaning.Substitution.{put};
 ghost use Rattle.csp_expression.specs.Bindings.{bindings_of};
 ghost use Rattle.csp_term.specs.Term.{process_of};
@@ -14,21 +14,20 @@ use crate::context::{Context, Hand};
 use crate::rule_step::{RuleStep, Target};
 use crate::sharing::Sharing;
 use crate::stay::{self, AfterTick};
-use csp_event_tests::Stuck;
-use csp_expression::Binding;
+use csp_expression::{Binding, EvalFault};
 use csp_term::{AllocHandle, Memory, ProcessOperator, Term};
 
-/// The steps of `P ; Q` by those of its left side, or the first cause of that one. `Stuck::Memory` says that there is no room.
+/// The steps of `P ; Q` by those of its left side, or the first cause of that one. `Memory` says that there is no room.
 pub fn by_left<A: AllocHandle>(
     alloc: A,
     bindings: &[Binding<'_, A>],
-    left: Result<Vec<RuleStep<A>, A>, Stuck>,
+    left: Result<Vec<RuleStep<A>, A>, EvalFault>,
     right: &Term<A>,
-) -> Result<Vec<RuleStep<A>, A>, Stuck>
+) -> Result<Vec<RuleStep<A>, A>, EvalFault>
     ensures { (s : pure.Script) (p : pure.Process) → Answers s p left → Answers s (Sequential p (put (bindings_of bindings.now) (process_of right.now))) result }
 {
     let left = left?;
-    let right = Target::put_in(right, bindings, alloc)?;
+    let right = Target::put_in(alloc, right, bindings)?;
     Ok(before(alloc, left, &right)?)
 }
 

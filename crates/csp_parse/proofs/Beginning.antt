@@ -1,10 +1,10 @@
 -- Where declarations begin: the tokens alone tell it, read once from the left.
 use Rattle.std.proofs.Common.{◌≡◌, ◌∙◌, Bool, true, false, List, [], ◌∷◌, ◌++◌, refl, sym, ap, subst}
-use Rattle.csp_semantics.specs.Syntax.Expression.{Unary, Binary}
-use Rattle.csp_semantics.specs.Syntax.Process.{Model}
-use Rattle.csp_semantics.specs.Text.Token.{Keyword, Sign, Token, KeywordToken, SignToken, NameToken, NumberToken, PlacedToken, DatatypeWord, NametypeWord, ChannelWord, AssertWord, TrueWord, FalseWord, BoolWord, StopWord, SkipWord, OpenRoundSign, CloseRoundSign, OpenSquareSign, CloseSquareSign, OpenSharedSign, CloseSharedSign, OpenRenamingSign, CloseRenamingSign, OpenProductionsSign, CloseProductionsSign, OpenBraceSign, CloseBraceSign, LessSign, GreaterSign}
-use Rattle.csp_semantics.specs.Text.Raw.{RawName, RawExpression, RawExpressions, RawField, RawEvent, RawEventSet, RawPair, Infix, Replicator, RawProcess, RawDomain, RawDeclaration}
-use Rattle.csp_semantics.specs.Text.Grammar.{IsWord, word, IsSign, sign, IsName, IsNumber, AreNames, IsAdding, IsMultiplying, IsComparing, IsUnaryWord, IsBinaryWord, IsExpression, IsConjunction, IsNegation, IsComparison, IsSum, IsProduct, IsAtom, AreSums, AreExpressions, AreDotted, IsEvent, AreEvents, AreLaterFields, AreFields, IsSetWord, IsEventSet, ArePairs, IsRenamingPart, IsHidingPart, IsInfix, IsReplicator, IsProcess, IsRenamed, IsHidden, IsChain, IsOperand, IsBase, AreAlternatives, AreDomains, IsModel, IsDeclaration}
+use Rattle.csp_syntax.specs.Expression.{Unary, Binary}
+use Rattle.csp_syntax.specs.Process.{Model}
+use Rattle.csp_text.specs.Token.{Keyword, Sign, Token, KeywordToken, SignToken, NameToken, NumberToken, PlacedToken, DatatypeWord, NametypeWord, ChannelWord, AssertWord, TrueWord, FalseWord, BoolWord, StopWord, SkipWord, OpenRoundSign, CloseRoundSign, OpenSquareSign, CloseSquareSign, OpenSharedSign, CloseSharedSign, OpenRenamingSign, CloseRenamingSign, OpenProductionsSign, CloseProductionsSign, OpenBraceSign, CloseBraceSign, LessSign, GreaterSign}
+use Rattle.csp_text.specs.Raw.{RawName, RawExpression, RawExpressions, RawField, RawEvent, RawEventSet, RawPair, Infix, Replicator, RawProcess, RawDomain, RawDeclaration}
+use Rattle.csp_text.specs.Grammar.{IsWord, word, IsSign, sign, IsName, IsNumber, AreNames, IsAdding, IsMultiplying, IsComparing, IsUnaryWord, IsBinaryWord, IsExpression, IsConjunction, IsNegation, IsComparison, IsSum, IsProduct, IsAtom, AreSums, AreExpressions, AreDotted, IsEvent, AreEvents, AreLaterFields, AreFields, IsSetWord, IsEventSet, ArePairs, IsRenamingPart, IsHidingPart, IsInfix, IsReplicator, IsProcess, IsRenamed, IsHidden, IsChain, IsOperand, IsBase, AreAlternatives, AreDomains, IsModel, IsDeclaration}
 
 -- The brackets that are open, the innermost first, where a sequence is `true`; and whether an operand has just ended.
 pub data Scan : Type 0 where

@@ -1,9 +1,9 @@
 -- Declarations by their first token, equations and assertions: what the readers of their parts decide, their own do.
 use Rattle.std.proofs.Common.{◌≡◌, ◌∙◌, ◌⊎◌, ℕ, true, false, List, [], ◌∷◌, ◌++◌, inl, inr, refl, sym, ap, subst, append_assoc, append-nil, arith}
-use Rattle.csp_semantics.specs.Text.Token.{Token, KeywordToken, NameToken, DatatypeWord, NametypeWord, ChannelWord, AssertWord, CommaSign, BarSign, EqualsSign, OpenRoundSign, CloseRoundSign, TracesSign, FailuresSign, PlacedToken}
-use Rattle.csp_semantics.specs.Text.Raw.{RawName, RawDeclaration, RawNametype, RawChannels, RawEquation, RawAssertion}
-use Rattle.csp_semantics.specs.Text.Grammar as grammar
-use Rattle.csp_semantics.specs.Text.Grammar.{IsWord, IsSign, IsName, AreNames, AreAlternatives, IsModel, IsProcess, IsDeclaration}
+use Rattle.csp_text.specs.Token.{Token, KeywordToken, NameToken, DatatypeWord, NametypeWord, ChannelWord, AssertWord, CommaSign, BarSign, EqualsSign, OpenRoundSign, CloseRoundSign, TracesSign, FailuresSign, PlacedToken}
+use Rattle.csp_text.specs.Raw.{RawName, RawDeclaration, RawNametype, RawChannels, RawEquation, RawAssertion}
+use Rattle.csp_text.specs.Grammar as grammar
+use Rattle.csp_text.specs.Grammar.{IsWord, IsSign, IsName, AreNames, AreAlternatives, IsModel, IsProcess, IsDeclaration}
 use Rattle.csp_lex.specs.declared.keywords.Keyword.TheVariants as keyword
 use Rattle.csp_lex.specs.declared.kinds.TokenKind.TheVariants as kind
 use Rattle.csp_parse.specs.declared.levels.Level.TheVariants as level

@@ -1,8 +1,8 @@
 -- What the readers of declarations tell, from what those of their parts do.
 use Rattle.std.proofs.Common.{◌≡◌, ◌∙◌, List, [], ◌∷◌, ◌++◌, refl, sym, subst}
-use Rattle.csp_semantics.specs.Syntax.Process.{Model}
-use Rattle.csp_semantics.specs.Text.Token.{Token, SignToken, Sign, DatatypeWord, EqualsSign, BarSign, TracesSign, FailuresSign, PlacedToken}
-use Rattle.csp_semantics.specs.Text.Grammar.{IsWord, IsSign, sign, IsName, IsModel}
+use Rattle.csp_syntax.specs.Process.{Model}
+use Rattle.csp_text.specs.Token.{Token, SignToken, Sign, DatatypeWord, EqualsSign, BarSign, TracesSign, FailuresSign, PlacedToken}
+use Rattle.csp_text.specs.Grammar.{IsWord, IsSign, sign, IsName, IsModel}
 use Rattle.csp_parse.specs.declared.stops.Stopped.{Stopped}
 use Rattle.csp_parse.specs.Deciding.{first, nothing, only, Ends, IsStop, Done}
 use Rattle.csp_parse.specs.DeclarationForms.{IsDatatype}

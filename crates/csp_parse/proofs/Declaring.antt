@@ -1,10 +1,10 @@
 -- Declarations and scripts, from what is passed and read.
 use Rattle.std.proofs.Common.{◌≡◌, List, [], ◌∷◌, ◌++◌, ◌<◌, length, ap, subst, arith}
-use Rattle.csp_semantics.specs.Syntax.Process.{Model, Traces, Failures}
-use Rattle.csp_semantics.specs.Text.Token.{PlacedToken, DatatypeWord, NametypeWord, ChannelWord, AssertWord, EqualsSign, ColonSign, OpenRoundSign, CloseRoundSign, TracesSign, FailuresSign}
-use Rattle.csp_semantics.specs.Text.Raw.{RawName, RawExpression, RawDomain, RawProcess, RawDatatype, RawNametype, RawChannels, RawEquation, RawAssertion}
-use Rattle.csp_semantics.specs.Text.Grammar as grammar
-use Rattle.csp_semantics.specs.Text.Grammar.{IsWord, word, IsSign, IsName, AreNames, AreAlternatives, IsAtom, IsExpression, AreDomains, IsProcess, IsModel, IsDeclaration}
+use Rattle.csp_syntax.specs.Process.{Model, Traces, Failures}
+use Rattle.csp_text.specs.Token.{PlacedToken, DatatypeWord, NametypeWord, ChannelWord, AssertWord, EqualsSign, ColonSign, OpenRoundSign, CloseRoundSign, TracesSign, FailuresSign}
+use Rattle.csp_text.specs.Raw.{RawName, RawExpression, RawDomain, RawProcess, RawDatatype, RawNametype, RawChannels, RawEquation, RawAssertion}
+use Rattle.csp_text.specs.Grammar as grammar
+use Rattle.csp_text.specs.Grammar.{IsWord, word, IsSign, IsName, AreNames, AreAlternatives, IsAtom, IsExpression, AreDomains, IsProcess, IsModel, IsDeclaration}
 use Rattle.csp_parse.specs.declared.levels.Level.{Level}
 use Rattle.csp_parse.specs.declared.levels.Level.TheVariants as level
 use Rattle.csp_parse.specs.Levels.{IsAt, IsDomainAt, domain}

@@ -1,10 +1,10 @@
 -- The fields of a prefix, read from their beginning.
 use Rattle.std.proofs.Common.{◌≡◌, ◌∙◌, List, [], ◌∷◌, ◌++◌, map, sym, ap, subst, append_assoc, append-nil}
 use Rattle.std.proofs.lemmas.List.{map-append}
-use Rattle.csp_semantics.specs.Text.Token.{PlacedToken, DotSign, OutputSign, InputSign, ColonSign}
-use Rattle.csp_semantics.specs.Text.Raw.{RawName, RawField, RawGiven, RawInput, RawInputFrom, RawExpression}
-use Rattle.csp_semantics.specs.Text.Grammar as grammar
-use Rattle.csp_semantics.specs.Text.Grammar.{IsSign, IsName, IsAtom, AreLaterFields, AreFields}
+use Rattle.csp_text.specs.Token.{PlacedToken, DotSign, OutputSign, InputSign, ColonSign}
+use Rattle.csp_text.specs.Raw.{RawName, RawField, RawGiven, RawInput, RawInputFrom, RawExpression}
+use Rattle.csp_text.specs.Grammar as grammar
+use Rattle.csp_text.specs.Grammar.{IsSign, IsName, IsAtom, AreLaterFields, AreFields}
 use Rattle.csp_parse.specs.declared.processes.Field.{Field}
 use Rattle.csp_parse.specs.Processes.{field_of}
 use Rattle.csp_parse.specs.Reading.{Standing, Passes, Reads}

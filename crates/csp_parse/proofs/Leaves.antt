@@ -1,9 +1,9 @@
 -- What the readers of one sign, one keyword and one name tell where they stop.
 use Rattle.std.proofs.Common.{◌≡◌, Some, List, [], ◌∷◌, refl, sym, subst}
-use Rattle.csp_semantics.specs.Text.Token as text
-use Rattle.csp_semantics.specs.Text.Token.{PlacedToken}
-use Rattle.csp_semantics.specs.Text.Raw.{RawName}
-use Rattle.csp_semantics.specs.Text.Grammar.{IsWord, word, IsSign, sign, IsName, name}
+use Rattle.csp_text.specs.Token as text
+use Rattle.csp_text.specs.Token.{PlacedToken}
+use Rattle.csp_text.specs.Raw.{RawName}
+use Rattle.csp_text.specs.Grammar.{IsWord, word, IsSign, sign, IsName, name}
 use Rattle.csp_lex.specs.declared.keywords.Keyword.{Keyword}
 use Rattle.csp_lex.specs.declared.signs.Sign.{Sign}
 use Rattle.csp_lex.specs.declared.kinds.TokenKind.{TokenKind}

@@ -1,8 +1,8 @@
 -- Tokens that are passed one after another.
 use Rattle.std.proofs.Common.{◌≡◌, ◌∙◌, ℕ, ◌+◌, ◌<◌, ◌≤◌, List, [], ◌∷◌, ◌++◌, length, map, drop, get_or, refl, sym, ap, subst, append_assoc, drop-cons, drop_of_length-le, add-one, arith, Result, Ok, Err, IfOk}
-use Rattle.csp_semantics.specs.Text.Token.{PlacedToken, NameToken}
-use Rattle.csp_semantics.specs.Text.Grammar.{IsWord, word, IsSign, sign, IsName, name, IsNumber, number}
-use Rattle.csp_semantics.specs.Text.Height.{Nest, nesting, after_token, after_tokens, nest_height, greatest_height}
+use Rattle.csp_text.specs.Token.{PlacedToken, NameToken}
+use Rattle.csp_text.specs.Grammar.{IsWord, word, IsSign, sign, IsName, name, IsNumber, number}
+use Rattle.csp_text.specs.Height.{Nest, nesting, after_token, after_tokens, nest_height, greatest_height}
 use Rattle.csp_lex.specs.declared.kinds.Token.{Token}
 use Rattle.csp_lex.specs.declared.kinds.TokenKind.TheVariants as kind
 use Rattle.csp_lex.specs.declared.keywords.Keyword as keywords

@@ -1,8 +1,8 @@
 -- Heights: what a nest's is at least, and how a token raises it.
 use Rattle.std.proofs.Common.{◌≡◌, ◌∙◌, ◌<◌, ◌≤◌, ◌+◌, List, [], ◌∷◌, ◌++◌, map, reverse, refl, sym, ap, subst, arith}
 use Rattle.std.proofs.lemmas.List.{map-append, reverse-append}
-use Rattle.csp_semantics.specs.Text.Height.{Group, group_height, one_more, with_group, no_tokens, Nest, Nesting, Opens, Closes, Counts, Plain, closed, nesting, after_token, ended_height, nest_height, greatest_height}
-use Rattle.csp_semantics.specs.Text.Token.{PlacedToken}
+use Rattle.csp_text.specs.Height.{Group, group_height, one_more, with_group, no_tokens, Nest, Nesting, Opens, Closes, Counts, Plain, closed, nesting, after_token, ended_height, nest_height, greatest_height}
+use Rattle.csp_text.specs.Token.{PlacedToken}
 use Rattle.csp_parse.specs.declared.nests.Group as groups
 use Rattle.csp_parse.specs.Nests.{group_of, start}
 use Rattle.csp_parse.specs.declared.stops.Stopped.{Stopped}

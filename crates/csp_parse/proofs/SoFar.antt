@@ -1,9 +1,9 @@
 -- Low declarations and the beginning of one more: no token of them is too high.
 use Rattle.std.proofs.Common.{◌≡◌, ◌∙◌, ◌≤◌, inl, inr, true, List, [], ◌∷◌, ◌++◌, sym, ap, subst, append_assoc, append-nil, arith}
-use Rattle.csp_semantics.specs.Text.Token.{PlacedToken}
-use Rattle.csp_semantics.specs.Text.Raw.{RawScript}
-use Rattle.csp_semantics.specs.Text.Grammar.{IsDeclaration, IsScript, declarations, no_declarations}
-use Rattle.csp_semantics.specs.Text.Height.{tokens_height, greatest_height, BeginsDeclaration, latest, nothing, HasNoneTooHigh}
+use Rattle.csp_text.specs.Token.{PlacedToken}
+use Rattle.csp_text.specs.Raw.{RawScript}
+use Rattle.csp_text.specs.Grammar.{IsDeclaration, IsScript, declarations, no_declarations}
+use Rattle.csp_text.specs.Height.{tokens_height, greatest_height, BeginsDeclaration, latest, nothing, HasNoneTooHigh}
 use Rattle.csp_parse.specs.Limits.{IsLow, IsLowScript}
 use Rattle.csp_parse.proofs.Beginning.{begins, outside, declaration}
 use Rattle.csp_parse.proofs.Lowness.{one_latest, Fine, joined, divided, fine_at_end, fine_within}

@@ -1,21 +1,21 @@
 -- What follows from a start, by which one it is.
 use Rattle.std.proofs.Common.{Result, Ok, Err, IfOk, ◌≡◌, ◌∙◌, ◌⊎◌, List, [], ◌∷◌, ◌++◌, inl, inr, refl, sym, subst}
 use Rattle.std.proofs.lemmas.List.{append_cancel_right}
-use Rattle.csp_semantics.specs.Text.Token as text
-use Rattle.csp_semantics.specs.Text.Token.{Token, Keyword, KeywordToken, NameToken, SignToken, StopWord, SkipWord, IfWord, CloseRoundSign, OpenRoundSign, BoxSign, InternalSign, SemicolonSign, TripleBarSign, InterruptSign, OpenSharedSign, OpenSquareSign, PlacedToken}
-use Rattle.csp_semantics.specs.Text.Raw.{RawName, RawProcess, RawStop, RawSkip}
-use Rattle.csp_semantics.specs.Text.Grammar as grammar
-use Rattle.csp_semantics.specs.Text.Grammar.{IsWord, IsSign, IsName, IsBase, IsOperand, IsProcess}
+use Rattle.csp_syntax.specs.declared.process_operator.ProcessOperator.{ProcessOperator}
+use Rattle.csp_syntax.specs.declared.process_operator.ProcessOperator.TheVariants as chaining
+use Rattle.csp_syntax.specs.declared.process_operator.ReplicatedOperator.{ReplicatedOperator}
+use Rattle.csp_syntax.specs.declared.process_operator.ReplicatedOperator.TheVariants as replicator
+use Rattle.csp_text.specs.Token as text
+use Rattle.csp_text.specs.Token.{Token, Keyword, KeywordToken, NameToken, SignToken, StopWord, SkipWord, IfWord, CloseRoundSign, OpenRoundSign, BoxSign, InternalSign, SemicolonSign, TripleBarSign, InterruptSign, OpenSharedSign, OpenSquareSign, PlacedToken}
+use Rattle.csp_text.specs.Raw.{RawName, RawProcess, RawStop, RawSkip}
+use Rattle.csp_text.specs.Grammar as grammar
+use Rattle.csp_text.specs.Grammar.{IsWord, IsSign, IsName, IsBase, IsOperand, IsProcess}
 use Rattle.csp_lex.specs.declared.kinds.TokenKind.TheVariants as kind
 use Rattle.csp_lex.specs.declared.keywords.Keyword as lexed
 use Rattle.csp_lex.specs.declared.keywords.Keyword.TheVariants as keyword
 use Rattle.csp_lex.specs.declared.signs.Sign.{Sign}
 use Rattle.csp_lex.specs.declared.signs.Sign.TheVariants as signs
 use Rattle.csp_lex.specs.Tokens.{keyword_of, sign_of}
-use Rattle.csp_parse.specs.declared.processes.Infix.{Infix}
-use Rattle.csp_parse.specs.declared.processes.Infix.TheVariants as chaining
-use Rattle.csp_parse.specs.declared.processes.Replicator.{Replicator}
-use Rattle.csp_parse.specs.declared.processes.Replicator.TheVariants as replicator
 use Rattle.csp_parse.specs.declared.starts.Start.{Start}
 use Rattle.csp_parse.specs.declared.starts.Start.TheVariants as start
 use Rattle.csp_parse.specs.declared.starts.Inner as inners
@@ -94,14 +94,14 @@ pub in_brackets : {s a b t : Standing} → Passes (IsSign OpenRoundSign) s a →
 in_brackets opens done is closes = turn (turn (turn (sign_behind opens) closed_form) (behind_inner done is)) (sign_behind closes)
 
 -- what is next
-pub infix_next : (o : Infix) (left : List PlacedToken) → IsNext (kind.Sign (infix_written o)) left → IsFirstIn (only (infix_sign (infix_of o))) left
+pub infix_next : (o : ProcessOperator) (left : List PlacedToken) → IsNext (kind.Sign (infix_written o)) left → IsFirstIn (only (infix_sign (infix_of o))) left
 infix_next chaining.ExternalChoice left next = sign_first signs.Box left next
 infix_next chaining.InternalChoice left next = sign_first signs.Internal left next
 infix_next chaining.Sequential left next = sign_first signs.Semicolon left next
 infix_next chaining.Interleaving left next = sign_first signs.TripleBar left next
 infix_next chaining.Interrupt left next = sign_first signs.Interrupt left next
 
-pub replicator_next : (o : Replicator) (left : List PlacedToken) → IsNext (kind.Sign (replicator_written o)) left → IsFirstIn (only (replicator_sign (replicator_of o))) left
+pub replicator_next : (o : ReplicatedOperator) (left : List PlacedToken) → IsNext (kind.Sign (replicator_written o)) left → IsFirstIn (only (replicator_sign (replicator_of o))) left
 replicator_next replicator.ExternalChoice left next = sign_first signs.Box left next
 replicator_next replicator.InternalChoice left next = sign_first signs.Internal left next
 replicator_next replicator.Interleaving left next = sign_first signs.TripleBar left next
@@ -110,7 +110,7 @@ pub word_first : (k : lexed.Keyword) (left : List PlacedToken) → IsNext (kind.
 word_first k [] next = absurd next
 word_first k (t ∷ ts) next = next.1
 
-process_opens : (o : Replicator) (left : List PlacedToken) → IsNext (kind.Sign (replicator_written o)) left → IsFirstIn opens_process left
+process_opens : (o : ReplicatedOperator) (left : List PlacedToken) → IsNext (kind.Sign (replicator_written o)) left → IsFirstIn opens_process left
 process_opens o [] next = absurd next
 process_opens replicator.ExternalChoice (t ∷ ts) next = inr (inl next.1)
 process_opens replicator.InternalChoice (t ∷ ts) next = inr (inr (inl next.1))
@@ -120,18 +120,18 @@ if_opens : (left : List PlacedToken) → IsNext (kind.Keyword keyword.If) left �
 if_opens [] next = absurd next
 if_opens (t ∷ ts) next = inl next.1
 
-pub opening_next : (left : List PlacedToken) → IsNext (kind.Keyword keyword.If) left ⊎ ((o : Replicator) × IsNext (kind.Sign (replicator_written o)) left) → IsFirstIn opens_process left
+pub opening_next : (left : List PlacedToken) → IsNext (kind.Keyword keyword.If) left ⊎ ((o : ReplicatedOperator) × IsNext (kind.Sign (replicator_written o)) left) → IsFirstIn opens_process left
 opening_next left (inl next) = if_opens left next
 opening_next left (inr (o, next)) = process_opens o left next
 
-pub opens_none : (left : List PlacedToken) → ¬ (IsNext (kind.Keyword keyword.If) left) → ((o : Replicator) → ¬ (IsNext (kind.Sign (replicator_written o)) left)) → IsFirstIn opens_process left → ⊥
+pub opens_none : (left : List PlacedToken) → ¬ (IsNext (kind.Keyword keyword.If) left) → ((o : ReplicatedOperator) → ¬ (IsNext (kind.Sign (replicator_written o)) left)) → IsFirstIn opens_process left → ⊥
 opens_none [] no_if none is = is
 opens_none (t ∷ ts) no_if none (inl is) = no_if ([], is)
 opens_none (t ∷ ts) no_if none (inr (inl is)) = none replicator.ExternalChoice ([], is)
 opens_none (t ∷ ts) no_if none (inr (inr (inl is))) = none replicator.InternalChoice ([], is)
 opens_none (t ∷ ts) no_if none (inr (inr (inr is))) = none replicator.Interleaving ([], is)
 
-operates_none : (t : PlacedToken) (ts : List PlacedToken) → ((o : Infix) → ¬ (IsNext (kind.Sign (infix_written o)) (t ∷ ts))) → ¬ (IsNext (kind.Sign signs.OpenShared) (t ∷ ts)) → ¬ (IsNext (kind.Sign signs.OpenSquare) (t ∷ ts)) → (x : Token) → t.token ≡ x →
+operates_none : (t : PlacedToken) (ts : List PlacedToken) → ((o : ProcessOperator) → ¬ (IsNext (kind.Sign (infix_written o)) (t ∷ ts))) → ¬ (IsNext (kind.Sign signs.OpenShared) (t ∷ ts)) → ¬ (IsNext (kind.Sign signs.OpenSquare) (t ∷ ts)) → (x : Token) → t.token ≡ x →
     operates_on x → ⊥
 operates_none t ts none shared square (SignToken BoxSign) e is = none chaining.ExternalChoice ([], e)
 operates_none t ts none shared square (SignToken InternalSign) e is = none chaining.InternalChoice ([], e)
@@ -142,7 +142,7 @@ operates_none t ts none shared square (SignToken OpenSharedSign) e is = shared (
 operates_none t ts none shared square (SignToken OpenSquareSign) e is = square ([], e)
 operates_none t ts none shared square _ e is = absurd (cc is)
 
-pub joins_none : (left : List PlacedToken) → ((o : Infix) → ¬ (IsNext (kind.Sign (infix_written o)) left)) → ¬ (IsNext (kind.Sign signs.OpenShared) left) → ¬ (IsNext (kind.Sign signs.OpenSquare) left) → IsFirstIn operates_on left → ⊥
+pub joins_none : (left : List PlacedToken) → ((o : ProcessOperator) → ¬ (IsNext (kind.Sign (infix_written o)) left)) → ¬ (IsNext (kind.Sign signs.OpenShared) left) → ¬ (IsNext (kind.Sign signs.OpenSquare) left) → IsFirstIn operates_on left → ⊥
 joins_none [] none shared square is = is
 joins_none (t ∷ ts) none shared square is = operates_none t ts none shared square t.token refl is
 

@@ -1,18 +1,18 @@
 -- The tree of each form of expression.
 use Rattle.std.proofs.Common.{◌≡◌, ◌∙◌, ℕ, Bool, sym, ap}
-use Rattle.csp_semantics.specs.Text.Raw.{RawExpression, RawNumber, RawTruth, RawBooleans, RawUse, RawCombine, RawSequence, RawSet}
+use Rattle.csp_syntax.specs.declared.operator.BinaryOperator.{BinaryOperator}
+use Rattle.csp_syntax.specs.Operators.{binary_of}
+use Rattle.csp_text.specs.Raw.{RawExpression, RawNumber, RawTruth, RawBooleans, RawUse, RawCombine, RawSequence, RawSet}
 use Rattle.csp_parse.specs.declared.expressions.Expression.TheOpen as layer
 use Rattle.csp_parse.specs.declared.expressions.Expression.TheFolds.{fold-roll-Expression}
 use Rattle.csp_parse.specs.declared.expressions.Expression.TheVariants as views
 use Rattle.csp_parse.specs.declared.expressions.Expression.{Expression}
 use Rattle.csp_parse.specs.declared.names.Name.{Name}
-use Rattle.csp_parse.specs.declared.operators.BinaryOperator.{BinaryOperator}
 use Rattle.std.specs.Box.{box_value}
 use Rattle.std.specs.declared.boxed.Box.{Box}
 use Rattle.std.specs.declared.vec.Vec.{Vec}
 use Rattle.csp_parse.specs.Expressions.{expression_step, expression_of, expressions_of}
 use Rattle.csp_parse.specs.Names.{name_of}
-use Rattle.csp_parse.specs.Operators.{binary_of}
 
 module _ (A : Type 0) where
   pub tree_of_number : (n : ℕ) → expression_of {A = A} (views.Number n) ≡ RawNumber n

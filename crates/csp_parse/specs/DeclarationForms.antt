@@ -1,7 +1,7 @@
 -- What declarations are by their first token, whatever their trees.
 use Rattle.std.specs.Prelude.{◌≡◌, ◌⊎◌, Bool, true, false, List}
-use Rattle.csp_semantics.specs.Text.Token.{Token, KeywordToken, NameToken, DatatypeWord, NametypeWord, ChannelWord, AssertWord, EqualsSign, BarSign, CommaSign, ColonSign, DotSign, OpenRoundSign, CloseRoundSign, PlacedToken}
-use Rattle.csp_semantics.specs.Text.Grammar.{IsWord, IsSign, IsName, AreDomains, IsModel, IsProcess}
+use Rattle.csp_text.specs.Token.{Token, KeywordToken, NameToken, DatatypeWord, NametypeWord, ChannelWord, AssertWord, EqualsSign, BarSign, CommaSign, ColonSign, DotSign, OpenRoundSign, CloseRoundSign, PlacedToken}
+use Rattle.csp_text.specs.Grammar.{IsWord, IsSign, IsName, AreDomains, IsModel, IsProcess}
 use Rattle.csp_parse.specs.declared.levels.Level.TheVariants as level
 use Rattle.csp_parse.specs.Deciding.{only}
 use Rattle.csp_parse.specs.Forms.{HasTree, Then, Either, Perhaps}

@@ -1,11 +1,9 @@
 -- Declarations and scripts, as the definitions have them.
 use Rattle.std.specs.Prelude.{map}
-use Rattle.csp_semantics.specs.Syntax.Process as pure
-use Rattle.csp_semantics.specs.Text.Raw.{RawDomain, RawDeclaration, RawDatatype, RawNametype, RawChannels, RawEquation, RawAssertion, RawScript}
+use Rattle.csp_syntax.specs.Models.{model_of}
+use Rattle.csp_text.specs.Raw.{RawDomain, RawDeclaration, RawDatatype, RawNametype, RawChannels, RawEquation, RawAssertion, RawScript}
 use Rattle.csp_lex.specs.Places.{place_of}
 use Rattle.csp_parse.specs.declared.declarations.Domain.{Domain}
-use Rattle.csp_parse.specs.declared.declarations.Model.{Model}
-use Rattle.csp_parse.specs.declared.declarations.Model.TheVariants as model
 use Rattle.csp_parse.specs.declared.declarations.Declaration.{Declaration}
 use Rattle.csp_parse.specs.declared.declarations.Declaration.TheVariants as declaration
 use Rattle.csp_parse.specs.declared.declarations.Raw.{Raw}
@@ -15,10 +13,6 @@ use Rattle.csp_parse.specs.Processes.{process_in}
 
 abbrev pub domain_of : {A : Type 0} → Domain A → RawDomain
 domain_of d = record { place = place_of d.place; set = expression_of d.set }
-
-abbrev pub model_of : Model → pure.Model
-model_of model.Traces = pure.Traces
-model_of model.Failures = pure.Failures
 
 abbrev pub declaration_of : {A : Type 0} → Declaration A → RawDeclaration
 declaration_of (declaration.Datatype n ns) = RawDatatype (name_of n) (map name_of ns.items)

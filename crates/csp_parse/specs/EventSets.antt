@@ -1,15 +1,15 @@
 -- Sets of events, as the definitions have them.
 use Rattle.std.specs.Prelude.{map}
 use Rattle.std.specs.Box.{box_value}
-use Rattle.csp_semantics.specs.Text.Raw.{RawEventSet, RawEnumeration, RawProductions, RawEventUnion, RawEventIntersection, RawEventDifference}
-use Rattle.csp_parse.specs.declared.event_sets.SetOperator.{SetOperator}
-use Rattle.csp_parse.specs.declared.event_sets.SetOperator.TheVariants as operator
+use Rattle.csp_syntax.specs.declared.event_set_operator.EventSetOperator.{EventSetOperator}
+use Rattle.csp_syntax.specs.declared.event_set_operator.EventSetOperator.TheVariants as operator
+use Rattle.csp_text.specs.Raw.{RawEventSet, RawEnumeration, RawProductions, RawEventUnion, RawEventIntersection, RawEventDifference}
 use Rattle.csp_parse.specs.declared.event_sets.EventSet.{EventSet}
 use Rattle.csp_parse.specs.declared.event_sets.EventSet.TheOpen as layer
 use Rattle.csp_parse.specs.declared.event_sets.EventSet.TheFolds.{fold-EventSet}
 use Rattle.csp_parse.specs.Events.{event_of}
 
-abbrev pub operator_of : SetOperator → RawEventSet → RawEventSet → RawEventSet
+abbrev pub operator_of : EventSetOperator → RawEventSet → RawEventSet → RawEventSet
 operator_of operator.Union = RawEventUnion
 operator_of operator.Intersection = RawEventIntersection
 operator_of operator.Difference = RawEventDifference

@@ -1,12 +1,12 @@
 -- Expressions, as the definitions have them.
 use Rattle.std.specs.Prelude.{List, [], ◌∷◌, map}
 use Rattle.std.specs.Box.{box_value}
-use Rattle.csp_semantics.specs.Text.Raw.{RawExpression, RawNumber, RawTruth, RawBooleans, RawUse, RawApply, RawCombine, RawSequence, RawSet, RawRange, RawExpressions, no_raw_expressions, raw_expression_and}
+use Rattle.csp_syntax.specs.Operators.{unary_of, binary_of}
+use Rattle.csp_text.specs.Raw.{RawExpression, RawNumber, RawTruth, RawBooleans, RawUse, RawApply, RawCombine, RawSequence, RawSet, RawRange, RawExpressions, no_raw_expressions, raw_expression_and}
 use Rattle.csp_parse.specs.declared.expressions.Expression.{Expression}
 use Rattle.csp_parse.specs.declared.expressions.Expression.TheOpen as layer
 use Rattle.csp_parse.specs.declared.expressions.Expression.TheFolds.{fold-Expression}
 use Rattle.csp_parse.specs.Names.{name_of}
-use Rattle.csp_parse.specs.Operators.{unary_of, binary_of}
 
 -- a list of expressions in the definitions' form
 abbrev pub raw_list : List RawExpression → RawExpressions

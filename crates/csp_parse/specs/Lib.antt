@@ -1,6 +1,5 @@
 pub mod Refusals
 pub mod Names
-pub mod Operators
 pub mod Expressions
 pub mod Events
 pub mod EventSets

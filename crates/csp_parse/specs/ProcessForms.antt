@@ -1,8 +1,8 @@
 -- What processes are by their parts, whatever their trees.
 use Rattle.std.specs.Prelude.{◌≡◌, ◌⊎◌, Bool, true, false, List}
-use Rattle.csp_semantics.specs.Text.Token.{Token, KeywordToken, SignToken, Sign, AndWord, OrWord, IfWord, ThenWord, ElseWord, ArrowSign, BoxSign, InternalSign, TripleBarSign, DoubleBarSign, OpenSharedSign, CloseSharedSign, OpenRenamingSign, InterruptSign, HidingSign, SemicolonSign, GuardSign, AtSign, SameSign, DiffersSign, AtMostSign, AtLeastSign, LessSign, GreaterSign, PlusSign, MinusSign, TimesSign, PercentSign, CaretSign, OutputSign, InputSign, DotSign, ColonSign, OpenRoundSign, CloseRoundSign, OpenSquareSign, CloseSquareSign, PlacedToken}
-use Rattle.csp_semantics.specs.Text.Raw.{Infix, Replicator}
-use Rattle.csp_semantics.specs.Text.Grammar.{IsRenamingPart, IsHidingPart, IsWord, IsSign, IsName, IsAtom, IsExpression, AreExpressions, AreFields, IsEventSet, IsBase, IsOperand, IsProcess}
+use Rattle.csp_text.specs.Token.{Token, KeywordToken, SignToken, Sign, AndWord, OrWord, IfWord, ThenWord, ElseWord, ArrowSign, BoxSign, InternalSign, TripleBarSign, DoubleBarSign, OpenSharedSign, CloseSharedSign, OpenRenamingSign, InterruptSign, HidingSign, SemicolonSign, GuardSign, AtSign, SameSign, DiffersSign, AtMostSign, AtLeastSign, LessSign, GreaterSign, PlusSign, MinusSign, TimesSign, PercentSign, CaretSign, OutputSign, InputSign, DotSign, ColonSign, OpenRoundSign, CloseRoundSign, OpenSquareSign, CloseSquareSign, PlacedToken}
+use Rattle.csp_text.specs.Raw.{Infix, Replicator}
+use Rattle.csp_text.specs.Grammar.{IsRenamingPart, IsHidingPart, IsWord, IsSign, IsName, IsAtom, IsExpression, AreExpressions, AreFields, IsEventSet, IsBase, IsOperand, IsProcess}
 use Rattle.csp_parse.specs.Continuing.{BehindAtom}
 use Rattle.csp_parse.specs.Deciding.{only}
 use Rattle.csp_parse.specs.Words.{infix_sign, replicator_sign}

@@ -2,14 +2,14 @@
 use Rattle.std.specs.Prelude.{map}
 use Rattle.std.specs.Box.{box_value}
 use Rattle.std.specs.declared.boxed.Box.{Box}
-use Rattle.csp_semantics.specs.Text.Raw as raw
-use Rattle.csp_semantics.specs.Text.Raw.{RawField, RawGiven, RawInput, RawInputFrom, RawProcess, RawStop, RawSkip, RawCall, RawPrefix, RawGuard, RawIf, RawInfix, RawGeneralisedParallel, RawAlphabetisedParallel, RawHiding, RawRenaming, RawReplicated}
+use Rattle.csp_syntax.specs.declared.process_operator.ProcessOperator.{ProcessOperator}
+use Rattle.csp_syntax.specs.declared.process_operator.ProcessOperator.TheVariants as chaining
+use Rattle.csp_syntax.specs.declared.process_operator.ReplicatedOperator.{ReplicatedOperator}
+use Rattle.csp_syntax.specs.declared.process_operator.ReplicatedOperator.TheVariants as replicator
+use Rattle.csp_text.specs.Raw as raw
+use Rattle.csp_text.specs.Raw.{RawField, RawGiven, RawInput, RawInputFrom, RawProcess, RawStop, RawSkip, RawCall, RawPrefix, RawGuard, RawIf, RawInfix, RawGeneralisedParallel, RawAlphabetisedParallel, RawHiding, RawRenaming, RawReplicated}
 use Rattle.csp_parse.specs.declared.processes.Field.{Field}
 use Rattle.csp_parse.specs.declared.processes.Field.TheVariants as field
-use Rattle.csp_parse.specs.declared.processes.Infix.{Infix}
-use Rattle.csp_parse.specs.declared.processes.Infix.TheVariants as chaining
-use Rattle.csp_parse.specs.declared.processes.Replicator.{Replicator}
-use Rattle.csp_parse.specs.declared.processes.Replicator.TheVariants as replicator
 use Rattle.csp_parse.specs.declared.processes.Process.{Process}
 use Rattle.csp_parse.specs.declared.processes.Process.TheOpen as layer
 use Rattle.csp_parse.specs.declared.processes.Process.TheFolds.{fold-Process}
@@ -23,14 +23,14 @@ field_of (field.Given e) = RawGiven (expression_of e)
 field_of (field.Input n) = RawInput (name_of n)
 field_of (field.InputFrom n e) = RawInputFrom (name_of n) (expression_of e)
 
-abbrev pub infix_of : Infix → raw.Infix
+abbrev pub infix_of : ProcessOperator → raw.Infix
 infix_of chaining.ExternalChoice = raw.ExternalInfix
 infix_of chaining.InternalChoice = raw.InternalInfix
 infix_of chaining.Sequential = raw.SequentialInfix
 infix_of chaining.Interleaving = raw.InterleavingInfix
 infix_of chaining.Interrupt = raw.InterruptInfix
 
-abbrev pub replicator_of : Replicator → raw.Replicator
+abbrev pub replicator_of : ReplicatedOperator → raw.Replicator
 replicator_of replicator.ExternalChoice = raw.ExternalReplicator
 replicator_of replicator.InternalChoice = raw.InternalReplicator
 replicator_of replicator.Interleaving = raw.InterleavingReplicator

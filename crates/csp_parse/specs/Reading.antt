@@ -1,9 +1,9 @@
 -- What reading tokens says of them.
 use Rattle.std.specs.Prelude.{◌≡◌, ◌≤◌, ℕ, List, [], ◌∷◌, ◌++◌, map, drop, ⊤}
-use Rattle.csp_semantics.specs.Text.Token.{PlacedToken}
+use Rattle.csp_text.specs.Token.{PlacedToken}
 use Rattle.csp_lex.specs.declared.kinds.TokenKind.{TokenKind}
 use Rattle.csp_lex.specs.Tokens.{token_of, placed_token}
-use Rattle.csp_semantics.specs.Text.Height.{Nest, nesting, after_token, after_tokens, nest_height, greatest_height}
+use Rattle.csp_text.specs.Height.{Nest, nesting, after_token, after_tokens, nest_height, greatest_height}
 use Rattle.csp_parse.specs.declared.parsers.Parser.{Parser}
 use Rattle.csp_parse.specs.Nests.{nest_of}
 

@@ -1,14 +1,14 @@
 -- What the tokens that a start is read from are not, and what may stand behind it.
 use Rattle.std.specs.Prelude.{◌≡◌, List, [], ◌++◌, ⊤}
-use Rattle.csp_semantics.specs.Text.Token.{PlacedToken, OpenRoundSign, CloseRoundSign}
-use Rattle.csp_semantics.specs.Text.Grammar.{IsSign, IsBase, IsProcess}
+use Rattle.csp_syntax.specs.declared.process_operator.ProcessOperator.{ProcessOperator}
+use Rattle.csp_syntax.specs.declared.process_operator.ProcessOperator.TheVariants as chaining
+use Rattle.csp_syntax.specs.declared.process_operator.ReplicatedOperator.{ReplicatedOperator}
+use Rattle.csp_syntax.specs.declared.process_operator.ReplicatedOperator.TheVariants as replicator
+use Rattle.csp_text.specs.Token.{PlacedToken, OpenRoundSign, CloseRoundSign}
+use Rattle.csp_text.specs.Grammar.{IsSign, IsBase, IsProcess}
 use Rattle.csp_lex.specs.declared.kinds.TokenKind.TheVariants as kinds
 use Rattle.csp_lex.specs.declared.signs.Sign.{Sign}
 use Rattle.csp_lex.specs.declared.signs.Sign.TheVariants as sign
-use Rattle.csp_parse.specs.declared.processes.Infix.{Infix}
-use Rattle.csp_parse.specs.declared.processes.Infix.TheVariants as chaining
-use Rattle.csp_parse.specs.declared.processes.Replicator.{Replicator}
-use Rattle.csp_parse.specs.declared.processes.Replicator.TheVariants as replicator
 use Rattle.csp_parse.specs.declared.starts.Start.{Start}
 use Rattle.csp_parse.specs.declared.starts.Start.TheVariants as start
 use Rattle.csp_parse.specs.declared.starts.Inner.{Inner}
@@ -112,14 +112,14 @@ StopsBehind (start.Base p) before after stopped = IsStop BehindBase continues_pr
 StopsBehind (start.Operand p) before after stopped = IsStop BehindOperand continues_process before after stopped
 
 -- the sign that an operator between processes, or over a set, is written as
-abbrev pub infix_written : Infix → Sign
+abbrev pub infix_written : ProcessOperator → Sign
 infix_written chaining.ExternalChoice = sign.Box
 infix_written chaining.InternalChoice = sign.Internal
 infix_written chaining.Sequential = sign.Semicolon
 infix_written chaining.Interleaving = sign.TripleBar
 infix_written chaining.Interrupt = sign.Interrupt
 
-abbrev pub replicator_written : Replicator → Sign
+abbrev pub replicator_written : ReplicatedOperator → Sign
 replicator_written replicator.ExternalChoice = sign.Box
 replicator_written replicator.InternalChoice = sign.Internal
 replicator_written replicator.Interleaving = sign.TripleBar

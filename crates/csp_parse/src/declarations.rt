@@ -2,6 +2,7 @@ use crate::expressions::Expression;
 use crate::names::Name;
 use crate::processes::Process;
 use csp_lex::Place;
+use csp_syntax::Model;
 use std::alloc::Allocator;
 
 /// The set of a nametype or of a channel's field, with the place of its first token.
@@ -9,15 +10,6 @@ use std::alloc::Allocator;
 pub struct Domain<'a, A: Allocator> {
     pub place: Place,
     pub set: Expression<'a, A>,
-}
-
-/// What an assertion compares.
-#[derive(Clone, Copy)]
-pub enum Model {
-    /// `[T=`
-    Traces,
-    /// `[F=`
-    Failures,
 }
 
 /// A declaration as it is written.

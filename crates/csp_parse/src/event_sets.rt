@@ -1,16 +1,6 @@
 use crate::events::Event;
+use csp_syntax::EventSetOperator;
 use std::alloc::Allocator;
-
-/// How two sets of events are joined.
-#[derive(Clone, Copy)]
-pub enum SetOperator {
-    /// `union`
-    Union,
-    /// `inter`
-    Intersection,
-    /// `diff`
-    Difference,
-}
 
 /// A set of events as it is written.
 #[derive(Drop)]
@@ -19,5 +9,5 @@ pub enum EventSet<'a, A: Allocator> {
     Enumeration(Vec<Event<'a, A>, A>),
     /// `{| c.e, .. |}`
     Productions(Vec<Event<'a, A>, A>),
-    Combine(SetOperator, Box<EventSet<'a, A>, A>, Box<EventSet<'a, A>, A>),
+    Combine(EventSetOperator, Box<EventSet<'a, A>, A>, Box<EventSet<'a, A>, A>),
 }

@@ -1,5 +1,5 @@
 use crate::names::Name;
-use crate::operators::{BinaryOperator, UnaryOperator};
+use csp_syntax::{BinaryOperator, UnaryOperator};
 use std::alloc::Allocator;
 
 /// An expression as it is written. Brackets leave no mark.

@@ -1,11 +1,11 @@
 ghost use Rattle.std.specs.Prelude.{◌≡◌, ℕ, List};
 ghost use Rattle.std.specs.Option.{option_map};
+ghost use Rattle.csp_syntax.specs.Operators.{unary_of, binary_of};
 ghost use Rattle.csp_lex.specs.Tokens.{keyword_of, token_of};
-ghost use Rattle.csp_parse.specs.Operators.{unary_of, binary_of};
 ghost use Rattle.csp_parse.specs.Words.{unary_word, binary_word, comparison_of};
 
-use crate::operators::{BinaryOperator, UnaryOperator};
 use csp_lex::{Keyword, Sign, TokenKind};
+use csp_syntax::{BinaryOperator, UnaryOperator};
 
 /// How strongly an expression holds together, the weakest first.
 #[derive(Clone, Copy)]

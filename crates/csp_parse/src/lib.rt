@@ -13,7 +13,6 @@ mod expressions;
 mod levels;
 mod names;
 mod nests;
-mod operators;
 mod parsers;
 mod processes;
 mod read_declarations;
@@ -27,22 +26,24 @@ mod starts;
 mod stops;
 
 ghost use Rattle.std.specs.Prelude.{IfOk, IfErr, map};
-ghost use Rattle.csp_semantics.specs.Text.Grammar.{IsScript};
-ghost use Rattle.csp_semantics.specs.Text.Height.{HasNoneTooHigh};
+ghost use Rattle.csp_text.specs.Grammar.{IsScript};
+ghost use Rattle.csp_text.specs.Height.{HasNoneTooHigh};
 ghost use Rattle.csp_lex.specs.Places.{place_of};
 ghost use Rattle.csp_lex.specs.Tokens.{placed_token};
 ghost use Rattle.csp_parse.specs.Declarations.{script_of};
 ghost use Rattle.csp_parse.specs.Stopping.{IsRefusalOf};
 
 use csp_lex::TokenList;
-pub use declarations::{Declaration, Domain, Model, Raw};
-pub use event_sets::{EventSet, SetOperator};
+pub use csp_syntax::{
+    BinaryOperator, EventSetOperator, Model, ProcessOperator, ReplicatedOperator, UnaryOperator,
+};
+pub use declarations::{Declaration, Domain, Raw};
+pub use event_sets::EventSet;
 pub use events::{Event, Pair};
 pub use expressions::Expression;
 pub use names::Name;
 pub use nests::GREATEST_HEIGHT;
-pub use operators::{BinaryOperator, UnaryOperator};
-pub use processes::{Field, Infix, Process, Replicator};
+pub use processes::{Field, Process};
 pub use refusals::{GrammarFault, Refused};
 use std::alloc::Allocator;
 

@@ -1,7 +1,7 @@
 ghost use Rattle.std.specs.Prelude.{◌≡◌, ◌≤◌, ◌<◌, ◌+◌, ℕ, List, IfOk};
-ghost use Rattle.csp_semantics.specs.Text.Height.{nesting, nest_height, group_height, after_token, greatest_height};
-ghost use Rattle.csp_semantics.specs.Text.Height as height;
-ghost use Rattle.csp_semantics.specs.Text.Token.{SignToken, KeywordToken};
+ghost use Rattle.csp_text.specs.Height.{nesting, nest_height, group_height, after_token, greatest_height};
+ghost use Rattle.csp_text.specs.Height as height;
+ghost use Rattle.csp_text.specs.Token.{SignToken, KeywordToken};
 ghost use Rattle.csp_lex.specs.Tokens.{keyword_of, sign_of, token_of};
 ghost use Rattle.csp_parse.specs.Nests.{nesting_is, group_of, nest_of, start};
 

@@ -1,7 +1,7 @@
 ghost use Rattle.std.specs.Prelude.{◌≡◌, ◌<◌, ◌≤◌, ℕ, List, [], true, false, IfOk, IfErr, IfSome, IfNone, length, map};
-ghost use Rattle.csp_semantics.specs.Text.Token.{SignToken};
-ghost use Rattle.csp_semantics.specs.Text.Height.{token_fault};
-ghost use Rattle.csp_semantics.specs.Text.Grammar.{IsSign, IsWord, IsName};
+ghost use Rattle.csp_text.specs.Token.{SignToken};
+ghost use Rattle.csp_text.specs.Height.{token_fault};
+ghost use Rattle.csp_text.specs.Grammar.{IsSign, IsWord, IsName};
 ghost use Rattle.csp_lex.specs.Tokens.{keyword_of, sign_of, token_of, placed_token};
 ghost use Rattle.csp_lex.specs.declared.kinds.TokenKind.TheVariants as kinds;
 ghost use Rattle.csp_parse.specs.Names.{name_of};
@@ -27,7 +27,7 @@ pub(crate) struct Parser<'t, 'a, A: Allocator> {
 }
 
 impl<'t, 'a, A: Allocator + Copy> Parser<'t, 'a, A> {
-    ghost use Rattle.csp_semantics.specs.Text.Height.{nest_height, greatest_height};
+    ghost use Rattle.csp_text.specs.Height.{nest_height, greatest_height};
     ghost use Rattle.csp_parse.specs.declared.stops.Stopped.TheVariants.{Memory};
     ghost use Rattle.csp_parse.specs.Deciding.{nothing, Ends, Done, IsStop, IsStopOfOne, IsStopOfCount};
     ghost use Rattle.csp_parse.specs.Forms.{HasTree, Next};

@@ -1,5 +1,7 @@
 ghost use Rattle.std.specs.Prelude.{◌≡◌, IfOk, IfErr, map};
 ghost use Rattle.csp_lex.specs.Tokens.{sign_of};
+ghost use Rattle.csp_parse.specs.Processes.{infix_of, replicator_of};
+ghost use Rattle.csp_parse.specs.Words.{infix_sign, replicator_sign};
 
 use crate::event_sets::EventSet;
 use crate::events::Pair;
@@ -7,6 +9,7 @@ use crate::expressions::Expression;
 use crate::names::Name;
 use crate::stops::Stopped;
 use csp_lex::Sign;
+use csp_syntax::{ProcessOperator, ReplicatedOperator};
 use std::alloc::Allocator;
 
 /// A field of a prefix.
@@ -20,63 +23,27 @@ pub enum Field<'a, A: Allocator> {
     InputFrom(Name<'a>, Expression<'a, A>),
 }
 
-/// An operator between processes that chains.
-#[derive(Clone, Copy)]
-pub enum Infix {
-    /// `[]`
-    ExternalChoice,
-    /// `|~|`
-    InternalChoice,
-    /// `;`
-    Sequential,
-    /// `|||`
-    Interleaving,
-    /// `/\`
-    Interrupt,
-}
-
-impl Infix {
-    ghost use Rattle.csp_parse.specs.Processes.{infix_of};
-    ghost use Rattle.csp_parse.specs.Words.{infix_sign};
-
-    /// How the operator is written.
-    pub(crate) fn sign(self) -> Sign
-        ensures { sign_of result ≡ infix_sign (infix_of self) }
-    {
-        match self {
-            Infix::ExternalChoice => Sign::Box,
-            Infix::InternalChoice => Sign::Internal,
-            Infix::Sequential => Sign::Semicolon,
-            Infix::Interleaving => Sign::TripleBar,
-            Infix::Interrupt => Sign::Interrupt,
-        }
+/// How an operator between processes is written.
+pub(crate) fn operator_sign(operator: ProcessOperator) -> Sign
+    ensures { sign_of result ≡ infix_sign (infix_of operator) }
+{
+    match operator {
+        ProcessOperator::ExternalChoice => Sign::Box,
+        ProcessOperator::InternalChoice => Sign::Internal,
+        ProcessOperator::Sequential => Sign::Semicolon,
+        ProcessOperator::Interleaving => Sign::TripleBar,
+        ProcessOperator::Interrupt => Sign::Interrupt,
     }
 }
 
-/// An operator over a set.
-#[derive(Clone, Copy)]
-pub enum Replicator {
-    /// `[]`
-    ExternalChoice,
-    /// `|~|`
-    InternalChoice,
-    /// `|||`
-    Interleaving,
-}
-
-impl Replicator {
-    ghost use Rattle.csp_parse.specs.Processes.{replicator_of};
-    ghost use Rattle.csp_parse.specs.Words.{replicator_sign};
-
-    /// How the operator is written.
-    pub(crate) fn sign(self) -> Sign
-        ensures { sign_of result ≡ replicator_sign (replicator_of self) }
-    {
-        match self {
-            Replicator::ExternalChoice => Sign::Box,
-            Replicator::InternalChoice => Sign::Internal,
-            Replicator::Interleaving => Sign::TripleBar,
-        }
+/// How an operator over a set is written.
+pub(crate) fn replicated_sign(operator: ReplicatedOperator) -> Sign
+    ensures { sign_of result ≡ replicator_sign (replicator_of operator) }
+{
+    match operator {
+        ReplicatedOperator::ExternalChoice => Sign::Box,
+        ReplicatedOperator::InternalChoice => Sign::Internal,
+        ReplicatedOperator::Interleaving => Sign::TripleBar,
     }
 }
 
@@ -93,7 +60,7 @@ pub enum Process<'a, A: Allocator> {
     Guard(Expression<'a, A>, Box<Process<'a, A>, A>),
     /// `if e then P else Q`
     If(Expression<'a, A>, Box<Process<'a, A>, A>, Box<Process<'a, A>, A>),
-    Infix(Infix, Box<Process<'a, A>, A>, Box<Process<'a, A>, A>),
+    Infix(ProcessOperator, Box<Process<'a, A>, A>, Box<Process<'a, A>, A>),
     /// `P [| X |] Q`
     GeneralisedParallel(Box<Process<'a, A>, A>, EventSet<'a, A>, Box<Process<'a, A>, A>),
     /// `P [X || Y] Q`
@@ -108,17 +75,17 @@ pub enum Process<'a, A: Allocator> {
     /// `P[[c <- d, ..]]`
     Renaming(Box<Process<'a, A>, A>, Vec<Pair<'a, A>, A>),
     /// `[] x:S @ P`
-    Replicated(Replicator, Name<'a>, Expression<'a, A>, Box<Process<'a, A>, A>),
+    Replicated(ReplicatedOperator, Name<'a>, Expression<'a, A>, Box<Process<'a, A>, A>),
 }
 
 impl<'a, A: Allocator + Copy> Process<'a, A> {
-    ghost use Rattle.csp_semantics.specs.Text.Raw.{RawStop, RawSkip, RawCall, RawPrefix, RawGuard, RawIf, RawInfix, RawGeneralisedParallel, RawAlphabetisedParallel, RawHiding, RawRenaming, RawReplicated};
+    ghost use Rattle.csp_text.specs.Raw.{RawStop, RawSkip, RawCall, RawPrefix, RawGuard, RawIf, RawInfix, RawGeneralisedParallel, RawAlphabetisedParallel, RawHiding, RawRenaming, RawReplicated};
     ghost use Rattle.csp_parse.specs.declared.stops.Stopped.TheVariants.{Memory};
     ghost use Rattle.csp_parse.specs.Events.{pair_of};
     ghost use Rattle.csp_parse.specs.EventSets.{event_set_of};
     ghost use Rattle.csp_parse.specs.Expressions.{expression_of, expressions_of};
     ghost use Rattle.csp_parse.specs.Names.{name_of};
-    ghost use Rattle.csp_parse.specs.Processes.{field_of, infix_of, replicator_of, process_in, process_of};
+    ghost use Rattle.csp_parse.specs.Processes.{field_of, process_in, process_of};
 
     // Alone, so that no other function holds a process in its own place, which makes proofs long.
     fn boxed(self, alloc: A) -> Result<Box<Process<'a, A>, A>, Stopped>
@@ -198,7 +165,7 @@ impl<'a, A: Allocator + Copy> Process<'a, A> {
     /// An operator between two processes.
     pub(crate) fn joined(
         alloc: A,
-        operator: Infix,
+        operator: ProcessOperator,
         left: Box<Process<'a, A>, A>,
         right: Box<Process<'a, A>, A>,
     ) -> Result<Box<Process<'a, A>, A>, Stopped>
@@ -262,7 +229,7 @@ impl<'a, A: Allocator + Copy> Process<'a, A> {
     /// `[] x:S @ P`
     pub(crate) fn replicated(
         alloc: A,
-        operator: Replicator,
+        operator: ReplicatedOperator,
         name: Name<'a>,
         set: Expression<'a, A>,
         body: Box<Process<'a, A>, A>,

@@ -1,19 +1,21 @@
 ghost use Rattle.std.specs.Prelude.{◌≡◌, ◌<◌, ◌≤◌, IfOk, IfErr, length, map};
-ghost use Rattle.csp_semantics.specs.Text.Grammar.{IsName, IsExpression, AreDomains, IsModel, IsDeclaration};
-ghost use Rattle.csp_semantics.specs.Text.Token.{BarSign, DotSign};
+ghost use Rattle.csp_syntax.specs.Models.{model_of};
+ghost use Rattle.csp_text.specs.Grammar.{IsName, IsExpression, AreDomains, IsModel, IsDeclaration};
+ghost use Rattle.csp_text.specs.Token.{BarSign, DotSign};
 ghost use Rattle.csp_lex.specs.Tokens.{sign_of};
-ghost use Rattle.csp_parse.specs.Declarations.{domain_of, model_of, declaration_of, script_of};
+ghost use Rattle.csp_parse.specs.Declarations.{domain_of, declaration_of, script_of};
 ghost use Rattle.csp_parse.specs.Levels.{IsDomainAt};
 ghost use Rattle.csp_parse.specs.Limits.{IsLowScript};
 ghost use Rattle.csp_parse.specs.Names.{name_of};
 ghost use Rattle.csp_parse.specs.Separated.{AreSeparated};
 
-use crate::declarations::{Declaration, Domain, Model, Raw};
+use crate::declarations::{Declaration, Domain, Raw};
 use crate::levels::Level;
 use crate::names::Name;
 use crate::parsers::Parser;
 use crate::stops::Stopped;
 use csp_lex::{Keyword, Sign};
+use csp_syntax::Model;
 use std::alloc::Allocator;
 
 impl<'t, 'a, A: Allocator + Copy> Parser<'t, 'a, A> {

@@ -1,8 +1,8 @@
 ghost use Rattle.std.specs.Prelude.{◌≡◌, ◌<◌, ◌≤◌, IfOk, IfErr, length, map};
 ghost use Rattle.std.specs.Option.{option_map};
-ghost use Rattle.csp_semantics.specs.Text.Token.{DotSign};
-ghost use Rattle.csp_semantics.specs.Text.Grammar.{IsSign, AreDotted, IsEvent, AreEvents, ArePairs, IsEventSet};
-ghost use Rattle.csp_semantics.specs.Text.Raw.{RawEnumeration, RawProductions};
+ghost use Rattle.csp_text.specs.Token.{DotSign};
+ghost use Rattle.csp_text.specs.Grammar.{IsSign, AreDotted, IsEvent, AreEvents, ArePairs, IsEventSet};
+ghost use Rattle.csp_text.specs.Raw.{RawEnumeration, RawProductions};
 ghost use Rattle.csp_lex.specs.Tokens.{keyword_of, sign_of};
 ghost use Rattle.csp_lex.specs.declared.kinds.TokenKind.TheVariants as kinds;
 ghost use Rattle.csp_parse.specs.declared.stops.Stopped.TheVariants.{Memory};
@@ -12,13 +12,14 @@ ghost use Rattle.csp_parse.specs.Expressions.{expressions_of};
 ghost use Rattle.csp_parse.specs.Separated.{IsPair};
 ghost use Rattle.csp_parse.specs.Words.{set_word};
 
-use crate::event_sets::{EventSet, SetOperator};
+use crate::event_sets::EventSet;
 use crate::events::{Event, Pair};
 use crate::expressions::Expression;
 use crate::levels::Level;
 use crate::parsers::Parser;
 use crate::stops::Stopped;
 use csp_lex::{Keyword, Sign, TokenKind};
+use csp_syntax::EventSetOperator;
 use std::alloc::Allocator;
 
 impl<'t, 'a, A: Allocator + Copy> Parser<'t, 'a, A> {
@@ -188,7 +189,7 @@ impl<'t, 'a, A: Allocator + Copy> Parser<'t, 'a, A> {
 /// Two sets of events with an operator between.
 fn joined<'a, A: Allocator + Copy>(
     alloc: A,
-    operator: SetOperator,
+    operator: EventSetOperator,
     left: EventSet<'a, A>,
     right: EventSet<'a, A>,
 ) -> Result<EventSet<'a, A>, Stopped>
@@ -201,13 +202,13 @@ fn joined<'a, A: Allocator + Copy>(
 }
 
 /// The operator on sets of events that a keyword is, if it is one.
-fn set_operator(keyword: Keyword) -> Option<SetOperator>
+fn set_operator(keyword: Keyword) -> Option<EventSetOperator>
     ensures { option_map operator_of result ≡ set_word (keyword_of keyword) }
 {
     match keyword {
-        Keyword::Union => Some(SetOperator::Union),
-        Keyword::Inter => Some(SetOperator::Intersection),
-        Keyword::Diff => Some(SetOperator::Difference),
+        Keyword::Union => Some(EventSetOperator::Union),
+        Keyword::Inter => Some(EventSetOperator::Intersection),
+        Keyword::Diff => Some(EventSetOperator::Difference),
         _ => None,
     }
 }

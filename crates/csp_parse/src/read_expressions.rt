@@ -1,21 +1,20 @@
 ghost use Rattle.std.specs.Prelude.{◌≡◌, ◌<◌, ◌≤◌, None, IfOk, IfErr, length};
-ghost use Rattle.csp_semantics.specs.Text.Token.{RangeSign, CloseBraceSign, LessSign, OpenBraceSign};
-ghost use Rattle.csp_semantics.specs.Text.Grammar.{IsSign, IsExpression, IsNegation, IsComparison, IsSum, IsAtom};
-ghost use Rattle.csp_semantics.specs.Text.Raw.{RawApply, RawCombine, RawRange};
-ghost use Rattle.csp_lex.specs.Tokens.{keyword_of};
+ghost use Rattle.csp_syntax.specs.Operators.{unary_of, binary_of};
+ghost use Rattle.csp_text.specs.Token.{RangeSign, CloseBraceSign, LessSign, OpenBraceSign};
+ghost use Rattle.csp_text.specs.Grammar.{IsSign, IsExpression, IsNegation, IsComparison, IsSum, IsAtom};
+ghost use Rattle.csp_text.specs.Raw.{RawApply, RawCombine, RawRange};
+ghost use Rattle.csp_lex.specs.Tokens.{keyword_of, sign_of};
 ghost use Rattle.csp_parse.specs.declared.stops.Stopped.TheVariants.{Memory};
 ghost use Rattle.csp_lex.specs.declared.kinds.TokenKind.TheVariants as kinds;
 ghost use Rattle.csp_parse.specs.Expressions.{expression_of, expressions_of};
-ghost use Rattle.csp_lex.specs.Tokens.{sign_of};
 ghost use Rattle.csp_parse.specs.Levels.{IsAt, stronger, AreListed, ReadsSigned, ReadsOperation, ReadsBracketed, ReadsTwo};
-ghost use Rattle.csp_parse.specs.Operators.{unary_of, binary_of};
 
 use crate::expressions::Expression;
 use crate::levels::{Level, binary_function, comparison, unary_function};
-use crate::operators::{BinaryOperator, UnaryOperator};
 use crate::parsers::Parser;
 use crate::stops::Stopped;
 use csp_lex::{Keyword, Sign, TokenKind};
+use csp_syntax::{BinaryOperator, UnaryOperator};
 use std::alloc::Allocator;
 
 impl<'t, 'a, A: Allocator + Copy> Parser<'t, 'a, A> {

@@ -1,6 +1,6 @@
 ghost use Rattle.std.specs.Prelude.{◌<◌, ◌≤◌, IfOk, IfErr, length, map};
-ghost use Rattle.csp_semantics.specs.Text.Grammar.{AreFields};
-ghost use Rattle.csp_semantics.specs.Text.Token.{ColonSign};
+ghost use Rattle.csp_text.specs.Grammar.{AreFields};
+ghost use Rattle.csp_text.specs.Token.{ColonSign};
 ghost use Rattle.csp_parse.specs.Processes.{field_of};
 ghost use Rattle.csp_parse.specs.Starts.{IsLaterField};
 

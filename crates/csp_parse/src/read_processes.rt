@@ -1,6 +1,6 @@
 ghost use Rattle.std.specs.Prelude.{◌≡◌, ◌<◌, ◌≤◌, ◌⊎◌, true, false, IfOk, IfErr, IfSome, IfNone, length};
-ghost use Rattle.csp_semantics.specs.Text.Grammar.{IsSign, IsWord, IsExpression, IsRenamingPart, IsHidingPart, IsBase, IsOperand, IsProcess};
-ghost use Rattle.csp_semantics.specs.Text.Token.{IfWord, OpenRenamingSign, HidingSign};
+ghost use Rattle.csp_text.specs.Grammar.{IsSign, IsWord, IsExpression, IsRenamingPart, IsHidingPart, IsBase, IsOperand, IsProcess};
+ghost use Rattle.csp_text.specs.Token.{IfWord, OpenRenamingSign, HidingSign};
 ghost use Rattle.csp_lex.specs.Tokens.{keyword_of, sign_of};
 ghost use Rattle.csp_parse.specs.Expressions.{expression_of};
 ghost use Rattle.csp_parse.specs.Processes.{infix_of, replicator_of, process_in};
@@ -10,13 +10,16 @@ use crate::expressions::Expression;
 use crate::levels::Level;
 use crate::names::Name;
 use crate::parsers::Parser;
-use crate::processes::{Infix, Process, Replicator};
+use crate::processes::{Process, operator_sign, replicated_sign};
 use crate::starts::Start;
 use crate::stops::Stopped;
 use csp_lex::{Keyword, Sign, TokenKind};
+use csp_syntax::{ProcessOperator, ReplicatedOperator};
 use std::alloc::Allocator;
 
 impl<'t, 'a, A: Allocator + Copy> Parser<'t, 'a, A> {
+    ghost use Rattle.csp_syntax.specs.declared.process_operator.ProcessOperator as operators;
+    ghost use Rattle.csp_syntax.specs.declared.process_operator.ReplicatedOperator as over_sets;
     ghost use Rattle.csp_lex.specs.declared.kinds.TokenKind.TheVariants as kinds;
     ghost use Rattle.csp_lex.specs.declared.keywords.Keyword.TheVariants as keyword;
     ghost use Rattle.csp_lex.specs.declared.signs.Sign.TheVariants as sign;
@@ -28,8 +31,6 @@ impl<'t, 'a, A: Allocator + Copy> Parser<'t, 'a, A> {
     ghost use Rattle.csp_parse.specs.StartForms.{BehindBase, BehindStart, StopsBehind, infix_written, replicator_written};
     ghost use Rattle.csp_parse.specs.Words.{infix_sign, replicator_sign};
     ghost use Rattle.csp_parse.specs.declared.levels.Level.TheVariants.{Disjunction};
-    ghost use Rattle.csp_parse.specs.declared.processes.Infix as infixes;
-    ghost use Rattle.csp_parse.specs.declared.processes.Replicator as replicators;
 
     /// A process.
     #[cycle(process)]
@@ -100,13 +101,16 @@ impl<'t, 'a, A: Allocator + Copy> Parser<'t, 'a, A> {
 
     /// A replicated process, whose operator is next.
     #[cycle(process)]
-    fn replicated(&mut self, replicator: Replicator) -> Result<Box<Process<'a, A>, A>, Stopped>
+    fn replicated(
+        &mut self,
+        replicator: ReplicatedOperator,
+    ) -> Result<Box<Process<'a, A>, A>, Stopped>
         ensures reads { IfOk result (λ r. Reads IsProcess (standing_of self.old) (standing_of self.new) (process_in r)) }
         ensures done { IfOk result (λ _. Done (ReplicatedBy (replicator_sign (replicator_of replicator))) continues_process (standing_of self.old) (standing_of self.new)) }
         ensures stops { IfErr result (λ stopped. IsStop (ReplicatedBy (replicator_sign (replicator_of replicator))) continues_process (standing_of self.old) (standing_of self.new) stopped) }
         ensures shorter { IfOk result (λ _. length (left_of self.new) < length (left_of self.old)) }
     {
-        let written = replicator.sign();
+        let written = replicated_sign(replicator);
         let name = self.name_behind(written)?;
         let set = self.expression_behind(Sign::Colon, Level::Atom)?;
         let body = self.process_behind(Sign::At)?;
@@ -245,7 +249,7 @@ impl<'t, 'a, A: Allocator + Copy> Parser<'t, 'a, A> {
     #[cycle(process)]
     fn chain(
         &mut self,
-        operator: Infix,
+        operator: ProcessOperator,
         first: Box<Process<'a, A>, A>,
     ) -> Result<Box<Process<'a, A>, A>, Stopped>
         ensures continues { IfOk result (λ r. Continues IsOperand IsProcess (standing_of self.old) (standing_of self.new) (process_in first.entry) (process_in r)) }
@@ -253,7 +257,7 @@ impl<'t, 'a, A: Allocator + Copy> Parser<'t, 'a, A> {
         ensures stops { IfErr result (λ stopped. IsStop (ChainOf (infix_sign (infix_of operator))) continues_process (standing_of self.old) (standing_of self.new) stopped) }
         ensures not_longer { IfOk result (λ _. length (left_of self.new) ≤ length (left_of self.old)) }
     {
-        let written = operator.sign();
+        let written = operator_sign(operator);
         let second = self.operand_behind(written)?;
         let mut chain = Process::joined(self.alloc, operator, first, second)?;
         while self.is_at(written) {
@@ -293,8 +297,8 @@ impl<'t, 'a, A: Allocator + Copy> Parser<'t, 'a, A> {
 
     /// Whether the next token begins a process that is no operand: `if`, or an operator over a set.
     pub(crate) fn is_at_process(&self) -> bool
-        ensures yes { result ≡ true → IsNext (kinds.Keyword keyword.If) (left_of self.now) ⊎ ((o : replicators.Replicator) × IsNext (kinds.Sign (replicator_written o)) (left_of self.now)) }
-        ensures no { result ≡ false → ¬ (IsNext (kinds.Keyword keyword.If) (left_of self.now)) × ((o : replicators.Replicator) → ¬ (IsNext (kinds.Sign (replicator_written o)) (left_of self.now))) }
+        ensures yes { result ≡ true → IsNext (kinds.Keyword keyword.If) (left_of self.now) ⊎ ((o : over_sets.ReplicatedOperator) × IsNext (kinds.Sign (replicator_written o)) (left_of self.now)) }
+        ensures no { result ≡ false → ¬ (IsNext (kinds.Keyword keyword.If) (left_of self.now)) × ((o : over_sets.ReplicatedOperator) → ¬ (IsNext (kinds.Sign (replicator_written o)) (left_of self.now))) }
     {
         match self.next_replicator() {
             Some(_) => true,
@@ -311,29 +315,29 @@ impl<'t, 'a, A: Allocator + Copy> Parser<'t, 'a, A> {
     }
 
     /// The operator between processes that the next token is, if it is one.
-    fn next_infix(&self) -> Option<Infix>
+    fn next_infix(&self) -> Option<ProcessOperator>
         ensures some { IfSome result (λ o. IsNext (kinds.Sign (infix_written o)) (left_of self.now)) }
-        ensures none { IfNone result ((o : infixes.Infix) → ¬ (IsNext (kinds.Sign (infix_written o)) (left_of self.now))) }
+        ensures none { IfNone result ((o : operators.ProcessOperator) → ¬ (IsNext (kinds.Sign (infix_written o)) (left_of self.now))) }
     {
         match self.kind()? {
-            TokenKind::Sign(Sign::Box) => Some(Infix::ExternalChoice),
-            TokenKind::Sign(Sign::Internal) => Some(Infix::InternalChoice),
-            TokenKind::Sign(Sign::Semicolon) => Some(Infix::Sequential),
-            TokenKind::Sign(Sign::TripleBar) => Some(Infix::Interleaving),
-            TokenKind::Sign(Sign::Interrupt) => Some(Infix::Interrupt),
+            TokenKind::Sign(Sign::Box) => Some(ProcessOperator::ExternalChoice),
+            TokenKind::Sign(Sign::Internal) => Some(ProcessOperator::InternalChoice),
+            TokenKind::Sign(Sign::Semicolon) => Some(ProcessOperator::Sequential),
+            TokenKind::Sign(Sign::TripleBar) => Some(ProcessOperator::Interleaving),
+            TokenKind::Sign(Sign::Interrupt) => Some(ProcessOperator::Interrupt),
             _ => None,
         }
     }
 
     /// The operator over a set that the next token is, if it is one.
-    fn next_replicator(&self) -> Option<Replicator>
+    fn next_replicator(&self) -> Option<ReplicatedOperator>
         ensures some { IfSome result (λ o. IsNext (kinds.Sign (replicator_written o)) (left_of self.now)) }
-        ensures none { IfNone result ((o : replicators.Replicator) → ¬ (IsNext (kinds.Sign (replicator_written o)) (left_of self.now))) }
+        ensures none { IfNone result ((o : over_sets.ReplicatedOperator) → ¬ (IsNext (kinds.Sign (replicator_written o)) (left_of self.now))) }
     {
         match self.kind()? {
-            TokenKind::Sign(Sign::Box) => Some(Replicator::ExternalChoice),
-            TokenKind::Sign(Sign::Internal) => Some(Replicator::InternalChoice),
-            TokenKind::Sign(Sign::TripleBar) => Some(Replicator::Interleaving),
+            TokenKind::Sign(Sign::Box) => Some(ReplicatedOperator::ExternalChoice),
+            TokenKind::Sign(Sign::Internal) => Some(ReplicatedOperator::InternalChoice),
+            TokenKind::Sign(Sign::TripleBar) => Some(ReplicatedOperator::Interleaving),
             _ => None,
         }
     }

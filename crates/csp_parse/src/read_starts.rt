@@ -1,6 +1,6 @@
 ghost use Rattle.std.specs.Prelude.{◌≡◌, ◌<◌, ◌≤◌, ◌⊎◌, true, false, IfOk, IfErr, length};
-ghost use Rattle.csp_semantics.specs.Text.Grammar.{IsWord, IsName, IsAtom, IsExpression};
-ghost use Rattle.csp_semantics.specs.Text.Token.{StopWord, SkipWord};
+ghost use Rattle.csp_text.specs.Grammar.{IsWord, IsName, IsAtom, IsExpression};
+ghost use Rattle.csp_text.specs.Token.{StopWord, SkipWord};
 ghost use Rattle.csp_parse.specs.Expressions.{expression_of, expressions_of};
 ghost use Rattle.csp_parse.specs.Names.{name_of};
 ghost use Rattle.csp_parse.specs.Starts.{ReadsName, ReadsStart, ReadsInner, ReadsArguments};

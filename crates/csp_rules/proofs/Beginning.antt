@@ -1,10 +1,11 @@
 -- The communications of fields with values put in are those over the bindings of these values.
 use Rattle.std.proofs.Common.{◌≡◌, ℕ, List, [], ◌∷◌, ◌++◌, filter, Some, Result, Ok, Err, refl, sym, ◌∙◌, ap, ap₂}
 use Rattle.std.specs.Result.{result_err}
-use Rattle.csp_semantics.specs.Syntax.Value.{Value, Ev, has_value}
-use Rattle.csp_semantics.specs.Syntax.Expression.{Expression}
-use Rattle.csp_semantics.specs.Syntax.Process.{Field, Given, Input, InputFrom, Process}
-use Rattle.csp_semantics.specs.Meaning.Evaluation.{Cause, Types, ◌and_then◌, value}
+use Rattle.csp_syntax.specs.Value.{Value, Ev, has_value}
+use Rattle.csp_syntax.specs.Expression.{Expression}
+use Rattle.csp_syntax.specs.Process.{Field, Given, Input, InputFrom, Process}
+use Rattle.csp_syntax.specs.Types.{Types}
+use Rattle.csp_semantics.specs.Meaning.Evaluation.{Cause, ◌and_then◌, value}
 use Rattle.csp_semantics.specs.Meaning.Events.{Communication, communications, each_list, elements, in_field_set, with_value}
 use Rattle.csp_semantics.specs.Meaning.Stepping.{Steps, communication_steps}
 use Rattle.csp_semantics.specs.Meaning.Substitution.{Bindings, behind, bind, put, put_expression, put_fields, without}

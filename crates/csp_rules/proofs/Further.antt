@@ -2,15 +2,15 @@
 use Rattle.std.proofs.Common.{◌≡◌, ℕ, List, [], ◌∷◌, ◌++◌, map, Result, Ok, Err, refl, sym, ◌∙◌, ap, ap₂, subst}
 use Rattle.std.proofs.lemmas.List.{append-nil, append_assoc, map-append}
 use Rattle.std.specs.declared.vec.Vec.{Vec}
-use Rattle.csp_semantics.specs.Syntax.Value as pure
-use Rattle.csp_semantics.specs.Syntax.Process.{Process}
+use Rattle.csp_syntax.specs.Value as pure
+use Rattle.csp_syntax.specs.Process.{Process}
 use Rattle.csp_semantics.specs.Meaning.Evaluation.{Cause, ◌and_then◌}
 use Rattle.csp_semantics.specs.Meaning.Events.{Communication, each_list, with_value}
 use Rattle.csp_semantics.specs.Meaning.Stepping.{communication_steps}
 use Rattle.csp_semantics.specs.Meaning.Substitution.{put}
 use Rattle.csp_operators.specs.declared.rule_step.RuleStep.{RuleStep}
-use Rattle.csp_event_tests.specs.declared.stuck.Stuck.{Stuck}
-use Rattle.csp_event_tests.specs.declared.stuck.Stuck.TheVariants as stuck
+use Rattle.csp_expression.specs.declared.eval_fault.EvalFault.{EvalFault}
+use Rattle.csp_expression.specs.declared.eval_fault.EvalFault.TheVariants as eval
 use Rattle.csp_operators.specs.Answering.{answered_of, kept}
 use Rattle.csp_rules.specs.Communicating.{Finds, IsFurther, behind_values}
 
@@ -39,12 +39,12 @@ module _ {A : Type 0} (c : ℕ) (p : Process) where
 
   module _ (vs : List pure.Value) (v : pure.Value) (r : Result (List Communication) Cause) (before : Vec (RuleStep A) A) where
     -- with one more value before the later ones
-    pub with_one : (result : Result (Vec (RuleStep A) A) Stuck) → Finds c p (vs ++ v ∷ []) before r result → Finds c p vs before (r and_then λ ms. Ok (with_value v ms)) result
+    pub with_one : (result : Result (Vec (RuleStep A) A) EvalFault) → Finds c p (vs ++ v ∷ []) before r result → Finds c p vs before (r and_then λ ms. Ok (with_value v ms)) result
     with_one (Ok after) (ms, is, further) =
         let P : List Communication → Type 0 = λ ls. IsFurther c p before after ls in
         (with_value v ms, ap (λ q. q and_then λ ls. Ok (with_value v ls)) is, subst P (behind_one vs v ms) further)
-    with_one (Err (stuck.Fault e)) is = ap (λ q. q and_then λ ls. Ok (with_value v ls)) is
-    with_one (Err stuck.Memory) is = tt
+    with_one (Err (eval.Fault e)) is = ap (λ q. q and_then λ ls. Ok (with_value v ls)) is
+    with_one (Err eval.Memory) is = tt
 
 -- ---- a list of values in turn
 
@@ -92,8 +92,8 @@ module _ (f : pure.Value → Result (List Communication) Cause) where
           )
 
       -- or the first cause
-      pub stopped_at : (ys : List pure.Value) (why : Stuck) → Finds c p vs mid (f v) (Err why) → Finds c p vs before (each_list f (xs ++ v ∷ ys)) (Err why)
-      stopped_at ys (stuck.Fault e) is =
+      pub stopped_at : (ys : List pure.Value) (why : EvalFault) → Finds c p vs mid (f v) (Err why) → Finds c p vs before (each_list f (xs ++ v ∷ ys)) (Err why)
+      stopped_at ys (eval.Fault e) is =
           over_both xs (v ∷ ys) ∙ ap (λ r. r and_then λ ls. each_list f (v ∷ ys) and_then λ ks. Ok (ls ++ ks)) so_far.1
           ∙ ap (λ r. (r and_then λ ls. each_list f ys and_then λ ks. Ok (ls ++ ks)) and_then λ ks. Ok (so_far.0 ++ ks)) is
-      stopped_at ys stuck.Memory is = tt
+      stopped_at ys eval.Memory is = tt

@@ -1,7 +1,7 @@
 -- The parameters with the values of the arguments.
 use Rattle.std.proofs.Common.{◌≡◌, ℕ, suc, ◌+◌, ◌<◌, List, [], ◌∷◌, ◌++◌, length, map, take, get_or, Result, Ok, Err, refl, sym, ◌∙◌, ap, ap₂, arith}
 use Rattle.std.proofs.lemmas.List.{length-map, length-take-le, map-append, take_more}
-use Rattle.csp_semantics.specs.Syntax.Value.{Value}
+use Rattle.csp_syntax.specs.Value.{Value}
 use Rattle.csp_semantics.specs.Meaning.Evaluation.{Cause, IllKinded, ◌and_then◌}
 use Rattle.csp_semantics.specs.Meaning.Events.{parameter_bindings}
 use Rattle.csp_semantics.specs.Meaning.Substitution.{Bindings}

@@ -2,8 +2,8 @@
 use Rattle.std.proofs.Common.{◌≡◌, ℕ, List, [], ◌∷◌, ◌++◌, map, ◌↔◌, slice_get, Some, None, Result, Ok, Err, ok_or, refl, sym, ◌∙◌, ap, subst}
 use Rattle.std.specs.Result.{result_err}
 use Rattle.std.specs.declared.vec.Vec.{Vec}
-use Rattle.csp_semantics.specs.Syntax.Value as pure
-use Rattle.csp_semantics.specs.Syntax.Process.{Field, Prefix, Process, Script}
+use Rattle.csp_syntax.specs.Value as pure
+use Rattle.csp_syntax.specs.Process.{Field, Prefix, Process, Script}
 use Rattle.csp_semantics.specs.Meaning.Evaluation.{Cause, IllKinded, ◌and_then◌}
 use Rattle.csp_semantics.specs.Meaning.Events.{Communication, communications, prefix_communications}
 use Rattle.csp_semantics.specs.Meaning.Stepping.{communication_steps, prefix_steps}
@@ -13,8 +13,8 @@ use Rattle.csp_expression.specs.Fault.{cause_of}
 use Rattle.csp_semantics.specs.Laws.Statements.{IsOneOf}
 use Rattle.csp_semantics.proofs.Stepping.{exact}
 use Rattle.csp_operators.specs.declared.rule_step.RuleStep.{RuleStep}
-use Rattle.csp_event_tests.specs.declared.stuck.Stuck.{Stuck}
-use Rattle.csp_event_tests.specs.declared.stuck.Stuck.TheVariants as stuck
+use Rattle.csp_expression.specs.declared.eval_fault.EvalFault.{EvalFault}
+use Rattle.csp_expression.specs.declared.eval_fault.EvalFault.TheVariants as eval
 use Rattle.csp_operators.specs.Answering.{Answered, Answers, IsAnswered, answered_of, kept}
 use Rattle.csp_rules.specs.Communicating.{Finds, behind_values}
 use Rattle.csp_operators.proofs.Answered.{answered_by}
@@ -54,7 +54,7 @@ module _ (s : Script) (c : ℕ) (fs : List Field) (p : Process) (bs : Bindings) 
       let P : List Answered → Type 0 = λ ss. IsAnswered s (Prefix c gs q) ss in
       subst P (sym are) (answered_by s (Prefix c gs q) (communication_steps c q m.0) (ap result_err allowed) (λ x u. subst (Q x u) allowed (exact s (Prefix c gs q) x u)))
 
-  pub answered_fields : nothing.items ≡ [] → (r : Result (Vec (RuleStep A) A) Stuck) → Finds c p [] nothing (communications s.types bs fs sets) r → Answers s (Prefix c gs q) r
+  pub answered_fields : nothing.items ≡ [] → (r : Result (Vec (RuleStep A) A) EvalFault) → Finds c p [] nothing (communications s.types bs fs sets) r → Answers s (Prefix c gs q) r
   answered_fields empty (Ok after) found = steps_found empty after found
-  answered_fields empty (Err (stuck.Fault e)) is = ap result_err (over_sets ∙ same_cause c q p (communications s.types [] gs sets) (cause_of e) (same_reached ∙ ap (reaching p) is))
-  answered_fields empty (Err stuck.Memory) is = tt
+  answered_fields empty (Err (eval.Fault e)) is = ap result_err (over_sets ∙ same_cause c q p (communications s.types [] gs sets) (cause_of e) (same_reached ∙ ap (reaching p) is))
+  answered_fields empty (Err eval.Memory) is = tt

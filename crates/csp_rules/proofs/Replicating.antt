@@ -3,10 +3,14 @@ use Rattle.std.proofs.Common.{◌≡◌, Contains, IfOk, ℕ, ◌+◌, ◌<◌, 
 use Rattle.std.proofs.lemmas.List.{drop_more, map-append, take-append-drop, take_more}
 use Rattle.std.specs.Option.{option_or}
 use Rattle.std.specs.declared.vec.Vec.{Vec}
-use Rattle.csp_semantics.specs.Syntax.Value as pure
-use Rattle.csp_semantics.specs.Syntax.Expression.{Expression}
-use Rattle.csp_semantics.specs.Syntax.Process.{Process, Script, Stop, Skip, ExternalChoice, InternalChoice, Interleaving, ReplicatedExternalChoice, ReplicatedInternalChoice, ReplicatedInterleaving}
-use Rattle.csp_semantics.specs.Meaning.Evaluation.{Cause, IllKinded, Types, ◌and_then◌, value}
+use Rattle.csp_syntax.specs.Value as pure
+use Rattle.csp_syntax.specs.Expression.{Expression}
+use Rattle.csp_syntax.specs.Process.{Process, Script, Stop, Skip, ExternalChoice, InternalChoice, Interleaving, ReplicatedExternalChoice, ReplicatedInternalChoice, ReplicatedInterleaving}
+use Rattle.csp_syntax.specs.Types.{Types}
+use Rattle.csp_syntax.specs.declared.process_operator.ReplicatedOperator.{ReplicatedOperator}
+use Rattle.csp_syntax.specs.declared.process_operator.ReplicatedOperator.TheVariants as operator
+use Rattle.csp_syntax.specs.Operators.{replicated_process}
+use Rattle.csp_semantics.specs.Meaning.Evaluation.{Cause, IllKinded, ◌and_then◌, value}
 use Rattle.csp_semantics.specs.Meaning.Events.{elements, instances, members_of}
 use Rattle.csp_semantics.specs.Meaning.Faults.{cause_in, first_cause, in_instances, in_internal_chain}
 use Rattle.csp_semantics.specs.Meaning.Stepping.{always, never}
@@ -24,17 +28,11 @@ use Rattle.csp_expression.specs.Evaluation.{Sees}
 use Rattle.csp_expression.specs.Fault.{cause_of}
 use Rattle.csp_expression.specs.declared.eval_fault.EvalFault.{EvalFault}
 use Rattle.csp_expression.specs.declared.eval_fault.EvalFault.TheVariants as eval
-use Rattle.csp_term.specs.declared.operator.ReplicatedOperator.{ReplicatedOperator}
-use Rattle.csp_term.specs.declared.operator.ReplicatedOperator.TheVariants as operator
-use Rattle.csp_term.specs.Term.{replicated_process}
 use Rattle.csp_operators.specs.declared.rule_step.RuleStep.{RuleStep}
 use Rattle.csp_rules.specs.declared.rules.replicated.Looking.{Looking}
 use Rattle.csp_rules.specs.declared.rules.replicated.Looking.TheVariants as looking
 use Rattle.csp_operators.specs.declared.side.Side.{Side}
-use Rattle.csp_event_tests.specs.declared.stuck.Stuck.{Stuck}
-use Rattle.csp_event_tests.specs.declared.stuck.Stuck.TheVariants as stuck
 use Rattle.csp_operators.specs.Answering.{Answered, Answers, IsAnswered, target_of, within_limits}
-use Rattle.csp_event_tests.specs.Stuck.{stuck_by_value}
 use Rattle.csp_operators.specs.Composing.{HaveSameSteps, IsSideOf, parallel_answers, side_answers, under_both}
 use Rattle.csp_rules.specs.Replicating.{AnswersChoices, looking_answers, looking_process}
 use Rattle.csp_operators.proofs.Composing.{limits_under_both}
@@ -85,16 +83,16 @@ module _ (s : Script) where
 
   module _ (k : Looking) (A : Type 0) (p : Process) (qs : List Process) where
     -- the first instance is stuck
-    pub stuck_at_first : (why : Stuck) → IsSideOf {A = A} s p (Err why) → Answers {A = A} s (left_grouped (looking_process k) p qs) (Err why)
-    stuck_at_first (stuck.Fault c) is = grouped_cause k p qs ∙ ap (λ o. option_or o (first_cause (cause_in s) qs)) is
-    stuck_at_first stuck.Memory is = tt
+    pub stuck_at_first : (why : EvalFault) → IsSideOf {A = A} s p (Err why) → Answers {A = A} s (left_grouped (looking_process k) p qs) (Err why)
+    stuck_at_first (eval.Fault c) is = grouped_cause k p qs ∙ ap (λ o. option_or o (first_cause (cause_in s) qs)) is
+    stuck_at_first eval.Memory is = tt
 
     -- an instance is stuck behind others that are not
-    pub stuck_behind : (q : Process) (rs : List Process) → cause_in s (left_grouped (looking_process k) p qs) ≡ None → (why : Stuck) → IsSideOf {A = A} s q (Err why) → Answers {A = A} s (left_grouped (looking_process k) p (qs ++ q ∷ rs)) (Err why)
-    stuck_behind q rs clear (stuck.Fault c) is =
+    pub stuck_behind : (q : Process) (rs : List Process) → cause_in s (left_grouped (looking_process k) p qs) ≡ None → (why : EvalFault) → IsSideOf {A = A} s q (Err why) → Answers {A = A} s (left_grouped (looking_process k) p (qs ++ q ∷ rs)) (Err why)
+    stuck_behind q rs clear (eval.Fault c) is =
         grouped_cause k p (qs ++ q ∷ rs) ∙ first_of_both (cause_in s) (p ∷ qs) (q ∷ rs)
         ∙ ap₂ option_or (sym (grouped_cause k p qs) ∙ clear) (ap (λ o. option_or o (first_cause (cause_in s) rs)) is)
-    stuck_behind q rs clear stuck.Memory is = tt
+    stuck_behind q rs clear eval.Memory is = tt
 
   module _ (p : Process) (bs : List Answered) (q : Process) (cs : List Answered) (o r : Option Process) (first_is : o ≡ within_limits p) (second_is : r ≡ within_limits q) where
     two_within : (k : Looking) → under_both (looking_process k) o r ≡ within_limits (looking_process k p q)
@@ -142,7 +140,7 @@ module _ (s : Script) (n : ℕ) (e : Expression) (p : Process) where
   no_elements operator.InternalChoice c is = replicated_internal_cause s n e p ∙ ap (λ r. in_instances r (λ vs. in_internal_chain (cause_in s) (instances n p vs))) is
   no_elements operator.Interleaving c is = replicated_interleaving_cause s n e p ∙ ap (λ r. in_instances r (λ vs. first_cause (cause_in s) (instances n p vs))) is
 
-  pub set_stuck : (A : Type 0) (op : ReplicatedOperator) (why : EvalFault) → Sees {A = A} (Err why) (value s.types e) → Answers {A = A} s (replicated_process op n e p) (Err (stuck_by_value why))
+  pub set_stuck : (A : Type 0) (op : ReplicatedOperator) (why : EvalFault) → Sees {A = A} (Err why) (value s.types e) → Answers {A = A} s (replicated_process op n e p) (Err why)
   set_stuck A op (eval.Fault c) none = no_elements op (cause_of c) (ap (λ r. r and_then λ v. members_of v) none)
   set_stuck A op eval.Memory none = tt
 
@@ -157,7 +155,7 @@ module _ (s : Script) (n : ℕ) (e : Expression) (p : Process) where
     external_in x t (rule.replicated_external ws is step) =
         let P : List pure.Value → Type 0 = λ us. rule.RuleStep s (chain ExternalChoice Stop (instances n p us)) x t in subst P (same_elements ws is) step
 
-    pub external_by_chain : {A : Type 0} (r : Result (Vec (RuleStep A) A) Stuck) → Answers s (chain ExternalChoice Stop (instances n p vs)) r → Answers s (ReplicatedExternalChoice n e p) r
+    pub external_by_chain : {A : Type 0} (r : Result (Vec (RuleStep A) A) EvalFault) → Answers s (chain ExternalChoice Stop (instances n p vs)) r → Answers s (ReplicatedExternalChoice n e p) r
     external_by_chain r h =
         answered s (chain ExternalChoice Stop (instances n p vs)) (ReplicatedExternalChoice n e p) (λ x t. (external_in x t, λ step. rule.replicated_external vs are step))
         (replicated_external_cause s n e p ∙ ap (λ r. in_instances r (λ us. first_cause (cause_in s) (instances n p us))) are ∙ sym (external_chain_cause s (instances n p vs))) r h
@@ -166,7 +164,7 @@ module _ (s : Script) (n : ℕ) (e : Expression) (p : Process) where
     interleaving_in x t (rule.replicated_interleaving ws is step) =
         let P : List pure.Value → Type 0 = λ us. rule.RuleStep s (chain Interleaving Skip (instances n p us)) x t in subst P (same_elements ws is) step
 
-    pub interleaving_by_chain : {A : Type 0} (r : Result (Vec (RuleStep A) A) Stuck) → Answers s (chain Interleaving Skip (instances n p vs)) r → Answers s (ReplicatedInterleaving n e p) r
+    pub interleaving_by_chain : {A : Type 0} (r : Result (Vec (RuleStep A) A) EvalFault) → Answers s (chain Interleaving Skip (instances n p vs)) r → Answers s (ReplicatedInterleaving n e p) r
     interleaving_by_chain r h =
         answered s (chain Interleaving Skip (instances n p vs)) (ReplicatedInterleaving n e p) (λ x t. (interleaving_in x t, λ step. rule.replicated_interleaving vs are step))
         (replicated_interleaving_cause s n e p ∙ ap (λ r. in_instances r (λ us. first_cause (cause_in s) (instances n p us))) are ∙ sym (interleaving_chain_cause s (instances n p vs))) r h
@@ -175,9 +173,9 @@ module _ (s : Script) (n : ℕ) (e : Expression) (p : Process) where
     internal_in x t (rule.replicated_internal w ws is step) =
         let P : List pure.Value → Type 0 = λ us. rule.RuleStep s (chain InternalChoice Stop (instances n p us)) x t in subst P (same_elements (w ∷ ws) is) step
 
-  pub internal_by_chain : {A : Type 0} (vs : List pure.Value) → elements s.types e ≡ Ok vs → (r : Result (Vec (RuleStep A) A) Stuck) → AnswersChoices s (instances n p vs) r → Answers s (ReplicatedInternalChoice n e p) r
+  pub internal_by_chain : {A : Type 0} (vs : List pure.Value) → elements s.types e ≡ Ok vs → (r : Result (Vec (RuleStep A) A) EvalFault) → AnswersChoices s (instances n p vs) r → Answers s (ReplicatedInternalChoice n e p) r
   internal_by_chain {A} [] are r h =
-      let P : Result (Vec (RuleStep A) A) Stuck → Type 0 = λ r. Answers s (ReplicatedInternalChoice n e p) r in
+      let P : Result (Vec (RuleStep A) A) EvalFault → Type 0 = λ r. Answers s (ReplicatedInternalChoice n e p) r in
       subst P (sym h) (replicated_internal_cause s n e p ∙ ap (λ r. in_instances r (λ us. in_internal_chain (cause_in s) (instances n p us))) are)
   internal_by_chain (v ∷ vs) are r h =
       answered s (chain InternalChoice Stop (instances n p (v ∷ vs))) (ReplicatedInternalChoice n e p) (λ x t. (internal_in (v ∷ vs) are x t, λ step. rule.replicated_internal v vs are step))

@@ -1,8 +1,9 @@
 -- The values of arguments one after the other.
 use Rattle.std.proofs.Common.{◌≡◌, ℕ, ◌+◌, ◌<◌, List, [], ◌∷◌, ◌++◌, length, take, drop, get_or, Ok, Err, sym, ◌∙◌, ap}
 use Rattle.std.proofs.lemmas.List.{take_more, drop_more, take-append-drop, map-append}
-use Rattle.csp_semantics.specs.Syntax.Expression.{to_expressions}
-use Rattle.csp_semantics.specs.Meaning.Evaluation.{Types, value, values}
+use Rattle.csp_syntax.specs.Expression.{to_expressions}
+use Rattle.csp_syntax.specs.Types.{Types}
+use Rattle.csp_semantics.specs.Meaning.Evaluation.{value, values}
 use Rattle.csp_expression.specs.declared.expr.Expr.{Expr}
 use Rattle.csp_expression.specs.declared.eval_fault.EvalFault.{EvalFault}
 use Rattle.csp_expression.specs.declared.eval_fault.EvalFault.TheVariants as eval
@@ -15,7 +16,6 @@ use Rattle.csp_expression.specs.Bindings.{puts}
 use Rattle.csp_expression.proofs.ExpressionPutting.{put_list}
 use Rattle.csp_expression.proofs.Evaluating.{value_more, value_stops}
 use Rattle.csp_rules.specs.Arguments.{SeesAll, seen_values}
-use Rattle.csp_event_tests.specs.Stuck.{stuck_by_value}
 
 -- the values of the first i arguments with the values put in are these
 abbrev pub SeenSoFar : {A : Type 0} → Types → Bindings → List (Expr A) → ℕ → List (Seen A) → Type 0
@@ -30,7 +30,7 @@ module _ {A : Type 0} (types : Types) (bs : Bindings) (items : List (Expr A)) (i
       ∙ value_more types (puts bs (take i items)) (put_expression bs (expression_of item)) (seen_values all) (seen_value x) so_far one ∙ ap Ok (sym (map-append seen_value all (x ∷ [])) ∙ ap seen_values (sym pushed))
 
   -- it has no value
-  pub seen_none : (fault : EvalFault) → Sees {A = A} (Err fault) (value types (put_expression bs (expression_of item))) → SeesAll {A = A} (Err (stuck_by_value fault)) (values types (put_expressions bs (to_expressions (expressions_of items))))
+  pub seen_none : (fault : EvalFault) → Sees {A = A} (Err fault) (value types (put_expression bs (expression_of item))) → SeesAll {A = A} (Err fault) (values types (put_expressions bs (to_expressions (expressions_of items))))
   seen_none eval.Memory none = tt
   seen_none (eval.Fault c) none =
       let rest = drop_more items i item within ∙ ap (λ z. z ∷ drop (i + 1) items) (sym read) in

@@ -2,20 +2,21 @@
 use Rattle.std.proofs.Common.{◌≡◌, ℕ, suc, max, refl, sym, ◌∙◌, ap}
 use Rattle.std.specs.declared.vec.Vec.{Vec}
 use Rattle.csp_semantics.specs.Meaning.Faults.{height}
-use Rattle.csp_semantics.specs.Syntax.Expression.{Expression}
-use Rattle.csp_semantics.specs.Syntax.Process.{Process}
+use Rattle.csp_syntax.specs.Expression.{Expression}
+use Rattle.csp_syntax.specs.Process.{Process}
+use Rattle.csp_syntax.specs.declared.process_operator.ProcessOperator.{ProcessOperator}
+use Rattle.csp_syntax.specs.declared.process_operator.ProcessOperator.TheVariants as binary
+use Rattle.csp_syntax.specs.declared.process_operator.ReplicatedOperator.{ReplicatedOperator}
+use Rattle.csp_syntax.specs.declared.process_operator.ReplicatedOperator.TheVariants as replicated
+use Rattle.csp_syntax.specs.Operators.{binary_process, replicated_process}
 use Rattle.csp_event_sets.specs.declared.event_set.EventSet.{EventSet}
 use Rattle.csp_event_sets.specs.declared.renaming_pair.RenamingPair.{RenamingPair}
 use Rattle.csp_expression.specs.declared.expr.Expr.{Expr}
 use Rattle.csp_expression.specs.declared.name.Name.{Name}
-use Rattle.csp_term.specs.declared.operator.ProcessOperator.{ProcessOperator}
-use Rattle.csp_term.specs.declared.operator.ProcessOperator.TheVariants as binary
-use Rattle.csp_term.specs.declared.operator.ReplicatedOperator.{ReplicatedOperator}
-use Rattle.csp_term.specs.declared.operator.ReplicatedOperator.TheVariants as replicated
 use Rattle.csp_term.specs.declared.term.Term.{Term}
 use Rattle.csp_term.specs.declared.term.TermForm.{TermForm}
 use Rattle.csp_term.specs.declared.term.TermForm.TheVariants as views
-use Rattle.csp_term.specs.Term.{binary_process, process_of, process_of_form, replicated_process}
+use Rattle.csp_term.specs.Term.{process_of, process_of_form}
 use Rattle.csp_term.proofs.Forms.{of_alphabetised, of_binary, of_conditional, of_generalised, of_guard, of_hiding, of_renaming, of_replicated}
 
 -- how high the process of a term is

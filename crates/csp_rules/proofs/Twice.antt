@@ -1,10 +1,10 @@
 -- Putting values in twice is putting in both lists at once, where the first one goes before.
 use Rattle.std.proofs.Common.{◌≡◌, ℕ, nat_eq, Bool, true, false, cond, List, [], ◌∷◌, Option, Some, None, refl, sym, ◌∙◌, ap, ap₂}
-use Rattle.std.proofs.lemmas.Bool.{eqb-false, eqb-true, ne_eqb}
 use Rattle.std.specs.Option.{option_or}
-use Rattle.csp_semantics.specs.Syntax.Value.{Value}
-use Rattle.csp_semantics.specs.Syntax.Expression.{Expression, Literal, Name, Apply, Combine, SequenceOf, SetOf, Range, Booleans, Datatype, Nametype, Expressions, no_expressions, expression_and}
-use Rattle.csp_semantics.specs.Syntax.Process.{Field, Given, Input, InputFrom, EventExpression, EventSet, Enumeration, Productions, EventUnion, EventIntersection, EventDifference, RenamingPair, Process, Stop, Skip, Omega, Call, Prefix, Guard, If, ExternalChoice, InternalChoice, Sequential, Interleaving, Interrupt, GeneralisedParallel, AlphabetisedParallel, Hiding, Renaming, ReplicatedExternalChoice, ReplicatedInternalChoice, ReplicatedInterleaving}
+use Rattle.csp_syntax.specs.Value.{Value}
+use Rattle.csp_syntax.specs.Expression.{Expression, Literal, Name, Apply, Combine, SequenceOf, SetOf, Range, Booleans, Datatype, Nametype, Expressions, no_expressions, expression_and}
+use Rattle.csp_syntax.specs.Process.{Field, Given, Input, InputFrom, EventExpression, EventSet, Enumeration, Productions, EventUnion, EventIntersection, EventDifference, RenamingPair, Process, Stop, Skip, Omega, Call, Prefix, Guard, If, ExternalChoice, InternalChoice, Sequential, Interleaving, Interrupt, GeneralisedParallel, AlphabetisedParallel, Hiding, Renaming, ReplicatedExternalChoice, ReplicatedInternalChoice, ReplicatedInterleaving}
+use Rattle.csp_semantics.proofs.KindedPutting.{bound_without}
 use Rattle.csp_semantics.specs.Meaning.Substitution.{Bindings, bound, without, bind, name_or, put_expression, put_expressions, put_fields, behind, put_event, put_events, put_event_set, put_pairs, put}
 
 -- The last list gives each name what the first one gives it, or else the second.
@@ -12,32 +12,6 @@ abbrev pub IsBoth : Bindings → Bindings → Bindings → Type 0
 IsBoth first second both = (n : ℕ) → bound both n ≡ option_or (bound first n) (bound second n)
 
 -- ---- names that are hidden, or given anew
-
-either_none : (t : Bool) (m : ℕ) → bound [] m ≡ cond t None (bound [] m)
-either_none true m = refl
-either_none false m = refl
-
-other_name : (k n m : ℕ) → nat_eq k n ≡ false → nat_eq k m ≡ true → nat_eq n m ≡ false
-other_name k n m differs same = ne_eqb n m (λ e. eqb-false k n differs (eqb-true k m same ∙ sym e))
-
--- what a list without n gives m
-bound_without : (n m : ℕ) (bs : Bindings) → bound (without n bs) m ≡ cond (nat_eq n m) None (bound bs m)
-bound_without n m [] = either_none (nat_eq n m) m
-bound_without n m (b ∷ bs) = by_hidden (nat_eq b.0 n) refl (bound_without n m bs)
-  where
-    by_name : (t : Bool) → bound (without n bs) m ≡ cond t None (bound bs m) → bound (without n bs) m ≡ cond t None (cond t (Some b.1) (bound bs m))
-    by_name true rest = rest
-    by_name false rest = rest
-
-    by_found : (t : Bool) → nat_eq b.0 n ≡ false → nat_eq b.0 m ≡ t → bound (without n bs) m ≡ cond (nat_eq n m) None (bound bs m) → cond t (Some b.1) (bound (without n bs) m) ≡ cond (nat_eq n m) None (cond t (Some b.1) (bound bs m))
-    by_found true differs same rest = ap (λ t. cond t None (Some b.1)) (sym (other_name b.0 n m differs same))
-    by_found false differs same rest = rest
-
-    by_hidden : (t : Bool) → nat_eq b.0 n ≡ t → bound (without n bs) m ≡ cond (nat_eq n m) None (bound bs m) → bound (cond t (without n bs) (b ∷ without n bs)) m ≡ cond (nat_eq n m) None (bound (b ∷ bs) m)
-    by_hidden true is rest =
-        let same : nat_eq b.0 m ≡ nat_eq n m = ap (λ k. nat_eq k m) (eqb-true b.0 n is) in
-        by_name (nat_eq n m) rest ∙ ap (λ t. cond (nat_eq n m) None (cond t (Some b.1) (bound bs m))) (sym same)
-    by_hidden false is rest = by_found (nat_eq b.0 m) is refl rest
 
 both_hidden : (n : ℕ) (bs cs ds : Bindings) → IsBoth bs cs ds → IsBoth (without n bs) (without n cs) (without n ds)
 both_hidden n bs cs ds both m =

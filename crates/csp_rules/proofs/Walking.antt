@@ -2,10 +2,11 @@
 use Rattle.std.proofs.Common.{◌≡◌, ℕ, ◌+◌, ◌<◌, Bool, true, false, cond, filter, List, [], ◌∷◌, ◌++◌, take, drop, length, get_or, Result, Ok, Err, refl, sym, ◌∙◌, ap}
 use Rattle.std.proofs.lemmas.List.{append-nil, drop_more, map-append, take-append-drop, take_more}
 use Rattle.std.proofs.lemmas.List.Elements.{filter-append}
-use Rattle.csp_semantics.specs.Syntax.Value as pure
-use Rattle.csp_semantics.specs.Syntax.Expression.{Expression}
-use Rattle.csp_semantics.specs.Syntax.Process.{Field, Given, Input, InputFrom, Process}
-use Rattle.csp_semantics.specs.Meaning.Evaluation.{Cause, IllKinded, OutOfRange, Types, ◌and_then◌, value}
+use Rattle.csp_syntax.specs.Value as pure
+use Rattle.csp_syntax.specs.Expression.{Expression}
+use Rattle.csp_syntax.specs.Process.{Field, Given, Input, InputFrom, Process}
+use Rattle.csp_syntax.specs.Types.{Types}
+use Rattle.csp_semantics.specs.Meaning.Evaluation.{Cause, IllKinded, OutOfRange, ◌and_then◌, value}
 use Rattle.csp_semantics.specs.Meaning.Events.{Communication, communications, each_list, in_field_set, members_of, with_value}
 use Rattle.csp_semantics.specs.Meaning.Substitution.{Bindings, bind, put_expression}
 use Rattle.csp_value.specs.declared.value.Value.{Value}
@@ -16,7 +17,6 @@ use Rattle.csp_expression.specs.Evaluation.{Sees}
 use Rattle.csp_operators.specs.declared.rule_step.RuleStep.{RuleStep}
 use Rattle.std.specs.declared.vec.Vec.{Vec}
 use Rattle.csp_rules.specs.Communicating.{Finds}
-use Rattle.csp_event_tests.specs.Stuck.{stuck_by_value}
 
 module _ (types : Types) (bs : Bindings) (fs : List Field) (set : List pure.Value) (sets : List (List pure.Value)) where
   -- what follows a value that an input takes
@@ -25,18 +25,18 @@ module _ (types : Types) (bs : Bindings) (fs : List Field) (set : List pure.Valu
 
   module _ (A : Type 0) (c : ℕ) (p : Process) (vs : List pure.Value) (before : Vec (RuleStep A) A) (e : Expression) (why : EvalFault) (none : Sees {A = A} (Err why) (value types (put_expression bs e))) where
     -- a given value that does not exist
-    pub given_stuck : Finds c p vs before (communications types bs (Given e ∷ fs) (set ∷ sets)) (Err (stuck_by_value why))
+    pub given_stuck : Finds c p vs before (communications types bs (Given e ∷ fs) (set ∷ sets)) (Err why)
     given_stuck = by_fault why none
       where
-        by_fault : (f : EvalFault) → Sees {A = A} (Err f) (value types (put_expression bs e)) → Finds c p vs before (communications types bs (Given e ∷ fs) (set ∷ sets)) (Err (stuck_by_value f))
+        by_fault : (f : EvalFault) → Sees {A = A} (Err f) (value types (put_expression bs e)) → Finds c p vs before (communications types bs (Given e ∷ fs) (set ∷ sets)) (Err f)
         by_fault eval.Memory is = tt
         by_fault (eval.Fault d) is = ap (λ r. r and_then λ v. in_field_set set v and_then λ w. communications types bs fs sets and_then λ ms. Ok (with_value v ms)) is
 
     -- a set to choose from that does not exist
-    pub chosen_stuck : (n : ℕ) → Finds c p vs before (communications types bs (InputFrom n e ∷ fs) (set ∷ sets)) (Err (stuck_by_value why))
+    pub chosen_stuck : (n : ℕ) → Finds c p vs before (communications types bs (InputFrom n e ∷ fs) (set ∷ sets)) (Err why)
     chosen_stuck n = by_fault why none
       where
-        by_fault : (f : EvalFault) → Sees {A = A} (Err f) (value types (put_expression bs e)) → Finds c p vs before (communications types bs (InputFrom n e ∷ fs) (set ∷ sets)) (Err (stuck_by_value f))
+        by_fault : (f : EvalFault) → Sees {A = A} (Err f) (value types (put_expression bs e)) → Finds c p vs before (communications types bs (InputFrom n e ∷ fs) (set ∷ sets)) (Err f)
         by_fault eval.Memory is = tt
         by_fault (eval.Fault d) is = ap (λ r. (r and_then λ v. members_of v) and_then λ us. each_list (behind_input n) (filter (λ v. pure.has_value set v) us)) is
 

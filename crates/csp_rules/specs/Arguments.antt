@@ -1,32 +1,25 @@
 -- The values of arguments and conditions, or the first cause.
 use Rattle.std.specs.Prelude.{◌≡◌, ⊤, Bool, List, map, Result, Ok, Err}
 use Rattle.std.specs.declared.vec.Vec.{Vec}
-use Rattle.csp_semantics.specs.Syntax.Value as pure
+use Rattle.csp_syntax.specs.Value as pure
 use Rattle.csp_semantics.specs.Meaning.Evaluation.{Cause}
 use Rattle.csp_semantics.specs.Meaning.Substitution.{Bindings}
 use Rattle.csp_expression.specs.declared.seen.Seen.{Seen}
 use Rattle.csp_expression.specs.declared.substitution.Binding.{Binding}
 use Rattle.csp_expression.specs.Bindings.{bindings_of}
 use Rattle.csp_expression.specs.Evaluation.{seen_value}
-use Rattle.csp_expression.specs.Fault.{cause_of}
-use Rattle.csp_event_tests.specs.declared.stuck.Stuck.{Stuck}
-use Rattle.csp_event_tests.specs.declared.stuck.Stuck.TheVariants as stuck
+use Rattle.csp_expression.specs.Agreement.{AgreesWith}
+use Rattle.csp_expression.specs.declared.eval_fault.EvalFault.{EvalFault}
 
 -- the values that are seen
 abbrev pub seen_values : {A : Type 0} → List (Seen A) → List pure.Value
 seen_values xs = map seen_value xs
 
-abbrev pub SeesAll : {A : Type 0} → Result (Vec (Seen A) A) Stuck → Result (List pure.Value) Cause → Type 0
-SeesAll (Ok xs) r = r ≡ Ok (seen_values xs.items)
-SeesAll (Err (stuck.Fault c)) r = r ≡ Err (cause_of c)
-SeesAll (Err stuck.Memory) r = ⊤
+abbrev pub SeesAll : {A : Type 0} → Result (Vec (Seen A) A) EvalFault → Result (List pure.Value) Cause → Type 0
+SeesAll = AgreesWith (λ xs. seen_values xs.items)
 
-abbrev pub Binds : {A : Type 0} → Result (Vec (Binding A) A) Stuck → Result Bindings Cause → Type 0
-Binds (Ok bs) r = r ≡ Ok (bindings_of bs.items)
-Binds (Err (stuck.Fault c)) r = r ≡ Err (cause_of c)
-Binds (Err stuck.Memory) r = ⊤
+abbrev pub Binds : {A : Type 0} → Result (Vec (Binding A) A) EvalFault → Result Bindings Cause → Type 0
+Binds = AgreesWith (λ bs. bindings_of bs.items)
 
-abbrev pub Decides : Result Bool Stuck → Result Bool Cause → Type 0
-Decides (Ok b) r = r ≡ Ok b
-Decides (Err (stuck.Fault c)) r = r ≡ Err (cause_of c)
-Decides (Err stuck.Memory) r = ⊤
+abbrev pub Decides : Result Bool EvalFault → Result Bool Cause → Type 0
+Decides = AgreesWith (λ b. b)

@@ -2,18 +2,17 @@
 use Rattle.std.specs.Prelude.{◌≡◌, ⊤, ℕ, List, [], ◌∷◌, ◌++◌, map, Result, Ok, Err}
 use Rattle.std.specs.declared.vec.Vec.{Vec}
 use denote.Ref.{Bor}
-use Rattle.csp_semantics.specs.Syntax.Value as pure
-use Rattle.csp_semantics.specs.Syntax.Process.{Process}
+use Rattle.csp_syntax.specs.Value as pure
+use Rattle.csp_syntax.specs.Process.{Process}
 use Rattle.csp_semantics.specs.Meaning.Evaluation.{Cause}
 use Rattle.csp_semantics.specs.Meaning.Events.{Communication}
 use Rattle.csp_semantics.specs.Meaning.Stepping.{communication_steps}
 use Rattle.csp_value.specs.declared.value.Value.{Value}
 use Rattle.csp_value.specs.Value.{value_of}
-use Rattle.csp_expression.specs.Fault.{cause_of}
+use Rattle.csp_expression.specs.Agreement.{AgreesBy}
 use Rattle.csp_operators.specs.declared.rule_step.RuleStep.{RuleStep}
 use Rattle.csp_operators.specs.Answering.{answered_of, kept}
-use Rattle.csp_event_tests.specs.declared.stuck.Stuck.{Stuck}
-use Rattle.csp_event_tests.specs.declared.stuck.Stuck.TheVariants as stuck
+use Rattle.csp_expression.specs.declared.eval_fault.EvalFault.{EvalFault}
 
 -- the values that are lent
 abbrev pub lent_values : {A : Type 0} → List (Bor (Value A)) → List pure.Value
@@ -29,7 +28,5 @@ abbrev pub IsFurther : {A : Type 0} → ℕ → Process → Vec (RuleStep A) A �
 IsFurther c p before after ms = map answered_of after.items ≡ map answered_of before.items ++ map kept (communication_steps c p ms)
 
 -- so for the communications that are answered; or the first cause
-abbrev pub Finds : {A : Type 0} → ℕ → Process → List pure.Value → Vec (RuleStep A) A → Result (List Communication) Cause → Result (Vec (RuleStep A) A) Stuck → Type 0
-Finds c p vs before r (Ok after) = (ms : List Communication) × (r ≡ Ok ms) × IsFurther c p before after (behind_values vs ms)
-Finds c p vs before r (Err (stuck.Fault c')) = r ≡ Err (cause_of c')
-Finds c p vs before r (Err stuck.Memory) = ⊤
+abbrev pub Finds : {A : Type 0} → ℕ → Process → List pure.Value → Vec (RuleStep A) A → Result (List Communication) Cause → Result (Vec (RuleStep A) A) EvalFault → Type 0
+Finds c p vs before r x = AgreesBy (λ after r. (ms : List Communication) × (r ≡ Ok ms) × IsFurther c p before after (behind_values vs ms)) x r

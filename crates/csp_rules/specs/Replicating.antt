@@ -1,7 +1,7 @@
 -- The instances of a replicated operator, and what is answered of two processes side by side in their chain.
 use Rattle.std.specs.Prelude.{◌≡◌, List, [], ◌∷◌, map, Option, Result, Err}
 use Rattle.std.specs.declared.vec.Vec.{Vec}
-use Rattle.csp_semantics.specs.Syntax.Process.{Process, Script, Stop, ExternalChoice, InternalChoice, Interleaving}
+use Rattle.csp_syntax.specs.Process.{Process, Script, Stop, ExternalChoice, InternalChoice, Interleaving}
 use Rattle.csp_semantics.specs.Meaning.Stepping.{always, never}
 use Rattle.csp_semantics.specs.Meaning.Substitution.{bind, put}
 use Rattle.csp_semantics.specs.Meaning.Transitions.{chain}
@@ -14,8 +14,8 @@ use Rattle.csp_operators.specs.declared.rule_step.RuleStep.{RuleStep}
 use Rattle.csp_rules.specs.declared.rules.replicated.Instances.{Instances}
 use Rattle.csp_rules.specs.declared.rules.replicated.Looking.{Looking}
 use Rattle.csp_rules.specs.declared.rules.replicated.Looking.TheVariants as looking
-use Rattle.csp_event_tests.specs.declared.stuck.Stuck.{Stuck}
-use Rattle.csp_event_tests.specs.declared.stuck.Stuck.TheVariants as stuck
+use Rattle.csp_expression.specs.declared.eval_fault.EvalFault.{EvalFault}
+use Rattle.csp_expression.specs.declared.eval_fault.EvalFault.TheVariants as eval
 use Rattle.csp_operators.specs.Answering.{Answered, Answers}
 use Rattle.csp_operators.specs.Composing.{external_answers, parallel_answers}
 
@@ -36,6 +36,6 @@ looking_answers looking.ExternalChoice o bs r cs = external_answers o bs r cs
 looking_answers looking.Interleaving o bs r cs = parallel_answers always always never Interleaving o bs r cs
 
 -- What is answered of the chain of internal choices. Of none there is no chain to answer.
-abbrev pub AnswersChoices : {A : Type 0} → Script → List Process → Result (Vec (RuleStep A) A) Stuck → Type 0
-AnswersChoices s [] r = r ≡ Err (stuck.Fault fault.Choice)
+abbrev pub AnswersChoices : {A : Type 0} → Script → List Process → Result (Vec (RuleStep A) A) EvalFault → Type 0
+AnswersChoices s [] r = r ≡ Err (eval.Fault fault.Choice)
 AnswersChoices s (p ∷ ps) r = Answers s (chain InternalChoice Stop (p ∷ ps)) r

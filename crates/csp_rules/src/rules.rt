@@ -3,9 +3,10 @@
 //! Each answers all steps of its form, also those that lead past the limits, or the first cause for which a rule has no
 //! value. They are those of the term with the values of the bindings put in, of which nothing is built but the targets.
 
+ghost use Rattle.csp_syntax.specs.Operators.{binary_process};
 ghost use Rattle.csp_semantics.specs.Meaning.Substitution.{put};
 ghost use Rattle.csp_expression.specs.Bindings.{bindings_of};
-ghost use Rattle.csp_term.specs.Term.{binary_process, process_of};
+ghost use Rattle.csp_term.specs.Term.{process_of};
 ghost use Rattle.csp_term.specs.Script.{script_of};
 ghost use Rattle.csp_operators.specs.Answering.{Answers};
 
@@ -25,21 +26,20 @@ mod sequential;
 mod side;
 mod skip;
 
-use csp_event_tests::Stuck;
-use csp_expression::Binding;
+use csp_expression::{Binding, EvalFault};
 use csp_operators::RuleStep;
 use csp_term::{AllocHandle, ProcessOperator, Script, Term, TermForm};
 
 /// The rule steps of the term with the values put in, in no order, of which one may be there more than once: one that
-/// leads past the limits is answered without its term. `Stuck::Fault` has the first cause where a rule needs a value that
-/// does not exist, and `Stuck::Memory` says that there is no room for the answer.
+/// leads past the limits is answered without its term. `Fault` has the first cause where a rule needs a value that
+/// does not exist, and `Memory` says that there is no room for the answer.
 #[cycle(steps)]
 pub fn steps<'v, A: AllocHandle>(
     alloc: A,
     script: &'v Script<A>,
     bindings: &[Binding<'v, A>],
     term: &'v Term<A>,
-) -> Result<Vec<RuleStep<A>, A>, Stuck>
+) -> Result<Vec<RuleStep<A>, A>, EvalFault>
     ensures { Answers (script_of script.now) (put (bindings_of bindings.now) (process_of term.now)) result }
 {
     match term.form() {
@@ -82,7 +82,7 @@ fn binary<'v, A: AllocHandle>(
     operator: ProcessOperator,
     left: &'v Term<A>,
     right: &'v Term<A>,
-) -> Result<Vec<RuleStep<A>, A>, Stuck>
+) -> Result<Vec<RuleStep<A>, A>, EvalFault>
     ensures { Answers (script_of script.now) (put (bindings_of bindings.now) (binary_process operator (process_of left.now) (process_of right.now))) result }
 {
     match operator {

@@ -1,11 +1,11 @@
 -- Putting no value in changes nothing.
 use Rattle.std.proofs.Common.{◌≡◌, List, [], ◌∷◌, refl, ap, ap₂, ◌∙◌}
-use Rattle.csp_semantics.specs.Syntax.Expression.{Expression, Literal, Name, Apply, Combine, SequenceOf, SetOf, Range, Expressions, no_expressions, expression_and}
-use Rattle.csp_semantics.specs.Syntax.Process.{Field, Given, Input, InputFrom, EventExpression, EventSet, Enumeration, Productions, EventUnion, EventIntersection, EventDifference, RenamingPair, Process, Call, Prefix, Guard, If, ExternalChoice, InternalChoice, Sequential, Interleaving, Interrupt, GeneralisedParallel, AlphabetisedParallel, Hiding, Renaming, ReplicatedExternalChoice, ReplicatedInternalChoice, ReplicatedInterleaving}
+use Rattle.csp_syntax.specs.Expression.{Expression, Apply, Combine, SequenceOf, SetOf, Range, Expressions, no_expressions, expression_and}
+use Rattle.csp_syntax.specs.Process.{Field, Given, Input, InputFrom, EventExpression, EventSet, Enumeration, Productions, EventUnion, EventIntersection, EventDifference, RenamingPair, Process, Call, Prefix, Guard, If, ExternalChoice, InternalChoice, Sequential, Interleaving, Interrupt, GeneralisedParallel, AlphabetisedParallel, Hiding, Renaming, ReplicatedExternalChoice, ReplicatedInternalChoice, ReplicatedInterleaving}
 use Rattle.csp_semantics.specs.Meaning.Substitution.{Bindings, put_expression, put_expressions, put_fields, behind, put_event, put_events, put_event_set, put_pairs, put}
 
 mutual
-  put_nothing_in_expression : (e : Expression) → put_expression [] e ≡ e
+  pub put_nothing_in_expression : (e : Expression) → put_expression [] e ≡ e
   put_nothing_in_expression (Apply op e) = ap (Apply op) (put_nothing_in_expression e)
   put_nothing_in_expression (Combine op e f) = ap₂ (Combine op) (put_nothing_in_expression e) (put_nothing_in_expression f)
   put_nothing_in_expression (SequenceOf es) = ap SequenceOf (put_nothing_in_expressions es)
@@ -29,14 +29,14 @@ nothing_behind (Given e ∷ fs) = nothing_behind fs
 nothing_behind (Input n ∷ fs) = nothing_behind fs
 nothing_behind (InputFrom n e ∷ fs) = nothing_behind fs
 
-put_nothing_in_event : (e : EventExpression) → put_event [] e ≡ e
+pub put_nothing_in_event : (e : EventExpression) → put_event [] e ≡ e
 put_nothing_in_event e = λ i. record { channel = e.channel; fields = put_nothing_in_expressions e.fields i }
 
 put_nothing_in_events : (es : List EventExpression) → put_events [] es ≡ es
 put_nothing_in_events [] = refl
 put_nothing_in_events (e ∷ es) = ap₂ (λ f fs. f ∷ fs) (put_nothing_in_event e) (put_nothing_in_events es)
 
-put_nothing_in_set : (a : EventSet) → put_event_set [] a ≡ a
+pub put_nothing_in_set : (a : EventSet) → put_event_set [] a ≡ a
 put_nothing_in_set (Enumeration es) = ap Enumeration (put_nothing_in_events es)
 put_nothing_in_set (Productions es) = ap Productions (put_nothing_in_events es)
 put_nothing_in_set (EventUnion a b) = ap₂ EventUnion (put_nothing_in_set a) (put_nothing_in_set b)

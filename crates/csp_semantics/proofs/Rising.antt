@@ -7,11 +7,11 @@ use Rattle.std.specs.Cmp.{IsTotalOrder}
 use Rattle.std.specs.Map.{lookup, keys_of}
 use Rattle.std.proofs.lemmas.Cmp.{tied_itself}
 use Rattle.std.proofs.lemmas.Option.{slice_get_within, slice_get-get_or, get_or_from_slice_get}
-use Rattle.csp_semantics.specs.Syntax.Value.{Action, action_cmp, action_eq, has_action}
-use Rattle.csp_semantics.specs.Syntax.Process.{Process, Script}
+use Rattle.csp_syntax.specs.Value.{Action, action_cmp, action_eq, has_action}
+use Rattle.csp_syntax.specs.Process.{Process, Script}
 use Rattle.csp_semantics.specs.Meaning.Offers.{RisesBy, IsRising, IsAllThat}
 use Rattle.csp_semantics.proofs.Offering.{action_same, action_refl}
-use Rattle.csp_semantics.proofs.Orders.{action_total}
+use Rattle.csp_syntax.proofs.Orders.{action_total}
 
 -- a member, by its place
 abbrev pub Stands : {X : Type 0} → List X → X → Type 0

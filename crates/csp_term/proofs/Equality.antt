@@ -6,10 +6,14 @@ use Rattle.std.proofs.Common.{◌≡◌, ℕ, zero, suc, Bool, true, ◌&&◌, n
 use Rattle.std.specs.declared.alloc.Allocator as allocator
 use Rattle.std.specs.String.{string_bytes}
 use Rattle.std.specs.Ordering.{is_eq}
-use Rattle.csp_semantics.specs.Syntax.Value as pure
-use Rattle.csp_semantics.specs.Syntax.Order.{process_cmp}
-use Rattle.csp_semantics.proofs.Equalities.{is_eq-Equal}
-use Rattle.csp_semantics.proofs.ProcessOrder.{process_same, process_refl}
+use Rattle.csp_syntax.specs.Value as pure
+use Rattle.csp_syntax.specs.Order.{process_cmp}
+use Rattle.csp_syntax.proofs.Equalities.{is_eq-Equal}
+use Rattle.csp_syntax.proofs.ProcessOrder.{process_same, process_refl}
+use Rattle.csp_syntax.specs.declared.model.Model.{Model}
+use Rattle.csp_syntax.specs.declared.model.Model.TheVariants as model
+use Rattle.csp_syntax.specs.contracts.model.ModelPartialEq.TheImpl as model_impl
+use Rattle.csp_syntax.specs.Models.{model_of}
 use Rattle.csp_value.specs.declared.set.SetOf.{SetOf}
 use Rattle.csp_value.specs.Value.{members_of}
 use Rattle.csp_value.proofs.Equality.{set_eq, set_tells}
@@ -17,8 +21,6 @@ use Rattle.csp_expression.specs.declared.types.Constructors.{Constructors}
 use Rattle.csp_expression.specs.declared.types.TypeTable.{TypeTable}
 use Rattle.csp_term.specs.declared.script.Constructor.{Constructor}
 use Rattle.csp_expression.specs.declared.name.Name.{Name}
-use Rattle.csp_term.specs.declared.assertion.Model.{Model}
-use Rattle.csp_term.specs.declared.assertion.Model.TheVariants as model
 use Rattle.csp_term.specs.declared.assertion.Assertion.{Assertion}
 use Rattle.csp_term.specs.declared.script.Channel.{Channel}
 use Rattle.csp_term.specs.declared.script.Equation.{Equation}
@@ -26,7 +28,6 @@ use Rattle.csp_value.specs.declared.field_set.FieldSet.{FieldSet}
 use Rattle.csp_value.specs.contracts.field_set.FieldSetPartialEq.TheImpl as field_impl
 use Rattle.csp_term.specs.declared.script.Script.{Script}
 use Rattle.csp_term.specs.declared.term.Term.{Term}
-use Rattle.csp_term.specs.contracts.assertion.ModelPartialEq.TheImpl as model_impl
 use Rattle.csp_term.specs.contracts.assertion.AssertionPartialEq.TheImpl as assertion_impl
 use Rattle.csp_expression.specs.contracts.types.ConstructorsPartialEq.TheImpl as constructors_impl
 use Rattle.csp_expression.specs.contracts.types.TypeTablePartialEq.TheImpl as table_impl
@@ -38,11 +39,11 @@ use Rattle.csp_term.specs.contracts.term.TermPartialEq.TheImpl as term_impl
 use Rattle.csp_term.specs.contracts.term.TermOrd.TheImpl.Laws as term_laws
 use Rattle.csp_term.specs.Term.{process_of}
 use Rattle.csp_expression.specs.Evaluation.{constructors_of, members_listed, numbers_up, table_of}
-use Rattle.csp_term.specs.Script.{model_of, assertion_of, channel_of, equation_of, field_values, script_of}
+use Rattle.csp_term.specs.Script.{assertion_of, channel_of, equation_of, field_values, script_of}
 use Rattle.csp_term.proofs.Channels.{same_channels, same_names, same_sets}
 use Rattle.csp_expression.proofs.Forming.{unlisted}
 use Rattle.csp_term.proofs.TermOrder.{cmp, ordered}
-use Rattle.csp_expression.proofs.Sameness.{Tells, and_first, and_second, both, nat_tells, text_tells, lists_tell}
+use Rattle.csp_value.proofs.Sameness.{Tells, and_first, and_second, both, nat_tells, text_tells, lists_tell}
 
 abbrev pub model_eq : Model → Model → Bool
 model_eq = model_impl.ghosts.eq

@@ -9,12 +9,12 @@ use Rattle.csp_event_sets.specs.declared.event_set.EventSet.{EventSet}
 use Rattle.csp_event_sets.specs.declared.renaming_pair.RenamingPair.{RenamingPair}
 use Rattle.std.specs.declared.vec.Vec.{Vec}
 use Rattle.std.specs.Option.{SomeIff}
-use Rattle.csp_semantics.specs.Syntax.Process.{Process, Stop, Skip, Omega, Call, Prefix, Guard, If, ExternalChoice, InternalChoice, Sequential, Interleaving, Interrupt, GeneralisedParallel, AlphabetisedParallel, Hiding, Renaming, ReplicatedExternalChoice, ReplicatedInternalChoice, ReplicatedInterleaving}
+use Rattle.csp_syntax.specs.Process.{Process, Stop, Skip, Omega, Call, Prefix, Guard, If, ExternalChoice, InternalChoice, Sequential, Interleaving, Interrupt, GeneralisedParallel, AlphabetisedParallel, Hiding, Renaming, ReplicatedExternalChoice, ReplicatedInternalChoice, ReplicatedInterleaving}
+use Rattle.csp_syntax.specs.declared.process_operator.ProcessOperator.{ProcessOperator}
+use Rattle.csp_syntax.specs.declared.process_operator.ReplicatedOperator.{ReplicatedOperator}
 use Rattle.csp_term.specs.declared.field.Field.{Field}
 use Rattle.csp_term.specs.declared.name.EquationId.{EquationId}
-use Rattle.csp_term.specs.declared.operator.ProcessOperator.{ProcessOperator}
 use Rattle.csp_term.specs.Own.{own_depth, own_size}
-use Rattle.csp_term.specs.declared.operator.ReplicatedOperator.{ReplicatedOperator}
 use Rattle.csp_term.specs.declared.term.Term.{Term}
 use Rattle.csp_term.specs.declared.term.TermForm.{TermForm}
 use Rattle.csp_term.specs.declared.term.TermForm.TheVariants as views

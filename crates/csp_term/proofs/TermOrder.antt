@@ -11,14 +11,15 @@ use Rattle.std.specs.declared.cmp.Ordering.{Ordering}
 use Rattle.std.specs.declared.cmp.Ordering.TheVariants.{Equal}
 use Rattle.std.specs.Ordering.{nat_cmp, ordering_then}
 use Rattle.std.specs.Cmp.Lexicographic.{slice_cmp}
-use Rattle.csp_semantics.specs.Syntax.Expression.{to_expressions}
-use Rattle.csp_semantics.specs.Syntax.Process as pure
-use Rattle.csp_semantics.specs.Syntax.Order.{process_cmp}
+use Rattle.csp_syntax.specs.Expression.{to_expressions}
+use Rattle.csp_syntax.specs.Process as pure
+use Rattle.csp_syntax.specs.Order.{process_cmp}
+use Rattle.csp_syntax.specs.declared.process_operator.ProcessOperator.{ProcessOperator}
+use Rattle.csp_syntax.specs.declared.process_operator.ReplicatedOperator.{ReplicatedOperator}
+use Rattle.csp_syntax.specs.Operators.{binary_process, replicated_process}
 use Rattle.csp_value.specs.declared.name.ChannelId.{ChannelId}
 use Rattle.csp_term.specs.declared.name.EquationId.{EquationId}
 use Rattle.csp_expression.specs.declared.name.Name.{Name}
-use Rattle.csp_term.specs.declared.operator.ProcessOperator.{ProcessOperator}
-use Rattle.csp_term.specs.declared.operator.ReplicatedOperator.{ReplicatedOperator}
 use Rattle.csp_event_sets.specs.declared.event_set.EventSet.{EventSet}
 use Rattle.csp_event_sets.specs.declared.renaming_pair.RenamingPair.{RenamingPair}
 use Rattle.csp_expression.specs.declared.expr.Expr.{Expr}
@@ -37,7 +38,7 @@ use Rattle.csp_term.specs.contracts.term.TermForm as contract
 use Rattle.csp_event_sets.specs.Events.{event_set_of, renaming_pairs_of}
 use Rattle.csp_expression.specs.Expression.{expression_of, expressions_of}
 use Rattle.csp_term.specs.Field.{fields_of}
-use Rattle.csp_term.specs.Term.{binary_process, process_of, process_of_form, replicated_process}
+use Rattle.csp_term.specs.Term.{process_of, process_of_form}
 use Rattle.csp_event_sets.proofs.Apart.{processes}
 use Rattle.csp_event_sets.proofs.EventOrder.{cmp as event_set_order, ordered as event_set_ordered, pair_order, pairs_ordered}
 use Rattle.csp_expression.proofs.ExpressionOrder.{cmp as expression_order, ordered as expression_ordered, lists_ordered as expressions_ordered}

@@ -2,14 +2,15 @@
 use Rattle.std.proofs.Common.{◌≡◌, ℕ, ◌+◌, ◌<◌, ◌≤◌, Result, IfOk, List, [], ◌∷◌, ◌++◌, length, drop, get_or, append-nil, refl, sym, ◌∙◌, ap, ap₂}
 use Rattle.std.proofs.lemmas.List.{map-append, append_assoc, drop_all, drop_more}
 use Rattle.std.specs.declared.vec.Vec.{Vec}
-use Rattle.csp_semantics.specs.Syntax.Expression.{to_expressions}
-use Rattle.csp_semantics.specs.Syntax.Process as pure
+use Rattle.csp_syntax.specs.Expression.{to_expressions}
+use Rattle.csp_syntax.specs.Process as pure
+use Rattle.csp_syntax.specs.declared.process_operator.ProcessOperator.{ProcessOperator}
+use Rattle.csp_syntax.specs.declared.process_operator.ReplicatedOperator.{ReplicatedOperator}
+use Rattle.csp_syntax.specs.Operators.{binary_process, replicated_process}
 use Rattle.csp_semantics.specs.Meaning.Substitution.{Bindings, behind, put, put_event_set, put_expression, put_fields, put_pairs, without}
 use Rattle.csp_value.specs.declared.name.ChannelId.{ChannelId}
 use Rattle.csp_term.specs.declared.name.EquationId.{EquationId}
 use Rattle.csp_expression.specs.declared.name.Name.{Name}
-use Rattle.csp_term.specs.declared.operator.ProcessOperator.{ProcessOperator}
-use Rattle.csp_term.specs.declared.operator.ReplicatedOperator.{ReplicatedOperator}
 use Rattle.csp_event_sets.specs.declared.event_set.EventSet.{EventSet}
 use Rattle.csp_event_sets.specs.declared.renaming_pair.RenamingPair.{RenamingPair}
 use Rattle.csp_expression.specs.declared.expr.Expr.{Expr}
@@ -21,7 +22,7 @@ use Rattle.csp_expression.specs.Bindings.{puts}
 use Rattle.csp_expression.specs.Expression.{expression_of, expressions_of}
 use Rattle.csp_event_sets.specs.Events.{event_set_of, renaming_pairs_of}
 use Rattle.csp_term.specs.Field.{field_of, fields_of}
-use Rattle.csp_term.specs.Term.{binary_process, process_of, process_of_form, replicated_process}
+use Rattle.csp_term.specs.Term.{process_of, process_of_form}
 use Rattle.std.proofs.lemmas.Result.{IfOk-weaker}
 use Rattle.csp_expression.proofs.ExpressionPutting.{put_list}
 use Rattle.csp_term.proofs.Forms.{of_form, of_call, of_prefix, of_guard, of_conditional, of_binary, of_generalised, of_alphabetised, of_hiding, of_renaming, of_replicated}

@@ -1,22 +1,17 @@
 -- The assertion, the equation and the script that those of the code stand for.
 use Rattle.std.specs.Prelude.{ℕ, List, map}
 use Rattle.std.specs.String.{string_bytes}
-use Rattle.csp_semantics.specs.Syntax.Value.{Value, values_list}
-use Rattle.csp_semantics.specs.Syntax.Process as pure
+use Rattle.csp_syntax.specs.Value.{Value, values_list}
+use Rattle.csp_syntax.specs.Process as pure
+use Rattle.csp_syntax.specs.Models.{model_of}
 use Rattle.csp_value.specs.declared.field_set.FieldSet.{FieldSet}
 use Rattle.csp_value.specs.Value.{members_of}
-use Rattle.csp_term.specs.declared.assertion.Model.{Model}
-use Rattle.csp_term.specs.declared.assertion.Model.TheVariants as model
 use Rattle.csp_term.specs.declared.assertion.Assertion.{Assertion}
 use Rattle.csp_term.specs.declared.script.Channel.{Channel}
 use Rattle.csp_term.specs.declared.script.Equation.{Equation}
 use Rattle.csp_term.specs.declared.script.Script.{Script}
 use Rattle.csp_expression.specs.Evaluation.{table_of}
 use Rattle.csp_term.specs.Term.{process_of}
-
-abbrev pub model_of : Model → pure.Model
-model_of model.Traces = pure.Traces
-model_of model.Failures = pure.Failures
 
 abbrev pub assertion_of : {A : Type 0} → Assertion A → pure.Assertion
 assertion_of a = record { model = model_of a.model; specification = process_of a.specification; implementation = process_of a.implementation }

@@ -1,12 +1,8 @@
 -- The process that a term stands for.
 use Rattle.std.specs.Box.{box_value}
-use Rattle.std.specs.Prelude.{ℕ}
-use Rattle.csp_semantics.specs.Syntax.Expression.{Expression, to_expressions}
-use Rattle.csp_semantics.specs.Syntax.Process.{Process, Stop, Skip, Omega, Call, Prefix, Guard, If, ExternalChoice, InternalChoice, Sequential, Interleaving, Interrupt, GeneralisedParallel, AlphabetisedParallel, Hiding, Renaming, ReplicatedExternalChoice, ReplicatedInternalChoice, ReplicatedInterleaving}
-use Rattle.csp_term.specs.declared.operator.ProcessOperator.{ProcessOperator}
-use Rattle.csp_term.specs.declared.operator.ProcessOperator.TheVariants as binary
-use Rattle.csp_term.specs.declared.operator.ReplicatedOperator.{ReplicatedOperator}
-use Rattle.csp_term.specs.declared.operator.ReplicatedOperator.TheVariants as replicated
+use Rattle.csp_syntax.specs.Expression.{to_expressions}
+use Rattle.csp_syntax.specs.Process.{Process, Stop, Skip, Omega, Call, Prefix, Guard, If, GeneralisedParallel, AlphabetisedParallel, Hiding, Renaming}
+use Rattle.csp_syntax.specs.Operators.{binary_process, replicated_process}
 use Rattle.csp_term.specs.declared.term.Term.{Term}
 use Rattle.csp_term.specs.declared.term.TermForm.{TermForm}
 use Rattle.csp_term.specs.declared.term.TermForm.TheOpen as layer
@@ -14,20 +10,6 @@ use Rattle.csp_term.specs.declared.term.TermForm.TheFolds.{fold-Term, fold-TermF
 use Rattle.csp_expression.specs.Expression.{expression_of, expressions_of}
 use Rattle.csp_term.specs.Field.{fields_of}
 use Rattle.csp_event_sets.specs.Events.{event_set_of, renaming_pairs_of}
-
--- two processes under an operator
-abbrev pub binary_process : ProcessOperator → Process → Process → Process
-binary_process binary.ExternalChoice p q = ExternalChoice p q
-binary_process binary.InternalChoice p q = InternalChoice p q
-binary_process binary.Sequential p q = Sequential p q
-binary_process binary.Interleaving p q = Interleaving p q
-binary_process binary.Interrupt p q = Interrupt p q
-
--- a process for each value of a set
-abbrev pub replicated_process : ReplicatedOperator → ℕ → Expression → Process → Process
-replicated_process replicated.ExternalChoice n e p = ReplicatedExternalChoice n e p
-replicated_process replicated.InternalChoice n e p = ReplicatedInternalChoice n e p
-replicated_process replicated.Interleaving n e p = ReplicatedInterleaving n e p
 
 -- one layer, with the processes of the parts in their places
 abbrev pub term_step : {A : Type 0} → layer.Term-F A Process Process → Process

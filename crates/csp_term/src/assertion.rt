@@ -3,17 +3,9 @@
 ghost use Rattle.std.specs.Prelude.{◌≡◌};
 
 use crate::term::Term;
+use csp_syntax::Model;
 use csp_value::{Memory, TryCopy};
 use std::alloc::Allocator;
-
-/// What a refinement compares (FDR manual).
-#[derive(Clone, Copy, PartialEq, Eq)]
-pub enum Model {
-    /// `[T=`: the traces.
-    Traces,
-    /// `[F=`: the traces and the stable failures.
-    Failures,
-}
 
 /// That the implementation refines the specification in the model.
 #[derive(Drop)]

@@ -1,7 +1,7 @@
 //! Processes of which events are hidden or renamed.
 
 ghost use Rattle.std.specs.Prelude.{◌≡◌, IfOk};
-ghost use Rattle.csp_semantics.specs.Syntax.Process.{Hiding, Renaming};
+ghost use Rattle.csp_syntax.specs.Process.{Hiding, Renaming};
 ghost use Rattle.csp_semantics.specs.Meaning.Substitution.{put, put_event_set};
 ghost use Rattle.csp_expression.specs.Bindings.{bindings_of};
 ghost use Rattle.csp_event_sets.specs.Events.{event_set_of, renaming_pairs_of};
@@ -15,26 +15,26 @@ use std::alloc::Allocator;
 
 /// The hiding with the values put in. They are in the body already.
 pub(crate) fn put_in_hiding<A: Allocator + Copy>(
+    alloc: A,
     body: Term<A>,
     hidden: &EventSet<A>,
     bindings: &[Binding<'_, A>],
-    alloc: A,
 ) -> Result<TermForm<A>, Memory>
     ensures { IfOk result (λ form. process_of_form form ≡ Hiding (process_of body) (put_event_set (bindings_of bindings.now) (event_set_of hidden.now))) }
 {
-    Ok(TermForm::Hiding(body, hidden.put_in(bindings, alloc)?))
+    Ok(TermForm::Hiding(body, hidden.put_in(alloc, bindings)?))
 }
 
 /// The renaming with the values put in.
 #[cycle(put_term)]
 pub(crate) fn put_in_renaming<A: Allocator + Copy>(
+    alloc: A,
     body: &Term<A>,
     pairs: &[RenamingPair<A>],
     bindings: &[Binding<'_, A>],
-    alloc: A,
 ) -> Result<TermForm<A>, Memory>
     ensures { IfOk result (λ form. process_of_form form ≡ put (bindings_of bindings.now) (Renaming (process_of body.now) (renaming_pairs_of pairs.now))) }
 {
-    let body = body.put_in(bindings, alloc)?;
-    Ok(TermForm::Renaming(body, put_in_pairs(pairs, bindings, alloc)?))
+    let body = body.put_in(alloc, bindings)?;
+    Ok(TermForm::Renaming(body, put_in_pairs(alloc, pairs, bindings)?))
 }

@@ -4,7 +4,7 @@
 
 ghost use Rattle.std.specs.Prelude.{◌≡◌, ◌↔◌, IsTrue};
 ghost use Rattle.std.specs.List.{fold};
-ghost use Rattle.csp_semantics.specs.Syntax.Order.{process_cmp};
+ghost use Rattle.csp_syntax.specs.Order.{process_cmp};
 ghost use Rattle.csp_term.specs.Term.{process_of};
 ghost use Rattle.csp_term.specs.Script.{assertion_of, script_of};
 

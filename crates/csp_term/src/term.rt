@@ -5,9 +5,9 @@ ghost use Rattle.csp_term.specs.Term.{process_of, process_of_form};
 
 use crate::field::Field;
 use crate::name::EquationId;
-use crate::operator::{ProcessOperator, ReplicatedOperator};
 use csp_event_sets::{EventSet, RenamingPair};
 use csp_expression::{Expr, Name};
+use csp_syntax::{ProcessOperator, ReplicatedOperator};
 use csp_value::{ChannelId, Memory};
 use std::alloc::Allocator;
 
@@ -72,10 +72,10 @@ impl<A: Allocator> Term<A> {
 
 impl<A: Allocator + Copy> Term<A> {
     /// An equal term in the given allocator, or `Memory` where that has no room: the term with no value put in.
-    #[tactic(auto, using(csp_expression::proofs::Nothing::put_nothing_in_process))]
+    #[tactic(auto, using(csp_semantics::proofs::Putting::put_nothing))]
     pub fn try_copy(&self, alloc: A) -> Result<Term<A>, Memory>
         ensures { IfOk result (λ copy. process_of copy ≡ process_of self.now) }
     {
-        self.put_in(&[], alloc)
+        self.put_in(alloc, &[])
     }
 }

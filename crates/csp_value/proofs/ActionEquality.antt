@@ -4,7 +4,7 @@ use mir.Syntax
 use Rattle.std.proofs.Common.{◌≡◌, Bool, true, nat_eq, refl, ap, []}
 use Rattle.std.specs.declared.alloc.Allocator as allocator
 use Rattle.std.specs.declared.clone.Clone as clone
-use Rattle.csp_semantics.specs.Syntax.Value as pure
+use Rattle.csp_syntax.specs.Value as pure
 use Rattle.csp_value.specs.declared.handle.AllocHandle as handle
 use Rattle.csp_value.specs.declared.action.Event.{Event}
 use Rattle.csp_value.specs.declared.action.Action.{Action}

@@ -1,13 +1,12 @@
 -- The derived order of events and actions is the order of what they stand for.
 use denote.RattleType
 use mir.Syntax
-use Rattle.std.proofs.Common.{◌≡◌, List, [], ◌∷◌, map, refl, ap, ap₂}
+use Rattle.std.proofs.Common.{◌≡◌, refl, ap, ap₂}
 use Rattle.std.specs.declared.alloc.Allocator as allocator
 use Rattle.std.specs.declared.clone.Clone as clone
 use Rattle.std.specs.declared.cmp.Ordering.{Ordering}
 use Rattle.std.specs.Ordering.{nat_cmp, ordering_then}
-use Rattle.std.specs.Cmp.Lexicographic.{slice_cmp}
-use Rattle.csp_semantics.specs.Syntax.Value as pure
+use Rattle.csp_syntax.specs.Value as pure
 use Rattle.csp_value.specs.declared.handle.AllocHandle as handle
 use Rattle.csp_value.specs.declared.action.Event.{Event}
 use Rattle.csp_value.specs.declared.action.Action.{Action}
@@ -16,14 +15,8 @@ use Rattle.csp_value.specs.contracts.action.EventOrd.TheImpl as event_impl
 use Rattle.csp_value.specs.contracts.action.ActionOrd.TheImpl as action_impl
 use Rattle.csp_value.specs.Action.{event_of, action_of}
 use Rattle.csp_value.specs.Value.{value_of}
+use Rattle.csp_value.proofs.Slices.{slices_ordered}
 use Rattle.csp_value.proofs.ValueOrder.{ordered}
-
--- lists are ordered as what they stand for, where their items are
-slices_ordered : {X Y : Type 0} (cmp : X → X → Ordering) (R : Y → Y → Ordering) (meaning : X → Y) → ((x y : X) → cmp x y ≡ R (meaning x) (meaning y)) → (xs ys : List X) → slice_cmp cmp xs ys ≡ slice_cmp R (map meaning xs) (map meaning ys)
-slices_ordered cmp R meaning same [] [] = refl
-slices_ordered cmp R meaning same [] (y ∷ ys) = refl
-slices_ordered cmp R meaning same (x ∷ xs) [] = refl
-slices_ordered cmp R meaning same (x ∷ xs) (y ∷ ys) = ap₂ ordering_then (same x y) (slices_ordered cmp R meaning same xs ys)
 
 module _ (R : RattleType.RattleType) (H : handle.Ghosts R.Denot) (hd : Syntax.Dict) (A : allocator.Ghosts R.Denot) (ad : Syntax.Dict) (C : clone.Ghosts R.Denot) (cd : Syntax.Dict) where
   abbrev pub event_order : Event R.Denot → Event R.Denot → Ordering

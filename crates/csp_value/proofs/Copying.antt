@@ -1,5 +1,5 @@
 -- Lists of copies, an item at a time.
-use Rattle.std.proofs.Common.{◌≡◌, ℕ, ◌+◌, ◌<◌, List, [], ◌∷◌, ◌++◌, length, take, map, get_or, refl, ap₂}
+use Rattle.std.proofs.Common.{◌≡◌, ℕ, ◌+◌, ◌<◌, List, [], ◌∷◌, ◌++◌, length, take, map, get_or, refl, ap, ap₂}
 use Rattle.std.proofs.lemmas.List.{take_more, map-append}
 use Rattle.csp_value.specs.Copies.{AreCopies}
 
@@ -22,14 +22,14 @@ copies_same meaning [] (y ∷ ys) copies = absurd copies
 copies_same meaning (x ∷ xs) [] copies = absurd copies
 copies_same meaning (x ∷ xs) (y ∷ ys) copies = ap₂ (λ z zs. z ∷ zs) copies.0 (copies_same meaning xs ys copies.1)
 
--- and there are as many
-pub copies_alike : {X Y : Type 0} (same : X → X → Type 0) (y : Y) (xs ys : List X) → AreCopies same xs ys → map (λ (x : X). y) ys ≡ map (λ (x : X). y) xs
-copies_alike same y [] [] copies = refl
-copies_alike same y [] (w ∷ ws) copies = absurd copies
-copies_alike same y (v ∷ vs) [] copies = absurd copies
-copies_alike same y (v ∷ vs) (w ∷ ws) copies = ap₂ (λ z zs. z ∷ zs) refl (copies_alike same y vs ws copies.1)
+-- and so does what is read of them
+pub copies_read : {X Y Z : Type 0} (meaning : X → Y) (read : Y → Z) (xs ys : List X) → AreCopies (λ x y. meaning y ≡ meaning x) xs ys → map (λ y. read (meaning y)) ys ≡ map (λ x. read (meaning x)) xs
+copies_read meaning read [] [] copies = refl
+copies_read meaning read [] (y ∷ ys) copies = absurd copies
+copies_read meaning read (x ∷ xs) [] copies = absurd copies
+copies_read meaning read (x ∷ xs) (y ∷ ys) copies = ap₂ (λ z zs. z ∷ zs) (ap read copies.0) (copies_read meaning read xs ys copies.1)
 
--- One more item of a loop that pushes copies: what was pushed stands for the same as the item that was read.
-pub map_push : {X Y : Type 0} (meaning : X → Y) (copies more : List X) (x : X) (items : List X) (i : ℕ) (y : X) →
-    map meaning copies ≡ map meaning (take i items) → i < length items → y ≡ get_or items i y → meaning x ≡ meaning y → more ≡ copies ++ x ∷ [] → map meaning more ≡ map meaning (take (i + 1) items)
-map_push meaning copies more x items i y same within read one pushed = rw (pushed, map-append, same, one, take_more items i y within, map-append, ← read) refl
+-- One more item of a loop that pushes: what was pushed stands for what f makes of the item that was read.
+pub map_push : {X Y Z : Type 0} (meaning : X → Z) (f : Y → Z) (made more : List X) (x : X) (items : List Y) (i : ℕ) (y : Y) →
+    map meaning made ≡ map f (take i items) → i < length items → y ≡ get_or items i y → meaning x ≡ f y → more ≡ made ++ x ∷ [] → map meaning more ≡ map f (take (i + 1) items)
+map_push meaning f made more x items i y same within read one pushed = rw (pushed, map-append, same, one, take_more items i y within, map-append, ← read) refl

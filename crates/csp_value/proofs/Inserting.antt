@@ -3,7 +3,7 @@ use Rattle.std.proofs.Common.{◌≡◌, ℕ, ◌+◌, ◌<◌, List, [], ◌∷
 use Rattle.std.proofs.lemmas.List.{take_more, drop_more, take-append-drop, map-append}
 use Rattle.std.specs.List.{insert}
 use Rattle.std.specs.declared.cmp.Ordering.TheVariants.{Less, Equal, Greater}
-use Rattle.csp_semantics.specs.Syntax.Value.{Value, value_cmp, insert_value}
+use Rattle.csp_syntax.specs.Value.{Value, value_cmp, insert_value}
 
 module _ {X : Type 0} (meaning : X → Value) where
   cut : (xs : List X) (i : ℕ) (y : X) → i < length xs → y ≡ get_or xs i y → y ∷ drop (i + 1) xs ≡ drop i xs

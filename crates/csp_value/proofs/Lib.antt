@@ -7,6 +7,7 @@ pub mod Inserting
 pub mod Forms
 pub mod Sameness
 pub mod Sets
+pub mod Slices
 pub mod Sorting
 pub mod ValueOrder
 pub mod Walking

@@ -3,10 +3,10 @@ use Rattle.std.proofs.Common.{◌≡◌, ℕ, zero, suc, List, [], ◌∷◌, �
 use Rattle.std.specs.declared.cmp.Ordering.{Ordering}
 use Rattle.std.specs.declared.cmp.Ordering.TheVariants.{Less, Equal, Greater}
 use Rattle.std.specs.Ordering.{is_lt, is_eq, ordering_reverse}
-use Rattle.csp_semantics.specs.Syntax.Value.{Value, value_cmp, value_eq, has_value, insert_value, insert_values, sorted_values}
+use Rattle.csp_syntax.specs.Value.{Value, value_cmp, value_eq, has_value, insert_value, insert_values, sorted_values}
 use Rattle.csp_semantics.specs.Meaning.Offers.{RisesBy}
-use Rattle.csp_semantics.proofs.Equalities.{is_eq-Equal, value_same, value_refl}
-use Rattle.csp_semantics.proofs.Orders.{value_total}
+use Rattle.csp_syntax.proofs.Equalities.{is_eq-Equal, value_same, value_refl}
+use Rattle.csp_syntax.proofs.Orders.{value_total}
 use Rattle.csp_semantics.proofs.Rising.{Stands, rising_same}
 
 abbrev pub Rises : List Value → Type 0

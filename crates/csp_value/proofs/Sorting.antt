@@ -7,8 +7,8 @@ use Rattle.std.specs.List.Sorted.{IsPermutation, IsSorted, IsStrictlySortedBy}
 use Rattle.std.specs.Cmp.{on_total}
 use Rattle.std.proofs.lemmas.List.Kept.{IsStrictlySortedBy-dedup}
 use Rattle.std.proofs.lemmas.List.Sorted.{Contains-permutation, IsPermutation-map, IsPermutation-sym}
-use Rattle.csp_semantics.specs.Syntax.Value.{Value, value_cmp, value_eq, has_value, sorted_values}
-use Rattle.csp_semantics.proofs.Orders.{value_total}
+use Rattle.csp_syntax.specs.Value.{Value, value_cmp, value_eq, has_value, sorted_values}
+use Rattle.csp_syntax.proofs.Orders.{value_total}
 use Rattle.csp_semantics.proofs.Rising.{stands_from_Contains, Contains-from_stands}
 use Rattle.csp_value.proofs.Sets.{Rises, has_stands, stands_has, rising_alike, sorted_rise, sorted_have}
 

@@ -36,7 +36,7 @@ impl<A: AllocHandle> Event<A> {
     pub fn try_copy(&self, alloc: A) -> Result<Event<A>, Memory>
         ensures { IfOk result (λ copy. event_of copy ≡ event_of self.now) }
     {
-        let fields = copy_fields(self.fields.as_slice(), alloc)?;
+        let fields = copy_fields(alloc, self.fields.as_slice())?;
         Ok(Event {
             channel: self.channel,
             fields,
@@ -46,8 +46,8 @@ impl<A: AllocHandle> Event<A> {
 
 /// A copy of each field, in order.
 fn copy_fields<A: AllocHandle>(
-    values: &[Value<A>],
     alloc: A,
+    values: &[Value<A>],
 ) -> Result<SmallVec<Value<A>, 2, A>, Memory>
     ensures { IfOk result (λ copies. values_of copies.items ≡ values_of values.now) }
 {

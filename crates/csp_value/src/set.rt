@@ -2,7 +2,7 @@
 
 ghost use Rattle.std.specs.Prelude.{◌≡◌, ◌≤◌, ◌-◌, ◌↔◌, IfOk, IsTrue, OnOk, filter, not};
 ghost use Rattle.std.specs.Option.{SomeIff};
-ghost use Rattle.csp_semantics.specs.Syntax.Value.{has_value, insert_value, insert_values, sorted_values, to_values, values_list};
+ghost use Rattle.csp_syntax.specs.Value.{has_value, insert_value, insert_values, sorted_values, to_values, values_list};
 ghost use Rattle.csp_semantics.specs.Meaning.Limits.{values_depth, values_size};
 ghost use Rattle.csp_value.specs.Value.{IsRisingSet, members_of, value_of, values_of};
 
@@ -27,7 +27,7 @@ impl<A: Allocator + Copy> SetOf<A> {
     pub fn try_copy(&self, alloc: A) -> Result<SetOf<A>, Memory>
         ensures { IfOk result (λ copy. members_of copy ≡ members_of self.now) }
     {
-        let members = copy_values(&self.members, alloc)?;
+        let members = copy_values(alloc, &self.members)?;
         Ok(SetOf { members })
     }
 }

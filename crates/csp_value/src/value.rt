@@ -37,7 +37,7 @@ impl<A: Allocator + Copy> Value<A> {
             Value::Int(number) => Ok(Value::Int(*number)),
             Value::Bool(truth) => Ok(Value::Bool(*truth)),
             Value::Con(constructor) => Ok(Value::Con(*constructor)),
-            Value::Seq(items) => Ok(Value::Seq(copy_values(items, alloc)?)),
+            Value::Seq(items) => Ok(Value::Seq(copy_values(alloc, items)?)),
             Value::Set(set) => Ok(Value::Set(set.try_copy(alloc)?)),
         }
     }
@@ -63,8 +63,8 @@ impl<A: Allocator + Drop> MadeWith<A> for Value<A> {
 /// A copy of each value, in order, or `Memory` where there is no room.
 #[cycle(copy)]
 pub fn copy_values<A: Allocator + Copy>(
-    values: &[Value<A>],
     alloc: A,
+    values: &[Value<A>],
 ) -> Result<Vec<Value<A>, A>, Memory>
     ensures { IfOk result (λ copies. values_of copies.items ≡ values_of values.now) }
 {

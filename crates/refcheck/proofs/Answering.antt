@@ -2,12 +2,12 @@
 use Rattle.std.proofs.Common.{◌≡◌, ℕ, ◌+◌, ◌<◌, List, [], ◌∷◌, ◌++◌, length, get_or, take, map, refl, sym, ◌∙◌, ap}
 use Rattle.std.proofs.lemmas.List.{map-append, take_more}
 use Rattle.std.specs.List.{AllZip}
-use Rattle.csp_semantics.specs.Syntax.Process.{Assertion, Script}
+use Rattle.csp_syntax.specs.Process.{Assertion, Script}
 use Rattle.csp_semantics.specs.Meaning.Evaluation.{Cause}
 use Rattle.csp_semantics.specs.Meaning.Refinement.{IsRefinement}
 use Rattle.csp_semantics.specs.Meaning.Violations.{Violation, IsViolation}
-use Rattle.csp_semantics.specs.Answers.Outcome.{Bounds, TooManyPairs, TooManyNodes, LargeTerm, Fault, NoMemory, Outcome, Holds, Fails, Unknown}
-use Rattle.csp_semantics.specs.Answers.Sound.{NoneStuck}
+use Rattle.csp_answers.specs.Outcome.{Bounds, TooManyPairs, TooManyNodes, LargeTerm, Fault, NoMemory, Outcome, Holds, Fails, Unknown}
+use Rattle.csp_semantics.specs.Meaning.Runs.{NoneStuck}
 use Rattle.explore.specs.Answering.{IsReason, IsRight}
 use Rattle.refcheck.specs.Answering.{AreRight}
 

@@ -3,9 +3,9 @@ use Rattle.std.proofs.Common.{◌≡◌, ℕ, ◌+◌, ◌<◌, false, List, [],
 use Rattle.std.proofs.lemmas.List.{map-append}
 use Rattle.std.proofs.lemmas.List.Elements.{filter-append}
 use Rattle.std.specs.List.{AllZip, filter}
-use Rattle.csp_semantics.specs.Syntax.Process.{Assertion}
-use Rattle.csp_semantics.specs.Text.Raw.{RawDeclaration, RawDatatype, RawNametype, RawChannels, RawEquation, RawAssertion}
-use Rattle.csp_semantics.specs.Text.Part.{IsAssertionOf, is_assertion}
+use Rattle.csp_syntax.specs.Process.{Assertion}
+use Rattle.csp_text.specs.Raw.{RawDeclaration, RawDatatype, RawNametype, RawChannels, RawEquation, RawAssertion}
+use Rattle.csp_checking.specs.Part.{IsAssertionOf, is_assertion}
 use Rattle.refcheck.proofs.Advancing.{one_further}
 use Rattle.refcheck.proofs.Answering.{zip_end}
 

@@ -7,8 +7,8 @@ use Rattle.std.specs.List.{All}
 use Rattle.std.specs.Str.{chars}
 use Rattle.std.specs.String.{string_bytes}
 use Rattle.csp_term.specs.declared.script.Channel.{Channel}
-use Rattle.csp_semantics.specs.Text.Raw.{RawDeclaration}
-use Rattle.csp_semantics.specs.Text.Part.{IsPlain, StandOnce, all_channels, declared_channels}
+use Rattle.csp_text.specs.Raw.{RawDeclaration}
+use Rattle.csp_checking.specs.Part.{IsPlain, StandOnce, all_channels, declared_channels}
 use Rattle.csp_term.specs.Script.{field_sets_of}
 use Rattle.refcheck.specs.Reading.{AreBare, Declares, names_of}
 use Rattle.refcheck.proofs.Advancing.{one_further}

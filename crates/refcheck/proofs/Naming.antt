@@ -7,8 +7,8 @@ use lib.Utf8.{encodes}
 use Rattle.std.specs.Str.{chars}
 use Rattle.std.specs.String.{string_bytes}
 use Rattle.csp_term.specs.declared.script.Channel.{Channel}
-use Rattle.csp_semantics.proofs.Places.{get_cases, get_map}
-use Rattle.csp_semantics.specs.Text.Part.{StandOnce}
+use Rattle.csp_syntax.proofs.Places.{get_cases, get_map}
+use Rattle.csp_checking.specs.Part.{StandOnce}
 use Rattle.refcheck.specs.Reading.{names_of}
 
 module _ {T : Type 0} (f : T → List ℕ) where

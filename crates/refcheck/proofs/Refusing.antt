@@ -3,16 +3,16 @@ use Rattle.std.proofs.Common.{◌≡◌, Result, IfErr, ℕ, List, [], ◌∷◌
 use Rattle.std.specs.Result.{IsErr, IsErrAnd}
 use Rattle.std.proofs.lemmas.Result.{err_from_is_err_and}
 use Rattle.std.specs.Borrow.{Bor}
-use Rattle.csp_semantics.specs.Text.Place.{Place}
-use Rattle.csp_semantics.specs.Text.Reading.{of_grammar}
-use Rattle.csp_semantics.specs.Text.Token.{PlacedToken, AreTokens}
+use Rattle.csp_text.specs.Place.{Place}
+use Rattle.csp_text.specs.Reading.{of_grammar}
+use Rattle.csp_text.specs.Token.{PlacedToken, AreTokens}
 use Rattle.csp_parse.specs.Stopping as parsing
 use Rattle.csp_parse.specs.declared.refusals.Refused as parser
 use Rattle.csp_parse.specs.declared.refusals.Refused.TheVariants as parser_fault
-use Rattle.refcheck.specs.declared.reader.ReadFault.{ReadFault}
-use Rattle.refcheck.specs.declared.reader.ReadFault.TheVariants as fault
-use Rattle.refcheck.specs.Reading.{of_parser, IsRefusalOf}
-use Rattle.refcheck.specs.Refusal.{of_text}
+use Rattle.refcheck.specs.declared.refusal.Refusal.{Refusal}
+use Rattle.refcheck.specs.declared.refusal.Refusal.TheVariants as refusal
+use Rattle.refcheck.specs.Reading.{IsRefusalOf}
+use Rattle.refcheck.specs.Refusal.{of_parser}
 use Rattle.refcheck.specs.Running.{IsCause, texts_of}
 
 -- what the parser refuses of a text's tokens is refused of the text
@@ -21,7 +21,7 @@ of_tokens bytes tokens end (parser_fault.Grammar f p) are is = of_grammar {token
 of_tokens bytes tokens end parser_fault.Memory are is = tt
 
 -- a refusal is handed on
-pub handed : {T : Type 0} (r : Result T ReadFault) {why : ReadFault} (P : ReadFault → Type 0) → IsErr r × IsErrAnd r (λ e. e ≡ why) → P why → IfErr r P
+pub handed : {T : Type 0} (r : Result T Refusal) {why : Refusal} (P : Refusal → Type 0) → IsErr r × IsErrAnd r (λ e. e ≡ why) → P why → IfErr r P
 handed r P same said = let p = err_from_is_err_and r same.1 in rw (p.1, p.2) said
 
 pub one_word : (words : List (Bor (List ℕ))) (other : Bor (List ℕ)) → length words ≡ 1 → texts_of words ≡ (get_or words 0 other).now ∷ []
@@ -30,9 +30,11 @@ one_word (w ∷ []) other one = refl
 one_word (w ∷ v ∷ ws) other one = absurd (omega arith)
 
 -- a text is refused for what it is
-pub cause_of_text : (may_hold : List ℕ → List ℕ → Type 0) (may_lack : List ℕ → Type 0) (words : List (List ℕ)) (name text : List ℕ) (why : ReadFault) → words ≡ name ∷ [] → may_hold name text → IsRefusalOf text why →
-    IsCause may_hold may_lack words (of_text why)
-cause_of_text may_hold may_lack words name text (fault.Text f p) named held is = (name, text, named, held, is)
-cause_of_text may_hold may_lack words name text (fault.Grammar f p) named held is = (name, text, named, held, is)
-cause_of_text may_hold may_lack words name text fault.Part named held is = (name, text, named, held, is)
-cause_of_text may_hold may_lack words name text fault.Memory named held is = tt
+pub cause_of_text : (may_hold : List ℕ → List ℕ → Type 0) (may_lack : List ℕ → Type 0) (words : List (List ℕ)) (name text : List ℕ) (why : Refusal) → words ≡ name ∷ [] → may_hold name text → IsRefusalOf text why →
+    IsCause may_hold may_lack words why
+cause_of_text may_hold may_lack words name text refusal.File named held is = absurd is
+cause_of_text may_hold may_lack words name text (refusal.Text f p) named held is = (name, text, named, held, is)
+cause_of_text may_hold may_lack words name text (refusal.Grammar f p) named held is = (name, text, named, held, is)
+cause_of_text may_hold may_lack words name text refusal.Part named held is = (name, text, named, held, is)
+cause_of_text may_hold may_lack words name text refusal.Memory named held is = tt
+cause_of_text may_hold may_lack words name text refusal.Output named held is = absurd is

@@ -1,9 +1,9 @@
 -- What a run of the program prints and answers.
 use Rattle.std.proofs.Common.{◌≡◌, ℕ, ◌≤◌, Bool, List, [], ◌∷◌, arith, inl, inr, ◌⊎◌}
 use Rattle.std.specs.Prelude.{Option, Result, Err}
-use Rattle.csp_semantics.specs.Syntax.Process.{Script}
-use Rattle.csp_semantics.specs.Answers.Outcome.{Outcome, Holds, Fails, Unknown}
-use Rattle.csp_semantics.specs.Answers.Printing.{report}
+use Rattle.csp_syntax.specs.Process.{Script}
+use Rattle.csp_answers.specs.Outcome.{Outcome, Holds, Fails, Unknown}
+use Rattle.csp_answers.specs.Printing.{report}
 use Rattle.report.specs.Sending.{Breaks}
 use Rattle.report.specs.declared.report.WriteFault.{WriteFault}
 use Rattle.report.specs.declared.report.WriteFault.TheVariants.{Device, Memory}

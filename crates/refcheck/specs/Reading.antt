@@ -2,21 +2,17 @@
 use Rattle.std.specs.Prelude.{◌≡◌, List, [], ℕ, ◌++◌, map, ⊤}
 use Rattle.std.specs.Str.{chars}
 use Rattle.std.specs.String.{string_bytes}
-use Rattle.csp_semantics.specs.Text.Part.{StandOnce}
-use Rattle.csp_semantics.specs.Text.Raw.{RawScript}
-use Rattle.csp_semantics.specs.Text.Reading.{OfGrammar, IsRead, IsReadingRefusal}
-use Rattle.csp_semantics.specs.Text.Token.{IsTextRefusal}
+use Rattle.csp_checking.specs.Part.{StandOnce}
+use Rattle.csp_text.specs.Raw.{RawScript}
+use Rattle.csp_text.specs.Reading.{OfGrammar, IsRead, IsReadingRefusal}
+use Rattle.csp_text.specs.Token.{IsTextRefusal}
 use Rattle.csp_term.specs.declared.script.Channel.{Channel}
 use Rattle.csp_term.specs.Script.{field_sets_of}
 use Rattle.csp_lex.specs.Places.{place_of}
 use Rattle.csp_lex.specs.Refusals.{fault_of}
-use Rattle.csp_lex.specs.declared.refusals.Refused as lexer
-use Rattle.csp_lex.specs.declared.refusals.Refused.TheVariants as lexer_fault
 use Rattle.csp_parse.specs.Refusals as grammar
-use Rattle.csp_parse.specs.declared.refusals.Refused as parser
-use Rattle.csp_parse.specs.declared.refusals.Refused.TheVariants as parser_fault
-use Rattle.refcheck.specs.declared.reader.ReadFault.{ReadFault}
-use Rattle.refcheck.specs.declared.reader.ReadFault.TheVariants as fault
+use Rattle.refcheck.specs.declared.refusal.Refusal.{Refusal}
+use Rattle.refcheck.specs.declared.refusal.Refusal.TheVariants as refusal
 
 -- the names of channels, in bytes
 abbrev pub names_of : {A : Type 0} → List (Channel A) → List (List ℕ)
@@ -32,25 +28,16 @@ pub record Declares {A : Type 0} (old new : List (Channel A)) (spellings : List 
   pub once : StandOnce (map chars (names_of old)) → StandOnce (map chars (names_of new))
   pub bare : AreBare old → AreBare new
 
--- what is refused where a text has no tokens
-abbrev pub of_lexer : lexer.Refused → ReadFault
-of_lexer (lexer_fault.Text f p) = fault.Text f p
-of_lexer lexer_fault.Memory = fault.Memory
-
--- what is refused where tokens are no script
-abbrev pub of_parser : parser.Refused → ReadFault
-of_parser (parser_fault.Grammar f p) = fault.Grammar f p
-of_parser parser_fault.Memory = fault.Memory
-
 -- a script that was read is refused for what it is, or for memory
-abbrev pub IsOutside : ReadFault → Type 0
-IsOutside fault.Part = ⊤
-IsOutside fault.Memory = ⊤
+abbrev pub IsOutside : Refusal → Type 0
+IsOutside refusal.Part = ⊤
+IsOutside refusal.Memory = ⊤
 IsOutside _ = ⊥
 
 -- A text is refused by the rules of tokens, or behind them by the grammar, and only a script is refused as outside the part.
-abbrev pub IsRefusalOf : List ℕ → ReadFault → Type 0
-IsRefusalOf bytes (fault.Text f p) = IsTextRefusal bytes (fault_of f) (place_of p)
-IsRefusalOf bytes (fault.Grammar f p) = IsReadingRefusal bytes (OfGrammar (grammar.fault_of f)) (place_of p)
-IsRefusalOf bytes fault.Part = (raw : RawScript) × IsRead bytes raw
-IsRefusalOf bytes fault.Memory = ⊤
+abbrev pub IsRefusalOf : List ℕ → Refusal → Type 0
+IsRefusalOf bytes (refusal.Text f p) = IsTextRefusal bytes (fault_of f) (place_of p)
+IsRefusalOf bytes (refusal.Grammar f p) = IsReadingRefusal bytes (OfGrammar (grammar.fault_of f)) (place_of p)
+IsRefusalOf bytes refusal.Part = (raw : RawScript) × IsRead bytes raw
+IsRefusalOf bytes refusal.Memory = ⊤
+IsRefusalOf bytes _ = ⊥

@@ -1,16 +1,18 @@
 -- The line of a refusal.
 use Rattle.std.specs.Prelude.{ℕ, List, [], ◌∷◌, codes, decimal}
 use Rattle.std.specs.List.{concat}
-use Rattle.csp_semantics.specs.Text.Reading.{text_fault_spelling, grammar_fault_spelling}
+use Rattle.csp_text.specs.Reading.{text_fault_spelling, grammar_fault_spelling}
 use Rattle.csp_lex.specs.declared.places.Place.{Place}
+use Rattle.csp_lex.specs.declared.refusals.Refused.TheVariants as lexer_fault
+use Rattle.csp_lex.specs.declared.refusals.Refused as no_tokens
 use Rattle.csp_lex.specs.Refusals as lexer
+use Rattle.csp_parse.specs.declared.refusals.Refused.TheVariants as parser_fault
+use Rattle.csp_parse.specs.declared.refusals.Refused as no_script
 use Rattle.csp_parse.specs.Refusals as parser
 use Rattle.refcheck.specs.declared.refusal.Refusal.{Refusal}
 use Rattle.refcheck.specs.declared.refusal.Refusal.TheVariants as refusal
 use Rattle.refcheck.specs.declared.files.Unread.{Unread}
 use Rattle.refcheck.specs.declared.files.Unread.TheVariants as unread
-use Rattle.refcheck.specs.declared.reader.ReadFault.{ReadFault}
-use Rattle.refcheck.specs.declared.reader.ReadFault.TheVariants as fault
 
 -- `refused`, the number of the refusal, and its line and column
 abbrev pub place_line : List ℕ → Place → List ℕ
@@ -29,9 +31,12 @@ abbrev pub of_file : Unread → Refusal
 of_file unread.File = refusal.File
 of_file unread.Memory = refusal.Memory
 
--- what is refused where a text is not read
-abbrev pub of_text : ReadFault → Refusal
-of_text (fault.Text f p) = refusal.Text f p
-of_text (fault.Grammar f p) = refusal.Grammar f p
-of_text fault.Part = refusal.Part
-of_text fault.Memory = refusal.Memory
+-- what is refused where a text has no tokens
+abbrev pub of_lexer : no_tokens.Refused → Refusal
+of_lexer (lexer_fault.Text f p) = refusal.Text f p
+of_lexer lexer_fault.Memory = refusal.Memory
+
+-- what is refused where tokens are no script
+abbrev pub of_parser : no_script.Refused → Refusal
+of_parser (parser_fault.Grammar f p) = refusal.Grammar f p
+of_parser parser_fault.Memory = refusal.Memory

@@ -1,16 +1,14 @@
 -- What a run of the program prints and answers.
 use Rattle.std.specs.Prelude.{◌≡◌, ◌≢◌, ℕ, max, Bool, List, [], ◌∷◌, length, map, Option, ◌⊎◌, ⊤}
 use Rattle.std.specs.Borrow.{Bor}
-use Rattle.csp_semantics.specs.Syntax.Process.{Script}
-use Rattle.csp_semantics.specs.Answers.Outcome.{Bounds, Outcome, Holds, Fails, Unknown}
-use Rattle.csp_semantics.specs.Answers.Printing.{report}
+use Rattle.csp_syntax.specs.Process.{Script}
+use Rattle.csp_answers.specs.Outcome.{Bounds, Outcome, Holds, Fails, Unknown}
+use Rattle.csp_answers.specs.Printing.{report}
 use Rattle.report.specs.Sending.{Sends, Breaks}
 use Rattle.refcheck.specs.Answering.{AreRight}
-use Rattle.csp_semantics.specs.Text.Part.{IsScriptOfText}
+use Rattle.csp_checking.specs.Part.{IsScriptOfText}
 use Rattle.refcheck.specs.Reading.{IsRefusalOf}
 use Rattle.refcheck.specs.Refusal.{refusal_line}
-use Rattle.refcheck.specs.declared.reader.ReadFault.{ReadFault}
-use Rattle.refcheck.specs.declared.reader.ReadFault.TheVariants as fault
 use Rattle.refcheck.specs.declared.refusal.Refusal.{Refusal}
 use Rattle.refcheck.specs.declared.refusal.Refusal.TheVariants as refusal
 
@@ -63,15 +61,15 @@ Leaves may_hold words refusal.Output taken failed old new = (new ≡ old) ⊎ Is
 Leaves may_hold words _ taken failed old new = new ≡ old
 
 -- the text of the file that the one word names is refused so
-abbrev pub IsTextRefused : (List ℕ → List ℕ → Type 0) → List (List ℕ) → ReadFault → Type 0
-IsTextRefused may_hold words fault = (name text : List ℕ) × (words ≡ name ∷ []) × may_hold name text × IsRefusalOf text fault
+abbrev pub IsTextRefused : (List ℕ → List ℕ → Type 0) → List (List ℕ) → Refusal → Type 0
+IsTextRefused may_hold words why = (name text : List ℕ) × (words ≡ name ∷ []) × may_hold name text × IsRefusalOf text why
 
 -- Why it is refused. Refused memory and a failed output say nothing of the words and the file.
 abbrev pub IsCause : (List ℕ → List ℕ → Type 0) → (List ℕ → Type 0) → List (List ℕ) → Refusal → Type 0
 IsCause may_hold may_lack words refusal.File = (name : List ℕ) → words ≡ name ∷ [] → may_lack name
-IsCause may_hold may_lack words (refusal.Text f p) = IsTextRefused may_hold words (fault.Text f p)
-IsCause may_hold may_lack words (refusal.Grammar f p) = IsTextRefused may_hold words (fault.Grammar f p)
-IsCause may_hold may_lack words refusal.Part = IsTextRefused may_hold words fault.Part
+IsCause may_hold may_lack words (refusal.Text f p) = IsTextRefused may_hold words (refusal.Text f p)
+IsCause may_hold may_lack words (refusal.Grammar f p) = IsTextRefused may_hold words (refusal.Grammar f p)
+IsCause may_hold may_lack words refusal.Part = IsTextRefused may_hold words refusal.Part
 IsCause may_hold may_lack words refusal.Memory = ⊤
 IsCause may_hold may_lack words refusal.Output = ⊤
 

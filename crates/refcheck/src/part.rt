@@ -6,27 +6,25 @@ ghost use Rattle.std.specs.Prelude.{◌≡◌, ℕ, [], ◌∷◌, map, false, N
 ghost use Rattle.std.specs.List.{All, AllZip, filter};
 ghost use Rattle.std.specs.Str.{chars};
 ghost use Rattle.std.specs.String.{string_bytes};
-ghost use Rattle.csp_semantics.specs.Text.Place.{Place};
-ghost use Rattle.csp_semantics.specs.Text.Raw.{RawAssertion};
+ghost use Rattle.csp_syntax.specs.Models.{model_of};
+ghost use Rattle.csp_text.specs.Place.{Place};
+ghost use Rattle.csp_text.specs.Raw.{RawAssertion};
 ghost use Rattle.csp_parse.specs.Declarations as raw;
 ghost use Rattle.csp_parse.specs.Names.{name_of};
 ghost use Rattle.csp_parse.specs.Processes as written;
 ghost use Rattle.csp_term.specs.Term.{process_of};
 ghost use Rattle.csp_term.specs.Script as term;
-ghost use Rattle.csp_semantics.specs.Text.Part.{IsAssertionOf, IsPlain, IsProcessOf, IsScriptOf, StandOnce, all_channels, declared_channels, is_assertion};
+ghost use Rattle.csp_checking.specs.Part.{IsAssertionOf, IsPlain, IsProcessOf, IsScriptOf, StandOnce, all_channels, declared_channels, is_assertion};
 ghost use Rattle.refcheck.specs.Reading.{AreBare, Declares, IsOutside, names_of};
 
-use crate::reader::ReadFault;
+use crate::refusal::Refusal;
 use csp_expression::TypeTable;
 use csp_parse::{Declaration, Name, Process, Raw};
 use csp_term::{Assertion, Channel, ChannelId, Model, Script, Term, TermForm};
 use std::alloc::Allocator;
 
 /// The script that a tree stands for, or `Part` where it lies outside the part.
-pub(crate) fn script<A: Allocator + Copy>(
-    alloc: A,
-    tree: &Raw<'_, A>,
-) -> Result<Script<A>, ReadFault>
+pub(crate) fn script<A: Allocator + Copy>(alloc: A, tree: &Raw<'_, A>) -> Result<Script<A>, Refusal>
     ensures script { IfOk result (λ script. IsScriptOf (raw.script_of tree.now) (term.script_of script)) }
     ensures refused { IfErr result IsOutside }
 {
@@ -48,7 +46,7 @@ pub(crate) fn script<A: Allocator + Copy>(
 fn channels<A: Allocator + Copy>(
     alloc: A,
     declarations: &[Declaration<'_, A>],
-) -> Result<Vec<Channel<A>, A>, ReadFault>
+) -> Result<Vec<Channel<A>, A>, Refusal>
     ensures plain { OnOk result (All IsPlain (map raw.declaration_of declarations.now)) }
     ensures spellings { IfOk result (λ channels. map chars (names_of channels.items) ≡ all_channels (map raw.declaration_of declarations.now)) }
     ensures once { IfOk result (λ channels. StandOnce (map chars (names_of channels.items))) }
@@ -67,7 +65,7 @@ fn declare<A: Allocator + Copy>(
     alloc: A,
     declaration: &Declaration<'_, A>,
     channels: &mut Vec<Channel<A>, A>,
-) -> Result<(), ReadFault>
+) -> Result<(), Refusal>
     ensures plain { OnOk result (IsPlain (raw.declaration_of declaration.now)) }
     ensures declares { OnOk result (Declares channels.old.items channels.new.items (declared_channels (raw.declaration_of declaration.now))) }
     ensures refused { IfErr result IsOutside }
@@ -77,7 +75,7 @@ fn declare<A: Allocator + Copy>(
             declare_names(alloc, names, channels)
         }
         Declaration::Assertion { .. } => Ok(()),
-        _ => Err(ReadFault::Part),
+        _ => Err(Refusal::Part),
     }
 }
 
@@ -85,7 +83,7 @@ fn declare_names<A: Allocator + Copy>(
     alloc: A,
     names: &[Name<'_>],
     channels: &mut Vec<Channel<A>, A>,
-) -> Result<(), ReadFault>
+) -> Result<(), Refusal>
     ensures declares { OnOk result (Declares channels.old.items channels.new.items (map (λ n. (name_of n).spelling) names.now)) }
     ensures refused { IfErr result IsOutside }
 {
@@ -100,12 +98,12 @@ fn declare_name<A: Allocator + Copy>(
     alloc: A,
     name: &Name<'_>,
     channels: &mut Vec<Channel<A>, A>,
-) -> Result<(), ReadFault>
+) -> Result<(), Refusal>
     ensures declares { OnOk result (Declares channels.old.items channels.new.items ((name_of name.now).spelling ∷ [])) }
     ensures refused { IfErr result IsOutside }
 {
     match place_of(channels, name.text) {
-        Some(_) => Err(ReadFault::Part),
+        Some(_) => Err(Refusal::Part),
         None => {
             let spelling = String::from_str(alloc, name.text)?;
             let fields = Vec::new(alloc);
@@ -133,7 +131,7 @@ fn assertions<A: Allocator + Copy>(
     alloc: A,
     channels: &[Channel<A>],
     declarations: &[Declaration<'_, A>],
-) -> Result<Vec<Assertion<A>, A>, ReadFault>
+) -> Result<Vec<Assertion<A>, A>, Refusal>
     ensures assertions { IfOk result (λ assertions. AllZip (IsAssertionOf (map chars (names_of channels.now))) (filter is_assertion (map raw.declaration_of declarations.now)) (map term.assertion_of assertions.items)) }
     ensures refused { IfErr result IsOutside }
 {
@@ -151,7 +149,7 @@ fn assertion<A: Allocator + Copy>(
     alloc: A,
     channels: &[Channel<A>],
     declaration: &Declaration<'_, A>,
-) -> Result<Option<Assertion<A>>, ReadFault>
+) -> Result<Option<Assertion<A>>, Refusal>
     ensures some { IfOk result (λ found. IfSome found (λ a. IsAssertionOf (map chars (names_of channels.now)) (raw.declaration_of declaration.now) (term.assertion_of a))) }
     ensures none { result ≡ Ok None → is_assertion (raw.declaration_of declaration.now) ≡ false }
     ensures refused { IfErr result IsOutside }
@@ -174,20 +172,20 @@ fn assertion<A: Allocator + Copy>(
 fn refinement<A: Allocator + Copy>(
     alloc: A,
     channels: &[Channel<A>],
-    model: csp_parse::Model,
+    model: Model,
     specification: &Process<'_, A>,
     implementation: &Process<'_, A>,
-) -> Result<Assertion<A>, ReadFault>
-    ensures assertion { (place : Place) → IfOk result (λ a. IsAssertionOf (map chars (names_of channels.now)) (RawAssertion place (raw.model_of model) (written.process_of specification.now) (written.process_of implementation.now)) (term.assertion_of a)) }
+) -> Result<Assertion<A>, Refusal>
+    ensures assertion { (place : Place) → IfOk result (λ a. IsAssertionOf (map chars (names_of channels.now)) (RawAssertion place (model_of model) (written.process_of specification.now) (written.process_of implementation.now)) (term.assertion_of a)) }
     ensures refused { IfErr result IsOutside }
 {
     match model {
-        csp_parse::Model::Traces => Ok(Assertion {
+        Model::Traces => Ok(Assertion {
             model: Model::Traces,
             specification: process(alloc, channels, specification)?,
             implementation: process(alloc, channels, implementation)?,
         }),
-        csp_parse::Model::Failures => Err(ReadFault::Part),
+        Model::Failures => Err(Refusal::Part),
     }
 }
 
@@ -195,7 +193,7 @@ fn process<A: Allocator + Copy>(
     alloc: A,
     channels: &[Channel<A>],
     tree: &Process<'_, A>,
-) -> Result<Term<A>, ReadFault>
+) -> Result<Term<A>, Refusal>
     ensures process { IfOk result (λ term. IsProcessOf (map chars (names_of channels.now)) (written.process_of tree.now) (process_of term)) }
     ensures refused { IfErr result IsOutside }
 {
@@ -207,23 +205,20 @@ fn process<A: Allocator + Copy>(
             let body = process(alloc, channels, body)?;
             Ok(Term::new(alloc, TermForm::Prefix(channel, fields, body))?)
         }
-        _ => Err(ReadFault::Part),
+        _ => Err(Refusal::Part),
     }
 }
 
 // The channel that a name names.
-fn channel_of<A: Allocator>(
-    channels: &[Channel<A>],
-    name: &Name<'_>,
-) -> Result<ChannelId, ReadFault>
+fn channel_of<A: Allocator>(channels: &[Channel<A>], name: &Name<'_>) -> Result<ChannelId, Refusal>
     ensures channel { IfOk result (λ channel. slice_get (map chars (names_of channels.now)) channel.0 ≡ Some (name_of name.now).spelling) }
     ensures refused { IfErr result IsOutside }
 {
     let Some(place) = place_of(channels, name.text) else {
-        return Err(ReadFault::Part);
+        return Err(Refusal::Part);
     };
     match u32::try_from(place) {
         Ok(number) => Ok(ChannelId(number)),
-        Err(_) => Err(ReadFault::Part),
+        Err(_) => Err(Refusal::Part),
     }
 }

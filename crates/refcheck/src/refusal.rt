@@ -5,12 +5,11 @@ ghost use Rattle.refcheck.specs.Refusal.{refusal_line, place_line};
 ghost use Rattle.refcheck.specs.Running.{IsGiven};
 
 use crate::files::Unread;
-use crate::reader::ReadFault;
 use csp_lex::{Place, TextFault};
 use csp_parse::GrammarFault;
 use itoa::Buffer;
 use report::{Failed, Sink, push_all, push_each};
-use std::alloc::AllocError;
+use std::alloc::{AllocError, AllocFailed};
 
 /// What was refused.
 #[derive(Clone, Copy, Debug, PartialEq, Eq)]
@@ -75,18 +74,39 @@ impl From<Unread> for Refusal {
     }
 }
 
-impl From<ReadFault> for Refusal {
-    ghost use Rattle.refcheck.specs.Refusal.{of_text};
+impl From<csp_lex::Refused> for Refusal {
+    ghost use Rattle.refcheck.specs.Refusal.{of_lexer};
 
-    ghost from_gives = { λ fault why. why ≡ of_text fault };
+    ghost from_gives = { λ refused why. why ≡ of_lexer refused };
 
-    fn from(fault: ReadFault) -> Refusal {
-        match fault {
-            ReadFault::Text { fault, place } => Refusal::Text { fault, place },
-            ReadFault::Grammar { fault, place } => Refusal::Grammar { fault, place },
-            ReadFault::Part => Refusal::Part,
-            ReadFault::Memory => Refusal::Memory,
+    fn from(refused: csp_lex::Refused) -> Refusal {
+        match refused {
+            csp_lex::Refused::Text { fault, place } => Refusal::Text { fault, place },
+            csp_lex::Refused::Memory => Refusal::Memory,
         }
+    }
+}
+
+impl From<csp_parse::Refused> for Refusal {
+    ghost use Rattle.refcheck.specs.Refusal.{of_parser};
+
+    ghost from_gives = { λ refused why. why ≡ of_parser refused };
+
+    fn from(refused: csp_parse::Refused) -> Refusal {
+        match refused {
+            csp_parse::Refused::Grammar { fault, place } => Refusal::Grammar { fault, place },
+            csp_parse::Refused::Memory => Refusal::Memory,
+        }
+    }
+}
+
+impl From<csp_term::Memory> for Refusal {
+    ghost use Rattle.refcheck.specs.declared.refusal.Refusal.TheVariants.{Memory as no_memory};
+
+    ghost from_gives = { λ _ why. why ≡ no_memory };
+
+    fn from(_refused: csp_term::Memory) -> Refusal {
+        Refusal::Memory
     }
 }
 
@@ -96,6 +116,16 @@ impl From<AllocError> for Refusal {
     ghost from_gives = { λ _ why. why ≡ no_memory };
 
     fn from(_refused: AllocError) -> Refusal {
+        Refusal::Memory
+    }
+}
+
+impl<T: Drop> From<AllocFailed<T>> for Refusal {
+    ghost use Rattle.refcheck.specs.declared.refusal.Refusal.TheVariants.{Memory as no_memory};
+
+    ghost from_gives = { λ _ why. why ≡ no_memory };
+
+    fn from(_refused: AllocFailed<T>) -> Refusal {
         Refusal::Memory
     }
 }

@@ -2,9 +2,9 @@
 use Rattle.std.proofs.Common.{◌≡◌, ℕ, zero, suc, ◌<◌, ◌≤◌, List, [], ◌∷◌, ◌++◌, length, get_or, map, refl, sym, ◌∙◌, ap, append_assoc, arith}
 use Rattle.std.specs.List.{join_with_byte}
 use Rattle.std.specs.declared.vec.Vec.{Vec}
-use Rattle.csp_semantics.specs.Syntax.Value as pure
+use Rattle.csp_syntax.specs.Value as pure
 use Rattle.csp_semantics.specs.Meaning.Limits.{value_size, values_size}
-use Rattle.csp_semantics.specs.Answers.Printing.{value_text, values_text}
+use Rattle.csp_answers.specs.Printing.{value_text, values_text}
 use Rattle.csp_value.specs.declared.value.Value.{Value}
 use Rattle.csp_value.specs.declared.value.Value.TheVariants as views
 use Rattle.csp_value.specs.declared.set.SetOf.{SetOf}

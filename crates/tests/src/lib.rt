@@ -20,4 +20,4 @@ mod scripts;
 #[cfg(test)]
 mod searches;
 #[cfg(test)]
-mod shown;
+mod texts;

@@ -1,13 +1,8 @@
-//! Ends, calls and what an expansion names.
+//! Ends and calls.
 
-use crate::rows::holds;
-use crate::script::{chain, script};
-use csp_fire::fire;
-use std::alloc::Global;
-use std::process::Abort;
-use std::test::Fail;
+use crate::rows::Subject;
 
-static ENDS: &str = "
+const ENDS: &str = "
 T = STOP
 DOES = STOP
 OFFERS = STOP
@@ -21,12 +16,7 @@ DOES = tick -> OMEGA
 OFFERS = tick -> STOP
 ";
 
-#[test]
-fn the_ends_do_tick_or_nothing(rt: HostRuntime) -> Result<(), Fail> {
-    holds(&rt, rt.alloc(), ENDS)
-}
-
-static CALLS: &str = "
+const CALLS: &str = "
 T = P(1)
 DOES = tau -> c!1 -> STOP
 OFFERS = NOTHING
@@ -42,12 +32,7 @@ DOES = tau -> d!0!1 -> STOP
 OFFERS = NOTHING
 ";
 
-#[test]
-fn a_call_goes_to_its_body_by_tau(rt: HostRuntime) -> Result<(), Fail> {
-    holds(&rt, rt.alloc(), CALLS)
-}
-
-static STUCK: &str = "
+const STUCK: &str = "
 -- The body is past the limits.
 T = Q
 LARGE = STOP
@@ -73,24 +58,8 @@ T = R(1 % 0, head(<>))
 FAULT = modulus
 ";
 
-#[test]
-fn calls_that_are_stuck(rt: HostRuntime) -> Result<(), Fail> {
-    holds(&rt, rt.alloc(), STUCK)
-}
-
-fn names_what_was_fired(rt: &impl Abort, alloc: Global, prefixes: u32) -> Result<(), Fail> {
-    let script = script(alloc)?;
-    let term = chain(alloc, prefixes)?;
-    let expansion = fire(alloc, &script, &term)?;
-    assert!(rt; *expansion.script() == script, "{prefixes} prefixes");
-    assert!(rt; *expansion.term() == term, "{prefixes} prefixes");
-    Ok(())
-}
-
-#[test]
-fn an_expansion_names_its_script_and_term(rt: HostRuntime) -> Result<(), Fail> {
-    for prefixes in [0, 1, 255, 256] {
-        names_what_was_fired(&rt, rt.alloc(), prefixes)?;
-    }
-    Ok(())
-}
+pub(crate) const SUBJECTS: &[Subject] = &[
+    ("the ends do tick or nothing", ENDS),
+    ("a call goes to its body by tau", CALLS),
+    ("calls that are stuck", STUCK),
+];

@@ -1,9 +1,8 @@
 //! Choices.
 
-use crate::rows::holds;
-use std::test::Fail;
+use crate::rows::Subject;
 
-static EXTERNAL: &str = "
+const EXTERNAL: &str = "
 -- Both sides do events, and the choice is made.
 T = a -> STOP [] b -> SKIP
 DOES = a -> STOP [] b -> SKIP
@@ -47,12 +46,7 @@ DOES = a -> STOP
 OFFERS = a -> STOP
 ";
 
-#[test]
-fn an_event_or_tick_makes_an_external_choice(rt: HostRuntime) -> Result<(), Fail> {
-    holds(&rt, rt.alloc(), EXTERNAL)
-}
-
-static INTERNAL: &str = "
+const INTERNAL: &str = "
 T = a -> STOP |~| b -> STOP
 DOES = tau -> a -> STOP [] tau -> b -> STOP
 OFFERS = NOTHING
@@ -72,12 +66,7 @@ DOES = tau -> OMEGA [] tau -> P(0)
 OFFERS = NOTHING
 ";
 
-#[test]
-fn an_internal_choice_chooses_by_itself(rt: HostRuntime) -> Result<(), Fail> {
-    holds(&rt, rt.alloc(), INTERNAL)
-}
-
-static STUCK: &str = "
+const STUCK: &str = "
 -- The left side is looked at first.
 T = c!2 -> STOP [] a -> STOP
 FAULT = range
@@ -110,7 +99,8 @@ DOES = a -> STOP
 OFFERS = a -> STOP
 ";
 
-#[test]
-fn choices_that_are_stuck(rt: HostRuntime) -> Result<(), Fail> {
-    holds(&rt, rt.alloc(), STUCK)
-}
+pub(crate) const SUBJECTS: &[Subject] = &[
+    ("an event or tick makes an external choice", EXTERNAL),
+    ("an internal choice chooses by itself", INTERNAL),
+    ("choices that are stuck", STUCK),
+];

@@ -1,9 +1,8 @@
 //! Guards and conditional processes.
 
-use crate::rows::holds;
-use std::test::Fail;
+use crate::rows::Subject;
 
-static GUARDS: &str = "
+const GUARDS: &str = "
 T = true & c!1 -> STOP
 DOES = c!1 -> STOP
 OFFERS = c!1 -> STOP
@@ -25,12 +24,7 @@ DOES = STOP
 OFFERS = STOP
 ";
 
-#[test]
-fn guards_do_what_their_body_does_where_they_are_true(rt: HostRuntime) -> Result<(), Fail> {
-    holds(&rt, rt.alloc(), GUARDS)
-}
-
-static BRANCHES: &str = "
+const BRANCHES: &str = "
 T = if true then c!1 -> STOP else c!0 -> STOP
 DOES = c!1 -> STOP
 OFFERS = c!1 -> STOP
@@ -52,12 +46,7 @@ DOES = c!0 -> STOP
 OFFERS = c!0 -> STOP
 ";
 
-#[test]
-fn conditions_pick_a_branch(rt: HostRuntime) -> Result<(), Fail> {
-    holds(&rt, rt.alloc(), BRANCHES)
-}
-
-static PICKED: &str = "
+const PICKED: &str = "
 -- `c!2 -> STOP` is faulty, and is not looked at where it is not picked.
 T = false & c!2 -> STOP
 DOES = STOP
@@ -77,12 +66,7 @@ T = if false then c!1 -> STOP else c!2 -> STOP
 FAULT = range
 ";
 
-#[test]
-fn the_picked_part_alone_is_looked_at(rt: HostRuntime) -> Result<(), Fail> {
-    holds(&rt, rt.alloc(), PICKED)
-}
-
-static CAUSES: &str = "
+const CAUSES: &str = "
 -- The condition's cause goes before that of the part behind it.
 T = head(<>) & c!2 -> STOP
 FAULT = empty
@@ -103,7 +87,9 @@ T = if x then c!2 -> STOP else c!2 -> STOP
 FAULT = kind
 ";
 
-#[test]
-fn conditions_without_a_truth_value_are_faults(rt: HostRuntime) -> Result<(), Fail> {
-    holds(&rt, rt.alloc(), CAUSES)
-}
+pub(crate) const SUBJECTS: &[Subject] = &[
+    ("guards do what their body does where they are true", GUARDS),
+    ("conditions pick a branch", BRANCHES),
+    ("the picked part alone is looked at", PICKED),
+    ("conditions without a truth value are faults", CAUSES),
+];

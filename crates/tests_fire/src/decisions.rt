@@ -1,9 +1,8 @@
 //! Operands of any kind, what decides, and which cause comes first.
 
-use crate::rows::holds;
-use std::test::Fail;
+use crate::rows::Subject;
 
-static KINDS: &str = "
+const KINDS: &str = "
 VALUE = OF({3, 1, 3} == {1, 3}, true)
 VALUE = OF(1 == true, false)
 VALUE = OF(1 != true, true)
@@ -13,12 +12,7 @@ CAUSE = kind(union({1}, <1>), inter({1}, <1>), diff({1}, <1>), {1} ^ <1>)
 CAUSE = kind(member(1, <1>), elem(1, {1}))
 ";
 
-#[test]
-fn operands_of_any_kind(rt: HostRuntime) -> Result<(), Fail> {
-    holds(&rt, rt.alloc(), KINDS)
-}
-
-static SIDES: &str = "
+const SIDES: &str = "
 -- `head(<>)` has no value, and is not looked at where the left side decides.
 VALUE = OF(false and head(<>) == 1, false)
 VALUE = OF(true or head(<>) == 1, true)
@@ -35,12 +29,7 @@ CAUSE = empty(true and (true and head(<>) == 1), true and (false or head(<>) == 
 CAUSE = empty(false or (true and head(<>) == 1), false or (false or head(<>) == 1))
 ";
 
-#[test]
-fn a_left_side_may_decide(rt: HostRuntime) -> Result<(), Fail> {
-    holds(&rt, rt.alloc(), SIDES)
-}
-
-static TRUTHS: &str = "
+const TRUTHS: &str = "
 VALUE = OF(false and false, false)
 VALUE = OF(false and true, false)
 VALUE = OF(true and false, false)
@@ -55,18 +44,15 @@ VALUE = OF(not false, true)
 VALUE = OF(not true, false)
 ";
 
-#[test]
-fn truth_values_are_connected(rt: HostRuntime) -> Result<(), Fail> {
-    holds(&rt, rt.alloc(), TRUTHS)
-}
-
-static CAUSES: &str = "
+const CAUSES: &str = "
 CAUSE = empty(head(<>) % 0, {0..head(<>)}, {7, true, head(<>), 7 % 0})
 CAUSE = overflow(2147483647 + 1 + head(<>))
 CAUSE = kind(x)
 ";
 
-#[test]
-fn the_first_cause_of_an_expression_counts(rt: HostRuntime) -> Result<(), Fail> {
-    holds(&rt, rt.alloc(), CAUSES)
-}
+pub(crate) const SUBJECTS: &[Subject] = &[
+    ("operands of any kind", KINDS),
+    ("a left side may decide", SIDES),
+    ("truth values are connected", TRUTHS),
+    ("the first cause of an expression counts", CAUSES),
+];

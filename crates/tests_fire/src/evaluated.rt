@@ -1,5 +1,6 @@
 use csp_event_sets::{EventSet, RenamingPair};
-use csp_event_tests::{EventTest, Images, Stuck};
+use csp_event_tests::{EventTest, Images};
+use csp_expression::EvalFault;
 use csp_term::{Event, Script};
 use std::alloc::Global;
 
@@ -9,7 +10,7 @@ pub(crate) fn has(
     script: &Script<Global>,
     set: &EventSet<Global>,
     event: &Event<Global>,
-) -> Result<bool, Stuck> {
+) -> Result<bool, EvalFault> {
     let test = EventTest::of(alloc, script, set)?;
     Ok(test.holds(event))
 }
@@ -19,7 +20,7 @@ pub(crate) fn stuck_of_set(
     alloc: Global,
     script: &Script<Global>,
     set: &EventSet<Global>,
-) -> Option<Stuck> {
+) -> Option<EvalFault> {
     EventTest::of(alloc, script, set).err()
 }
 
@@ -29,7 +30,7 @@ pub(crate) fn images(
     script: &Script<Global>,
     pairs: &[RenamingPair<Global>],
     event: Event<Global>,
-) -> Result<Vec<Event<Global>, Global>, Stuck> {
+) -> Result<Vec<Event<Global>, Global>, EvalFault> {
     let images = Images::of(alloc, script, pairs)?;
     Ok(images.of_event(alloc, event)?)
 }
@@ -39,6 +40,6 @@ pub(crate) fn stuck_of_renaming(
     alloc: Global,
     script: &Script<Global>,
     pairs: &[RenamingPair<Global>],
-) -> Option<Stuck> {
+) -> Option<EvalFault> {
     Images::of(alloc, script, pairs).err()
 }

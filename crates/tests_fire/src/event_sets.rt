@@ -2,8 +2,8 @@
 
 use crate::expressions::expressions;
 use crate::names::channel;
-use csp_event_sets::{EventExpression, EventSet, EventSetOperator, RenamingPair};
-use csp_parse::{Event, EventSet as RawSet, Pair, SetOperator};
+use csp_event_sets::{EventExpression, EventSet, RenamingPair};
+use csp_parse::{Event, EventSet as RawSet, Pair};
 use std::alloc::Allocator;
 use std::test::Fail;
 
@@ -30,14 +30,6 @@ fn events<A: Allocator + Copy, B: Allocator>(
     Ok(all)
 }
 
-fn operator(raw: SetOperator) -> EventSetOperator {
-    match raw {
-        SetOperator::Union => EventSetOperator::Union,
-        SetOperator::Intersection => EventSetOperator::Intersection,
-        SetOperator::Difference => EventSetOperator::Difference,
-    }
-}
-
 #[cycle(event_set)]
 fn boxed<A: Allocator + Copy, B: Allocator>(
     alloc: A,
@@ -55,9 +47,9 @@ pub(crate) fn event_set<A: Allocator + Copy, B: Allocator>(
     match raw {
         RawSet::Enumeration(items) => Ok(EventSet::Enumeration(events(alloc, items)?)),
         RawSet::Productions(items) => Ok(EventSet::Productions(events(alloc, items)?)),
-        RawSet::Combine(sign, left, right) => {
+        RawSet::Combine(operator, left, right) => {
             let left = boxed(alloc, left)?;
-            Ok(EventSet::Combine(operator(*sign), left, boxed(alloc, right)?))
+            Ok(EventSet::Combine(*operator, left, boxed(alloc, right)?))
         }
     }
 }

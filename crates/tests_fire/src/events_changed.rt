@@ -1,9 +1,8 @@
 //! Hiding and renaming.
 
-use crate::rows::holds;
-use std::test::Fail;
+use crate::rows::Subject;
 
-static HIDING: &str = "
+const HIDING: &str = "
 T = (a -> STOP) \\ {a}
 DOES = tau -> (STOP \\ {a})
 OFFERS = NOTHING
@@ -44,12 +43,7 @@ T = Q \\ {a}
 LARGE = STOP
 ";
 
-#[test]
-fn hidden_events_are_taus(rt: HostRuntime) -> Result<(), Fail> {
-    holds(&rt, rt.alloc(), HIDING)
-}
-
-static RENAMING: &str = "
+const RENAMING: &str = "
 -- The same image twice is one step.
 T = (a -> STOP)[[a <- b, a <- b]]
 DOES = b -> (STOP[[a <- b, a <- b]])
@@ -111,7 +105,7 @@ T = Q[[a <- b]]
 LARGE = STOP
 ";
 
-#[test]
-fn events_become_their_images(rt: HostRuntime) -> Result<(), Fail> {
-    holds(&rt, rt.alloc(), RENAMING)
-}
+pub(crate) const SUBJECTS: &[Subject] = &[
+    ("hidden events are taus", HIDING),
+    ("events become their images", RENAMING),
+];

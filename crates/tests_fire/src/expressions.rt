@@ -1,52 +1,57 @@
-//! Expressions of texts.
+//! Expressions of texts. What is too long or too deep for a text has a name, with any number behind the word:
+//!
+//! - `NEGATED254` is the number 1 behind 254 minus signs.
+//! - `BELOW1023` among the items of a sequence, a set or a call stands for the numbers from 0 to 1022.
+//! - `AGAIN998` there stands for the item before it 998 times more.
 
-use crate::literals::named;
+use crate::literals::{named, number_behind};
 use crate::names::{DATATYPES, NAMETYPES, bound, place};
-use csp_expression::{BinaryOperator, DatatypeId, Expr, NametypeId, UnaryOperator};
-use csp_parse::{BinaryOperator as Infix, Expression, Name, UnaryOperator as Prefix};
-use csp_value::Value;
+use csp_expression::{DatatypeId, Expr, NametypeId, UnaryOperator};
+use csp_parse::{Expression, Name};
+use csp_value::{Memory, Value};
 use std::alloc::Allocator;
 use std::test::Fail;
 
-fn unary(operator: Prefix) -> UnaryOperator {
-    match operator {
-        Prefix::Negate => UnaryOperator::Negate,
-        Prefix::Not => UnaryOperator::Not,
-        Prefix::Length => UnaryOperator::Length,
-        Prefix::Head => UnaryOperator::Head,
-        Prefix::Tail => UnaryOperator::Tail,
-        Prefix::IsNull => UnaryOperator::IsNull,
-        Prefix::Card => UnaryOperator::Card,
+/// The number 1 behind so many minus signs.
+fn negated<A: Allocator + Copy>(alloc: A, signs: u32) -> Result<Expr<A>, Memory> {
+    let mut number = Expr::Literal(Value::Int(1));
+    for _ in 0..signs {
+        let operand = number;
+        number = Expr::Apply(UnaryOperator::Negate, Box::new(alloc, operand)?);
     }
+    Ok(number)
 }
 
-fn binary(operator: Infix) -> BinaryOperator {
-    match operator {
-        Infix::Add => BinaryOperator::Add,
-        Infix::Subtract => BinaryOperator::Subtract,
-        Infix::Multiply => BinaryOperator::Multiply,
-        Infix::Modulus => BinaryOperator::Modulus,
-        Infix::Concatenate => BinaryOperator::Concatenate,
-        Infix::Equals => BinaryOperator::Equals,
-        Infix::Differs => BinaryOperator::Differs,
-        Infix::LessThan => BinaryOperator::LessThan,
-        Infix::AtMost => BinaryOperator::AtMost,
-        Infix::GreaterThan => BinaryOperator::GreaterThan,
-        Infix::AtLeast => BinaryOperator::AtLeast,
-        Infix::And => BinaryOperator::And,
-        Infix::Or => BinaryOperator::Or,
-        Infix::IsElement => BinaryOperator::IsElement,
-        Infix::IsMember => BinaryOperator::IsMember,
-        Infix::Union => BinaryOperator::Union,
-        Infix::Intersection => BinaryOperator::Intersection,
-        Infix::Difference => BinaryOperator::Difference,
+/// Adds the numbers below the end.
+fn add_numbers<A: Allocator>(end: u32, all: &mut Vec<Expr<A>, A>) -> Result<(), Fail> {
+    for number in 0..end {
+        all.push(Expr::Literal(Value::Int(i32::try_from(number)?)))?;
     }
+    Ok(())
+}
+
+/// Adds the last item so many times more.
+fn add_again<A: Allocator + Copy>(
+    alloc: A,
+    times: u32,
+    all: &mut Vec<Expr<A>, A>,
+) -> Result<(), Memory> {
+    for _ in 0..times {
+        if let Some(last) = all.last() {
+            let again = last.try_copy(alloc)?;
+            all.push(again)?;
+        }
+    }
+    Ok(())
 }
 
 /// A value, a set or what is bound, by its name.
 fn used<A: Allocator + Copy>(alloc: A, name: Name<'_>) -> Result<Expr<A>, Fail> {
     if let Some(value) = named(alloc, name.text)? {
         return Ok(Expr::Literal(value));
+    }
+    if let Some(signs) = number_behind(name.text, "NEGATED") {
+        return Ok(negated(alloc, signs)?);
     }
     if let Some(datatype) = place(&DATATYPES, name.text) {
         return Ok(Expr::Datatype(DatatypeId(datatype)));
@@ -77,11 +82,11 @@ pub(crate) fn expression<A: Allocator + Copy, B: Allocator>(
         Expression::Booleans => Ok(Expr::Booleans),
         Expression::Use(name) => used(alloc, *name),
         Expression::Apply(operator, operand) => {
-            Ok(Expr::Apply(unary(*operator), boxed(alloc, operand)?))
+            Ok(Expr::Apply(*operator, boxed(alloc, operand)?))
         }
         Expression::Combine(operator, left, right) => {
             let left = boxed(alloc, left)?;
-            Ok(Expr::Combine(binary(*operator), left, boxed(alloc, right)?))
+            Ok(Expr::Combine(*operator, left, boxed(alloc, right)?))
         }
         Expression::Sequence(items) => Ok(Expr::Sequence(expressions(alloc, items)?)),
         Expression::Set(items) => Ok(Expr::Set(expressions(alloc, items)?)),
@@ -92,6 +97,25 @@ pub(crate) fn expression<A: Allocator + Copy, B: Allocator>(
     }
 }
 
+/// Adds the expression, or those that its name stands for among others.
+#[cycle(expression)]
+fn add<A: Allocator + Copy, B: Allocator>(
+    alloc: A,
+    item: &Expression<'_, B>,
+    all: &mut Vec<Expr<A>, A>,
+) -> Result<(), Fail> {
+    if let Expression::Use(name) = item {
+        if let Some(end) = number_behind(name.text, "BELOW") {
+            return add_numbers(end, all);
+        }
+        if let Some(times) = number_behind(name.text, "AGAIN") {
+            return Ok(add_again(alloc, times, all)?);
+        }
+    }
+    all.push(expression(alloc, item)?)?;
+    Ok(())
+}
+
 /// Each of the expressions, in order.
 #[cycle(expression)]
 pub(crate) fn expressions<A: Allocator + Copy, B: Allocator>(
@@ -100,7 +124,7 @@ pub(crate) fn expressions<A: Allocator + Copy, B: Allocator>(
 ) -> Result<Vec<Expr<A>, A>, Fail> {
     let mut all = Vec::new(alloc);
     for item in items {
-        all.push(expression(alloc, item)?)?;
+        add(alloc, item, &mut all)?;
     }
     Ok(all)
 }

@@ -1,9 +1,8 @@
 //! Prefixes without a value for one of their fields, and which cause counts first.
 
-use crate::rows::holds;
-use std::test::Fail;
+use crate::rows::Subject;
 
-static CAUSES: &str = "
+const CAUSES: &str = "
 T = c!2 -> STOP
 FAULT = range
 T = d?x!(x + 1) -> STOP
@@ -18,12 +17,7 @@ T = c?x:head(<>) -> STOP
 FAULT = empty
 ";
 
-#[test]
-fn fields_without_a_value_are_faults(rt: HostRuntime) -> Result<(), Fail> {
-    holds(&rt, rt.alloc(), CAUSES)
-}
-
-static FIRST_CAUSES: &str = "
+const FIRST_CAUSES: &str = "
 -- From left to right, and each given value is looked at wholly before the next one.
 T = d!2!head(<>) -> STOP
 FAULT = range
@@ -47,12 +41,7 @@ T = e?x!(x % (1 - x))!2 -> STOP
 FAULT = range
 ";
 
-#[test]
-fn the_first_cause_counts(rt: HostRuntime) -> Result<(), Fail> {
-    holds(&rt, rt.alloc(), FIRST_CAUSES)
-}
-
-static KINDS: &str = "
+const KINDS: &str = "
 -- Names that stand for nothing.
 T = c!x -> STOP
 FAULT = kind
@@ -76,7 +65,8 @@ T = d?x -> STOP
 FAULT = kind
 ";
 
-#[test]
-fn fields_of_the_wrong_kind_or_number_are_faults(rt: HostRuntime) -> Result<(), Fail> {
-    holds(&rt, rt.alloc(), KINDS)
-}
+pub(crate) const SUBJECTS: &[Subject] = &[
+    ("fields without a value are faults", CAUSES),
+    ("the first cause counts", FIRST_CAUSES),
+    ("fields of the wrong kind or number are faults", KINDS),
+];

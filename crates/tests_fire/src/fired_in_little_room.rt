@@ -120,7 +120,7 @@ fn count_all_firings(
 
 #[test]
 fn a_firing_that_finds_no_room_says_so(rt: HostRuntime) -> Result<(), Fail> {
-    let samples = read(rt.alloc(), SAMPLES)?;
+    let samples = read(rt.alloc(), "samples", SAMPLES)?;
     let Counts { refused, answered } = count_all_firings(&rt, rt.alloc(), &samples)?;
     assert!(rt;
         refused > 300 && answered > 1000,

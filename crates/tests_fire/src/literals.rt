@@ -3,6 +3,7 @@
 //! - `LEAST` is -2147483648, `MINUS1` is -1, and `ONE` is 1.
 //! - `SEQ12` is `<1, 2>` and `SET12` is `{1, 2}`, each as a value and not as an expression that has it. The other digits
 //!   are alike.
+//! - `NESTED254` is the number 1 in 254 sequences, and so for any other number behind the word.
 //! - `A0` to `A5` are constructors.
 
 use crate::names::{CONSTRUCTORS, place};
@@ -36,6 +37,31 @@ fn number(text: &str) -> Option<i32> {
     None
 }
 
+/// The number behind the word, where the text is so.
+pub(crate) fn number_behind(text: &str, word: &str) -> Option<u32> {
+    match text.strip_prefix(word) {
+        Some(number) => number.parse::<u32>().ok(),
+        None => None,
+    }
+}
+
+/// The sequence of the one value.
+fn around<A: Allocator + Copy>(alloc: A, value: Value<A>) -> Result<Value<A>, Memory> {
+    let mut items = Vec::new(alloc);
+    items.push(value)?;
+    Ok(Value::Seq(items))
+}
+
+/// The number 1 in so many sequences.
+fn nested<A: Allocator + Copy>(alloc: A, sequences: u32) -> Result<Value<A>, Memory> {
+    let mut value = Value::Int(1);
+    for _ in 0..sequences {
+        let inner = value;
+        value = around(alloc, inner)?;
+    }
+    Ok(value)
+}
+
 /// The value that has the name.
 pub(crate) fn named<A: Allocator + Copy>(alloc: A, text: &str) -> Result<Option<Value<A>>, Memory> {
     if text.starts_with("SEQ") {
@@ -44,6 +70,9 @@ pub(crate) fn named<A: Allocator + Copy>(alloc: A, text: &str) -> Result<Option<
     if text.starts_with("SET") {
         let members = digits(alloc, text)?;
         return Ok(Some(Value::Set(SetOf::from_values(members))));
+    }
+    if let Some(sequences) = number_behind(text, "NESTED") {
+        return Ok(Some(nested(alloc, sequences)?));
     }
     if let Some(number) = number(text) {
         return Ok(Some(Value::Int(number)));

@@ -6,9 +6,9 @@
 
 use crate::evaluated::{has, images, stuck_of_renaming, stuck_of_set};
 use crate::event_sets::{event_set, pairs};
-use crate::rows::{event, holds};
+use crate::rows::{Subject, event, is_word};
 use csp_event_sets::{EventSet, RenamingPair};
-use csp_event_tests::Stuck;
+use csp_expression::EvalFault;
 use csp_parse::{Name, Process};
 use csp_term::{Event, Script};
 use std::alloc::Global;
@@ -74,9 +74,9 @@ fn makes(
 }
 
 /// Whether there is nothing, for the cause of the word.
-fn is_cause(stuck: Option<Stuck>, said: &Process<'_, Global>) -> bool {
-    match (stuck, said) {
-        (Some(Stuck::Fault(cause)), Process::Call(word, _)) => cause.word() == word.text,
+fn is_cause(stuck: Option<EvalFault>, said: &Process<'_, Global>) -> bool {
+    match stuck {
+        Some(EvalFault::Fault(cause)) => is_word(cause.word(), said),
         _ => false,
     }
 }
@@ -158,11 +158,6 @@ T = STOP \\ union({c.head(<>)}, {c.(1 % 0)})
 NONE = empty
 ";
 
-#[test]
-fn a_set_of_events_has_its_events(rt: HostRuntime) -> Result<(), Fail> {
-    holds(&rt, rt.alloc(), SETS)
-}
-
 const RENAMINGS: &str = "
 T = STOP[[c <- f, c.1 <- a, a <- b]]
 MAKES = c!0 -> f!0 -> STOP
@@ -180,7 +175,7 @@ T = STOP[[c.head(<>) <- c.(1 % 0)]]
 NONE = empty
 ";
 
-#[test]
-fn a_renaming_makes_its_images(rt: HostRuntime) -> Result<(), Fail> {
-    holds(&rt, rt.alloc(), RENAMINGS)
-}
+pub(crate) const SUBJECTS: &[Subject] = &[
+    ("a set of events has its events", SETS),
+    ("a renaming makes its images", RENAMINGS),
+];

@@ -157,7 +157,7 @@ fn value_in<'h>(
     types: &TypeTable<&'h LocalHeap>,
     argument: &Expr<&'h LocalHeap>,
 ) -> Result<Expr<&'h LocalHeap>, EvalFault> {
-    Ok(Expr::Literal(argument.eval(types, heap)?))
+    Ok(Expr::Literal(argument.eval(heap, types)?))
 }
 
 /// The call with the value. The call is made in the other heap.
@@ -201,8 +201,8 @@ fn made<'h>(
     let name = Name(0);
     match work {
         Work::Copy => Ok(term.try_copy(heap)?),
-        Work::PutIn => Ok(term.put_in(&[Binding { name, value }], heap)?),
-        Work::Substitute => term.subst(&[Binding { name, value }], heap),
+        Work::PutIn => Ok(term.put_in(heap, &[Binding { name, value }])?),
+        Work::Substitute => term.subst(heap, &[Binding { name, value }]),
         Work::Evaluate => evaluated(heap, other, types, term),
     }
 }
@@ -353,8 +353,8 @@ fn count_all_made<'t>(
 
 /// Does the work on each of the terms.
 fn count_table(rt: &impl Abort, alloc: Global, table: &Table) -> Result<(), Fail> {
-    let open = read(alloc, table.open)?;
-    let made = read(alloc, table.made)?;
+    let open = read(alloc, "what is open", table.open)?;
+    let made = read(alloc, "what is made", table.made)?;
     count_all_made(rt, alloc, table, &open, &made)
 }
 

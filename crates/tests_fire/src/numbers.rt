@@ -1,9 +1,8 @@
 //! Numbers of 32 bits and the operators on them.
 
-use crate::rows::holds;
-use std::test::Fail;
+use crate::rows::Subject;
 
-static NUMBERS: &str = "
+const NUMBERS: &str = "
 VALUE = OF(2 + 3, 5)
 CAUSE = overflow(2147483647 + 1, LEAST + MINUS1)
 
@@ -28,12 +27,7 @@ VALUE = OF(-2147483647, -2147483647)
 VALUE = OF(-0, 0)
 ";
 
-#[test]
-fn numbers_are_of_32_bits(rt: HostRuntime) -> Result<(), Fail> {
-    holds(&rt, rt.alloc(), NUMBERS)
-}
-
-static COMPARISONS: &str = "
+const COMPARISONS: &str = "
 VALUE = OF(1 == 2, false)
 VALUE = OF(1 != 2, true)
 VALUE = OF(1 < 2, true)
@@ -63,7 +57,7 @@ VALUE = OF(LEAST > 2147483647, false)
 VALUE = OF(LEAST >= 2147483647, false)
 ";
 
-#[test]
-fn comparisons(rt: HostRuntime) -> Result<(), Fail> {
-    holds(&rt, rt.alloc(), COMPARISONS)
-}
+pub(crate) const SUBJECTS: &[Subject] = &[
+    ("numbers are of 32 bits", NUMBERS),
+    ("comparisons", COMPARISONS),
+];

@@ -3,6 +3,7 @@
 
 use crate::event_sets::event_set;
 use crate::expressions::expression;
+use crate::rows::Subject;
 use crate::terms::term;
 use crate::texts::read;
 use csp_event_sets::EventSet as Events;
@@ -20,7 +21,7 @@ use std::process::Abort;
 use std::test::Fail;
 
 /// Terms of each form.
-static TERMS: &str = "
+const TERMS: &str = "
 T = STOP
 T = SKIP
 T = OMEGA
@@ -53,7 +54,7 @@ T = if x then STOP else STOP
 ";
 
 /// Sets of events of each form, behind `\\`.
-static EVENT_SETS: &str = "
+const EVENT_SETS: &str = "
 T = STOP \\ {}
 T = STOP \\ {a.1}
 T = STOP \\ {a.1, a.0}
@@ -70,7 +71,7 @@ T = STOP \\ diff({|NOTHING|}, {})
 ";
 
 /// Expressions of each form.
-static EXPRESSIONS: &str = "
+const EXPRESSIONS: &str = "
 nametype T = LEAST
 nametype T = MINUS1
 nametype T = 0
@@ -109,6 +110,12 @@ nametype T = E
 nametype T = N
 nametype T = M
 ";
+
+const ORDERED: &[Subject] = &[
+    ("terms", TERMS),
+    ("sets of events", EVENT_SETS),
+    ("expressions", EXPRESSIONS),
+];
 
 /// The heap that rows are read in, and the one that they are copied into.
 #[derive(Clone, Copy)]
@@ -241,43 +248,47 @@ fn are_ordered<'h, 't>(
     }
 }
 
-fn all_rise<'h>(rt: &impl Abort, heaps: Heaps<'h>, raw: &Raw<'_, Global>) -> Result<(), Fail> {
+fn all_rise<'h>(
+    rt: &impl Abort,
+    heaps: Heaps<'h>,
+    subject: &str,
+    raw: &Raw<'_, Global>,
+) -> Result<(), Fail> {
     for (i, left) in raw.declarations.iter().enumerate() {
         for (j, right) in raw.declarations.iter().enumerate() {
             let are_ordered = are_ordered(heaps, left, right, i.cmp(&j))?;
-            assert!(rt; are_ordered, "{i} and {j}");
+            assert!(rt; are_ordered, "{subject}: rows {i} and {j}");
         }
     }
     Ok(())
 }
 
-fn rise_in<'h>(rt: &impl Abort, alloc: Global, heaps: Heaps<'h>, text: &str) -> Result<(), Fail> {
-    let raw = read(alloc, text)?;
-    all_rise(rt, heaps, &raw)
+fn rise_in<'h>(
+    rt: &impl Abort,
+    alloc: Global,
+    heaps: Heaps<'h>,
+    subject: &str,
+    text: &str,
+) -> Result<(), Fail> {
+    let raw = read(alloc, subject, text)?;
+    all_rise(rt, heaps, subject, &raw)
 }
 
 /// Each row of the text is less than the next.
-fn rise(rt: &impl Abort, alloc: Global, text: &str) -> Result<(), Fail> {
+fn rise(rt: &impl Abort, alloc: Global, subject: &str, text: &str) -> Result<(), Fail> {
     let here = LocalHeap::new(alloc, 16_384)?;
     let there = LocalHeap::new(alloc, 16_384)?;
     let heaps = Heaps {
         here: &here,
         there: &there,
     };
-    rise_in(rt, alloc, heaps, text)
+    rise_in(rt, alloc, heaps, subject, text)
 }
 
 #[test]
-fn terms_rise_by_form_and_then_by_their_parts(rt: HostRuntime) -> Result<(), Fail> {
-    rise(&rt, rt.alloc(), TERMS)
-}
-
-#[test]
-fn sets_of_events_rise_by_form_and_then_by_their_parts(rt: HostRuntime) -> Result<(), Fail> {
-    rise(&rt, rt.alloc(), EVENT_SETS)
-}
-
-#[test]
-fn expressions_rise_by_form_and_then_by_their_parts(rt: HostRuntime) -> Result<(), Fail> {
-    rise(&rt, rt.alloc(), EXPRESSIONS)
+fn what_is_ordered_rises_by_form_and_then_by_its_parts(rt: HostRuntime) -> Result<(), Fail> {
+    for (subject, text) in ORDERED {
+        rise(&rt, rt.alloc(), subject, text)?;
+    }
+    Ok(())
 }

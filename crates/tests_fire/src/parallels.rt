@@ -1,9 +1,8 @@
 //! Parallel compositions.
 
-use crate::rows::holds;
-use std::test::Fail;
+use crate::rows::Subject;
 
-static INTERLEAVINGS: &str = "
+const INTERLEAVINGS: &str = "
 T = (a -> STOP) ||| (b -> STOP)
 DOES = a -> (STOP ||| (b -> STOP)) [] b -> ((a -> STOP) ||| STOP)
 OFFERS = a -> STOP [] b -> STOP
@@ -38,12 +37,7 @@ DOES = a -> (OMEGA ||| STOP)
 OFFERS = a -> STOP
 ";
 
-#[test]
-fn sides_are_interleaved(rt: HostRuntime) -> Result<(), Fail> {
-    holds(&rt, rt.alloc(), INTERLEAVINGS)
-}
-
-static GENERALISED: &str = "
+const GENERALISED: &str = "
 -- Events of the set are done together, and all others alone.
 T = (a -> STOP) [| {a} |] (a -> SKIP)
 DOES = a -> (STOP [| {a} |] SKIP)
@@ -97,12 +91,7 @@ DOES = STOP
 OFFERS = STOP
 ";
 
-#[test]
-fn events_of_the_set_are_done_together(rt: HostRuntime) -> Result<(), Fail> {
-    holds(&rt, rt.alloc(), GENERALISED)
-}
-
-static ALPHABETISED: &str = "
+const ALPHABETISED: &str = "
 -- Each does only events of its own set.
 T = (a -> STOP) [{a} || {b}] (a -> STOP)
 DOES = a -> (STOP [{a} || {b}] (a -> STOP))
@@ -137,12 +126,7 @@ DOES = tick -> OMEGA
 OFFERS = tick -> STOP
 ";
 
-#[test]
-fn each_side_keeps_to_its_own_events(rt: HostRuntime) -> Result<(), Fail> {
-    holds(&rt, rt.alloc(), ALPHABETISED)
-}
-
-static SETS: &str = "
+const SETS: &str = "
 T = (a -> STOP [] b -> STOP) [| union({a}, {b}) |] STOP
 DOES = STOP
 OFFERS = STOP
@@ -160,12 +144,7 @@ DOES = e!1!1!0 -> (STOP [| {| e.0, e.1.0 |} |] STOP) [] e!1!1!1 -> (STOP [| {| e
 OFFERS = e!1!1!0 -> STOP [] e!1!1!1 -> STOP
 ";
 
-#[test]
-fn sets_of_events_hold_their_events(rt: HostRuntime) -> Result<(), Fail> {
-    holds(&rt, rt.alloc(), SETS)
-}
-
-static STUCK: &str = "
+const STUCK: &str = "
 -- The sets from left to right, and then the sides.
 T = (c!2 -> STOP) [| {c.head(<>)} |] (c!2 -> STOP)
 FAULT = empty
@@ -209,7 +188,10 @@ DOES = STOP
 OFFERS = STOP
 ";
 
-#[test]
-fn compositions_that_are_stuck(rt: HostRuntime) -> Result<(), Fail> {
-    holds(&rt, rt.alloc(), STUCK)
-}
+pub(crate) const SUBJECTS: &[Subject] = &[
+    ("sides are interleaved", INTERLEAVINGS),
+    ("events of the set are done together", GENERALISED),
+    ("each side keeps to its own events", ALPHABETISED),
+    ("sets of events hold their events", SETS),
+    ("compositions that are stuck", STUCK),
+];

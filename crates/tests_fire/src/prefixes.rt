@@ -1,9 +1,8 @@
 //! Prefixes with fields.
 
-use crate::rows::holds;
-use std::test::Fail;
+use crate::rows::Subject;
 
-static FIELDS: &str = "
+const FIELDS: &str = "
 T = c?x -> c!x -> STOP
 DOES = c!0 -> c!0 -> STOP [] c!1 -> c!1 -> STOP
 OFFERS = c!0 -> STOP [] c!1 -> STOP
@@ -39,12 +38,7 @@ DOES = e!1!0!0 -> c!0 -> STOP [] e!1!1!0 -> c!1 -> STOP
 OFFERS = e!1!0!0 -> STOP [] e!1!1!0 -> STOP
 ";
 
-#[test]
-fn prefixes_do_what_their_fields_allow(rt: HostRuntime) -> Result<(), Fail> {
-    holds(&rt, rt.alloc(), FIELDS)
-}
-
-static BODIES: &str = "
+const BODIES: &str = "
 T = a -> STOP
 DOES = a -> STOP
 OFFERS = a -> STOP
@@ -67,12 +61,7 @@ DOES = c!0 -> c?x -> c!x -> STOP [] c!1 -> c?x -> c!x -> STOP
 OFFERS = c!0 -> STOP [] c!1 -> STOP
 ";
 
-#[test]
-fn an_event_leads_to_the_body(rt: HostRuntime) -> Result<(), Fail> {
-    holds(&rt, rt.alloc(), BODIES)
-}
-
-static EMPTY: &str = "
+const EMPTY: &str = "
 T = c?x:{} -> STOP
 DOES = STOP
 OFFERS = STOP
@@ -83,7 +72,8 @@ DOES = STOP
 OFFERS = STOP
 ";
 
-#[test]
-fn an_input_from_the_empty_set_offers_nothing(rt: HostRuntime) -> Result<(), Fail> {
-    holds(&rt, rt.alloc(), EMPTY)
-}
+pub(crate) const SUBJECTS: &[Subject] = &[
+    ("prefixes do what their fields allow", FIELDS),
+    ("an event leads to the body", BODIES),
+    ("an input from the empty set offers nothing", EMPTY),
+];

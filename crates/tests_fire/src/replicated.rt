@@ -1,9 +1,8 @@
 //! Replicated operators.
 
-use crate::rows::holds;
-use std::test::Fail;
+use crate::rows::Subject;
 
-static EXTERNAL: &str = "
+const EXTERNAL: &str = "
 T = [] x:{0..1} @ c!x -> P(x)
 DOES = c!0 -> P(0) [] c!1 -> P(1)
 OFFERS = c!0 -> STOP [] c!1 -> STOP
@@ -42,12 +41,7 @@ T = [] x:{0..1} @ Q
 LARGE = STOP
 ";
 
-#[test]
-fn external_choices_of_instances(rt: HostRuntime) -> Result<(), Fail> {
-    holds(&rt, rt.alloc(), EXTERNAL)
-}
-
-static INTERNAL: &str = "
+const INTERNAL: &str = "
 T = |~| x:{0..1} @ P(x)
 DOES = tau -> P(0) [] tau -> P(1)
 OFFERS = NOTHING
@@ -72,12 +66,7 @@ T = |~| x:{1 % 0} @ STOP
 FAULT = modulus
 ";
 
-#[test]
-fn internal_choices_of_instances(rt: HostRuntime) -> Result<(), Fail> {
-    holds(&rt, rt.alloc(), INTERNAL)
-}
-
-static INTERLEAVING: &str = "
+const INTERLEAVING: &str = "
 T = ||| x:{0..1} @ c!x -> STOP
 DOES = c!0 -> (STOP ||| (c!1 -> STOP)) [] c!1 -> ((c!0 -> STOP) ||| STOP)
 OFFERS = c!0 -> STOP [] c!1 -> STOP
@@ -97,12 +86,7 @@ T = ||| x:{0, 1, 2} @ c!(1 % x) -> STOP
 FAULT = modulus
 ";
 
-#[test]
-fn interleavings_of_instances(rt: HostRuntime) -> Result<(), Fail> {
-    holds(&rt, rt.alloc(), INTERLEAVING)
-}
-
-static LONG: &str = "
+const LONG: &str = "
 -- The chain is past the limits, and its steps are not.
 T = [] x:{0..999} @ (x < 2 & c!x -> STOP)
 DOES = c!0 -> STOP [] c!1 -> STOP
@@ -120,7 +104,11 @@ DOES = STOP
 OFFERS = STOP
 ";
 
-#[test]
-fn chains_past_the_limits_are_looked_at(rt: HostRuntime) -> Result<(), Fail> {
-    holds(&rt, rt.alloc(), LONG)
-}
+pub(crate) const SUBJECTS: &[Subject] = &[
+    ("external choices of instances", EXTERNAL),
+    ("internal choices of instances", INTERNAL),
+    ("interleavings of instances", INTERLEAVING),
+];
+
+/// These take long.
+pub(crate) const LONG_SUBJECTS: &[Subject] = &[("chains past the limits are looked at", LONG)];

@@ -1,22 +1,29 @@
-//! Texts that say of terms what they do. A text has a term as `T`, and behind it what is said of that term:
+//! Texts that say of terms what they do. A text has a term as `T`, and behind it what is said of that term, each on a line
+//! of its own:
 //!
 //! - `VALUE` and `CAUSE` of expressions, as `values` reads them. They need no term.
-//! - `PUT` and `BOUND`, as `puts` reads them, `MEASURES`, as `sizes` reads it, and `HAS`, `LACKS`, `MAKES` and `NONE`, as
-//!   `lookups` reads them.
+//! - `PUT`, `BOUND`, `FITS`, `PAST`, `LEADS` and `STUCK`, as `puts` reads them, `MEASURES`, as `sizes` reads it, and `HAS`,
+//!   `LACKS`, `MAKES` and `NONE`, as `lookups` reads them.
 //! - `DOES`: the steps, in order, as prefixes with `[]` between. `tau` and `tick` are no channels, and `STOP` is no step.
 //! - `OFFERS`: the acceptances, in order, each as prefixes before `STOP` with `[]` between, and `|~|` between two
 //!   acceptances. `STOP` is the empty one, and `NOTHING` stands for none.
 //! - `FAULT`: the word of its cause.
 //! - `LARGE`: that it is large, and `FIRES`: that it is neither faulty nor large, whatever stands behind.
+//!
+//! A subject is a name and such a text. What is not so is told with the subject, the line of its text and the line itself.
 
 use crate::expressions::expression;
 use crate::names::channel;
-use crate::script::script;
+use crate::script::script_with_sequences;
 use crate::terms::term;
 use crate::texts::read;
-use crate::{lookups, puts, sizes, values};
+use crate::{
+    calls, choices, conditions, decisions, events_changed, faults, limits, lookups, numbers,
+    parallels, prefixes, puts, replicated, rule_steps, sequences, sets, sizes, substitution,
+    successions, values, worked,
+};
 use csp_fire::{Form, Step, fire};
-use csp_parse::{Declaration, Expression, Field, Infix, Name, Process, Raw};
+use csp_parse::{Declaration, Expression, Field, Name, Process, ProcessOperator, Raw};
 use csp_term::{Action, Event, Script};
 use csp_value::Value;
 use smallvec::SmallVec;
@@ -24,13 +31,37 @@ use std::alloc::Global;
 use std::process::Abort;
 use std::test::Fail;
 
+/// A name, and what is said.
+pub(crate) type Subject = (&'static str, &'static str);
+
+const SUBJECTS: &[&[Subject]] = &[
+    numbers::SUBJECTS,
+    sequences::SUBJECTS,
+    sets::SUBJECTS,
+    decisions::SUBJECTS,
+    substitution::SUBJECTS,
+    lookups::SUBJECTS,
+    limits::SUBJECTS,
+    calls::SUBJECTS,
+    prefixes::SUBJECTS,
+    faults::SUBJECTS,
+    conditions::SUBJECTS,
+    choices::SUBJECTS,
+    successions::SUBJECTS,
+    parallels::SUBJECTS,
+    events_changed::SUBJECTS,
+    replicated::SUBJECTS,
+    rule_steps::SUBJECTS,
+    worked::SUBJECTS,
+];
+
 fn value(
     alloc: Global,
     script: &Script<Global>,
     raw: &Expression<'_, Global>,
 ) -> Result<Value<Global>, Fail> {
     let expression = expression(alloc, raw)?;
-    Ok(expression.eval(&script.types, alloc)?)
+    Ok(expression.eval(alloc, &script.types)?)
 }
 
 pub(crate) fn event(
@@ -52,7 +83,7 @@ pub(crate) fn event(
     })
 }
 
-fn action(
+pub(crate) fn action(
     alloc: Global,
     script: &Script<Global>,
     name: Name<'_>,
@@ -82,7 +113,7 @@ fn add_steps(
             steps.push(Step { action, target })?;
             Ok(())
         }
-        Process::Infix(Infix::ExternalChoice, left, right) => {
+        Process::Infix(ProcessOperator::ExternalChoice, left, right) => {
             add_steps(alloc, script, left, steps)?;
             add_steps(alloc, script, right, steps)
         }
@@ -117,7 +148,7 @@ fn add_actions(
             actions.push(action(alloc, script, *name, fields)?)?;
             Ok(())
         }
-        Process::Infix(Infix::ExternalChoice, left, right) => {
+        Process::Infix(ProcessOperator::ExternalChoice, left, right) => {
             add_actions(alloc, script, left, actions)?;
             add_actions(alloc, script, right, actions)
         }
@@ -134,7 +165,7 @@ fn add_offers(
 ) -> Result<(), Fail> {
     match said {
         Process::Call(_, _) => Ok(()),
-        Process::Infix(Infix::InternalChoice, left, right) => {
+        Process::Infix(ProcessOperator::InternalChoice, left, right) => {
             add_offers(alloc, script, left, offers)?;
             add_offers(alloc, script, right, offers)
         }
@@ -161,9 +192,17 @@ fn offers(
     }
 }
 
+/// Whether the word is the one that is said.
+pub(crate) fn is_word(word: &str, said: &Process<'_, Global>) -> bool {
+    match said {
+        Process::Call(name, _) => name.text == word,
+        _ => false,
+    }
+}
+
 fn is_fault(form: &Form<Global>, said: &Process<'_, Global>) -> bool {
-    match (form, said) {
-        (Form::Faulty(cause), Process::Call(word, _)) => cause.word() == word.text,
+    match form {
+        Form::Faulty(cause) => is_word(cause.word(), said),
         _ => false,
     }
 }
@@ -205,7 +244,7 @@ fn is_form_so(
     Ok(name.text == "LARGE" && is_large(form))
 }
 
-/// Whether what is said of the term's firing is so.
+/// Whether what is said of the term's firing is so, which names the script and the term.
 fn is_fired_so<'t>(
     alloc: Global,
     script: &Script<Global>,
@@ -215,7 +254,18 @@ fn is_fired_so<'t>(
 ) -> Result<bool, Fail> {
     let term = term(alloc, of)?;
     let expansion = fire(alloc, script, &term)?;
-    is_form_so(alloc, script, expansion.form(), name, said)
+    let are_named = *expansion.script() == *script && *expansion.term() == term;
+    Ok(are_named && is_form_so(alloc, script, expansion.form(), name, said)?)
+}
+
+/// Whether the word is one that values are put in for.
+fn is_of_values(word: &str) -> bool {
+    for name in &["VALUE", "PUT", "BOUND", "FITS", "PAST", "LEADS", "STUCK"] {
+        if *name == word {
+            return true;
+        }
+    }
+    false
 }
 
 /// Whether what is said of the process, or by itself, is so.
@@ -229,8 +279,8 @@ fn is_so<'t>(
     if name.text == "CAUSE" {
         return values::are_faulty(alloc, &script.types, said);
     }
-    if name.text == "VALUE" || name.text == "PUT" || name.text == "BOUND" {
-        return puts::is_so(alloc, &script.types, of, name, said);
+    if is_of_values(name.text) {
+        return puts::is_so(alloc, script, of, name, said);
     }
     if name.text == "MEASURES" {
         return sizes::is_so(alloc, of, said);
@@ -249,45 +299,48 @@ fn is_term(declaration: &Declaration<'_, Global>) -> bool {
     }
 }
 
+/// The line of the text, counted from 1.
+fn row(text: &str, line: u32) -> &str {
+    let mut counted: u32 = 0;
+    for row in text.lines() {
+        counted = counted.saturating_add(1);
+        if counted == line {
+            return row;
+        }
+    }
+    ""
+}
+
 /// What the second declaration says of the term of the first is so.
 fn holds_of<'t>(
     rt: &impl Abort,
     alloc: Global,
     script: &Script<Global>,
+    subject: &Subject,
     of: &Declaration<'t, Global>,
     said: &Declaration<'t, Global>,
 ) -> Result<(), Fail> {
     match (of, said) {
         (Declaration::Equation { body: of, .. }, Declaration::Equation { name, body, .. }) => {
             let is_so = is_so(alloc, script, of, *name, body)?;
-            assert!(rt; is_so, "{}", name.place);
+            let line = name.place.line;
+            assert!(rt;
+                is_so,
+                "{}, line {line}: {}",
+                subject.0,
+                row(subject.1, line)
+            );
             Ok(())
         }
         _ => Err(Fail::new("no equations")),
     }
 }
 
-/// All that the text says of its terms is so.
-pub(crate) fn holds(rt: &impl Abort, alloc: Global, text: &str) -> Result<(), Fail> {
-    let script = script(alloc)?;
-    holds_in(rt, alloc, &script, text)
-}
-
-/// The same for terms of the script.
-pub(crate) fn holds_in(
-    rt: &impl Abort,
-    alloc: Global,
-    script: &Script<Global>,
-    text: &str,
-) -> Result<(), Fail> {
-    let raw = read(alloc, text)?;
-    all_hold(rt, alloc, script, &raw)
-}
-
 fn all_hold(
     rt: &impl Abort,
     alloc: Global,
     script: &Script<Global>,
+    subject: &Subject,
     raw: &Raw<'_, Global>,
 ) -> Result<(), Fail> {
     let mut of = 0;
@@ -295,8 +348,31 @@ fn all_hold(
         if is_term(said) {
             of = place;
         } else if let Some(term) = raw.declarations.get(of) {
-            holds_of(rt, alloc, script, term, said)?;
+            holds_of(rt, alloc, script, subject, term, said)?;
         }
     }
     Ok(())
+}
+
+/// All that each of the subjects says is so.
+fn hold(
+    rt: &impl Abort,
+    alloc: Global,
+    script: &Script<Global>,
+    subjects: &[Subject],
+) -> Result<(), Fail> {
+    for subject in subjects {
+        let raw = read(alloc, subject.0, subject.1)?;
+        all_hold(rt, alloc, script, subject, &raw)?;
+    }
+    Ok(())
+}
+
+#[test]
+fn what_is_said_is_so(rt: HostRuntime) -> Result<(), Fail> {
+    let script = script_with_sequences(rt.alloc())?;
+    for subjects in SUBJECTS {
+        hold(&rt, rt.alloc(), &script, subjects)?;
+    }
+    hold(&rt, rt.alloc(), &script, replicated::LONG_SUBJECTS)
 }

@@ -5,17 +5,16 @@ use crate::names::{CONSTRUCTORS, bound};
 use crate::terms::term;
 use crate::texts::read;
 use csp_expression::{Constructors, Expr, TypeTable};
-use csp_parse::{Declaration, Model as RawModel, Name as Word, Process, Raw};
+use csp_parse::{Declaration, Name as Word, Process, Raw};
 use csp_term::{
     Assertion, Channel, ChannelId, Constructor, Equation, EquationId, Memory, Model, Script, Term,
     TermForm,
 };
 use csp_value::{ConId, FieldSet, SetOf, Value};
-use std::alloc::Allocator;
+use std::alloc::{Allocator, Global};
 use std::test::Fail;
 
-/// `Q` is too long for a text: it has 256 prefixes.
-static EQUATIONS: &str = "
+static DECLARATIONS: &str = "
 P(x) = c!x -> STOP
 R(x, y) = d!x!y -> STOP
 COPY1 = in?x -> mid!x -> COPY1
@@ -24,6 +23,7 @@ CHAIN = (COPY1 [| {| mid |} |] COPY2) \\ {| mid |}
 BUF(n, s) = (#s < n & in?x -> BUF(n, s ^ <x>)) [] (#s > 0 & out!head(s) -> BUF(n, tail(s)))
 LOOP = LOOP
 RUN = a -> RUN
+Q = PREFIXES(256)
 
 assert b -> STOP [F= STOP
 assert P(1) [T= R(0, 1)
@@ -111,7 +111,7 @@ fn equation<A: Allocator + Copy, B: Allocator>(
 }
 
 /// The equations of the text.
-pub(crate) fn written_equations<A: Allocator + Copy, B: Allocator>(
+fn equations<A: Allocator + Copy, B: Allocator>(
     alloc: A,
     raw: &Raw<'_, B>,
 ) -> Result<Vec<Equation<A>, A>, Fail> {
@@ -129,32 +129,14 @@ pub(crate) fn written_equations<A: Allocator + Copy, B: Allocator>(
     Ok(equations)
 }
 
-/// `Q`, which has no parameters.
-fn long_equation<A: Allocator + Copy>(alloc: A) -> Result<Equation<A>, Memory> {
-    let body = chain(alloc, 256)?;
-    let parameters = Vec::new(alloc);
-    Ok(Equation { parameters, body })
-}
-
-fn equations<A: Allocator + Copy>(alloc: A) -> Result<Vec<Equation<A>, A>, Fail> {
-    let raw = read(alloc, EQUATIONS)?;
-    let mut equations = written_equations(alloc, &raw)?;
-    equations.push(long_equation(alloc)?)?;
-    Ok(equations)
-}
-
 fn assertion<A: Allocator + Copy, B: Allocator>(
     alloc: A,
-    model: RawModel,
+    model: Model,
     specification: &Process<'_, B>,
     implementation: &Process<'_, B>,
 ) -> Result<Assertion<A>, Fail> {
     let specification = term(alloc, specification)?;
     let implementation = term(alloc, implementation)?;
-    let model = match model {
-        RawModel::Traces => Model::Traces,
-        RawModel::Failures => Model::Failures,
-    };
     Ok(Assertion {
         model,
         specification,
@@ -162,7 +144,7 @@ fn assertion<A: Allocator + Copy, B: Allocator>(
     })
 }
 
-fn written_assertions<A: Allocator + Copy, B: Allocator>(
+fn assertions<A: Allocator + Copy, B: Allocator>(
     alloc: A,
     raw: &Raw<'_, B>,
 ) -> Result<Vec<Assertion<A>, A>, Fail> {
@@ -179,11 +161,6 @@ fn written_assertions<A: Allocator + Copy, B: Allocator>(
         }
     }
     Ok(assertions)
-}
-
-fn assertions<A: Allocator + Copy>(alloc: A) -> Result<Vec<Assertion<A>, A>, Fail> {
-    let raw = read(alloc, EQUATIONS)?;
-    written_assertions(alloc, &raw)
 }
 
 fn constructors<A: Allocator + Copy>(alloc: A) -> Result<Vec<Constructor<A>, A>, Memory> {
@@ -210,11 +187,14 @@ pub(crate) fn types<A: Allocator + Copy>(alloc: A) -> Result<TypeTable<A>, Memor
     })
 }
 
-/// The channels but `s`, the types, the equations `P`, `R` and `Q`, and two assertions.
-pub(crate) fn script<A: Allocator + Copy>(alloc: A) -> Result<Script<A>, Fail> {
+/// The script with the equations and assertions of the text.
+fn script_of<A: Allocator + Copy, B: Allocator>(
+    alloc: A,
+    raw: &Raw<'_, B>,
+) -> Result<Script<A>, Fail> {
     let channels = channels(alloc)?;
-    let equations = equations(alloc)?;
-    let assertions = assertions(alloc)?;
+    let equations = equations(alloc, raw)?;
+    let assertions = assertions(alloc, raw)?;
     let constructors = constructors(alloc)?;
     Ok(Script {
         types: types(alloc)?,
@@ -223,4 +203,42 @@ pub(crate) fn script<A: Allocator + Copy>(alloc: A) -> Result<Script<A>, Fail> {
         equations,
         assertions,
     })
+}
+
+/// The channels but `s`, the types, the equations and two assertions.
+pub(crate) fn script<A: Allocator + Copy>(alloc: A) -> Result<Script<A>, Fail> {
+    let raw = read(alloc, "the script", DECLARATIONS)?;
+    script_of(alloc, &raw)
+}
+
+fn sequence(alloc: Global, number: i32, times: u32) -> Result<Value<Global>, Memory> {
+    let mut items = Vec::new(alloc);
+    for _ in 0..times {
+        items.push(Value::Int(number))?;
+    }
+    Ok(Value::Seq(items))
+}
+
+/// A sequence of 1,000 times 0, and `<1>`.
+fn sequences(alloc: Global) -> Result<FieldSet<Global>, Memory> {
+    let mut values = Vec::new(alloc);
+    values.push(sequence(alloc, 0, 1000)?)?;
+    values.push(sequence(alloc, 1, 1)?)?;
+    Ok(FieldSet::from_values(values))
+}
+
+/// The channel `s`.
+fn of_sequences(alloc: Global) -> Result<Channel<Global>, Memory> {
+    let mut fields = Vec::new(alloc);
+    fields.push(sequences(alloc)?)?;
+    fields.push(bits(alloc)?)?;
+    let spelling = String::from_str(alloc, "s")?;
+    Ok(Channel { spelling, fields })
+}
+
+/// The script with the channel `s`.
+pub(crate) fn script_with_sequences(alloc: Global) -> Result<Script<Global>, Fail> {
+    let mut script = script(alloc)?;
+    script.channels.push(of_sequences(alloc)?)?;
+    Ok(script)
 }

@@ -1,9 +1,8 @@
 //! Sets, ranges and named sets with their operators.
 
-use crate::rows::holds;
-use std::test::Fail;
+use crate::rows::Subject;
 
-static SETS: &str = "
+const SETS: &str = "
 VALUE = OF({3, 1, 3}, {1, 3})
 VALUE = OF(union({3, 1, 2}, {4, 2, 3}), {1, 2, 3, 4})
 VALUE = OF(inter({3, 1, 2}, {4, 2, 3}), {2, 3})
@@ -20,12 +19,7 @@ VALUE = OF(card({{1, 2}, {2, 1, 2}, {1..2}}), 1)
 VALUE = OF(card({{1, 2}, {}, {1}}), 3)
 ";
 
-#[test]
-fn sets(rt: HostRuntime) -> Result<(), Fail> {
-    holds(&rt, rt.alloc(), SETS)
-}
-
-static RANGES: &str = "
+const RANGES: &str = "
 VALUE = OF({5..4}, {})
 VALUE = OF(card({5..4}), 0)
 VALUE = OF(card({2147483647..LEAST}), 0)
@@ -39,12 +33,7 @@ VALUE = OF({ -1..1}, { -1, 0, 1})
 CAUSE = kind({0..true})
 ";
 
-#[test]
-fn ranges(rt: HostRuntime) -> Result<(), Fail> {
-    holds(&rt, rt.alloc(), RANGES)
-}
-
-static NAMED: &str = "
+const NAMED: &str = "
 VALUE = OF(card(Bool), 2)
 VALUE = OF(card(D), 3)
 VALUE = OF(card(N), 2)
@@ -60,7 +49,8 @@ VALUE = OF(member(A4, D), true)
 VALUE = OF(member(A5, D), false)
 ";
 
-#[test]
-fn sets_that_are_named(rt: HostRuntime) -> Result<(), Fail> {
-    holds(&rt, rt.alloc(), NAMED)
-}
+pub(crate) const SUBJECTS: &[Subject] = &[
+    ("sets", SETS),
+    ("ranges", RANGES),
+    ("sets that are named", NAMED),
+];

@@ -1,9 +1,8 @@
 //! One process after another one: `;` and `/\`.
 
-use crate::rows::holds;
-use std::test::Fail;
+use crate::rows::Subject;
 
-static SEQUENCES: &str = "
+const SEQUENCES: &str = "
 T = (a -> SKIP) ; b -> STOP
 DOES = a -> (SKIP ; b -> STOP)
 OFFERS = a -> STOP
@@ -33,12 +32,7 @@ DOES = tau -> b -> STOP [] a -> (STOP ; b -> STOP)
 OFFERS = NOTHING
 ";
 
-#[test]
-fn a_sequence_goes_on_where_the_first_ends(rt: HostRuntime) -> Result<(), Fail> {
-    holds(&rt, rt.alloc(), SEQUENCES)
-}
-
-static INTERRUPTS: &str = "
+const INTERRUPTS: &str = "
 -- An event of the left side keeps the interrupt, and one of the right side does not.
 T = (a -> STOP) /\\ (b -> STOP)
 DOES = a -> (STOP /\\ (b -> STOP)) [] b -> STOP
@@ -73,12 +67,7 @@ DOES = a -> (STOP /\\ OMEGA)
 OFFERS = a -> STOP
 ";
 
-#[test]
-fn an_interrupt_ends_what_it_interrupts(rt: HostRuntime) -> Result<(), Fail> {
-    holds(&rt, rt.alloc(), INTERRUPTS)
-}
-
-static STUCK: &str = "
+const STUCK: &str = "
 T = (c!2 -> STOP) ; c!head(<>) -> STOP
 FAULT = range
 T = (c!2 -> STOP) /\\ (c!head(<>) -> STOP)
@@ -102,7 +91,8 @@ DOES = a -> STOP
 OFFERS = a -> STOP
 ";
 
-#[test]
-fn successions_that_are_stuck(rt: HostRuntime) -> Result<(), Fail> {
-    holds(&rt, rt.alloc(), STUCK)
-}
+pub(crate) const SUBJECTS: &[Subject] = &[
+    ("a sequence goes on where the first ends", SEQUENCES),
+    ("an interrupt ends what it interrupts", INTERRUPTS),
+    ("successions that are stuck", STUCK),
+];

@@ -1,10 +1,12 @@
-//! Terms of texts.
+//! Terms of texts. `PREFIXES(254)` stands for 254 prefixes over `a` before `STOP`, and `OMEGA` for the process that has
+//! ended.
 
 use crate::event_sets::{event_set, pairs};
 use crate::expressions::{expression, expressions};
 use crate::names::{bound, channel, equation};
-use csp_parse::{Expression, Field as RawField, Infix, Name, Process, Replicator};
-use csp_term::{Field, ProcessOperator, ReplicatedOperator, Term, TermForm};
+use crate::script::chain;
+use csp_parse::{Expression, Field as RawField, Name, Process};
+use csp_term::{Field, Term, TermForm};
 use std::alloc::Allocator;
 use std::test::Fail;
 
@@ -32,7 +34,17 @@ fn fields<A: Allocator + Copy, B: Allocator>(
     Ok(fields)
 }
 
-/// A call. `OMEGA` is the process that has ended.
+/// How many prefixes the name stands for.
+fn prefixes<B: Allocator>(raw: &Process<'_, B>) -> Option<u32> {
+    match raw {
+        Process::Call(name, arguments) if name.text == "PREFIXES" => match arguments.first() {
+            Some(Expression::Number(number)) => Some(*number),
+            _ => None,
+        },
+        _ => None,
+    }
+}
+
 fn call<A: Allocator + Copy, B: Allocator>(
     alloc: A,
     name: Name<'_>,
@@ -44,30 +56,15 @@ fn call<A: Allocator + Copy, B: Allocator>(
     Ok(TermForm::Call(equation(name)?, expressions(alloc, arguments)?))
 }
 
-fn infix(operator: Infix) -> ProcessOperator {
-    match operator {
-        Infix::ExternalChoice => ProcessOperator::ExternalChoice,
-        Infix::InternalChoice => ProcessOperator::InternalChoice,
-        Infix::Sequential => ProcessOperator::Sequential,
-        Infix::Interleaving => ProcessOperator::Interleaving,
-        Infix::Interrupt => ProcessOperator::Interrupt,
-    }
-}
-
-fn replicator(operator: Replicator) -> ReplicatedOperator {
-    match operator {
-        Replicator::ExternalChoice => ReplicatedOperator::ExternalChoice,
-        Replicator::InternalChoice => ReplicatedOperator::InternalChoice,
-        Replicator::Interleaving => ReplicatedOperator::Interleaving,
-    }
-}
-
 /// The term as it is written.
 #[cycle(term)]
 pub(crate) fn term<A: Allocator + Copy, B: Allocator>(
     alloc: A,
     raw: &Process<'_, B>,
 ) -> Result<Term<A>, Fail> {
+    if let Some(prefixes) = prefixes(raw) {
+        return Ok(chain(alloc, prefixes)?);
+    }
     Ok(Term::new(alloc, form(alloc, raw)?)?)
 }
 
@@ -93,9 +90,9 @@ fn form<A: Allocator + Copy, B: Allocator>(
             let first = term(alloc, first)?;
             Ok(TermForm::If(condition, first, term(alloc, second)?))
         }
-        Process::Infix(by, left, right) => {
+        Process::Infix(operator, left, right) => {
             let left = term(alloc, left)?;
-            Ok(TermForm::Binary(infix(*by), left, term(alloc, right)?))
+            Ok(TermForm::Binary(*operator, left, term(alloc, right)?))
         }
         Process::GeneralisedParallel(left, shared, right) => {
             let left = term(alloc, left)?;
@@ -116,10 +113,10 @@ fn form<A: Allocator + Copy, B: Allocator>(
             let body = term(alloc, body)?;
             Ok(TermForm::Renaming(body, pairs(alloc, renaming)?))
         }
-        Process::Replicated(by, name, set, body) => {
+        Process::Replicated(operator, name, set, body) => {
             let set = expression(alloc, set)?;
             let body = term(alloc, body)?;
-            Ok(TermForm::Replicated(replicator(*by), bound(*name)?, set, body))
+            Ok(TermForm::Replicated(*operator, bound(*name)?, set, body))
         }
     }
 }

@@ -19,7 +19,7 @@ fn sees(
     expression: &Expr<Global>,
     said: &Value<Global>,
 ) -> Result<bool, EvalFault> {
-    let seen = expression.look(types, bindings, alloc)?;
+    let seen = expression.look(alloc, types, bindings)?;
     let is_seen = *seen.value() == *said;
     Ok(seen.into_value(alloc)? == *said && is_seen)
 }
@@ -33,7 +33,7 @@ fn has_written_value<'t>(
 ) -> Result<bool, Fail> {
     let said = value(alloc, said)?;
     let expression = expression(alloc, raw)?;
-    Ok(sees(alloc, types, bindings, &expression, &said)?)
+    Ok(sees(alloc, types, bindings, &expression, &said) == Ok(true))
 }
 
 /// Whether the expression of the call has the value of the call, with the bindings.
@@ -60,7 +60,7 @@ fn has_cause(
     word: &str,
 ) -> Result<bool, Fail> {
     let expression = expression(alloc, raw)?;
-    match expression.eval(types, alloc) {
+    match expression.eval(alloc, types) {
         Err(EvalFault::Fault(cause)) => Ok(cause.word() == word),
         _ => Ok(false),
     }

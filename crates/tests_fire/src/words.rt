@@ -1,5 +1,6 @@
-//! The numbers and words of faults, and the text of the errors.
+//! The numbers and words of faults, what becomes of a refusal, and the text of the errors.
 
+use csp_expression::EvalFault;
 use csp_term::{Fault, Memory, TermFault};
 use std::alloc::{AllocError, Global};
 use std::test::Fail;
@@ -31,5 +32,10 @@ fn faults_have_numbers_and_words(rt: HostRuntime) -> Result<(), Fail> {
     assert!(rt; is_told(rt.alloc(), memory, "T01 out of memory")?);
     let large = TermFault::TooLarge;
     assert!(rt; is_told(rt.alloc(), large, "T02 the term is past the limits")?);
+    assert_eq!(rt; EvalFault::from(Memory), EvalFault::Memory);
+    assert_eq!(rt;
+        EvalFault::from(Fault::Range),
+        EvalFault::Fault(Fault::Range)
+    );
     Ok(())
 }

@@ -1,9 +1,8 @@
 //! Worked processes, step by step.
 
-use crate::rows::holds;
-use std::test::Fail;
+use crate::rows::Subject;
 
-static BUFFER: &str = "
+const BUFFER: &str = "
 -- Two copies with a hidden channel between, and the actions on the way to the second input.
 T = CHAIN
 DOES = tau -> ((COPY1 [| {| mid |} |] COPY2) \\ {| mid |})
@@ -44,12 +43,7 @@ T = BUF(1, tail(<0>))
 OFFERS = NOTHING
 ";
 
-#[test]
-fn a_chain_of_two_copies_and_a_buffer(rt: HostRuntime) -> Result<(), Fail> {
-    holds(&rt, rt.alloc(), BUFFER)
-}
-
-static ROWS: &str = "
+const ROWS: &str = "
 -- A process that only unfolds, and one whose every event is hidden, are never stable.
 T = LOOP
 DOES = tau -> LOOP
@@ -93,7 +87,7 @@ DOES = tau -> (STOP [] (a -> STOP)) [] tau -> (SKIP [] (a -> STOP)) [] a -> STOP
 OFFERS = NOTHING
 ";
 
-#[test]
-fn worked_rows(rt: HostRuntime) -> Result<(), Fail> {
-    holds(&rt, rt.alloc(), ROWS)
-}
+pub(crate) const SUBJECTS: &[Subject] = &[
+    ("a chain of two copies and a buffer", BUFFER),
+    ("worked rows", ROWS),
+];

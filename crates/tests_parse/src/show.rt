@@ -1,8 +1,8 @@
 //! Trees as text, with brackets round each part. Each function writes its part behind what is shown.
 
 use csp_parse::{
-    BinaryOperator, Declaration, Domain, Event, EventSet, Expression, Field, Infix, Model, Name,
-    Pair, Process, Raw, Replicator, SetOperator, UnaryOperator,
+    BinaryOperator, Declaration, Domain, Event, EventSet, EventSetOperator, Expression, Field,
+    Model, Name, Pair, Process, ProcessOperator, Raw, ReplicatedOperator, UnaryOperator,
 };
 use std::alloc::{AllocError, Allocator, Global};
 use std::fmt::Write;
@@ -42,29 +42,29 @@ fn binary(operator: BinaryOperator) -> &'static str {
     }
 }
 
-fn joining(operator: SetOperator) -> &'static str {
+fn joining(operator: EventSetOperator) -> &'static str {
     match operator {
-        SetOperator::Union => " union ",
-        SetOperator::Intersection => " inter ",
-        SetOperator::Difference => " diff ",
+        EventSetOperator::Union => " union ",
+        EventSetOperator::Intersection => " inter ",
+        EventSetOperator::Difference => " diff ",
     }
 }
 
-fn infix(operator: Infix) -> &'static str {
+fn infix(operator: ProcessOperator) -> &'static str {
     match operator {
-        Infix::ExternalChoice => " [] ",
-        Infix::InternalChoice => " |~| ",
-        Infix::Sequential => " ; ",
-        Infix::Interleaving => " ||| ",
-        Infix::Interrupt => " /\\ ",
+        ProcessOperator::ExternalChoice => " [] ",
+        ProcessOperator::InternalChoice => " |~| ",
+        ProcessOperator::Sequential => " ; ",
+        ProcessOperator::Interleaving => " ||| ",
+        ProcessOperator::Interrupt => " /\\ ",
     }
 }
 
-fn replicator(operator: Replicator) -> &'static str {
+fn replicator(operator: ReplicatedOperator) -> &'static str {
     match operator {
-        Replicator::ExternalChoice => "([] ",
-        Replicator::InternalChoice => "(|~| ",
-        Replicator::Interleaving => "(||| ",
+        ReplicatedOperator::ExternalChoice => "([] ",
+        ReplicatedOperator::InternalChoice => "(|~| ",
+        ReplicatedOperator::Interleaving => "(||| ",
     }
 }
 
@@ -230,7 +230,7 @@ fn alphabets<A: Allocator>(
 /// `[] x:S @ ` with its opening bracket.
 fn over<A: Allocator>(
     shown: &mut String,
-    operator: Replicator,
+    operator: ReplicatedOperator,
     name: Name<'_>,
     set: &Expression<'_, A>,
 ) -> Result<(), AllocError> {

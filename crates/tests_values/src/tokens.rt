@@ -2,6 +2,7 @@ use csp_lex::{Refused, Token, TokenKind, TokenList, tokens};
 use linked_list_allocator::LocalHeap;
 use std::alloc::{AllocError, Global};
 use std::fmt::Write;
+use std::process::Abort;
 use std::test::Fail;
 
 /// Writes a letter for the kind, and the token's text: `k` a keyword, `s` a sign, `n` a name, or the value of a number.
@@ -66,7 +67,7 @@ fn is_placed(alloc: Global, bytes: &[u8], expected: &str) -> Result<bool, AllocE
 }
 
 /// Texts with their tokens.
-static TOKENS: [(&str, &str); 24] = [
+const TOKENS: &[(&str, &str)] = &[
     ("", ""),
     ("{ -1}", "s{ s- 1 s} "),
     ("x--1", "nx "),
@@ -102,16 +103,15 @@ static TOKENS: [(&str, &str); 24] = [
     ("a -- b\nc", "na nc "),
 ];
 
-#[test]
-fn texts_have_these_tokens(rt: HostRuntime) -> Result<(), Fail> {
-    for (text, expected) in TOKENS.iter() {
-        assert!(rt; reads(rt.alloc(), text.as_bytes(), *expected)?, "{text}");
+fn have_tokens(rt: &impl Abort, alloc: Global) -> Result<(), Fail> {
+    for (text, expected) in TOKENS {
+        assert!(rt; reads(alloc, text.as_bytes(), *expected)?, "{text}");
     }
     Ok(())
 }
 
 /// Texts with their refusals.
-static REFUSALS: [(&[u8], &str); 24] = [
+const REFUSALS: &[(&[u8], &str)] = &[
     (b"{-1}", "L02 at 1:1"),
     (b"{- x", "L02 at 1:1"),
     (b"{- a -} {- b", "L02 at 1:9"),
@@ -138,16 +138,15 @@ static REFUSALS: [(&[u8], &str); 24] = [
     (b"\xff", "L04 at 1:1"),
 ];
 
-#[test]
-fn texts_have_these_refusals(rt: HostRuntime) -> Result<(), Fail> {
-    for (bytes, expected) in REFUSALS.iter() {
-        assert!(rt; reads(rt.alloc(), *bytes, *expected)?, "{expected}");
+fn have_refusals(rt: &impl Abort, alloc: Global) -> Result<(), Fail> {
+    for (bytes, expected) in REFUSALS {
+        assert!(rt; reads(alloc, *bytes, *expected)?, "{bytes:?}");
     }
     Ok(())
 }
 
 /// Texts with the places of their tokens.
-static PLACES: [(&str, &str); 4] = [
+const PLACES: &[(&str, &str)] = &[
     ("", "end 1:1"),
     (
         "a\rb\tc\nd\r\ne",
@@ -160,26 +159,30 @@ static PLACES: [(&str, &str); 4] = [
     ("{-€\n-}x -- €", "x at 2:3 8..9; end 2:9"),
 ];
 
-#[test]
-fn tokens_have_these_places(rt: HostRuntime) -> Result<(), Fail> {
-    for (text, expected) in PLACES.iter() {
-        assert!(rt;
-            is_placed(rt.alloc(), text.as_bytes(), *expected)?,
-            "{text}"
-        );
+fn have_places(rt: &impl Abort, alloc: Global) -> Result<(), Fail> {
+    for (text, expected) in PLACES {
+        assert!(rt; is_placed(alloc, text.as_bytes(), *expected)?, "{text}");
     }
     Ok(())
 }
 
-#[test]
-fn longest_texts(rt: HostRuntime) -> Result<(), Fail> {
-    let mut spaces = vec![in rt.alloc(); b' '; 65_536]?;
-    assert!(rt; is_placed(rt.alloc(), &spaces, "end 1:65537")?);
+/// A text of 65536 bytes is read, and a longer one is refused, whatever it ends with.
+fn have_lengths(rt: &impl Abort, alloc: Global) -> Result<(), Fail> {
+    let mut spaces = vec![in alloc; b' '; 65_536]?;
+    assert!(rt; is_placed(alloc, &spaces, "end 1:65537")?);
     spaces.push(b' ')?;
-    assert!(rt; is_placed(rt.alloc(), &spaces, "L05 at 1:1")?);
+    assert!(rt; is_placed(alloc, &spaces, "L05 at 1:1")?);
     spaces.push(0xff)?;
-    assert!(rt; is_placed(rt.alloc(), &spaces, "L05 at 1:1")?);
+    assert!(rt; is_placed(alloc, &spaces, "L05 at 1:1")?);
     Ok(())
+}
+
+#[test]
+fn texts_have_their_tokens_or_refusals(rt: HostRuntime) -> Result<(), Fail> {
+    have_tokens(&rt, rt.alloc())?;
+    have_refusals(&rt, rt.alloc())?;
+    have_places(&rt, rt.alloc())?;
+    have_lengths(&rt, rt.alloc())
 }
 
 /// How many tokens the text has.

@@ -1,3 +1,9 @@
+//! Orders, sets and copies of values, events and actions. Values are texts:
+//!
+//! - a number, `true` or `false`, or the number of a constructor behind `A`;
+//! - numbers in angle brackets, a sequence, or in braces, a set;
+//! - an action is `tau`, `tick` or an event: the number of its channel and its fields, with dots between.
+
 ghost use Rattle.std.specs.Prelude.{IfOk};
 ghost use Rattle.csp_value.specs.Value.{IsRisingSet};
 
@@ -13,6 +19,56 @@ use std::cmp::Ordering;
 use std::hash::{DefaultHasher, Hash, Hasher};
 use std::process::Abort;
 use std::test::Fail;
+
+/// Values of each form, in rising order.
+const VALUES: &[&str] = &[
+    "-2147483648",
+    "-1",
+    "0",
+    "7",
+    "2147483647",
+    "false",
+    "true",
+    "A0",
+    "A1",
+    "<>",
+    "<0>",
+    "<0 5>",
+    "<0 6>",
+    "<1>",
+    "{}",
+    "{1}",
+    "{1 3}",
+    "{2}",
+];
+
+/// Actions in rising order.
+const ACTIONS: &[&str] = &["tau", "tick", "0", "0.4.5.6", "0.4.6", "1.0"];
+
+/// Numbers, and the members of their set. Of the numbers from -2 to 4 it has no others.
+const MEMBERS: &[(&str, &str)] = &[
+    ("3 1 3", "1 3"),
+    ("", ""),
+    ("2 2 2", "2"),
+    ("1 0 -1", "-1 0 1"),
+];
+
+/// Numbers, the members of their set as a field's, and numbers that it does not have.
+const FIELDS: &[(&str, &str, &str)] = &[("3 1 3 7", "1 3 7", "0 2 8")];
+
+/// Two sets, and then both joined, their members in common, and those of the first that the second lacks.
+const JOINED: &[[&str; 5]] = &[["1 2 3", "2 3 5", "1 2 3 5", "2 3", "1"]];
+
+/// Sets, the first of each two before the other.
+const LESS: &[(&str, &str)] = &[("1", "2 3")];
+
+fn integers(alloc: Global, text: &str) -> Result<Vec<i32>, Fail> {
+    let mut integers = Vec::new(alloc);
+    for number in text.split_whitespace() {
+        integers.push(number.parse::<i32>()?)?;
+    }
+    Ok(integers)
+}
 
 /// The numbers as values.
 fn numbers<A: Allocator + Copy>(alloc: A, numbers: &[i32]) -> Result<Vec<Value<A>, A>, Memory> {
@@ -34,36 +90,38 @@ fn set_of<A: Allocator + Copy>(alloc: A, members: &[i32]) -> Result<SetOf<A>, Me
     Ok(SetOf::from_values(numbers(alloc, members)?))
 }
 
-/// Adds numbers, truth values and constructors, in rising order.
-fn push_scalars(values: &mut Vec<Value<Global>, Global>) -> Result<(), Memory> {
-    for number in [i32::MIN, -1, 0, 7, i32::MAX] {
-        values.push(Value::Int(number))?;
-    }
-    for truth in [false, true] {
-        values.push(Value::Bool(truth))?;
-    }
-    for constructor in 0..2 {
-        values.push(Value::Con(ConId(constructor)))?;
-    }
-    Ok(())
+/// What stands between the two.
+fn between<'t>(text: &'t str, opening: &str, closing: &str) -> Option<&'t str> {
+    text.strip_prefix(opening)?.strip_suffix(closing)
 }
 
-/// Adds sequences and sets, in rising order.
-fn push_lists(alloc: Global, values: &mut Vec<Value<Global>, Global>) -> Result<(), Memory> {
-    for items in [&[][..], &[0], &[0, 5], &[0, 6], &[1]] {
-        values.push(sequence(alloc, items)?)?;
+fn scalar(text: &str) -> Result<Value<Global>, Fail> {
+    if let Some(number) = text.strip_prefix("A") {
+        return Ok(Value::Con(ConId(number.parse::<u32>()?)));
     }
-    for members in [&[][..], &[1], &[1, 3], &[2]] {
-        values.push(Value::Set(set_of(alloc, members)?))?;
+    if text == "true" || text == "false" {
+        return Ok(Value::Bool(text == "true"));
     }
-    Ok(())
+    Ok(Value::Int(text.parse::<i32>()?))
 }
 
-/// Values of each form, in rising order.
-fn rising(alloc: Global) -> Result<Vec<Value<Global>, Global>, Memory> {
+fn value(alloc: Global, text: &str) -> Result<Value<Global>, Fail> {
+    if let Some(items) = between(text, "<", ">") {
+        let items = integers(alloc, items)?;
+        return Ok(sequence(alloc, &items)?);
+    }
+    if let Some(members) = between(text, "{", "}") {
+        let members = integers(alloc, members)?;
+        return Ok(Value::Set(set_of(alloc, &members)?));
+    }
+    scalar(text)
+}
+
+fn values(alloc: Global, texts: &[&str]) -> Result<Vec<Value<Global>>, Fail> {
     let mut values = Vec::new(alloc);
-    push_scalars(&mut values)?;
-    push_lists(alloc, &mut values)?;
+    for text in texts {
+        values.push(value(alloc, *text)?)?;
+    }
     Ok(values)
 }
 
@@ -72,15 +130,101 @@ fn are_ordered(left: &Value<Global>, right: &Value<Global>, order: Ordering) -> 
     compare_values(left, right) == order && equal_values(left, right) == (order == Ordering::Equal)
 }
 
-#[test]
-fn values_rise_by_form_and_then_by_their_parts(rt: HostRuntime) -> Result<(), Fail> {
-    let values = rising(rt.alloc())?;
+fn values_rise(rt: &impl Abort, alloc: Global) -> Result<(), Fail> {
+    let values = values(alloc, VALUES)?;
     for (i, left) in values.iter().enumerate() {
         for (j, right) in values.iter().enumerate() {
             assert!(rt; are_ordered(left, right, i.cmp(&j)), "{i} and {j}");
         }
     }
     Ok(())
+}
+
+fn fields(alloc: Global, numbers: &str) -> Result<SmallVec<Value<Global>, 2, Global>, Fail> {
+    let mut fields = SmallVec::new(alloc);
+    for number in numbers.split('.') {
+        fields.push(Value::Int(number.parse::<i32>()?))?;
+    }
+    Ok(fields)
+}
+
+fn event(alloc: Global, text: &str) -> Result<Event<Global>, Fail> {
+    let Some((channel, numbers)) = text.split_once('.') else {
+        let channel = ChannelId(text.parse::<u32>()?);
+        let fields = SmallVec::new(alloc);
+        return Ok(Event { channel, fields });
+    };
+    let channel = ChannelId(channel.parse::<u32>()?);
+    let fields = fields(alloc, numbers)?;
+    Ok(Event { channel, fields })
+}
+
+fn action(alloc: Global, text: &str) -> Result<Action<Global>, Fail> {
+    if text == "tau" {
+        return Ok(Action::Tau);
+    }
+    if text == "tick" {
+        return Ok(Action::Tick);
+    }
+    Ok(Action::Event(event(alloc, text)?))
+}
+
+fn actions(alloc: Global, texts: &[&str]) -> Result<Vec<Action<Global>>, Fail> {
+    let mut actions = Vec::new(alloc);
+    for text in texts {
+        actions.push(action(alloc, *text)?)?;
+    }
+    Ok(actions)
+}
+
+/// Whether the events are in this order, and equal only where it says so.
+fn are_ordered_events(left: &Event<Global>, right: &Event<Global>, order: Ordering) -> bool {
+    compare_events(left, right) == order && equal_events(left, right) == (order == Ordering::Equal)
+}
+
+/// Whether the actions, and the events that they are, are in this order, and equal only where it says so.
+fn are_ordered_actions(left: &Action<Global>, right: &Action<Global>, order: Ordering) -> bool {
+    let are_ordered_so = match (left, right) {
+        (Action::Event(left), Action::Event(right)) => are_ordered_events(left, right, order),
+        _ => true,
+    };
+    are_ordered_so
+        && compare_actions(left, right) == order
+        && equal_actions(left, right) == (order == Ordering::Equal)
+}
+
+fn is_event_copied(alloc: Global, event: &Event<Global>) -> Result<bool, Memory> {
+    let copy = event.try_copy(alloc)?;
+    Ok(equal_events(&copy, event))
+}
+
+/// Whether copies of the action, and of the event that it is, are equal.
+fn is_action_copied(alloc: Global, action: &Action<Global>) -> Result<bool, Memory> {
+    let is_event_so = match action {
+        Action::Event(event) => is_event_copied(alloc, event)?,
+        _ => true,
+    };
+    let copy = action.try_copy(alloc)?;
+    Ok(is_event_so && equal_actions(&copy, action))
+}
+
+fn actions_rise(rt: &impl Abort, alloc: Global) -> Result<(), Fail> {
+    let actions = actions(alloc, ACTIONS)?;
+    for (i, left) in actions.iter().enumerate() {
+        for (j, right) in actions.iter().enumerate() {
+            assert!(rt; are_ordered_actions(left, right, i.cmp(&j)), "{i} and {j}");
+        }
+        assert!(rt; is_action_copied(alloc, left)?, "{i}");
+    }
+    Ok(())
+}
+
+/// Values rise by form and then by their parts, events by channel and then by fields, and actions from tau over tick to
+/// events.
+#[test]
+fn values_and_actions_rise(rt: HostRuntime) -> Result<(), Fail> {
+    values_rise(&rt, rt.alloc())?;
+    actions_rise(&rt, rt.alloc())
 }
 
 /// Whether the set has the members of the list, and of the numbers from -2 to 4 no others.
@@ -94,30 +238,24 @@ fn contains_only(set: &SetOf<Global>, members: &[i32]) -> bool {
 }
 
 /// Whether the set of the numbers has these members.
-fn has_members(alloc: Global, given: &[i32], members: &[i32]) -> Result<bool, Memory> {
-    let made = set_of(alloc, given)?;
-    let expected = numbers(alloc, members)?;
-    Ok(made.members() == expected.as_slice() && contains_only(&made, members))
+fn has_members(alloc: Global, given: &str, members: &str) -> Result<bool, Fail> {
+    let (given, members) = (integers(alloc, given)?, integers(alloc, members)?);
+    let made = set_of(alloc, &given)?;
+    let expected = numbers(alloc, &members)?;
+    Ok(made.members() == expected.as_slice() && contains_only(&made, &members))
 }
 
-#[test]
-fn sets_have_each_member_once(rt: HostRuntime) -> Result<(), Fail> {
-    let table = [
-        (&[3, 1, 3][..], &[1, 3][..]),
-        (&[], &[]),
-        (&[2, 2, 2], &[2]),
-        (&[1, 0, -1], &[-1, 0, 1]),
-    ];
-    for (row, (given, members)) in table.into_iter().enumerate() {
-        assert!(rt; has_members(rt.alloc(), given, members)?, "{row}");
+fn have_members(rt: &impl Abort, alloc: Global) -> Result<(), Fail> {
+    for (given, members) in MEMBERS {
+        assert!(rt; has_members(alloc, *given, *members)?, "{given}");
     }
     Ok(())
 }
 
-/// Whether the field has these of the values, and not the others.
-fn has_of_its_set(set: &FieldSet<Global>) -> bool {
-    for (number, is_there) in [(0, false), (1, true), (2, false), (7, true), (8, false)] {
-        if set.contains(&Value::Int(number)) != is_there {
+/// Whether the field's set has each of the values, or has none of them.
+fn has_each(set: &FieldSet<Global>, values: &[i32], is_there: bool) -> bool {
+    for number in values {
+        if set.contains(&Value::Int(*number)) != is_there {
             return false;
         }
     }
@@ -130,72 +268,88 @@ fn are_members(alloc: Global, set: &FieldSet<Global>, members: &[i32]) -> Result
     Ok(set.members() == expected.as_slice() && set.try_copy(alloc)? == *set)
 }
 
-#[test]
-fn a_field_has_the_values_of_its_set(rt: HostRuntime) -> Result<(), Fail> {
-    let set = FieldSet::from_values(numbers(rt.alloc(), &[3, 1, 3, 7])?);
-    assert!(rt; are_members(rt.alloc(), &set, &[1, 3, 7])?);
-    assert!(rt; has_of_its_set(&set));
+/// Whether the field's set of the numbers has these members and lacks the others.
+fn is_field(alloc: Global, given: &str, members: &str, others: &str) -> Result<bool, Fail> {
+    let (given, members) = (integers(alloc, given)?, integers(alloc, members)?);
+    let others = integers(alloc, others)?;
+    let set = FieldSet::from_values(numbers(alloc, &given)?);
+    Ok(
+        are_members(alloc, &set, &members)?
+            && has_each(&set, &members, true)
+            && has_each(&set, &others, false),
+    )
+}
+
+fn are_fields(rt: &impl Abort, alloc: Global) -> Result<(), Fail> {
+    for (given, members, others) in FIELDS {
+        assert!(rt; is_field(alloc, *given, *members, *others)?, "{given}");
+    }
     Ok(())
+}
+
+/// The set of the numbers of the text.
+fn set(alloc: Global, text: &str) -> Result<SetOf<Global>, Fail> {
+    let members = integers(alloc, text)?;
+    Ok(set_of(alloc, &members)?)
 }
 
 /// Whether the set has these members.
-fn is_set(alloc: Global, set: &SetOf<Global>, members: &[i32]) -> Result<bool, Memory> {
-    let expected = set_of(alloc, members)?;
-    Ok(equal_sets(set, &expected) && *set == expected)
+fn is_set(alloc: Global, found: &SetOf<Global>, members: &str) -> Result<bool, Fail> {
+    let expected = set(alloc, members)?;
+    Ok(equal_sets(found, &expected) && *found == expected)
 }
 
-/// `{1,2,3}` cut with `{2,3,5}`
-fn cut(alloc: Global) -> Result<SetOf<Global>, Memory> {
-    let left = set_of(alloc, &[1, 2, 3])?;
-    let right = set_of(alloc, &[2, 3, 5])?;
+fn join(alloc: Global, left: &str, right: &str) -> Result<SetOf<Global>, Fail> {
+    let left = set(alloc, left)?;
+    Ok(left.union(set(alloc, right)?)?)
+}
+
+fn cut(alloc: Global, left: &str, right: &str) -> Result<SetOf<Global>, Fail> {
+    let left = set(alloc, left)?;
+    let right = set(alloc, right)?;
     Ok(left.intersection(&right))
 }
 
-/// `{1,2,3}` without `{2,3,5}`
-fn left_alone(alloc: Global) -> Result<SetOf<Global>, Memory> {
-    let left = set_of(alloc, &[1, 2, 3])?;
-    let right = set_of(alloc, &[2, 3, 5])?;
+fn left_alone(alloc: Global, left: &str, right: &str) -> Result<SetOf<Global>, Fail> {
+    let left = set(alloc, left)?;
+    let right = set(alloc, right)?;
     Ok(left.difference(&right))
 }
 
-/// `{1,2,3}` joined with `{2,3,5}`
-fn joined(alloc: Global) -> Result<SetOf<Global>, Memory> {
-    let left = set_of(alloc, &[1, 2, 3])?;
-    left.union(set_of(alloc, &[2, 3, 5])?)
+fn is_joined_and_cut(alloc: Global, row: &[&str; 5]) -> Result<bool, Fail> {
+    let [left, right, joined, both, alone] = *row;
+    Ok(
+        is_set(alloc, &join(alloc, left, right)?, joined)?
+            && is_set(alloc, &cut(alloc, left, right)?, both)?
+            && is_set(alloc, &left_alone(alloc, left, right)?, alone)?,
+    )
 }
 
-/// Whether the one set comes before the other.
-fn is_less(set: &SetOf<Global>, other: &SetOf<Global>) -> bool {
-    !equal_sets(set, other) && compare_sets(set, other) == Ordering::Less
-}
-
-#[test]
-fn sets_are_joined_and_cut(rt: HostRuntime) -> Result<(), Fail> {
-    let alloc = rt.alloc();
-    assert!(rt; is_set(alloc, &joined(alloc)?, &[1, 2, 3, 5])?);
-    let (both, left_alone) = (cut(alloc)?, left_alone(alloc)?);
-    assert!(rt; is_set(alloc, &both, &[2, 3])? && is_set(alloc, &left_alone, &[1])?);
-    assert!(rt; is_less(&left_alone, &both));
+fn are_joined_and_cut(rt: &impl Abort, alloc: Global) -> Result<(), Fail> {
+    for row in JOINED {
+        assert!(rt; is_joined_and_cut(alloc, row)?, "{row:?}");
+    }
     Ok(())
 }
 
-/// Whether the copy in the other heap is equal and has the same hash.
-fn is_copied_across<'h>(here: &'h LocalHeap, there: &'h LocalHeap) -> Result<bool, Memory> {
-    let value = nested(here)?;
-    let copy = value.try_copy(there)?;
-    Ok(is_equal(&copy, &value))
+fn is_less(alloc: Global, left: &str, right: &str) -> Result<bool, Fail> {
+    let (left, right) = (set(alloc, left)?, set(alloc, right)?);
+    Ok(!equal_sets(&left, &right) && compare_sets(&left, &right) == Ordering::Less)
 }
 
-fn is_equal<A: Allocator>(copy: &Value<A>, value: &Value<A>) -> bool {
-    copy == value && copy.cmp(value) == Ordering::Equal && hash_of(copy) == hash_of(value)
+fn are_less(rt: &impl Abort, alloc: Global) -> Result<(), Fail> {
+    for (left, right) in LESS {
+        assert!(rt; is_less(alloc, *left, *right)?, "{left}");
+    }
+    Ok(())
 }
 
 #[test]
-fn copies_are_equal_across_allocators(rt: HostRuntime) -> Result<(), Fail> {
-    let here = LocalHeap::new(rt.alloc(), 4096)?;
-    let there = LocalHeap::new(rt.alloc(), 4096)?;
-    assert!(rt; is_copied_across(&here, &there)?);
-    Ok(())
+fn sets_have_their_members(rt: HostRuntime) -> Result<(), Fail> {
+    have_members(&rt, rt.alloc())?;
+    are_fields(&rt, rt.alloc())?;
+    are_joined_and_cut(&rt, rt.alloc())?;
+    are_less(&rt, rt.alloc())
 }
 
 fn hash_of<A: Allocator>(value: &Value<A>) -> u64 {
@@ -212,6 +366,24 @@ fn nested<A: Allocator + Copy>(alloc: A) -> Result<Value<A>, Memory> {
     Ok(Value::Seq(items))
 }
 
+fn is_equal<A: Allocator>(copy: &Value<A>, value: &Value<A>) -> bool {
+    copy == value && copy.cmp(value) == Ordering::Equal && hash_of(copy) == hash_of(value)
+}
+
+/// Whether the copy in the other heap is equal and has the same hash.
+fn is_copied_across<'h>(here: &'h LocalHeap, there: &'h LocalHeap) -> Result<bool, Memory> {
+    let value = nested(here)?;
+    let copy = value.try_copy(there)?;
+    Ok(is_equal(&copy, &value))
+}
+
+fn are_copied_across(rt: &impl Abort, alloc: Global) -> Result<(), Fail> {
+    let here = LocalHeap::new(alloc, 4096)?;
+    let there = LocalHeap::new(alloc, 4096)?;
+    assert!(rt; is_copied_across(&here, &there)?);
+    Ok(())
+}
+
 /// Whether the value has the size 16 and the depth 3.
 fn has_size_and_depth(value: &Value<Global>) -> bool {
     value.room_left(15) == None
@@ -219,12 +391,6 @@ fn has_size_and_depth(value: &Value<Global>) -> bool {
         && value.room_left(20) == Some(4)
         && value.is_within_depth(3)
         && !value.is_within_depth(2)
-}
-
-#[test]
-fn values_have_sizes_and_depths(rt: HostRuntime) -> Result<(), Fail> {
-    assert!(rt; has_size_and_depth(&nested(rt.alloc())?));
-    Ok(())
 }
 
 /// Whether the copy in the heap is equal.
@@ -245,13 +411,12 @@ fn is_copied_within(rt: &impl Abort, alloc: Global, bytes: usize) -> Result<bool
     Ok(true)
 }
 
-#[test]
-fn copies_that_find_no_room_say_so(rt: HostRuntime) -> Result<(), Fail> {
+fn find_room_or_say_so(rt: &impl Abort, alloc: Global) -> Result<(), Fail> {
     let mut copied = false;
     let mut refused = false;
     // Each heap has 16 bytes more than the one before it, and hands out no fewer.
     for units in 1..128 {
-        if is_copied_within(&rt, rt.alloc(), 16 * units)? {
+        if is_copied_within(rt, alloc, 16 * units)? {
             copied = true;
         } else {
             refused = true;
@@ -261,81 +426,9 @@ fn copies_that_find_no_room_say_so(rt: HostRuntime) -> Result<(), Fail> {
     Ok(())
 }
 
-/// The event of the channel with the numbers as its fields.
-fn event(alloc: Global, channel: u32, fields: &[i32]) -> Result<Event<Global>, Memory> {
-    let mut values = SmallVec::new(alloc);
-    for field in fields {
-        values.push(Value::Int(*field))?;
-    }
-    Ok(Event {
-        channel: ChannelId(channel),
-        fields: values,
-    })
-}
-
-/// The channels and fields of events, in rising order.
-static EVENTS: [(u32, &[i32]); 4] = [(0, &[]), (0, &[4, 5, 6]), (0, &[4, 6]), (1, &[0])];
-
-fn rising_events(alloc: Global) -> Result<Vec<Event<Global>, Global>, Memory> {
-    let mut events = Vec::new(alloc);
-    for (channel, fields) in &EVENTS {
-        events.push(event(alloc, *channel, *fields)?)?;
-    }
-    Ok(events)
-}
-
-/// Whether the events are in this order, and equal only where it says so.
-fn are_ordered_events(left: &Event<Global>, right: &Event<Global>, order: Ordering) -> bool {
-    compare_events(left, right) == order && equal_events(left, right) == (order == Ordering::Equal)
-}
-
-fn is_event_copied(alloc: Global, event: &Event<Global>) -> Result<bool, Memory> {
-    let copy = event.try_copy(alloc)?;
-    Ok(equal_events(&copy, event))
-}
-
 #[test]
-fn events_rise_by_channel_and_then_by_fields(rt: HostRuntime) -> Result<(), Fail> {
-    let events = rising_events(rt.alloc())?;
-    for (i, left) in events.iter().enumerate() {
-        for (j, right) in events.iter().enumerate() {
-            assert!(rt; are_ordered_events(left, right, i.cmp(&j)), "{i} and {j}");
-        }
-        assert!(rt; is_event_copied(rt.alloc(), left)?, "{i}");
-    }
-    Ok(())
-}
-
-/// Tau, tick and the events.
-fn rising_actions(alloc: Global) -> Result<Vec<Action<Global>, Global>, Memory> {
-    let mut actions = Vec::new(alloc);
-    actions.push(Action::Tau)?;
-    actions.push(Action::Tick)?;
-    for (channel, fields) in &EVENTS {
-        actions.push(Action::Event(event(alloc, *channel, *fields)?))?;
-    }
-    Ok(actions)
-}
-
-/// Whether the actions are in this order, and equal only where it says so.
-fn are_ordered_actions(left: &Action<Global>, right: &Action<Global>, order: Ordering) -> bool {
-    compare_actions(left, right) == order
-        && equal_actions(left, right) == (order == Ordering::Equal)
-}
-
-fn is_action_copied(alloc: Global, action: &Action<Global>) -> Result<bool, Memory> {
-    let copy = action.try_copy(alloc)?;
-    Ok(equal_actions(&copy, action))
-}
-
-#[test]
-fn actions_rise_from_tau_over_tick_to_events(rt: HostRuntime) -> Result<(), Fail> {
-    let actions = rising_actions(rt.alloc())?;
-    for (i, left) in actions.iter().enumerate() {
-        for (j, right) in actions.iter().enumerate() {
-            assert!(rt; are_ordered_actions(left, right, i.cmp(&j)), "{i} and {j}");
-        }
-        assert!(rt; is_action_copied(rt.alloc(), left)?, "{i}");
-    }
-    Ok(())
+fn values_have_sizes_and_equal_copies(rt: HostRuntime) -> Result<(), Fail> {
+    assert!(rt; has_size_and_depth(&nested(rt.alloc())?));
+    are_copied_across(&rt, rt.alloc())?;
+    find_room_or_say_so(&rt, rt.alloc())
 }

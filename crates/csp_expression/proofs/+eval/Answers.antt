@@ -3,8 +3,8 @@ use Rattle.std.proofs.Common.{◌≡◌, Result, rules, arith, Ok, Err, sym, ◌
 use Rattle.std.proofs.lemmas.List.{take_all}
 use Rattle.std.proofs.lemmas.Result.{err_from_is_err_and}
 use Rattle.std.specs.declared.vec.Vec.{Vec}
-use Rattle.csp_semantics.specs.Syntax.Value as pure
-use Rattle.csp_semantics.specs.Syntax.Expression.{to_expressions}
+use Rattle.csp_syntax.specs.Value as pure
+use Rattle.csp_syntax.specs.Expression.{to_expressions}
 use Rattle.csp_semantics.specs.Meaning.Evaluation.{Cause, ◌and_then◌, sequence, set_of, value, values}
 use Rattle.csp_value.specs.declared.value.Value.{Value}
 use Rattle.csp_value.specs.Value.{value_of}

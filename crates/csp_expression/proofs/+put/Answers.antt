@@ -1,13 +1,13 @@
 -- Values are put into one more expression, and what the expressions make up.
 use Rattle.std.proofs.Common.{◌≡◌, List, sym, ◌∙◌, ap}
 use Rattle.std.specs.declared.vec.Vec.{Vec}
-use Rattle.csp_semantics.specs.Syntax.Expression.{SequenceOf, SetOf, to_expressions}
+use Rattle.csp_syntax.specs.Expression.{SequenceOf, SetOf, to_expressions}
 use Rattle.csp_semantics.specs.Meaning.Substitution.{Bindings, put_expression}
 use Rattle.csp_expression.specs.declared.expr.Expr.{Expr}
 use Rattle.csp_expression.specs.declared.expr.Expr.TheVariants as views
 use Rattle.csp_expression.specs.Bindings.{bindings_of, puts}
 use Rattle.csp_expression.specs.Expression.{expression_of, expressions_of}
-use Rattle.csp_expression.proofs.Copying.{map_push}
+use Rattle.csp_value.proofs.Copying.{map_push}
 use Rattle.csp_expression.proofs.ExpressionPutting.{put_list}
 use Rattle.csp_expression.proofs.ExpressionForms.{of_sequence, of_set}
 use Rattle.csp_expression.proofs.+put.Goals as goal

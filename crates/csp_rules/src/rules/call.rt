@@ -1,8 +1,8 @@
 //! A call goes by tau to the body of its equation, with the values of the arguments put in for the parameters.
 
 ghost use Rattle.std.specs.Prelude.{map};
-ghost use Rattle.csp_semantics.specs.Syntax.Expression.{to_expressions};
-ghost use Rattle.csp_semantics.specs.Syntax.Process.{Call};
+ghost use Rattle.csp_syntax.specs.Expression.{to_expressions};
+ghost use Rattle.csp_syntax.specs.Process.{Call};
 ghost use Rattle.csp_semantics.specs.Meaning.Evaluation.{values};
 ghost use Rattle.csp_semantics.specs.Meaning.Events.{parameter_bindings};
 ghost use Rattle.csp_semantics.specs.Meaning.Substitution.{put, put_expressions};
@@ -13,8 +13,7 @@ ghost use Rattle.csp_term.specs.Script.{script_of};
 ghost use Rattle.csp_operators.specs.Answering.{Answers};
 ghost use Rattle.csp_rules.specs.Arguments.{Binds, SeesAll, seen_values};
 
-use csp_event_tests::Stuck;
-use csp_expression::{Binding, Expr, Seen, TypeTable};
+use csp_expression::{Binding, EvalFault, Expr, Seen, TypeTable};
 use csp_operators::{RuleStep, Target, one_step};
 use csp_term::{Action, AllocHandle, EquationId, Fault, Name, Script};
 
@@ -24,15 +23,15 @@ pub(crate) fn steps<A: AllocHandle>(
     bindings: &[Binding<'_, A>],
     equation: EquationId,
     arguments: &[Expr<A>],
-) -> Result<Vec<RuleStep<A>, A>, Stuck>
+) -> Result<Vec<RuleStep<A>, A>, EvalFault>
     ensures { Answers (script_of script.now) (put (bindings_of bindings.now) (Call equation.0 (to_expressions (expressions_of arguments.now)))) result }
 {
     let values = argument_values(alloc, &script.types, bindings, arguments)?;
     let Some(called) = script.equations.get(equation.0 as usize) else {
-        return Err(Stuck::Fault(Fault::Kind));
+        return Err(EvalFault::Fault(Fault::Kind));
     };
     let parameters = parameter_bindings(alloc, &called.parameters, &values)?;
-    let target = Target::put_in(&called.body, &parameters, alloc)?;
+    let target = Target::put_in(alloc, &called.body, &parameters)?;
     Ok(one_step(alloc, Action::Tau, target)?)
 }
 
@@ -42,12 +41,12 @@ fn argument_values<'e, A: AllocHandle>(
     types: &TypeTable<A>,
     bindings: &[Binding<'e, A>],
     arguments: &'e [Expr<A>],
-) -> Result<Vec<Seen<'e, A>, A>, Stuck>
+) -> Result<Vec<Seen<'e, A>, A>, EvalFault>
     ensures { SeesAll result (values (table_of types.now) (put_expressions (bindings_of bindings.now) (to_expressions (expressions_of arguments.now)))) }
 {
     let mut values = Vec::new(alloc);
     for argument in arguments {
-        values.push(argument.look(types, bindings, alloc)?)?;
+        values.push(argument.look(alloc, types, bindings)?)?;
     }
     Ok(values)
 }
@@ -57,11 +56,11 @@ fn parameter_bindings<'v, A: AllocHandle>(
     alloc: A,
     parameters: &[Name],
     values: &'v [Seen<'v, A>],
-) -> Result<Vec<Binding<'v, A>, A>, Stuck>
+) -> Result<Vec<Binding<'v, A>, A>, EvalFault>
     ensures { Binds result (parameter_bindings (map (λ n. n.0) parameters.now) (seen_values values.now)) }
 {
     if parameters.len() != values.len() {
-        return Err(Stuck::Fault(Fault::Kind));
+        return Err(EvalFault::Fault(Fault::Kind));
     }
     let mut bindings = Vec::new(alloc);
     for (place, name) in parameters.iter().enumerate() {

@@ -4,7 +4,7 @@
 //! looked at for each. So the first cause is found, and what is evaluated is read where it lies.
 
 ghost use Rattle.std.specs.Prelude.{◌≡◌, ◌++◌, ◌∷◌, [], IfOk};
-ghost use Rattle.csp_semantics.specs.Syntax.Process.{Given, Input, InputFrom};
+ghost use Rattle.csp_syntax.specs.Process.{Given, Input, InputFrom};
 ghost use Rattle.csp_semantics.specs.Meaning.Events.{communications};
 ghost use Rattle.csp_semantics.specs.Meaning.Substitution.{bind};
 ghost use Rattle.csp_value.specs.Value.{value_of, values_of};
@@ -17,8 +17,7 @@ ghost use Rattle.csp_term.specs.Term.{process_of};
 ghost use Rattle.csp_rules.specs.Communicating.{Finds, lent_values};
 ghost use Rattle.csp_event_tests.specs.Testing.{sets_of};
 
-use csp_event_tests::Stuck;
-use csp_expression::{Binding, Expr, TypeTable};
+use csp_expression::{Binding, EvalFault, Expr, TypeTable};
 use csp_operators::{RuleStep, Target};
 use csp_term::{Action, AllocHandle, ChannelId, Event, Fault, Field, Memory, Name, Term, bind};
 use csp_value::{FieldSet, Value};
@@ -42,7 +41,7 @@ pub(crate) struct Front<'v, A: AllocHandle> {
 
 impl<'v, A: AllocHandle> Front<'v, A> {
     /// The front under these bindings, with no value.
-    pub(crate) fn under(bindings: &[Binding<'v, A>], alloc: A) -> Result<Front<'v, A>, Memory>
+    pub(crate) fn under(alloc: A, bindings: &[Binding<'v, A>]) -> Result<Front<'v, A>, Memory>
         ensures values { IfOk result (λ f. lent_values f.values.items ≡ []) }
         ensures bindings { IfOk result (λ f. bindings_of f.bindings.items ≡ bindings_of bindings.now) }
     {
@@ -53,7 +52,7 @@ impl<'v, A: AllocHandle> Front<'v, A> {
     }
 
     /// The front with one more value, that of a given field.
-    fn with_given(&self, value: &'v Value<A>, alloc: A) -> Result<Front<'v, A>, Memory>
+    fn with_given(&self, alloc: A, value: &'v Value<A>) -> Result<Front<'v, A>, Memory>
         ensures values { IfOk result (λ f. lent_values f.values.items ≡ lent_values self.now.values.items ++ value_of value.now ∷ []) }
         ensures bindings { IfOk result (λ f. bindings_of f.bindings.items ≡ bindings_of self.now.bindings.items) }
     {
@@ -66,7 +65,7 @@ impl<'v, A: AllocHandle> Front<'v, A> {
     }
 
     /// The front with one more value, for which the name stands from here on.
-    fn with_input(&self, name: Name, value: &'v Value<A>, alloc: A) -> Result<Front<'v, A>, Memory>
+    fn with_input(&self, alloc: A, name: Name, value: &'v Value<A>) -> Result<Front<'v, A>, Memory>
         ensures values { IfOk result (λ f. lent_values f.values.items ≡ lent_values self.now.values.items ++ value_of value.now ∷ []) }
         ensures bindings { IfOk result (λ f. bindings_of f.bindings.items ≡ bind name.0 (value_of value.now) (bindings_of self.now.bindings.items)) }
     {
@@ -74,7 +73,7 @@ impl<'v, A: AllocHandle> Front<'v, A> {
         values.push(value)?;
         Ok(Front {
             values,
-            bindings: bind(name, value, &self.bindings, alloc)?,
+            bindings: bind(alloc, name, value, &self.bindings)?,
         })
     }
 }
@@ -87,7 +86,7 @@ pub(crate) fn look_for<'v, A: AllocHandle>(
     fields: &'v [Field<A>],
     sets: &'v [FieldSet<A>],
     found: Vec<RuleStep<A>, A>,
-) -> Result<Vec<RuleStep<A>, A>, Stuck>
+) -> Result<Vec<RuleStep<A>, A>, EvalFault>
     ensures { Finds walk.now.channel.0 (process_of walk.now.body.now) (lent_values front.now.values.items) found (communications (table_of walk.now.types.now) (bindings_of front.now.bindings.items) (fields_of fields.now) (sets_of sets.now)) result }
 {
     match (fields.split_first(), sets.split_first()) {
@@ -99,7 +98,7 @@ pub(crate) fn look_for<'v, A: AllocHandle>(
                 inputs_from(walk, front, *name, from, set, fields, sets, found)
             }
         },
-        _ => Err(Stuck::Fault(Fault::Kind)),
+        _ => Err(EvalFault::Fault(Fault::Kind)),
     }
 }
 
@@ -115,14 +114,14 @@ fn given<'v, A: AllocHandle>(
     fields: &'v [Field<A>],
     sets: &'v [FieldSet<A>],
     found: Vec<RuleStep<A>, A>,
-) -> Result<Vec<RuleStep<A>, A>, Stuck>
+) -> Result<Vec<RuleStep<A>, A>, EvalFault>
     ensures { Finds walk.now.channel.0 (process_of walk.now.body.now) (lent_values front.now.values.items) found (communications (table_of walk.now.types.now) (bindings_of front.now.bindings.items) (Given (expression_of value.now) ∷ fields_of fields.now) (field_values set.now ∷ sets_of sets.now)) result }
 {
-    let seen = (&*value).look(walk.types, &front.bindings, walk.alloc)?;
+    let seen = (&*value).look(walk.alloc, walk.types, &front.bindings)?;
     if !set.contains(seen.value()) {
-        return Err(Stuck::Fault(Fault::Range));
+        return Err(EvalFault::Fault(Fault::Range));
     }
-    let front = (&*front).with_given(seen.value(), walk.alloc)?;
+    let front = (&*front).with_given(walk.alloc, seen.value())?;
     look_for(&*walk, &front, &*fields, &*sets, found)
 }
 
@@ -136,12 +135,12 @@ fn inputs<'v, A: AllocHandle>(
     fields: &'v [Field<A>],
     sets: &'v [FieldSet<A>],
     found: Vec<RuleStep<A>, A>,
-) -> Result<Vec<RuleStep<A>, A>, Stuck>
+) -> Result<Vec<RuleStep<A>, A>, EvalFault>
     ensures { Finds walk.now.channel.0 (process_of walk.now.body.now) (lent_values front.now.values.items) found (communications (table_of walk.now.types.now) (bindings_of front.now.bindings.items) (Input name.0 ∷ fields_of fields.now) (field_values set.now ∷ sets_of sets.now)) result }
 {
     let mut found = found;
     for value in set.members() {
-        let front = front.with_input(name, value, walk.alloc)?;
+        let front = front.with_input(walk.alloc, name, value)?;
         found = look_for(walk, &front, fields, sets, found)?;
     }
     Ok(found)
@@ -158,17 +157,17 @@ fn inputs_from<'v, A: AllocHandle>(
     fields: &'v [Field<A>],
     sets: &'v [FieldSet<A>],
     found: Vec<RuleStep<A>, A>,
-) -> Result<Vec<RuleStep<A>, A>, Stuck>
+) -> Result<Vec<RuleStep<A>, A>, EvalFault>
     ensures { Finds walk.now.channel.0 (process_of walk.now.body.now) (lent_values front.now.values.items) found (communications (table_of walk.now.types.now) (bindings_of front.now.bindings.items) (InputFrom name.0 (expression_of from.now) ∷ fields_of fields.now) (field_values set.now ∷ sets_of sets.now)) result }
 {
     let mut found = found;
-    let seen = (&*from).look(walk.types, &front.bindings, walk.alloc)?;
+    let seen = (&*from).look(walk.alloc, walk.types, &front.bindings)?;
     let Value::Set(chosen) = seen.value() else {
-        return Err(Stuck::Fault(Fault::Kind));
+        return Err(EvalFault::Fault(Fault::Kind));
     };
     for value in chosen.members() {
         if set.contains(value) {
-            let front = (&*front).with_input(name, value, walk.alloc)?;
+            let front = (&*front).with_input(walk.alloc, name, value)?;
             found = look_for(&*walk, &front, &*fields, &*sets, found)?;
         }
     }
@@ -180,22 +179,22 @@ fn reach<A: AllocHandle>(
     walk: &Walk<'_, A>,
     front: &Front<'_, A>,
     found: Vec<RuleStep<A>, A>,
-) -> Result<Vec<RuleStep<A>, A>, Stuck>
+) -> Result<Vec<RuleStep<A>, A>, EvalFault>
     ensures { Finds walk.now.channel.0 (process_of walk.now.body.now) (lent_values front.now.values.items) found (communications (table_of walk.now.types.now) (bindings_of front.now.bindings.items) [] []) result }
 {
     let mut found = found;
-    let fields = event_fields(&front.values, walk.alloc)?;
+    let fields = event_fields(walk.alloc, &front.values)?;
     let channel = walk.channel;
     let action = Action::Event(Event { channel, fields });
-    let target = Target::put_in(walk.body, &front.bindings, walk.alloc)?;
+    let target = Target::put_in(walk.alloc, walk.body, &front.bindings)?;
     found.push(RuleStep { action, target })?;
     Ok(found)
 }
 
 /// A copy of each value, in order.
 fn event_fields<A: AllocHandle>(
-    values: &[&Value<A>],
     alloc: A,
+    values: &[&Value<A>],
 ) -> Result<SmallVec<Value<A>, 2, A>, Memory>
     ensures { IfOk result (λ fields. values_of fields.items ≡ lent_values values.now) }
 {

@@ -8,8 +8,7 @@ ghost use Rattle.csp_expression.specs.Bindings.{bindings_of};
 ghost use Rattle.csp_expression.specs.Expression.{expression_of};
 ghost use Rattle.csp_rules.specs.Arguments.{Decides};
 
-use csp_event_tests::Stuck;
-use csp_expression::{Binding, Expr, TypeTable};
+use csp_expression::{Binding, EvalFault, Expr, TypeTable};
 use csp_term::{AllocHandle, Fault};
 use csp_value::Value;
 
@@ -19,19 +18,19 @@ pub(crate) fn condition<'e, A: AllocHandle>(
     types: &TypeTable<A>,
     bindings: &[Binding<'e, A>],
     test: &'e Expr<A>,
-) -> Result<bool, Stuck>
+) -> Result<bool, EvalFault>
     ensures { Decides result (condition (table_of types.now) (put_expression (bindings_of bindings.now) (expression_of test.now))) }
 {
-    let seen = test.look(types, bindings, alloc)?;
+    let seen = test.look(alloc, types, bindings)?;
     truth_of(seen.value())
 }
 
 /// The truth value, if it is one.
-fn truth_of<A: AllocHandle>(value: &Value<A>) -> Result<bool, Stuck>
+fn truth_of<A: AllocHandle>(value: &Value<A>) -> Result<bool, EvalFault>
     ensures { Decides result (truth_of (value_of value.now)) }
 {
     match value {
         Value::Bool(truth) => Ok(*truth),
-        _ => Err(Stuck::Fault(Fault::Kind)),
+        _ => Err(EvalFault::Fault(Fault::Kind)),
     }
 }

@@ -1,6 +1,6 @@
 //! A conditional process does what the branch does that its condition picks.
 
-ghost use Rattle.csp_semantics.specs.Syntax.Process.{If};
+ghost use Rattle.csp_syntax.specs.Process.{If};
 ghost use Rattle.csp_semantics.specs.Meaning.Substitution.{put};
 ghost use Rattle.csp_expression.specs.Bindings.{bindings_of};
 ghost use Rattle.csp_expression.specs.Expression.{expression_of};
@@ -10,8 +10,7 @@ ghost use Rattle.csp_operators.specs.Answering.{Answers};
 
 use crate::rules;
 use crate::rules::condition::condition;
-use csp_event_tests::Stuck;
-use csp_expression::{Binding, Expr};
+use csp_expression::{Binding, EvalFault, Expr};
 use csp_operators::RuleStep;
 use csp_term::{AllocHandle, Script, Term};
 
@@ -23,7 +22,7 @@ pub(crate) fn steps<'v, A: AllocHandle>(
     test: &'v Expr<A>,
     first: &'v Term<A>,
     second: &'v Term<A>,
-) -> Result<Vec<RuleStep<A>, A>, Stuck>
+) -> Result<Vec<RuleStep<A>, A>, EvalFault>
     ensures { Answers (script_of script.now) (put (bindings_of bindings.now) (If (expression_of test.now) (process_of first.now) (process_of second.now))) result }
 {
     if condition(alloc, &script.types, bindings, test)? {

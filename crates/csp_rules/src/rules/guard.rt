@@ -1,6 +1,6 @@
 //! A guarded process does what its body does, where the condition is true.
 
-ghost use Rattle.csp_semantics.specs.Syntax.Process.{Guard};
+ghost use Rattle.csp_syntax.specs.Process.{Guard};
 ghost use Rattle.csp_semantics.specs.Meaning.Substitution.{put};
 ghost use Rattle.csp_expression.specs.Bindings.{bindings_of};
 ghost use Rattle.csp_expression.specs.Expression.{expression_of};
@@ -10,8 +10,7 @@ ghost use Rattle.csp_operators.specs.Answering.{Answers};
 
 use crate::rules;
 use crate::rules::condition::condition;
-use csp_event_tests::Stuck;
-use csp_expression::{Binding, Expr};
+use csp_expression::{Binding, EvalFault, Expr};
 use csp_operators::RuleStep;
 use csp_term::{AllocHandle, Script, Term};
 
@@ -22,7 +21,7 @@ pub(crate) fn steps<'v, A: AllocHandle>(
     bindings: &[Binding<'v, A>],
     test: &'v Expr<A>,
     body: &'v Term<A>,
-) -> Result<Vec<RuleStep<A>, A>, Stuck>
+) -> Result<Vec<RuleStep<A>, A>, EvalFault>
     ensures { Answers (script_of script.now) (put (bindings_of bindings.now) (Guard (expression_of test.now) (process_of body.now))) result }
 {
     if condition(alloc, &script.types, bindings, test)? {

@@ -1,6 +1,6 @@
 //! `P \ A` by the steps of `P`.
 
-ghost use Rattle.csp_semantics.specs.Syntax.Process.{Hiding};
+ghost use Rattle.csp_syntax.specs.Process.{Hiding};
 ghost use Rattle.csp_semantics.specs.Meaning.Substitution.{put};
 ghost use Rattle.csp_expression.specs.Bindings.{bindings_of};
 ghost use Rattle.csp_event_sets.specs.Events.{event_set_of};
@@ -10,8 +10,7 @@ ghost use Rattle.csp_operators.specs.Answering.{Answers};
 
 use crate::rules;
 use csp_event_sets::EventSet;
-use csp_event_tests::Stuck;
-use csp_expression::Binding;
+use csp_expression::{Binding, EvalFault};
 use csp_operators::{RuleStep, hiding};
 use csp_term::{AllocHandle, Script, Term};
 
@@ -22,10 +21,10 @@ pub(crate) fn steps<'v, A: AllocHandle>(
     bindings: &[Binding<'v, A>],
     hidden: &'v EventSet<A>,
     body: &'v Term<A>,
-) -> Result<Vec<RuleStep<A>, A>, Stuck>
+) -> Result<Vec<RuleStep<A>, A>, EvalFault>
     ensures { Answers (script_of script.now) (put (bindings_of bindings.now) (Hiding (process_of body.now) (event_set_of hidden.now))) result }
 {
     let body = rules::steps(alloc, script, bindings, body);
-    let hidden = hidden.put_in(bindings, alloc)?;
+    let hidden = hidden.put_in(alloc, bindings)?;
     hiding::by_body(alloc, script, hidden, body)
 }

@@ -1,7 +1,7 @@
 //! A prefix does each event that its fields allow over the field sets of its channel, and goes on as its body with the
 //! values of its inputs.
 
-ghost use Rattle.csp_semantics.specs.Syntax.Process.{Prefix};
+ghost use Rattle.csp_syntax.specs.Process.{Prefix};
 ghost use Rattle.csp_semantics.specs.Meaning.Substitution.{put};
 ghost use Rattle.csp_expression.specs.Bindings.{bindings_of};
 ghost use Rattle.csp_term.specs.Field.{fields_of};
@@ -10,8 +10,7 @@ ghost use Rattle.csp_term.specs.Term.{process_of};
 ghost use Rattle.csp_operators.specs.Answering.{Answers};
 
 use crate::rules::communications::{Front, Walk, look_for};
-use csp_event_tests::Stuck;
-use csp_expression::Binding;
+use csp_expression::{Binding, EvalFault};
 use csp_operators::RuleStep;
 use csp_term::{AllocHandle, ChannelId, Fault, Field, Script, Term};
 
@@ -22,11 +21,11 @@ pub(crate) fn steps<'v, A: AllocHandle>(
     channel: ChannelId,
     fields: &'v [Field<A>],
     body: &'v Term<A>,
-) -> Result<Vec<RuleStep<A>, A>, Stuck>
+) -> Result<Vec<RuleStep<A>, A>, EvalFault>
     ensures { Answers (script_of script.now) (put (bindings_of bindings.now) (Prefix channel.0 (fields_of fields.now) (process_of body.now))) result }
 {
     let Some(declared) = script.channels.get(channel.0 as usize) else {
-        return Err(Stuck::Fault(Fault::Kind));
+        return Err(EvalFault::Fault(Fault::Kind));
     };
     let walk = Walk {
         alloc,
@@ -34,6 +33,6 @@ pub(crate) fn steps<'v, A: AllocHandle>(
         channel,
         body,
     };
-    let front = Front::under(bindings, alloc)?;
+    let front = Front::under(alloc, bindings)?;
     look_for(&walk, &front, fields, &declared.fields, Vec::new(alloc))
 }

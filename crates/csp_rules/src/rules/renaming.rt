@@ -1,6 +1,6 @@
 //! `P [[from <- to, ..]]` by the steps of `P`.
 
-ghost use Rattle.csp_semantics.specs.Syntax.Process.{Renaming};
+ghost use Rattle.csp_syntax.specs.Process.{Renaming};
 ghost use Rattle.csp_semantics.specs.Meaning.Substitution.{put};
 ghost use Rattle.csp_expression.specs.Bindings.{bindings_of};
 ghost use Rattle.csp_event_sets.specs.Events.{renaming_pairs_of};
@@ -10,8 +10,7 @@ ghost use Rattle.csp_operators.specs.Answering.{Answers};
 
 use crate::rules;
 use csp_event_sets::{RenamingPair, put_in_pairs};
-use csp_event_tests::Stuck;
-use csp_expression::Binding;
+use csp_expression::{Binding, EvalFault};
 use csp_operators::{RuleStep, renaming};
 use csp_term::{AllocHandle, Script, Term};
 
@@ -22,10 +21,10 @@ pub(crate) fn steps<'v, A: AllocHandle>(
     bindings: &[Binding<'v, A>],
     pairs: &'v [RenamingPair<A>],
     body: &'v Term<A>,
-) -> Result<Vec<RuleStep<A>, A>, Stuck>
+) -> Result<Vec<RuleStep<A>, A>, EvalFault>
     ensures { Answers (script_of script.now) (put (bindings_of bindings.now) (Renaming (process_of body.now) (renaming_pairs_of pairs.now))) result }
 {
     let body = rules::steps(alloc, script, bindings, body);
-    let pairs = put_in_pairs(pairs, bindings, alloc)?;
+    let pairs = put_in_pairs(alloc, pairs, bindings)?;
     renaming::by_body(alloc, script, pairs, body)
 }

@@ -3,21 +3,21 @@
 //! chain itself no more is built than fits the limits.
 
 ghost use Rattle.std.specs.Prelude.{◌≡◌, ◌∷◌, [], IfOk, map};
-ghost use Rattle.csp_semantics.specs.Syntax.Process.{ExternalChoice, InternalChoice, Interleaving, Skip, Stop};
-ghost use Rattle.csp_semantics.specs.Syntax.Value.{Tau};
+ghost use Rattle.csp_syntax.specs.Process.{ExternalChoice, InternalChoice, Interleaving, Skip, Stop};
+ghost use Rattle.csp_syntax.specs.Value.{Tau};
+ghost use Rattle.csp_syntax.specs.Operators.{replicated_process};
 ghost use Rattle.csp_semantics.specs.Meaning.Substitution.{put};
 ghost use Rattle.csp_semantics.specs.Meaning.Transitions.{chain, left_grouped};
 ghost use Rattle.csp_expression.specs.Bindings.{bindings_of};
 ghost use Rattle.csp_expression.specs.Expression.{expression_of};
 ghost use Rattle.csp_term.specs.Script.{script_of};
-ghost use Rattle.csp_term.specs.Term.{process_of, replicated_process};
+ghost use Rattle.csp_term.specs.Term.{process_of};
 ghost use Rattle.csp_operators.specs.Answering.{Answers, answered_of, target_of, within_limits};
 ghost use Rattle.csp_operators.specs.Composing.{HaveSameSteps, IsSideOf, side_answers, under_both};
 ghost use Rattle.csp_rules.specs.Replicating.{AnswersChoices, instance_of, instances_of, looking_answers, looking_process};
 
 use crate::rules::{side, skip};
-use csp_event_tests::Stuck;
-use csp_expression::{Binding, Expr};
+use csp_expression::{Binding, EvalFault, Expr};
 use csp_operators::{RuleStep, Side, Target, choice, parallel};
 use csp_term::{AllocHandle, Fault, Memory, Name, ReplicatedOperator, Script, Term, bind};
 use csp_value::Value;
@@ -33,12 +33,12 @@ pub(crate) fn steps<'v, A: AllocHandle>(
     name: Name,
     set: &'v Expr<A>,
     body: &'v Term<A>,
-) -> Result<Vec<RuleStep<A>, A>, Stuck>
+) -> Result<Vec<RuleStep<A>, A>, EvalFault>
     ensures { Answers (script_of script.now) (put (bindings_of bindings.now) (replicated_process operator name.0 (expression_of set.now) (process_of body.now))) result }
 {
-    let seen = (&*set).look(&script.types, bindings, alloc)?;
+    let seen = (&*set).look(alloc, &script.types, bindings)?;
     let Value::Set(members) = seen.value() else {
-        return Err(Stuck::Fault(Fault::Kind));
+        return Err(EvalFault::Fault(Fault::Kind));
     };
     let instances = Instances {
         alloc,
@@ -93,10 +93,10 @@ struct Instances<'v, 'b, A: AllocHandle> {
 impl<'v, 'b, A: AllocHandle> Instances<'v, 'b, A> {
     /// The instance of the value, with its steps.
     #[cycle(steps)]
-    fn side(&self, value: &'v Value<A>) -> Result<Side<A>, Stuck>
+    fn side(&self, value: &'v Value<A>) -> Result<Side<A>, EvalFault>
         ensures { IsSideOf (script_of self.now.script.now) (instance_of self.now value.now) result }
     {
-        let bindings = bind(self.name, value, self.bindings, self.alloc)?;
+        let bindings = bind(self.alloc, self.name, value, self.bindings)?;
         side::under(self.alloc, self.script, &bindings, self.body)
     }
 
@@ -104,8 +104,8 @@ impl<'v, 'b, A: AllocHandle> Instances<'v, 'b, A> {
     fn process(&self, value: &'v Value<A>) -> Result<Target<A>, Memory>
         ensures { IfOk result (λ t. target_of t ≡ within_limits (instance_of self.now value.now)) }
     {
-        let bindings = bind(self.name, value, self.bindings, self.alloc)?;
-        Target::put_in(self.body, &bindings, self.alloc)
+        let bindings = bind(self.alloc, self.name, value, self.bindings)?;
+        Target::put_in(self.alloc, self.body, &bindings)
     }
 
     /// The chain of an operator that looks at each instance, of at least one.
@@ -115,7 +115,7 @@ impl<'v, 'b, A: AllocHandle> Instances<'v, 'b, A> {
         operator: Looking,
         first: &'v Value<A>,
         others: &'v [Value<A>],
-    ) -> Result<Vec<RuleStep<A>, A>, Stuck>
+    ) -> Result<Vec<RuleStep<A>, A>, EvalFault>
         ensures { Answers (script_of self.now.script.now) (left_grouped (looking_process operator) (instance_of self.now first.now) (instances_of self.now others.now)) result }
     {
         let mut chain = self.side(first)?;
@@ -154,7 +154,7 @@ impl<'v, 'b, A: AllocHandle> Instances<'v, 'b, A> {
 
     /// The steps of `[]` over the values. Of none it is `STOP`.
     #[cycle(steps)]
-    fn external(&self, values: &'v [Value<A>]) -> Result<Vec<RuleStep<A>, A>, Stuck>
+    fn external(&self, values: &'v [Value<A>]) -> Result<Vec<RuleStep<A>, A>, EvalFault>
         ensures { Answers (script_of self.now.script.now) (chain ExternalChoice Stop (instances_of self.now values.now)) result }
     {
         match values.split_first() {
@@ -165,7 +165,7 @@ impl<'v, 'b, A: AllocHandle> Instances<'v, 'b, A> {
 
     /// The steps of `|||` over the values. Of none it is `SKIP`.
     #[cycle(steps)]
-    fn interleaving(&self, values: &'v [Value<A>]) -> Result<Vec<RuleStep<A>, A>, Stuck>
+    fn interleaving(&self, values: &'v [Value<A>]) -> Result<Vec<RuleStep<A>, A>, EvalFault>
         ensures { Answers (script_of self.now.script.now) (chain Interleaving Skip (instances_of self.now values.now)) result }
     {
         match values.split_first() {
@@ -176,11 +176,11 @@ impl<'v, 'b, A: AllocHandle> Instances<'v, 'b, A> {
 
     /// The steps of `|~|` over the values. It looks at an instance only where there is no other.
     #[cycle(steps)]
-    fn internal(&self, values: &'v [Value<A>]) -> Result<Vec<RuleStep<A>, A>, Stuck>
+    fn internal(&self, values: &'v [Value<A>]) -> Result<Vec<RuleStep<A>, A>, EvalFault>
         ensures { AnswersChoices (script_of self.now.script.now) (instances_of self.now values.now) result }
     {
         let Some((last, before)) = values.split_last() else {
-            return Err(Stuck::Fault(Fault::Choice));
+            return Err(EvalFault::Fault(Fault::Choice));
         };
         match before.split_first() {
             None => Ok(self.side(last)?.steps),

@@ -1,6 +1,6 @@
 //! `P ; Q` by the steps of `P`.
 
-ghost use Rattle.csp_semantics.specs.Syntax.Process.{Sequential};
+ghost use Rattle.csp_syntax.specs.Process.{Sequential};
 ghost use Rattle.csp_semantics.specs.Meaning.Substitution.{put};
 ghost use Rattle.csp_expression.specs.Bindings.{bindings_of};
 ghost use Rattle.csp_term.specs.Script.{script_of};
@@ -8,8 +8,7 @@ ghost use Rattle.csp_term.specs.Term.{process_of};
 ghost use Rattle.csp_operators.specs.Answering.{Answers};
 
 use crate::rules;
-use csp_event_tests::Stuck;
-use csp_expression::Binding;
+use csp_expression::{Binding, EvalFault};
 use csp_operators::{RuleStep, sequential};
 use csp_term::{AllocHandle, Script, Term};
 
@@ -20,7 +19,7 @@ pub(crate) fn steps<'v, A: AllocHandle>(
     bindings: &[Binding<'v, A>],
     left: &'v Term<A>,
     right: &'v Term<A>,
-) -> Result<Vec<RuleStep<A>, A>, Stuck>
+) -> Result<Vec<RuleStep<A>, A>, EvalFault>
     ensures { Answers (script_of script.now) (put (bindings_of bindings.now) (Sequential (process_of left.now) (process_of right.now))) result }
 {
     let left = rules::steps(alloc, script, bindings, left);

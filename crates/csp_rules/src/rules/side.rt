@@ -7,8 +7,7 @@ ghost use Rattle.csp_term.specs.Term.{process_of};
 ghost use Rattle.csp_operators.specs.Composing.{AreSidesOf, IsSideOf};
 
 use crate::rules;
-use csp_event_tests::Stuck;
-use csp_expression::Binding;
+use csp_expression::{Binding, EvalFault};
 use csp_operators::{Side, Target};
 use csp_term::{AllocHandle, Script, Term};
 
@@ -19,11 +18,11 @@ pub(crate) fn under<'v, A: AllocHandle>(
     script: &'v Script<A>,
     bindings: &[Binding<'v, A>],
     term: &'v Term<A>,
-) -> Result<Side<A>, Stuck>
+) -> Result<Side<A>, EvalFault>
     ensures { IsSideOf (script_of script.now) (put (bindings_of bindings.now) (process_of term.now)) result }
 {
     let steps = rules::steps(alloc, script, bindings, term)?;
-    let process = Target::put_in(term, bindings, alloc)?;
+    let process = Target::put_in(alloc, term, bindings)?;
     Ok(Side { process, steps })
 }
 
@@ -35,7 +34,7 @@ pub(crate) fn both<'v, A: AllocHandle>(
     bindings: &[Binding<'v, A>],
     left: &'v Term<A>,
     right: &'v Term<A>,
-) -> Result<(Side<A>, Side<A>), Stuck>
+) -> Result<(Side<A>, Side<A>), EvalFault>
     ensures { AreSidesOf (script_of script.now) (put (bindings_of bindings.now) (process_of left.now)) (put (bindings_of bindings.now) (process_of right.now)) result }
 {
     let left = under(alloc, script, bindings, left)?;

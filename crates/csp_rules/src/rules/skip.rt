@@ -1,17 +1,17 @@
 //! `SKIP` ends by tick.
 
-ghost use Rattle.csp_semantics.specs.Syntax.Process.{Skip};
+ghost use Rattle.csp_syntax.specs.Process.{Skip};
 ghost use Rattle.csp_term.specs.Script.{script_of};
 ghost use Rattle.csp_operators.specs.Answering.{Answers};
 
-use csp_event_tests::Stuck;
+use csp_expression::EvalFault;
 use csp_operators::{RuleStep, Target, one_step};
 use csp_term::{Action, AllocHandle, Script, Term, TermForm};
 
 pub(crate) fn steps<A: AllocHandle>(
     alloc: A,
     script: &Script<A>,
-) -> Result<Vec<RuleStep<A>, A>, Stuck>
+) -> Result<Vec<RuleStep<A>, A>, EvalFault>
     ensures { Answers (script_of script.now) Skip result }
 {
     let _script = script;

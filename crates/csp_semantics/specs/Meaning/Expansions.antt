@@ -3,9 +3,9 @@ use Rattle.std.specs.Prelude.{◌↔◌, List, Contains}
 use Rattle.std.specs.declared.cmp.Ordering.{Ordering}
 use Rattle.std.specs.Ordering.{ordering_then}
 use Rattle.std.specs.Cmp.Lexicographic.{slice_cmp}
-use Rattle.csp_semantics.specs.Syntax.Value.{Action, action_cmp}
-use Rattle.csp_semantics.specs.Syntax.Process.{Process, Script}
-use Rattle.csp_semantics.specs.Syntax.Order.{process_cmp}
+use Rattle.csp_syntax.specs.Value.{Action, action_cmp}
+use Rattle.csp_syntax.specs.Process.{Process, Script}
+use Rattle.csp_syntax.specs.Order.{process_cmp}
 use Rattle.csp_semantics.specs.Meaning.Evaluation.{Cause}
 use Rattle.csp_semantics.specs.Meaning.Transitions.{RuleStep, IsFaulty, IsLarge, IsNotStuck}
 use Rattle.csp_semantics.specs.Meaning.Offers.{RisesBy, IsAcceptance}

@@ -1,7 +1,7 @@
 -- What the parts with the values put in make up.
 use Rattle.std.proofs.Common.{sym, ◌∙◌, ap}
-use Rattle.csp_semantics.specs.Syntax.Expression.{to_expressions}
-use Rattle.csp_semantics.specs.Syntax.Process as pure
+use Rattle.csp_syntax.specs.Expression.{to_expressions}
+use Rattle.csp_syntax.specs.Process as pure
 use Rattle.csp_semantics.specs.Meaning.Substitution.{put}
 use Rattle.csp_expression.specs.Bindings.{bindings_of}
 use Rattle.csp_expression.specs.Expression.{expressions_of}

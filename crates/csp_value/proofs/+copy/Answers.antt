@@ -1,6 +1,6 @@
 -- One more value is copied, and a copy of a sequence is a copy of each of its items.
 use Rattle.std.proofs.Common.{sym, ◌∙◌, ap}
-use Rattle.csp_semantics.specs.Syntax.Value as pure
+use Rattle.csp_syntax.specs.Value as pure
 use Rattle.csp_value.specs.Value.{value_of, values_of}
 use Rattle.csp_value.proofs.Copying.{map_push}
 use Rattle.csp_value.proofs.Forms.{value_of_seq}
@@ -8,7 +8,7 @@ use Rattle.csp_value.proofs.+copy.Goals as goal
 
 pub value::copy_values-loop-value-preserved : goal.value::copy_values-loop-value-preserved
 value::copy_values-loop-value-preserved g t c =
-    map_push value_of c.loop-value.copies.items c.push.new.self.items c.in_ok-try_copy.field-0 c.args.values.now c.loop-value.value-index c.value-item.result
+    map_push value_of value_of c.loop-value.copies.items c.push.new.self.items c.in_ok-try_copy.field-0 c.args.values.now c.loop-value.value-index c.value-item.result
     c.loop-value.invariant c.loop-value-test.true c.value-item.is c.in_ok-try_copy.ensures c.in_ok-push.ensures.items
 
 pub value::Value::try_copy-returns-in_ok-copy_values-in-Seq : goal.value::Value::try_copy-returns-in_ok-copy_values-in-Seq

@@ -1,5 +1,5 @@
 use Rattle.csp_event_sets.proofs.EventEquality.{event_set_tells}
-use Rattle.csp_expression.proofs.Sameness.{decided}
+use Rattle.csp_value.proofs.Sameness.{decided}
 use Rattle.csp_event_sets.proofs.laws.equal_event_sets.Goals as goal
 
 pub returns : goal.returns

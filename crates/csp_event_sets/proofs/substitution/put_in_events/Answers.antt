@@ -3,7 +3,7 @@ use Rattle.std.proofs.Common.{◌+◌, take, sym, ◌∙◌}
 use Rattle.csp_semantics.specs.Meaning.Substitution.{put_event}
 use Rattle.csp_expression.specs.Bindings.{bindings_of}
 use Rattle.csp_event_sets.specs.Events.{event_expression_of}
-use Rattle.csp_expression.proofs.Copying.{map_push}
+use Rattle.csp_value.proofs.Copying.{map_push}
 use Rattle.csp_event_sets.proofs.EventPutting.{put_each_event}
 use Rattle.csp_event_sets.proofs.substitution.put_in_events.Goals as goal
 

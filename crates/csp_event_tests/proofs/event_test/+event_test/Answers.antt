@@ -1,6 +1,6 @@
 -- Two sets under an operator have the tests of both.
 use Rattle.std.proofs.Common.{Ok, sym, ◌∙◌, ap, subst}
-use Rattle.csp_semantics.specs.Syntax.Process as process
+use Rattle.csp_syntax.specs.Process as process
 use Rattle.csp_semantics.specs.Meaning.Events.{event_test}
 use Rattle.csp_event_sets.specs.declared.event_set.EventSet.{EventSet}
 use Rattle.csp_event_sets.specs.Events.{event_set_of}

@@ -5,8 +5,8 @@ use Rattle.std.proofs.lemmas.Result.{err_from_is_err_and}
 use Rattle.std.specs.List.{list_any}
 use Rattle.std.specs.declared.cmp.Ordering.{Ordering}
 use Rattle.std.specs.List.Sorted.{IsSorted}
-use Rattle.csp_semantics.specs.Syntax.Value as pure
-use Rattle.csp_semantics.specs.Syntax.Process as process
+use Rattle.csp_syntax.specs.Value as pure
+use Rattle.csp_syntax.specs.Process as process
 use Rattle.csp_semantics.specs.Meaning.Evaluation.{◌and_then◌}
 use Rattle.csp_semantics.specs.Meaning.Events as events
 use Rattle.csp_value.specs.Action.{event_of}
@@ -15,7 +15,7 @@ use Rattle.csp_value.proofs.ActionOrder.{event_order, event_ordered}
 use Rattle.csp_event_sets.specs.Events.{event_expression_of, event_expressions_of}
 use Rattle.csp_term.specs.Script.{script_of}
 use Rattle.csp_event_tests.specs.declared.event_test.EventTest.{EventTest}
-use Rattle.csp_event_tests.specs.declared.stuck.Stuck.{Stuck}
+use Rattle.csp_expression.specs.declared.eval_fault.EvalFault.{EvalFault}
 use Rattle.csp_event_tests.specs.Testing.{IsTestOf}
 use Rattle.csp_event_tests.proofs.Enumerating.{one_further, stopped_at}
 use Rattle.csp_event_tests.proofs.Evaluating.{begun_by, test_stopped}
@@ -34,7 +34,7 @@ returns-in_err-beginning g c =
     let item = c.event-item.result in
     let all = events.event_test script (process.Productions (event_expressions_of items)) in
     let p = err_from_is_err_and c.from_residual.result c.from_residual.ensures.1 in
-    let P : Result (EventTest g.row.A.Denot) Stuck → Type 0 = λ r. IsTestOf r all in
+    let P : Result (EventTest g.row.A.Denot) EvalFault → Type 0 = λ r. IsTestOf r all in
     subst P (sym (p.1 ∙ ap Err p.2))
     (test_stopped g.row.A.Denot (f (event_expression_of item)) all c.in_err-beginning.field-0.0 c.in_err-beginning.ensures
     (λ cause none. ap (λ r. r and_then λ xs. Ok (λ e. list_any (events.begins_with e) xs)) (stopped_at f event_expression_of event_of items c.loop-event.event-index item c.loop-event.events.items c.loop-event.invariant c.loop-event-test.true c.event-item.is cause none)))

@@ -2,10 +2,10 @@
 use Rattle.std.proofs.Common.{sym, ◌∙◌, ap}
 use Rattle.std.specs.Cmp.Lexicographic.{slice_cmp}
 use Rattle.std.specs.Ordering.{ordering_then}
-use Rattle.csp_semantics.specs.Syntax.Value as pure
+use Rattle.csp_syntax.specs.Value as pure
 use Rattle.csp_value.specs.Value.{value_of, values_of}
 use Rattle.csp_value.proofs.ValueOrder.{cmp, ordered}
-use Rattle.csp_event_sets.proofs.Slices.{slices_ordered}
+use Rattle.csp_value.proofs.Slices.{slices_ordered}
 use Rattle.csp_event_tests.proofs.Fronts.{decided}
 use Rattle.csp_event_tests.proofs.event_test.compared.Goals as goal
 

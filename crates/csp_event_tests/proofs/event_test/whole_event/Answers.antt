@@ -7,7 +7,7 @@ use Rattle.csp_value.specs.Action.{event_of}
 use Rattle.csp_value.specs.Value.{value_of}
 use Rattle.csp_event_sets.specs.Events.{event_expression_of}
 use Rattle.csp_term.specs.Script.{field_values, script_of}
-use Rattle.csp_event_tests.specs.declared.stuck.Stuck.{Stuck}
+use Rattle.csp_expression.specs.declared.eval_fault.EvalFault.{EvalFault}
 use Rattle.csp_event_tests.specs.Testing.{IsEventOf, sets_of}
 use Rattle.csp_event_tests.proofs.Giving.{beginning_stuck, not_all, sets_stuck, whole}
 use Rattle.std.proofs.lemmas.List.{length-map}
@@ -19,7 +19,7 @@ returns-in_err-sets g c =
     let e = event_expression_of c.args.written.now in
     let why = c.in_err-sets.field-0.0 in
     let p = err_from_is_err_and c.from_residual-in_err-sets.result c.from_residual-in_err-sets.ensures.1 in
-    let P : Result (Event g.row.A.Denot) Stuck → Type 0 = λ r. IsEventOf r (events.event_of script e) in
+    let P : Result (Event g.row.A.Denot) EvalFault → Type 0 = λ r. IsEventOf r (events.event_of script e) in
     subst P (sym (p.1 ∙ ap Err p.2)) (beginning_stuck g.row.A.Denot script e why (sets_stuck g.row.A.Denot script e why c.in_err-sets.ensures))
 
 pub returns-then-len-sets : goal.returns-then-len-sets

@@ -1,5 +1,5 @@
 use Rattle.csp_expression.proofs.ExpressionEquality.{expression_tells}
-use Rattle.csp_expression.proofs.Sameness.{decided}
+use Rattle.csp_value.proofs.Sameness.{decided}
 use Rattle.csp_expression.proofs.laws.equal_expressions.Goals as goal
 
 pub returns : goal.returns

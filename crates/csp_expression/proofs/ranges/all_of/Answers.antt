@@ -2,7 +2,7 @@
 use Rattle.std.proofs.Common.{◌≡◌, suc, ◌+◌, nat_le, ◌++◌, [], ◌∷◌, arith, Ok, sym, ◌∙◌, ap, ap₂}
 use Rattle.std.proofs.lemmas.Bool.{le-leb, lt-leb}
 use Rattle.std.proofs.lemmas.List.{map-append}
-use Rattle.csp_semantics.specs.Syntax.Value.{Constructor, Set}
+use Rattle.csp_syntax.specs.Value.{Constructor, Set}
 use Rattle.csp_semantics.specs.Meaning.Evaluation.{constructors, max_members}
 use Rattle.csp_value.specs.Value.{value_of, values_of}
 use Rattle.csp_value.proofs.Forms.{value_of_con, value_of_set}

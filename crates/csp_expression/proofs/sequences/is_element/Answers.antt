@@ -1,6 +1,6 @@
 use Rattle.std.proofs.Common.{Ok, sym, ◌∙◌, ap}
-use Rattle.csp_semantics.specs.Syntax.Value.{Truth, has_value}
-use Rattle.csp_semantics.specs.Syntax.Expression as pure
+use Rattle.csp_syntax.specs.Value.{Truth, has_value}
+use Rattle.csp_syntax.specs.Expression as pure
 use Rattle.csp_semantics.specs.Meaning.Evaluation.{combine}
 use Rattle.csp_value.specs.Value.{value_of, values_of}
 use Rattle.csp_value.proofs.Equality.{value_eq, same_test}

@@ -1,7 +1,7 @@
 use Rattle.std.proofs.Common.{◌≡◌, rules, Result, filter, not, sym, ◌∙◌, subst}
-use Rattle.csp_semantics.specs.Syntax.Value as pure
-use Rattle.csp_semantics.specs.Syntax.Value.{has_value}
-use Rattle.csp_semantics.specs.Syntax.Expression as operator
+use Rattle.csp_syntax.specs.Value as pure
+use Rattle.csp_syntax.specs.Value.{has_value}
+use Rattle.csp_syntax.specs.Expression as operator
 use Rattle.csp_semantics.specs.Meaning.Evaluation.{Cause}
 use Rattle.csp_value.specs.Value.{members_of}
 use Rattle.csp_expression.specs.Evaluation.{IsAnswer}

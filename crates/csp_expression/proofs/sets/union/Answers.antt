@@ -1,6 +1,6 @@
 use Rattle.std.proofs.Common.{◌≡◌, Result, rules, sym, ◌∙◌, subst}
-use Rattle.csp_semantics.specs.Syntax.Value as pure
-use Rattle.csp_semantics.specs.Syntax.Expression as operator
+use Rattle.csp_syntax.specs.Value as pure
+use Rattle.csp_syntax.specs.Expression as operator
 use Rattle.csp_semantics.specs.Meaning.Evaluation.{Cause}
 use Rattle.csp_value.specs.Value.{members_of}
 use Rattle.csp_expression.specs.Evaluation.{Answers}

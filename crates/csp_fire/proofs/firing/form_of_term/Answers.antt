@@ -4,13 +4,13 @@ use Rattle.std.specs.declared.vec.Vec.{Vec}
 use Rattle.csp_semantics.specs.Meaning.Expansions.{IsFormOf}
 use Rattle.csp_semantics.specs.Meaning.Limits.{fits}
 use Rattle.csp_semantics.specs.Meaning.Substitution.{put}
-use Rattle.csp_semantics.specs.Syntax.Process.{Process}
+use Rattle.csp_syntax.specs.Process.{Process}
 use Rattle.csp_semantics.proofs.Putting.{put_nothing}
 use Rattle.csp_term.specs.Term.{process_of}
 use Rattle.csp_term.specs.Script.{script_of}
 use Rattle.csp_expression.proofs.Answering.{if_ok-map}
 use Rattle.csp_operators.specs.declared.rule_step.RuleStep.{RuleStep}
-use Rattle.csp_event_tests.specs.declared.stuck.Stuck.{Stuck}
+use Rattle.csp_expression.specs.declared.eval_fault.EvalFault.{EvalFault}
 use Rattle.csp_operators.specs.Answering.{Answers, answered_of}
 use Rattle.csp_fire.specs.Form.{form_of}
 use Rattle.csp_fire.specs.Offering.{IsFormByAnswer}
@@ -23,7 +23,7 @@ returns-in-Ok g c =
     let term = process_of c.args.term.now in
     let answers = map answered_of c.in-Ok.answered.items in
     let within : fits term ≡ true = search rules in
-    let P : Process → Result (Vec (RuleStep g.row.A.Denot) g.row.A.Denot) Stuck → Type 0 = λ p r. Answers script p r in
+    let P : Process → Result (Vec (RuleStep g.row.A.Denot) g.row.A.Denot) EvalFault → Type 0 = λ p r. Answers script p r in
     if_ok-map (λ f. IsFormByAnswer answers (form_of f)) (λ f. IsFormOf script term (form_of f)) c.form_by_answer.result
     (λ f by. form_by_answer script term within answers (subst (λ p. P p (Ok c.in-Ok.answered)) (put_nothing term) (subst (P (put [] term)) c.in-Ok.is c.steps.ensures)) (form_of f) by) c.form_by_answer.ensures
 

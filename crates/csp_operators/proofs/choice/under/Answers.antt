@@ -1,6 +1,6 @@
 -- What the left side does, and what the right one does.
 use Rattle.std.proofs.Common.{Option, inl, inr, lit<}
-use Rattle.csp_semantics.specs.Syntax.Process.{Process}
+use Rattle.csp_syntax.specs.Process.{Process}
 use Rattle.csp_operators.specs.Answering.{target_of}
 use Rattle.csp_operators.specs.Composing.{composition_of, each_answer, leave_answer, side_answers, under_both}
 use Rattle.csp_operators.proofs.Collecting.{both_from_none}

@@ -1,6 +1,6 @@
 -- The action that is seen, and the target under the operator.
 use Rattle.std.proofs.Common.{Option, ap}
-use Rattle.csp_semantics.specs.Syntax.Process.{Process}
+use Rattle.csp_syntax.specs.Process.{Process}
 use Rattle.csp_value.specs.Action.{action_of}
 use Rattle.csp_operators.specs.Answering.{Answered}
 use Rattle.csp_operators.proofs.hiding.under.Goals as goal

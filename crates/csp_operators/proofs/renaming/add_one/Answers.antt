@@ -1,7 +1,7 @@
 -- Tau stays under the operator, tick ends all, and an event is done as each of its images.
 use Rattle.std.proofs.Common.{◌≡◌, List, [], ◌∷◌, ◌++◌, map, OnOk, Option, sym, ◌∙◌, ap, subst}
-use Rattle.csp_semantics.specs.Syntax.Value.{Action, Tau, Tick}
-use Rattle.csp_semantics.specs.Syntax.Process.{Process}
+use Rattle.csp_syntax.specs.Value.{Action, Tau, Tick}
+use Rattle.csp_syntax.specs.Process.{Process}
 use Rattle.csp_semantics.specs.Meaning.Events.{or_itself}
 use Rattle.csp_value.specs.Action.{action_of}
 use Rattle.csp_operators.specs.Answering.{Answered, answered_of, target_of}

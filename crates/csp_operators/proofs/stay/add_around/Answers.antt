@@ -1,7 +1,7 @@
 -- The step of the side, in the composition.
 use Rattle.std.proofs.Common.{◌≡◌, ◌∷◌, ◌++◌, [], Option, map, subst}
 use Rattle.std.specs.Result.{OnOk}
-use Rattle.csp_semantics.specs.Syntax.Process.{Process}
+use Rattle.csp_syntax.specs.Process.{Process}
 use Rattle.csp_value.specs.Action.{action_of}
 use Rattle.csp_operators.specs.Answering.{answered_of}
 use Rattle.csp_operators.proofs.stay.add_around.Goals as goal

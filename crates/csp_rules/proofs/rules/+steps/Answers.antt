@@ -4,13 +4,15 @@ use Rattle.std.proofs.lemmas.List.{map-append}
 use Rattle.std.proofs.Math.Nat.{le-max_left, le-max_right}
 use Rattle.std.proofs.lemmas.Result.{err_from_is_err_and}
 use Rattle.std.specs.declared.vec.Vec.{Vec}
-use Rattle.csp_semantics.specs.Syntax.Process as pure
+use Rattle.csp_syntax.specs.Process as pure
+use Rattle.csp_syntax.specs.declared.process_operator.ProcessOperator.{ProcessOperator}
 use Rattle.csp_expression.specs.Expression.{expression_of, expressions_of}
 use Rattle.csp_term.specs.Field.{fields_of}
-use Rattle.csp_term.specs.declared.operator.ProcessOperator.{ProcessOperator}
 use Rattle.csp_term.proofs.Forms.{of_alphabetised, of_binary, of_call, of_conditional, of_generalised, of_guard, of_hiding, of_omega_term, of_prefix, of_renaming, of_replicated, of_skip, of_stop}
-use Rattle.csp_semantics.specs.Syntax.Expression.{to_expressions}
-use Rattle.csp_semantics.specs.Syntax.Process.{EventSet, Process}
+use Rattle.csp_syntax.specs.Expression.{to_expressions}
+use Rattle.csp_syntax.specs.Process.{EventSet, Process}
+use Rattle.csp_syntax.specs.declared.process_operator.ReplicatedOperator.{ReplicatedOperator}
+use Rattle.csp_syntax.specs.Operators.{binary_process, replicated_process}
 use Rattle.csp_semantics.specs.Meaning.Evaluation.{IllKinded, value}
 use Rattle.csp_semantics.specs.Meaning.Events.{members_of}
 use Rattle.csp_semantics.specs.Meaning.Faults.{cause_in}
@@ -18,16 +20,14 @@ use Rattle.csp_semantics.specs.Meaning.Transitions.{chain, left_grouped}
 use Rattle.csp_semantics.specs.Meaning.Substitution.{put, put_expression, without}
 use Rattle.csp_value.specs.declared.value.Value.{Value}
 use Rattle.csp_value.specs.Value.{value_of, values_of}
-use Rattle.csp_term.specs.declared.operator.ReplicatedOperator.{ReplicatedOperator}
 use Rattle.csp_event_sets.specs.Events.{event_set_of, renaming_pairs_of}
 use Rattle.csp_expression.specs.Bindings.{bindings_of}
 use Rattle.csp_term.specs.Script.{script_of}
-use Rattle.csp_term.specs.Term.{binary_process, process_of, process_of_form, replicated_process}
+use Rattle.csp_term.specs.Term.{process_of, process_of_form}
 use Rattle.csp_operators.specs.declared.rule_step.RuleStep.{RuleStep}
-use Rattle.csp_event_tests.specs.declared.stuck.Stuck.{Stuck}
+use Rattle.csp_expression.specs.declared.eval_fault.EvalFault.{EvalFault}
 use Rattle.csp_operators.specs.declared.side.Side.{Side}
 use Rattle.csp_operators.specs.Answering.{Answers, IsAnswered, answered_of}
-use Rattle.csp_event_tests.specs.Stuck.{stuck_by_value}
 use Rattle.csp_operators.specs.Composing.{AreSidesOf, IsSideOf}
 use Rattle.csp_rules.specs.Replicating.{AnswersChoices, instance_of, instances_of, looking_process}
 use Rattle.csp_rules.proofs.Members.{no_members}
@@ -50,7 +50,7 @@ conditional::steps-returns-in_err-condition g t c =
     let whole = pure.If (put_expression bs (expression_of c.args.test.now)) (put bs (process_of c.args.first.now)) (put bs (process_of c.args.second.now)) in
     let stop = if_stuck g.row.A.Denot (script_of c.args.script.now) (put_expression bs (expression_of c.args.test.now)) (put bs (process_of c.args.first.now)) (put bs (process_of c.args.second.now)) c.in_err-condition.field-0.0 c.in_err-condition.ensures in
     let p = err_from_is_err_and c.from_residual.result c.from_residual.ensures.1 in
-    let P : Result (Vec (RuleStep g.row.A.Denot) g.row.A.Denot) Stuck → Type 0 = λ r. Answers (script_of c.args.script.now) whole r in
+    let P : Result (Vec (RuleStep g.row.A.Denot) g.row.A.Denot) EvalFault → Type 0 = λ r. Answers (script_of c.args.script.now) whole r in
     subst P (sym (p.1 ∙ ap Err p.2)) stop
 
 pub conditional::steps-steps-requires : goal.conditional::steps-steps-requires
@@ -78,7 +78,7 @@ guard::steps-returns-in_err-condition g t c =
     let bs = bindings_of c.args.bindings.now in
     let stop = guard_stuck g.row.A.Denot (script_of c.args.script.now) (put_expression bs (expression_of c.args.test.now)) (put bs (process_of c.args.body.now)) c.in_err-condition.field-0.0 c.in_err-condition.ensures in
     let p = err_from_is_err_and c.from_residual.result c.from_residual.ensures.1 in
-    let P : Result (Vec (RuleStep g.row.A.Denot) g.row.A.Denot) Stuck → Type 0 = λ r. Answers (script_of c.args.script.now) (pure.Guard (put_expression bs (expression_of c.args.test.now)) (put bs (process_of c.args.body.now))) r in
+    let P : Result (Vec (RuleStep g.row.A.Denot) g.row.A.Denot) EvalFault → Type 0 = λ r. Answers (script_of c.args.script.now) (pure.Guard (put_expression bs (expression_of c.args.test.now)) (put bs (process_of c.args.body.now))) r in
     subst P (sym (p.1 ∙ ap Err p.2)) stop
 
 pub guard::steps-steps-requires : goal.guard::steps-steps-requires
@@ -222,7 +222,7 @@ side::under-returns-in_err-steps g t c =
     let script = script_of c.args.script.now in
     let whole = put (bindings_of c.args.bindings.now) (process_of c.args.term.now) in
     let p = err_from_is_err_and c.from_residual.result c.from_residual.ensures.1 in
-    let P : Result (Side g.row.A.Denot) Stuck → Type 0 = λ r. IsSideOf script whole r in
+    let P : Result (Side g.row.A.Denot) EvalFault → Type 0 = λ r. IsSideOf script whole r in
     subst P (sym (p.1 ∙ ap Err p.2)) (side_of_stuck g.row.A.Denot script whole c.in_err-steps.field-0.0 c.in_err-steps.ensures)
 
 pub steps-returns-in-GeneralisedParallel : goal.steps-returns-in-GeneralisedParallel
@@ -278,8 +278,8 @@ replicated::steps-returns-in_err-seen g t c =
     let op = c.args.operator in
     let why = c.in_err-seen.field-0.0 in
     let q = err_from_is_err_and c.from_residual.result c.from_residual.ensures.1 in
-    let P : Process → Type 0 = λ p. Answers {A = g.row.A.Denot} script p (Err (stuck_by_value why)) in
-    let Q : Result (Vec (RuleStep g.row.A.Denot) g.row.A.Denot) Stuck → Type 0 = λ r. Answers script (put bs (replicated_process op n e body)) r in
+    let P : Process → Type 0 = λ p. Answers {A = g.row.A.Denot} script p (Err why) in
+    let Q : Result (Vec (RuleStep g.row.A.Denot) g.row.A.Denot) EvalFault → Type 0 = λ r. Answers script (put bs (replicated_process op n e body)) r in
     subst Q (sym (q.1 ∙ ap Err q.2)) (subst P (sym (put_replicated bs op n e body)) (set_stuck script n (put_expression bs e) (put (without n bs) body) g.row.A.Denot op why c.in_err-seen.ensures))
 
 pub replicated::steps-returns-in_default : goal.replicated::steps-returns-in_default
@@ -350,7 +350,7 @@ replicated::Instances::chain-returns-in_err-chain g t c =
     let others = instances_of i c.args.others.now in
     let why = c.in_err-chain.field-0.0 in
     let q = err_from_is_err_and c.from_residual.result c.from_residual.ensures.1 in
-    let Q : Result (Vec (RuleStep g.row.A.Denot) g.row.A.Denot) Stuck → Type 0 = λ r. Answers script (left_grouped (looking_process k) first others) r in
+    let Q : Result (Vec (RuleStep g.row.A.Denot) g.row.A.Denot) EvalFault → Type 0 = λ r. Answers script (left_grouped (looking_process k) first others) r in
     subst Q (sym (q.1 ∙ ap Err q.2)) (stuck_at_first script k g.row.A.Denot first others why c.in_err-chain.ensures)
 
 pub replicated::Instances::chain-returns-in_err-instance : goal.replicated::Instances::chain-returns-in_err-instance
@@ -367,7 +367,7 @@ replicated::Instances::chain-returns-in_err-instance g t c =
     let why = c.in_err-instance.field-0.0 in
     let q = err_from_is_err_and c.from_residual-in_err-instance.result c.from_residual-in_err-instance.ensures.1 in
     let P : List Process → Type 0 = λ qs. Answers {A = g.row.A.Denot} script (left_grouped (looking_process k) first qs) (Err why) in
-    let Q : Result (Vec (RuleStep g.row.A.Denot) g.row.A.Denot) Stuck → Type 0 = λ r. Answers script (left_grouped (looking_process k) first (instances_of i items)) r in
+    let Q : Result (Vec (RuleStep g.row.A.Denot) g.row.A.Denot) EvalFault → Type 0 = λ r. Answers script (left_grouped (looking_process k) first (instances_of i items)) r in
     subst Q (sym (q.1 ∙ ap Err q.2)) (subst P (sym (mapped_split (instance_of i) items m item c.loop-value-test.true c.value-item.is))
     (stuck_behind script k g.row.A.Denot first before (instance_of i item) after c.loop-value.invariant.1.no_cause why c.in_err-instance.ensures))
 
@@ -433,7 +433,7 @@ replicated::Instances::internal-returns-in_err-side-in-None g t c =
     let q = err_from_is_err_and c.from_residual.result c.from_residual.ensures.1 in
     let P : List (Value g.row.A.Denot) → Type 0 = λ vs. AnswersChoices {A = g.row.A.Denot} script (instances_of i vs) (Err why) in
     let Q : List (Value g.row.A.Denot) → Type 0 = λ vs. P (vs ++ last ∷ []) in
-    let R : Result (Vec (RuleStep g.row.A.Denot) g.row.A.Denot) Stuck → Type 0 = λ r. AnswersChoices script (instances_of i c.args.values.now) r in
+    let R : Result (Vec (RuleStep g.row.A.Denot) g.row.A.Denot) EvalFault → Type 0 = λ r. AnswersChoices script (instances_of i c.args.values.now) r in
     subst R (sym (q.1 ∙ ap Err q.2))
     (subst P (sym c.in-Some.ensures.cases.0) (subst Q (sym (nothing_in c.in-Some.before.now c.in-None.ensures.cases)) (stuck_of_side g.row.A.Denot script (instance_of i last) why c.in_err-side-in-None.ensures)))
 
@@ -462,7 +462,7 @@ side::both-returns-in_err-left g t c =
     let left = put (bindings_of c.args.bindings.now) (process_of c.args.left.now) in
     let right = put (bindings_of c.args.bindings.now) (process_of c.args.right.now) in
     let p = err_from_is_err_and c.from_residual.result c.from_residual.ensures.1 in
-    let P : Result (Side g.row.A.Denot × Side g.row.A.Denot) Stuck → Type 0 = λ r. AreSidesOf script left right r in
+    let P : Result (Side g.row.A.Denot × Side g.row.A.Denot) EvalFault → Type 0 = λ r. AreSidesOf script left right r in
     subst P (sym (p.1 ∙ ap Err p.2)) (stuck_at_first_side g.row.A.Denot script left right c.in_err-left.field-0.0 c.in_err-left.ensures)
 
 pub side::both-returns-in_err-right : goal.side::both-returns-in_err-right
@@ -471,7 +471,7 @@ side::both-returns-in_err-right g t c =
     let left = put (bindings_of c.args.bindings.now) (process_of c.args.left.now) in
     let right = put (bindings_of c.args.bindings.now) (process_of c.args.right.now) in
     let p = err_from_is_err_and c.from_residual-in_err-right.result c.from_residual-in_err-right.ensures.1 in
-    let P : Result (Side g.row.A.Denot × Side g.row.A.Denot) Stuck → Type 0 = λ r. AreSidesOf script left right r in
+    let P : Result (Side g.row.A.Denot × Side g.row.A.Denot) EvalFault → Type 0 = λ r. AreSidesOf script left right r in
     subst P (sym (p.1 ∙ ap Err p.2)) (stuck_at_second_side g.row.A.Denot script left right c.in_ok-left.ensures.1.no_cause c.in_err-right.field-0.0 c.in_err-right.ensures)
 
 pub choice::external-returns : goal.choice::external-returns

@@ -1,5 +1,5 @@
 use Rattle.csp_term.proofs.Equality.{assertion_tells}
-use Rattle.csp_expression.proofs.Sameness.{decided}
+use Rattle.csp_value.proofs.Sameness.{decided}
 use Rattle.csp_term.proofs.laws.equal_assertions.Goals as goal
 
 pub returns : goal.returns

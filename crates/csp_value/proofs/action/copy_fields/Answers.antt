@@ -5,5 +5,5 @@ use Rattle.csp_value.proofs.action.copy_fields.Goals as goal
 
 pub loop-value-preserved : goal.loop-value-preserved
 loop-value-preserved g c =
-    map_push value_of c.loop-value.copies.items c.push.new.self.items c.in_ok-try_copy.field-0 c.args.values.now c.loop-value.value-index c.value-item.result
+    map_push value_of value_of c.loop-value.copies.items c.push.new.self.items c.in_ok-try_copy.field-0 c.args.values.now c.loop-value.value-index c.value-item.result
     c.loop-value.invariant c.loop-value-test.true c.value-item.is c.in_ok-try_copy.ensures c.in_ok-push.ensures.ok

@@ -1,9 +1,9 @@
 -- A prefix over a channel stands for one that is written over its name.
 use Rattle.std.proofs.Common.{◌≡◌, List, [], ◌∷◌, length, map, true, nat_eq, refl, sym, ◌∙◌, ap, subst, arith}
 use Rattle.std.specs.Str.{chars}
-use Rattle.csp_semantics.specs.Syntax.Process.{Process, Prefix}
-use Rattle.csp_semantics.specs.Text.Raw.{RawProcess, RawPrefix}
-use Rattle.csp_semantics.specs.Text.Part.{IsProcessOf}
+use Rattle.csp_syntax.specs.Process.{Process, Prefix}
+use Rattle.csp_text.specs.Raw.{RawProcess, RawPrefix}
+use Rattle.csp_checking.specs.Part.{IsProcessOf}
 use Rattle.csp_parse.specs.Names.{name_of}
 use Rattle.csp_parse.specs.declared.processes.Process as written_process
 use Rattle.csp_parse.specs.Processes as written
@@ -11,7 +11,7 @@ use Rattle.csp_parse.proofs.ProcessTrees.{tree_of_prefix}
 use Rattle.csp_term.specs.Field.{fields_of}
 use Rattle.csp_term.specs.Term.{process_of}
 use Rattle.csp_term.proofs.Forms.{of_prefix}
-use Rattle.csp_expression.proofs.Sameness.{nat_tells}
+use Rattle.csp_value.proofs.Sameness.{nat_tells}
 use Rattle.refcheck.specs.Reading.{names_of}
 use Rattle.refcheck.proofs.part.+process.Goals as goal
 

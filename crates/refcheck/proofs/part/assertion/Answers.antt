@@ -1,13 +1,14 @@
 use Rattle.std.proofs.Common.{map, sym, subst}
 use Rattle.std.specs.Str.{chars}
-use Rattle.csp_semantics.specs.Text.Raw.{RawAssertion, RawDeclaration, RawProcess}
+use Rattle.csp_syntax.specs.Models.{model_of}
+use Rattle.csp_text.specs.Raw.{RawAssertion, RawDeclaration, RawProcess}
 use Rattle.csp_lex.specs.Places.{place_of}
 use Rattle.csp_parse.specs.declared.declarations.Declaration.{Declaration}
 use Rattle.csp_parse.specs.declared.processes.Process.{Process}
-use Rattle.csp_parse.specs.Declarations.{declaration_of, model_of}
+use Rattle.csp_parse.specs.Declarations.{declaration_of}
 use Rattle.csp_parse.specs.Processes.{process_of}
 use Rattle.csp_term.specs.Script.{assertion_of}
-use Rattle.csp_semantics.specs.Text.Part.{IsAssertionOf}
+use Rattle.csp_checking.specs.Part.{IsAssertionOf}
 use Rattle.refcheck.specs.Reading.{names_of}
 use Rattle.refcheck.proofs.part.assertion.Goals as goal
 

@@ -7,7 +7,7 @@ use Rattle.std.specs.Str.{chars}
 use Rattle.csp_parse.specs.Declarations.{declaration_of}
 use Rattle.csp_term.specs.declared.assertion.Assertion.{Assertion}
 use Rattle.csp_term.specs.Script.{assertion_of}
-use Rattle.csp_semantics.specs.Text.Part.{IsAssertionOf, is_assertion}
+use Rattle.csp_checking.specs.Part.{IsAssertionOf, is_assertion}
 use Rattle.refcheck.specs.Reading.{names_of}
 use Rattle.refcheck.proofs.Asserting.{one_asserted, passed_over}
 use Rattle.refcheck.proofs.part.assertions.Goals as goal

@@ -3,7 +3,7 @@ use Rattle.std.proofs.lemmas.List.{take_all}
 use Rattle.std.specs.List.{All}
 use Rattle.csp_parse.specs.Declarations.{declaration_of}
 use Rattle.csp_term.specs.declared.script.Channel.{Channel}
-use Rattle.csp_semantics.specs.Text.Part.{IsPlain, all_channels}
+use Rattle.csp_checking.specs.Part.{IsPlain, all_channels}
 use Rattle.refcheck.specs.Reading.{Declares}
 use Rattle.refcheck.proofs.Naming.{none_once}
 use Rattle.refcheck.proofs.Declaring.{declares_none, declares_behind, plain_behind}

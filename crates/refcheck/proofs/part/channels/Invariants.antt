@@ -1,7 +1,7 @@
 use Rattle.std.proofs.Common.{[], map, take}
 use Rattle.std.specs.List.{All}
 use Rattle.csp_parse.specs.Declarations.{declaration_of}
-use Rattle.csp_semantics.specs.Text.Part.{IsPlain, all_channels}
+use Rattle.csp_checking.specs.Part.{IsPlain, all_channels}
 use Rattle.refcheck.specs.Reading.{Declares}
 use Rattle.refcheck.proofs.part.channels.Given as goal
 

@@ -3,7 +3,7 @@ use Rattle.std.specs.Prelude.{OnOk}
 use Rattle.std.proofs.lemmas.Simd.{map-map}
 use Rattle.csp_parse.specs.Declarations.{declaration_of}
 use Rattle.csp_parse.specs.Names.{name_of}
-use Rattle.csp_semantics.specs.Text.Part.{declared_channels}
+use Rattle.csp_checking.specs.Part.{declared_channels}
 use Rattle.refcheck.specs.Reading.{Declares}
 use Rattle.refcheck.proofs.part.declare.Goals as goal
 

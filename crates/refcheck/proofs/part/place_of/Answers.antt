@@ -1,8 +1,8 @@
 use Rattle.std.proofs.Common.{◌<◌, ◌≤◌, sym, ap, ◌∙◌, length, arith}
 use Rattle.std.proofs.lemmas.Option.{slice_get_within}
 use Rattle.std.specs.String.{string_bytes}
-use Rattle.csp_semantics.proofs.Places.{get_map}
-use Rattle.csp_expression.proofs.Sameness.{text_tells}
+use Rattle.csp_syntax.proofs.Places.{get_map}
+use Rattle.csp_value.proofs.Sameness.{text_tells}
 use Rattle.refcheck.proofs.Naming.{stands_at, none_further}
 use Rattle.refcheck.proofs.part.place_of.Goals as goal
 

@@ -6,7 +6,7 @@ use Rattle.csp_parse.specs.declared.declarations.Declaration.{Declaration}
 use Rattle.csp_parse.specs.Declarations.{declaration_of}
 use Rattle.csp_term.specs.declared.script.Channel.{Channel}
 use Rattle.csp_term.specs.Script.{assertion_of, equation_of}
-use Rattle.csp_semantics.specs.Text.Part.{StandOnce, IsAssertionOf, IsPlain, all_channels, is_assertion}
+use Rattle.csp_checking.specs.Part.{StandOnce, IsAssertionOf, IsPlain, all_channels, is_assertion}
 use Rattle.refcheck.specs.Reading.{names_of}
 use Rattle.refcheck.proofs.part.script.Goals as goal
 

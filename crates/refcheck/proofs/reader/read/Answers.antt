@@ -1,11 +1,11 @@
 use Rattle.std.proofs.Common.{map}
 use Rattle.std.proofs.lemmas.Result.{IfOk-weaker, IfErr-weaker}
-use Rattle.csp_semantics.specs.Text.Reading.{IsRead, read}
+use Rattle.csp_text.specs.Reading.{IsRead, read}
 use Rattle.csp_lex.specs.Places.{place_of}
 use Rattle.csp_lex.specs.Tokens.{placed_token}
 use Rattle.csp_parse.specs.Declarations as raw
 use Rattle.csp_term.specs.Script.{script_of}
-use Rattle.csp_semantics.specs.Text.Part.{IsScriptOf, IsScriptOfText}
+use Rattle.csp_checking.specs.Part.{IsScriptOf, IsScriptOfText}
 use Rattle.refcheck.specs.Reading.{IsOutside, IsRefusalOf}
 use Rattle.refcheck.proofs.Outside.{outside}
 use Rattle.refcheck.proofs.Refusing.{handed, of_tokens}

@@ -4,7 +4,7 @@ use Rattle.csp_term.specs.Script.{script_of}
 use Rattle.verdict.specs.declared.outcome.Outcome.{Outcome}
 use Rattle.verdict.specs.Outcome.{outcome_of}
 use Rattle.refcheck.specs.Answering.{AreRight}
-use Rattle.csp_semantics.specs.Text.Part.{IsScriptOfText}
+use Rattle.csp_checking.specs.Part.{IsScriptOfText}
 use Rattle.refcheck.specs.Reading.{IsRefusalOf}
 use Rattle.refcheck.specs.Running.{IsScriptOfFile, program_bounds, status_of, texts_of}
 use Rattle.refcheck.proofs.Refusing.{cause_of_text, one_word}

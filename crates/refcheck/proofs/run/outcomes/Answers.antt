@@ -1,6 +1,6 @@
 use Rattle.std.proofs.Common.{◌≡◌, ℕ, List, ap₂, map, subst, ◌∙◌}
 use Rattle.std.proofs.lemmas.List.{take_all}
-use Rattle.csp_semantics.specs.Answers.Outcome.{Bounds}
+use Rattle.csp_answers.specs.Outcome.{Bounds}
 use Rattle.csp_term.specs.declared.assertion.Assertion.{Assertion}
 use Rattle.csp_term.specs.Script.{assertion_of, script_of}
 use Rattle.pair_store.specs.Bounds.{bounds_of}

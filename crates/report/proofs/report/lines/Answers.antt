@@ -1,9 +1,9 @@
 use Rattle.std.proofs.Common.{◌≡◌, ℕ, suc, ◌+◌, List, ◌∷◌, ◌++◌, map, drop, ap, ◌∙◌, sym, append_assoc, add-one, drop-cons, append-nil}
 use Rattle.std.proofs.lemmas.List.{drop_all}
 use Rattle.std.specs.String.{string_bytes}
-use Rattle.csp_semantics.specs.Syntax.Process.{Script}
-use Rattle.csp_semantics.specs.Answers.Outcome as pure
-use Rattle.csp_semantics.specs.Answers.Printing.{line, lines_from, report}
+use Rattle.csp_syntax.specs.Process.{Script}
+use Rattle.csp_answers.specs.Outcome as pure
+use Rattle.csp_answers.specs.Printing.{line, lines_from, report}
 use Rattle.csp_term.specs.Script.{script_of}
 use Rattle.verdict.specs.declared.outcome.Outcome.{Outcome}
 use Rattle.verdict.specs.Outcome.{outcome_of}

@@ -1,6 +1,6 @@
 use Rattle.std.proofs.Common.{◌≡◌, map, drop, ◌++◌, suc}
 use Rattle.std.specs.String.{string_bytes}
-use Rattle.csp_semantics.specs.Answers.Printing.{lines_from, report}
+use Rattle.csp_answers.specs.Printing.{lines_from, report}
 use Rattle.csp_term.specs.Script.{script_of}
 use Rattle.verdict.specs.Outcome.{outcome_of}
 use Rattle.report.proofs.report.lines.Given as goal

@@ -3,7 +3,7 @@ use Rattle.std.proofs.Common.{◌≡◌, List, ◌++◌, map, ap, ◌∙◌, sym
 use Rattle.std.specs.Prelude.{codes}
 use Rattle.std.specs.String.{string_bytes}
 use Rattle.csp_semantics.specs.Meaning.Violations.{ByOffers}
-use Rattle.csp_semantics.specs.Answers.Printing.{actions_text, evidence_text}
+use Rattle.csp_answers.specs.Printing.{actions_text, evidence_text}
 use Rattle.csp_value.specs.declared.action.Action.{Action}
 use Rattle.csp_value.specs.Action.{action_of}
 use Rattle.csp_term.specs.Script.{script_of}

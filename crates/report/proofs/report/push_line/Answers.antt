@@ -2,7 +2,7 @@
 use Rattle.std.proofs.Common.{◌++◌, append_assoc}
 use Rattle.std.specs.Prelude.{codes}
 use Rattle.std.specs.String.{string_bytes}
-use Rattle.csp_semantics.specs.Answers.Printing.{line}
+use Rattle.csp_answers.specs.Printing.{line}
 use Rattle.csp_term.specs.Script.{script_of}
 use Rattle.verdict.specs.Outcome.{outcome_of}
 use Rattle.report.proofs.Joining.{pushed}

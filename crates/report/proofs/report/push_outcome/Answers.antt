@@ -3,7 +3,7 @@ use Rattle.std.proofs.Common.{inl, inr, lit<, ◌++◌, ap, sym, ◌∙◌}
 use Rattle.std.proofs.lemmas.Result.{on_ok_weaker}
 use Rattle.std.specs.Prelude.{codes}
 use Rattle.std.specs.String.{string_bytes}
-use Rattle.csp_semantics.specs.Answers.Printing.{outcome_text}
+use Rattle.csp_answers.specs.Printing.{outcome_text}
 use Rattle.csp_term.specs.Script.{script_of}
 use Rattle.verdict.specs.declared.outcome.Outcome.{Outcome}
 use Rattle.verdict.specs.Outcome.{outcome_of}

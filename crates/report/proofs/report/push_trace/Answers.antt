@@ -1,7 +1,7 @@
 use Rattle.std.proofs.Common.{List, map, ◌++◌, ap, ◌∙◌, sym, inl, inr, lit<, lit≤}
 use Rattle.std.specs.String.{string_bytes}
-use Rattle.csp_semantics.specs.Syntax.Value.{Action}
-use Rattle.csp_semantics.specs.Answers.Printing.{actions_text, action_text}
+use Rattle.csp_syntax.specs.Value.{Action}
+use Rattle.csp_answers.specs.Printing.{actions_text, action_text}
 use Rattle.csp_value.specs.Action.{action_of}
 use Rattle.csp_term.specs.Script.{script_of}
 use Rattle.verdict.specs.declared.trace.Trace.{Trace}

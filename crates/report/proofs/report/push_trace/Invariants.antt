@@ -1,6 +1,6 @@
 use Rattle.std.proofs.Common.{◌≡◌, map, ◌++◌}
 use Rattle.std.specs.String.{string_bytes}
-use Rattle.csp_semantics.specs.Answers.Printing.{action_text}
+use Rattle.csp_answers.specs.Printing.{action_text}
 use Rattle.csp_term.specs.Script.{script_of}
 use Rattle.verdict.specs.Outcome.{trace_left}
 use Rattle.report.proofs.Joining.{following}

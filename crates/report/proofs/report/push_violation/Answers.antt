@@ -3,7 +3,7 @@ use Rattle.std.proofs.lemmas.Result.{on_ok_weaker}
 use Rattle.std.specs.Prelude.{codes}
 use Rattle.std.specs.String.{string_bytes}
 use Rattle.csp_semantics.specs.Meaning.Runs.{trace}
-use Rattle.csp_semantics.specs.Answers.Printing.{actions_text, evidence_text}
+use Rattle.csp_answers.specs.Printing.{actions_text, evidence_text}
 use Rattle.csp_term.specs.Script.{script_of}
 use Rattle.verdict.specs.Outcome.{violation_of}
 use Rattle.report.proofs.report.push_violation.Goals as goal

@@ -3,8 +3,8 @@ use Rattle.std.proofs.Common.{List, map, ◌++◌, drop, ap, ◌∙◌, sym, ◌
 use Rattle.std.proofs.lemmas.List.{drop_all}
 use Rattle.std.specs.Prelude.{codes}
 use Rattle.std.specs.String.{string_bytes}
-use Rattle.csp_semantics.specs.Answers.Printing.{value_text, values_text}
-use Rattle.csp_semantics.specs.Syntax.Value.{to_values}
+use Rattle.csp_answers.specs.Printing.{value_text, values_text}
+use Rattle.csp_syntax.specs.Value.{to_values}
 use Rattle.csp_semantics.specs.Meaning.Limits.{value_size, values_size}
 use Rattle.csp_value.specs.declared.value.Value.{Value}
 use Rattle.csp_value.specs.Value.{value_of, values_of}

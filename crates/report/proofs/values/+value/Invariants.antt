@@ -1,8 +1,8 @@
 use Rattle.std.proofs.Common.{◌≡◌, map, drop, ◌++◌, ◌+◌, ◌*◌}
 use Rattle.std.specs.String.{string_bytes}
-use Rattle.csp_semantics.specs.Syntax.Value.{to_values}
+use Rattle.csp_syntax.specs.Value.{to_values}
 use Rattle.csp_semantics.specs.Meaning.Limits.{value_size, values_size}
-use Rattle.csp_semantics.specs.Answers.Printing.{value_text}
+use Rattle.csp_answers.specs.Printing.{value_text}
 use Rattle.csp_value.specs.Value.{value_of, values_of}
 use Rattle.csp_term.specs.Script.{script_of}
 use Rattle.report.proofs.Joining.{following}

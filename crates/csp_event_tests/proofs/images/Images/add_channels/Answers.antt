@@ -3,7 +3,7 @@ use Rattle.std.proofs.Common.{◌≡◌, Result, Ok, Err, sym, ◌∙◌, ap, su
 use Rattle.std.proofs.lemmas.Result.{err_from_is_err_and}
 use Rattle.csp_semantics.specs.Meaning.Events.{channel_images, field_sets}
 use Rattle.csp_term.specs.Script.{script_of}
-use Rattle.csp_event_tests.specs.declared.stuck.Stuck.{Stuck}
+use Rattle.csp_expression.specs.declared.eval_fault.EvalFault.{EvalFault}
 use Rattle.csp_event_tests.specs.Testing.{sets_of}
 use Rattle.csp_event_tests.specs.Imaging.{MakesMore}
 use Rattle.csp_event_tests.proofs.Naming.{channels_differ, channels_named, no_first_sets, no_second_sets, stopped_at_sets}
@@ -15,7 +15,7 @@ returns-in_err-sets g c =
     let from = c.args.from.0 in
     let to = c.args.to.0 in
     let p = err_from_is_err_and c.from_residual.result c.from_residual.ensures.1 in
-    let P : Result Unit Stuck → Type 0 = λ r. MakesMore c.args.self.now (channel_images s from to) r c.args.self.now in
+    let P : Result Unit EvalFault → Type 0 = λ r. MakesMore c.args.self.now (channel_images s from to) r c.args.self.now in
     subst P (sym (p.1 ∙ ap Err p.2))
     (stopped_at_sets g.row.A.Denot c.args.self.now c.args.self.now (channel_images s from to) (field_sets s from) c.in_err-sets.field-0.0 c.in_err-sets.ensures (λ cause none. no_first_sets s from to cause none))
 
@@ -25,7 +25,7 @@ returns-in_err-others g c =
     let from = c.args.from.0 in
     let to = c.args.to.0 in
     let p = err_from_is_err_and c.from_residual-in_err-others.result c.from_residual-in_err-others.ensures.1 in
-    let P : Result Unit Stuck → Type 0 = λ r. MakesMore c.args.self.now (channel_images s from to) r c.args.self.now in
+    let P : Result Unit EvalFault → Type 0 = λ r. MakesMore c.args.self.now (channel_images s from to) r c.args.self.now in
     subst P (sym (p.1 ∙ ap Err p.2))
     (stopped_at_sets g.row.A.Denot c.args.self.now c.args.self.now (channel_images s from to) (field_sets s to) c.in_err-others.field-0.0 c.in_err-others.ensures (λ cause none. no_second_sets s from to cause (sets_of c.in_ok-sets.sets.now) c.in_ok-sets.ensures none))
 

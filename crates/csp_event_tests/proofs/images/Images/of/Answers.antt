@@ -5,7 +5,7 @@ use Rattle.std.proofs.lemmas.Result.{err_from_is_err_and}
 use Rattle.std.specs.declared.cmp.Ordering.{Ordering}
 use Rattle.std.specs.List.Sorted.{IsSortedBy}
 use Rattle.std.specs.Ordering.{is_lt, nat_cmp}
-use Rattle.csp_semantics.specs.Syntax.Value as pure
+use Rattle.csp_syntax.specs.Value as pure
 use Rattle.csp_semantics.specs.Meaning.Events.{renaming}
 use Rattle.csp_value.specs.declared.action.Event.{Event}
 use Rattle.csp_value.specs.Action.{event_of}
@@ -13,7 +13,7 @@ use Rattle.csp_value.proofs.ActionOrder.{event_order, event_ordered}
 use Rattle.csp_event_sets.specs.Events.{renaming_pairs_of}
 use Rattle.csp_term.specs.Script.{script_of}
 use Rattle.csp_event_tests.specs.declared.images.Images.{Images}
-use Rattle.csp_event_tests.specs.declared.stuck.Stuck.{Stuck}
+use Rattle.csp_expression.specs.declared.eval_fault.EvalFault.{EvalFault}
 use Rattle.csp_event_tests.specs.Imaging.{AreMade, IsImagesOf}
 use Rattle.csp_event_tests.proofs.Naming.{firsts_rise, found_moved, none_named, one_pair_more, stops_at_pair}
 use Rattle.csp_event_tests.proofs.images.Images.of.Goals as goal
@@ -89,7 +89,7 @@ pub returns-in_err-add_pair : goal.returns-in_err-add_pair
 returns-in_err-add_pair g c =
     let script = script_of c.args.script.now in
     let p = err_from_is_err_and c.from_residual.result c.from_residual.ensures.1 in
-    let P : Result (Images g.row.A.Denot) Stuck → Type 0 = λ r. IsImagesOf r (renaming script (renaming_pairs_of c.args.pairs.now)) in
+    let P : Result (Images g.row.A.Denot) EvalFault → Type 0 = λ r. IsImagesOf r (renaming script (renaming_pairs_of c.args.pairs.now)) in
     subst P (sym (p.1 ∙ ap Err p.2))
     (stops_at_pair script c.args.pairs.now c.loop-pair.pair-index c.pair-item.result c.loop-pair-test.true c.pair-item.is c.loop-pair.images c.add_pair.new.self c.loop-pair.invariant c.in_err-add_pair.field-0.0 c.in_err-add_pair.ensures)
 

@@ -1,11 +1,11 @@
 -- The datatypes are the same, and each set is copied.
 use Rattle.std.proofs.Common.{rules, ◌≡◌, List, map, ◌∙◌, ap, subst}
-use Rattle.csp_semantics.specs.Syntax.Value.{values_list}
+use Rattle.csp_syntax.specs.Value.{values_list}
 use Rattle.csp_value.specs.declared.set.SetOf.{SetOf}
 use Rattle.csp_value.specs.Copies.{AreCopies}
 use Rattle.csp_value.specs.Value.{members_of}
 use Rattle.csp_expression.specs.Evaluation.{constructors_of, members_listed}
-use Rattle.csp_expression.proofs.Copying.{copies_read}
+use Rattle.csp_value.proofs.Copying.{copies_read}
 use Rattle.csp_expression.proofs.types.TypeTableTryCopy.try_copy.Goals as goal
 
 pub returns : goal.returns

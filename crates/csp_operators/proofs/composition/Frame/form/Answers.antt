@@ -1,8 +1,8 @@
 -- The copies of the pairs stand for the same.
 use Rattle.std.proofs.Common.{sym, ◌∙◌, ap}
-use Rattle.csp_semantics.specs.Syntax.Process.{Renaming}
+use Rattle.csp_syntax.specs.Process.{Renaming}
 use Rattle.csp_event_sets.specs.Events.{renaming_pair_of, renaming_pairs_of}
-use Rattle.csp_expression.proofs.Copying.{copies_same}
+use Rattle.csp_value.proofs.Copying.{copies_same}
 use Rattle.csp_term.specs.Term.{process_of}
 use Rattle.csp_term.proofs.Forms.{of_renaming}
 use Rattle.csp_operators.specs.Composing.{frame_of}

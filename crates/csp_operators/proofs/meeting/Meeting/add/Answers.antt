@@ -1,7 +1,7 @@
 -- Each step of the left side, in turn.
 use Rattle.std.proofs.Common.{Option, List, map, refl, arith}
-use Rattle.csp_semantics.specs.Syntax.Value.{Action}
-use Rattle.csp_semantics.specs.Syntax.Process.{Process}
+use Rattle.csp_syntax.specs.Value.{Action}
+use Rattle.csp_syntax.specs.Process.{Process}
 use Rattle.csp_operators.specs.Answering.{Answered, answered_of}
 use Rattle.csp_operators.specs.Composing.{composition_of, each_answer, meet_answer}
 use Rattle.csp_operators.specs.Sharing.{is_shared}

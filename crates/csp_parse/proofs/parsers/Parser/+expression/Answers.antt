@@ -1,9 +1,10 @@
 use Rattle.std.proofs.Common.{◌∙◌, [], ◌∷◌, ◌++◌, refl, sym, ap, subst, arith, IfOk}
 use Rattle.std.specs.Option.{option_map}
 use Rattle.std.proofs.lemmas.Result.{IfOk-weaker, IfErr-weaker}
-use Rattle.csp_semantics.specs.Text.Token.{CloseRoundSign, GreaterSign, CloseBraceSign}
-use Rattle.csp_semantics.specs.Text.Raw.{RawSequence, RawSet}
-use Rattle.csp_semantics.specs.Text.Grammar.{IsNegation, IsComparison, IsSum}
+use Rattle.csp_syntax.specs.Operators.{unary_of, binary_of}
+use Rattle.csp_text.specs.Token.{CloseRoundSign, GreaterSign, CloseBraceSign}
+use Rattle.csp_text.specs.Raw.{RawSequence, RawSet}
+use Rattle.csp_text.specs.Grammar.{IsNegation, IsComparison, IsSum}
 use Rattle.csp_lex.specs.declared.kinds.TokenKind.TheVariants as kind
 use Rattle.csp_lex.specs.declared.signs.Sign.TheVariants as signs
 use Rattle.csp_lex.specs.Tokens.{keyword_of}
@@ -13,7 +14,6 @@ use Rattle.csp_parse.specs.Deciding.{memory}
 use Rattle.csp_parse.specs.Forms.{HasTree}
 use Rattle.csp_parse.specs.Expressions.{expression_of, expressions_of}
 use Rattle.csp_parse.specs.Levels.{IsAt, stronger}
-use Rattle.csp_parse.specs.Operators.{unary_of, binary_of}
 use Rattle.csp_parse.specs.Reading.{left_of, standing_of, IsNext, Reads}
 use Rattle.csp_parse.specs.Words.{comparison_of, operator_at}
 use Rattle.csp_parse.proofs.Atoms.{number_atom, name_atom, negate_atom, length_atom, bracketed_atom, one_atom, two_atom, empty_sequence, empty_set, sequence_atom, set_atom, range_atom}

@@ -1,8 +1,8 @@
 use Rattle.std.proofs.Common.{◌∙◌, [], refl, sym, ap, subst, arith, inl, inr, IfOk, IfErr}
 use Rattle.std.proofs.lemmas.Result.{IfOk-weaker, IfErr-weaker}
-use Rattle.csp_semantics.specs.Text.Grammar.{IsAtom, IsExpression}
-use Rattle.csp_semantics.specs.Text.Raw.{RawCall}
-use Rattle.csp_semantics.specs.Text.Token.{GuardSign, CloseRoundSign}
+use Rattle.csp_text.specs.Grammar.{IsAtom, IsExpression}
+use Rattle.csp_text.specs.Raw.{RawCall}
+use Rattle.csp_text.specs.Token.{GuardSign, CloseRoundSign}
 use Rattle.csp_lex.specs.Tokens.{sign_of}
 use Rattle.csp_parse.specs.Deciding.{only, Done, memory}
 use Rattle.csp_parse.specs.Expressions.{expressions_of}
@@ -13,7 +13,7 @@ use Rattle.csp_parse.specs.Reading.{left_of, standing_of}
 use Rattle.csp_parse.specs.Starts.{ReadsStart, ReadsInner}
 use Rattle.csp_parse.specs.StartForms.{Tells, OnlyStart, OnlyBehindName, OnlyGuard, OnlyInner, OnlyBehindInner, BehindStart, StopsBehind}
 use Rattle.csp_parse.specs.Words.{replicator_sign}
-use Rattle.csp_semantics.specs.Text.Grammar as grammar
+use Rattle.csp_text.specs.Grammar as grammar
 use Rattle.csp_lex.specs.declared.keywords.Keyword.TheVariants as keyword
 use Rattle.csp_lex.specs.declared.signs.Sign.TheVariants as signs
 use Rattle.csp_parse.specs.declared.starts.Start.TheVariants as start
@@ -53,7 +53,7 @@ conditional-returns-clause-reads g t c =
 pub replicated-returns-clause-reads : goal.replicated-returns-clause-reads
 replicated-returns-clause-reads g t c =
     IfOk-weaker c.replicated.result _ _
-    (λ p told. renamed _ _ told (replicated_read (replicator_of c.args.replicator) (sign_of c.sign-written.result) c.sign-written.ensures c.in_ok-name.ensures.reads.passes c.in_ok-name.ensures.reads.reads
+    (λ p told. renamed _ _ told (replicated_read (replicator_of c.args.replicator) (sign_of c.replicated_sign-written.result) c.replicated_sign-written.ensures c.in_ok-name.ensures.reads.passes c.in_ok-name.ensures.reads.reads
     c.in_ok-set.ensures.reads.passes c.in_ok-set.ensures.reads.reads c.in_ok-body.ensures.reads.passes c.in_ok-body.ensures.reads.reads))
     c.replicated.ensures.makes
 
@@ -89,8 +89,8 @@ alphabetised-returns-clause-continues g t c =
 pub chain-loop-operator-init : goal.chain-loop-operator-init
 chain-loop-operator-init g t c =
     record {
-      continues = λ before r. renamed _ _ c.in_ok-chain.ensures.makes (two_read (infix_of c.args.operator) (sign_of c.sign-written.result) c.sign-written.ensures r c.in_ok-second.ensures.reads.passes c.in_ok-second.ensures.reads.reads);
-      links = record { middle = _; begun = second_read (infix_of c.args.operator) (next_so c.sign-written.ensures c.in_ok-second.ensures.done); rest = repeats_none refl };
+      continues = λ before r. renamed _ _ c.in_ok-chain.ensures.makes (two_read (infix_of c.args.operator) (sign_of c.operator_sign-written.result) c.operator_sign-written.ensures r c.in_ok-second.ensures.reads.passes c.in_ok-second.ensures.reads.reads);
+      links = record { middle = _; begun = second_read (infix_of c.args.operator) (next_so c.operator_sign-written.ensures c.in_ok-second.ensures.done); rest = repeats_none refl };
       not_longer = omega (arith, c.in_ok-second.ensures.shorter);
     }
 
@@ -98,11 +98,11 @@ pub chain-loop-operator-preserved : goal.chain-loop-operator-preserved
 chain-loop-operator-preserved g t c =
     record {
       continues = λ before r.
-          renamed _ _ c.in_ok-chain-2.ensures.makes (longer_read (infix_of c.args.operator) (sign_of c.sign-written.result) c.sign-written.ensures (c.loop-operator.invariant.continues before r) c.in_ok-operand.ensures.reads.passes c.in_ok-operand.ensures.reads.reads);
+          renamed _ _ c.in_ok-chain-2.ensures.makes (longer_read (infix_of c.args.operator) (sign_of c.operator_sign-written.result) c.operator_sign-written.ensures (c.loop-operator.invariant.continues before r) c.in_ok-operand.ensures.reads.passes c.in_ok-operand.ensures.reads.reads);
       links = record {
         middle = c.loop-operator.invariant.links.middle;
         begun = c.loop-operator.invariant.links.begun;
-        rest = rest_step (told_operands (infix_of c.args.operator)) c.loop-operator.invariant.links.rest (first_so (left_of c.loop-operator.self) c.sign-written.ensures (sign_first c.sign-written.result (left_of c.loop-operator.self) (c.is_at.ensures.yes c.loop-operator-test.true))) (next_so c.sign-written.ensures c.in_ok-operand.ensures.done);
+        rest = rest_step (told_operands (infix_of c.args.operator)) c.loop-operator.invariant.links.rest (first_so (left_of c.loop-operator.self) c.operator_sign-written.ensures (sign_first c.operator_sign-written.result (left_of c.loop-operator.self) (c.is_at.ensures.yes c.loop-operator-test.true))) (next_so c.operator_sign-written.ensures c.in_ok-operand.ensures.done);
       };
       not_longer = omega (arith, c.loop-operator.invariant.not_longer, c.in_ok-operand.ensures.shorter);
     }
@@ -400,19 +400,19 @@ process_behind_word-returns-clause-stops g t c =
 
 pub replicated-returns-in_err-name-clause-stops : goal.replicated-returns-in_err-name-clause-stops
 replicated-returns-in_err-name-clause-stops g t c =
-    handed c.from_residual.result _ c.from_residual.ensures (bound_stops (replicator_sign (replicator_of c.args.replicator)) (next_stop_so c.sign-written.ensures c.in_err-name.ensures.stops))
+    handed c.from_residual.result _ c.from_residual.ensures (bound_stops (replicator_sign (replicator_of c.args.replicator)) (next_stop_so c.replicated_sign-written.ensures c.in_err-name.ensures.stops))
 
 pub replicated-returns-in_err-set-clause-stops : goal.replicated-returns-in_err-set-clause-stops
 replicated-returns-in_err-set-clause-stops g t c =
-    handed c.from_residual-in_err-set.result _ c.from_residual-in_err-set.ensures (stopped (bound_read (replicator_sign (replicator_of c.args.replicator)) (next_so c.sign-written.ensures c.in_ok-name.ensures.done)) (set_stops (atom_stop c.in_err-set.ensures.stops)))
+    handed c.from_residual-in_err-set.result _ c.from_residual-in_err-set.ensures (stopped (bound_read (replicator_sign (replicator_of c.args.replicator)) (next_so c.replicated_sign-written.ensures c.in_ok-name.ensures.done)) (set_stops (atom_stop c.in_err-set.ensures.stops)))
 
 pub replicated-returns-in_err-body-clause-stops : goal.replicated-returns-in_err-body-clause-stops
 replicated-returns-in_err-body-clause-stops g t c =
-    handed c.from_residual-in_err-body.result _ c.from_residual-in_err-body.ensures (stopped (turn (bound_read (replicator_sign (replicator_of c.args.replicator)) (next_so c.sign-written.ensures c.in_ok-name.ensures.done)) (set_read (atom_done c.in_ok-set.ensures.done))) c.in_err-body.ensures.stops)
+    handed c.from_residual-in_err-body.result _ c.from_residual-in_err-body.ensures (stopped (turn (bound_read (replicator_sign (replicator_of c.args.replicator)) (next_so c.replicated_sign-written.ensures c.in_ok-name.ensures.done)) (set_read (atom_done c.in_ok-set.ensures.done))) c.in_err-body.ensures.stops)
 
 pub replicated-returns-clause-done : goal.replicated-returns-clause-done
 replicated-returns-clause-done g t c =
-    in_any_case c.replicated.result _ (λ _. finished (turn (bound_read (replicator_sign (replicator_of c.args.replicator)) (next_so c.sign-written.ensures c.in_ok-name.ensures.done)) (set_read (atom_done c.in_ok-set.ensures.done))) c.in_ok-body.ensures.done)
+    in_any_case c.replicated.result _ (λ _. finished (turn (bound_read (replicator_sign (replicator_of c.args.replicator)) (next_so c.replicated_sign-written.ensures c.in_ok-name.ensures.done)) (set_read (atom_done c.in_ok-set.ensures.done))) c.in_ok-body.ensures.done)
 
 pub replicated-returns-clause-stops : goal.replicated-returns-clause-stops
 replicated-returns-clause-stops g t c =
@@ -456,7 +456,7 @@ alphabetised-returns-clause-stops g t c =
 
 pub chain-returns-in_err-second-clause-stops : goal.chain-returns-in_err-second-clause-stops
 chain-returns-in_err-second-clause-stops g t c =
-    handed c.from_residual.result _ c.from_residual.ensures (second_stops (infix_of c.args.operator) (next_stop_so c.sign-written.ensures c.in_err-second.ensures.stops))
+    handed c.from_residual.result _ c.from_residual.ensures (second_stops (infix_of c.args.operator) (next_stop_so c.operator_sign-written.ensures c.in_err-second.ensures.stops))
 
 pub chain-returns-in_err-chain-clause-stops : goal.chain-returns-in_err-chain-clause-stops
 chain-returns-in_err-chain-clause-stops g t c =
@@ -464,7 +464,7 @@ chain-returns-in_err-chain-clause-stops g t c =
 
 pub chain-returns-in_err-operand-clause-stops : goal.chain-returns-in_err-operand-clause-stops
 chain-returns-in_err-operand-clause-stops g t c =
-    handed c.from_residual-in_err-operand.result _ c.from_residual-in_err-operand.ensures (stopped c.loop-operator.invariant.links.begun (rest_step_stop (told_operands (infix_of c.args.operator)) c.loop-operator.invariant.links.rest (first_so (left_of c.loop-operator.self) c.sign-written.ensures (sign_first c.sign-written.result (left_of c.loop-operator.self) (c.is_at.ensures.yes c.loop-operator-test.true))) (next_stop_so c.sign-written.ensures c.in_err-operand.ensures.stops)))
+    handed c.from_residual-in_err-operand.result _ c.from_residual-in_err-operand.ensures (stopped c.loop-operator.invariant.links.begun (rest_step_stop (told_operands (infix_of c.args.operator)) c.loop-operator.invariant.links.rest (first_so (left_of c.loop-operator.self) c.operator_sign-written.ensures (sign_first c.operator_sign-written.result (left_of c.loop-operator.self) (c.is_at.ensures.yes c.loop-operator-test.true))) (next_stop_so c.operator_sign-written.ensures c.in_err-operand.ensures.stops)))
 
 pub chain-returns-in_err-chain-2-clause-stops : goal.chain-returns-in_err-chain-2-clause-stops
 chain-returns-in_err-chain-2-clause-stops g t c =
@@ -473,7 +473,7 @@ chain-returns-in_err-chain-2-clause-stops g t c =
 pub chain-returns-clause-done : goal.chain-returns-clause-done
 chain-returns-clause-done g t c =
     finished c.loop-operator.invariant.links.begun
-    (rest_end c.loop-operator.invariant.links.rest (not_first_so (left_of c.loop-operator.self) c.sign-written.ensures (sign_not_first c.sign-written.result (left_of c.loop-operator.self) (c.is_at.ensures.no c.loop-operator-test.false))))
+    (rest_end c.loop-operator.invariant.links.rest (not_first_so (left_of c.loop-operator.self) c.operator_sign-written.ensures (sign_not_first c.operator_sign-written.result (left_of c.loop-operator.self) (c.is_at.ensures.no c.loop-operator-test.false))))
 
 pub start_of_expression-returns-in_err-expression-clause-stops : goal.start_of_expression-returns-in_err-expression-clause-stops
 start_of_expression-returns-in_err-expression-clause-stops g t c =

@@ -1,6 +1,6 @@
 use Rattle.std.proofs.Common.{◌≤◌, length, map}
-use Rattle.csp_semantics.specs.Text.Token.{DotSign}
-use Rattle.csp_semantics.specs.Text.Grammar.{IsAtom}
+use Rattle.csp_text.specs.Token.{DotSign}
+use Rattle.csp_text.specs.Grammar.{IsAtom}
 use Rattle.csp_parse.specs.Deciding.{only}
 use Rattle.csp_parse.specs.Forms.{HasTree, Next}
 use Rattle.csp_parse.specs.Processes.{field_of}

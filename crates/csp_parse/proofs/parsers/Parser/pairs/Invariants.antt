@@ -1,9 +1,8 @@
 use Rattle.std.proofs.Common.{◌<◌, length, map}
-use Rattle.csp_semantics.specs.Text.Token.{CommaSign, DotSign}
+use Rattle.csp_text.specs.Token.{CommaSign, DotSign}
 use Rattle.csp_parse.specs.Events.{pair_of}
-use Rattle.csp_parse.specs.Separated.{IsPair}
+use Rattle.csp_parse.specs.Separated.{IsPair, AreSeparated}
 use Rattle.csp_parse.specs.Reading.{left_of, standing_of, Reads}
-use Rattle.csp_parse.specs.Separated.{AreSeparated}
 use Rattle.csp_parse.specs.Deciding.{only}
 use Rattle.csp_parse.specs.EventForms.{lists_events}
 use Rattle.csp_parse.specs.Forms.{HasTree}

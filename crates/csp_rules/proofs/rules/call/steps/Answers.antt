@@ -3,9 +3,9 @@ use Rattle.std.proofs.Common.{List, [], ◌∷◌, Result, Err, length, map, sli
 use Rattle.std.proofs.lemmas.Option.{slice_get_past, slice_get_read}
 use Rattle.std.proofs.lemmas.Result.{err_from_is_err_and}
 use Rattle.std.specs.declared.vec.Vec.{Vec}
-use Rattle.csp_semantics.specs.Syntax.Expression.{to_expressions}
-use Rattle.csp_semantics.specs.Syntax.Process.{Call}
-use Rattle.csp_semantics.specs.Syntax.Value.{Tau}
+use Rattle.csp_syntax.specs.Expression.{to_expressions}
+use Rattle.csp_syntax.specs.Process.{Call}
+use Rattle.csp_syntax.specs.Value.{Tau}
 use Rattle.csp_semantics.specs.Meaning.Evaluation.{Cause}
 use Rattle.csp_semantics.specs.Meaning.Events.{parameter_bindings}
 use Rattle.csp_semantics.specs.Meaning.Substitution.{Bindings, put, put_expressions}
@@ -15,7 +15,7 @@ use Rattle.csp_term.specs.Script.{equation_of, script_of}
 use Rattle.csp_term.specs.Term.{process_of}
 use Rattle.csp_expression.proofs.Forming.{get_none, get_some}
 use Rattle.csp_operators.specs.declared.rule_step.RuleStep.{RuleStep}
-use Rattle.csp_event_tests.specs.declared.stuck.Stuck.{Stuck}
+use Rattle.csp_expression.specs.declared.eval_fault.EvalFault.{EvalFault}
 use Rattle.csp_operators.specs.Answering.{Answered, Answers, IsAnswered, within_limits}
 use Rattle.csp_rules.specs.Arguments.{Binds, seen_values}
 use Rattle.csp_rules.proofs.Calling.{bindings_stuck, goes_to, one_call, unknown, values_stuck}
@@ -26,7 +26,7 @@ returns-in_err-values g c =
     let script = script_of c.args.script.now in
     let es = put_expressions (bindings_of c.args.bindings.now) (to_expressions (expressions_of c.args.arguments.now)) in
     let p = err_from_is_err_and c.from_residual.result c.from_residual.ensures.1 in
-    let P : Result (Vec (RuleStep g.row.A.Denot) g.row.A.Denot) Stuck → Type 0 = λ r. Answers script (Call c.args.equation.0 es) r in
+    let P : Result (Vec (RuleStep g.row.A.Denot) g.row.A.Denot) EvalFault → Type 0 = λ r. Answers script (Call c.args.equation.0 es) r in
     subst P (sym (p.1 ∙ ap Err p.2)) (values_stuck script c.args.equation.0 es g.row.A.Denot c.in_err-values.field-0.0 c.in_err-values.ensures)
 
 pub returns-in_default : goal.returns-in_default
@@ -48,7 +48,7 @@ returns-in_err-parameters g c =
     let same = ap₂ (λ ns vs. parameter_bindings (map (λ m. m.0) ns) (seen_values vs)) c.deref-2.ensures.value c.deref-3.ensures.value in
     let B : Result Bindings Cause → Type 0 = λ r. Binds {A = g.row.A.Denot} (Err c.in_err-parameters.field-0.0) r in
     let p = err_from_is_err_and c.from_residual-in_err-parameters.result c.from_residual-in_err-parameters.ensures.1 in
-    let P : Result (Vec (RuleStep g.row.A.Denot) g.row.A.Denot) Stuck → Type 0 = λ r. Answers script (Call n es) r in
+    let P : Result (Vec (RuleStep g.row.A.Denot) g.row.A.Denot) EvalFault → Type 0 = λ r. Answers script (Call n es) r in
     subst P (sym (p.1 ∙ ap Err p.2)) (bindings_stuck script n es (seen_values c.in_ok-values.values.items) c.in_ok-values.ensures (equation_of equation) (get_some equation_of c.args.script.now.equations.items n equation at) g.row.A.Denot c.in_err-parameters.field-0.0 (subst B same c.in_err-parameters.ensures))
 
 pub returns : goal.returns

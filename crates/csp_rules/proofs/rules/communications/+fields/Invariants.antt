@@ -1,6 +1,6 @@
 -- Each value or field that is passed leaves fewer fields; what is found so far is by the values so far.
 use Rattle.std.proofs.Common.{◌+◌, ◌*◌, Ok, filter, length, take}
-use Rattle.csp_semantics.specs.Syntax.Value.{has_value}
+use Rattle.csp_syntax.specs.Value.{has_value}
 use Rattle.csp_semantics.specs.Meaning.Evaluation.{◌and_then◌}
 use Rattle.csp_semantics.specs.Meaning.Events.{communications, with_value}
 use Rattle.csp_semantics.specs.Meaning.Substitution.{bind}

@@ -1,6 +1,6 @@
 -- The copies so far, and one more.
 use Rattle.csp_value.specs.Value.{value_of}
-use Rattle.csp_expression.proofs.Copying.{map_push}
+use Rattle.csp_value.proofs.Copying.{map_push}
 use Rattle.csp_rules.proofs.rules.communications.event_fields.Goals as goal
 
 pub loop-value-preserved : goal.loop-value-preserved

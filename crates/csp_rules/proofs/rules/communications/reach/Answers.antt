@@ -1,6 +1,6 @@
 -- What is held has a known size.
 use Rattle.std.proofs.Common.{◌≡◌, refl, ◌∙◌, ap, inl, inr, lit<}
-use Rattle.csp_semantics.specs.Syntax.Value.{Ev}
+use Rattle.csp_syntax.specs.Value.{Ev}
 use Rattle.csp_semantics.specs.Meaning.Substitution.{put}
 use Rattle.csp_value.specs.Value.{values_of}
 use Rattle.csp_expression.specs.Bindings.{bindings_of}

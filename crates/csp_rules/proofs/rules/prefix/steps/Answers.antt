@@ -1,7 +1,7 @@
 -- A prefix is answered by what was found of its fields.
 use Rattle.std.proofs.Common.{List, [], length, slice_get, refl, sym, ◌∙◌, ap, subst}
 use Rattle.std.proofs.lemmas.Option.{slice_get_past, slice_get_read}
-use Rattle.csp_semantics.specs.Syntax.Value as pure
+use Rattle.csp_syntax.specs.Value as pure
 use Rattle.csp_semantics.specs.Meaning.Events.{communications}
 use Rattle.csp_semantics.specs.Meaning.Substitution.{Bindings, behind, put, put_fields}
 use Rattle.csp_expression.specs.Bindings.{bindings_of}

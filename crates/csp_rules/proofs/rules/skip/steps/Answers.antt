@@ -1,7 +1,7 @@
 -- The one step is by tick.
 use Rattle.std.proofs.Common.{List, [], ◌∷◌, Some, sym, ◌∙◌, ap, subst, inl, inr, lit<}
-use Rattle.csp_semantics.specs.Syntax.Process.{Skip}
-use Rattle.csp_semantics.specs.Syntax.Value.{Tick}
+use Rattle.csp_syntax.specs.Process.{Skip}
+use Rattle.csp_syntax.specs.Value.{Tick}
 use Rattle.csp_term.specs.Script.{script_of}
 use Rattle.csp_term.proofs.Forms.{of_omega_term}
 use Rattle.csp_operators.specs.Answering.{Answered, IsAnswered}

@@ -1,5 +1,5 @@
 -- The model and each side are copied.
-use Rattle.csp_term.specs.Script.{model_of}
+use Rattle.csp_syntax.specs.Models.{model_of}
 use Rattle.csp_term.proofs.assertion.AssertionTryCopy.try_copy.Goals as goal
 
 pub returns : goal.returns

@@ -1,12 +1,12 @@
 -- The spelling and each field set are copied.
 use Rattle.std.proofs.Common.{rules, ◌≡◌, List, map, subst}
 use Rattle.std.specs.String.{string_bytes}
-use Rattle.csp_semantics.specs.Syntax.Value.{values_list}
+use Rattle.csp_syntax.specs.Value.{values_list}
 use Rattle.csp_value.specs.declared.field_set.FieldSet.{FieldSet}
 use Rattle.csp_value.specs.Copies.{AreCopies}
 use Rattle.csp_value.specs.Value.{members_of}
 use Rattle.csp_term.specs.Script.{field_values}
-use Rattle.csp_expression.proofs.Copying.{copies_read}
+use Rattle.csp_value.proofs.Copying.{copies_read}
 use Rattle.csp_term.proofs.script.ChannelTryCopy.try_copy.Goals as goal
 
 pub returns : goal.returns

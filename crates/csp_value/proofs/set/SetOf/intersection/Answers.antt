@@ -1,8 +1,8 @@
 -- What is kept is what the other set has too.
 use Rattle.std.proofs.Common.{◌≡◌, Bool, filter, sym, ◌∙◌, ap, subst, rules}
 use Rattle.std.proofs.lemmas.Fn.{filter_same}
-use Rattle.csp_semantics.specs.Syntax.Value as pure
-use Rattle.csp_semantics.specs.Syntax.Value.{has_value, to_values, values_list}
+use Rattle.csp_syntax.specs.Value as pure
+use Rattle.csp_syntax.specs.Value.{has_value, to_values, values_list}
 use Rattle.csp_value.specs.declared.set.SetOf.{out-SetOf}
 use Rattle.csp_value.specs.Value.{members_of, value_of, values_of}
 use Rattle.csp_value.proofs.Finding.{filter_rises}

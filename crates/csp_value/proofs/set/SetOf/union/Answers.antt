@@ -1,7 +1,7 @@
 -- Each value of the one set is put into the other.
 use Rattle.std.proofs.Common.{sym, ◌∙◌, ap, ap₂, subst}
 use Rattle.std.proofs.lemmas.List.{nil_from_length}
-use Rattle.csp_semantics.specs.Syntax.Value.{insert_values, to_values, values_list}
+use Rattle.csp_syntax.specs.Value.{insert_values, to_values, values_list}
 use Rattle.csp_value.specs.Value.{members_of, values_of}
 use Rattle.csp_value.proofs.Forms.{listed, members_listed, members_of_made}
 use Rattle.csp_value.proofs.Sets.{Rises, inserts_rise}

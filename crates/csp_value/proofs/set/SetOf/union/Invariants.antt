@@ -1,5 +1,5 @@
 use Rattle.std.proofs.Common.{◌≡◌}
-use Rattle.csp_semantics.specs.Syntax.Value.{insert_values}
+use Rattle.csp_syntax.specs.Value.{insert_values}
 use Rattle.csp_value.specs.Value.{values_of}
 use Rattle.csp_value.proofs.set.SetOf.union.Given as goal
 

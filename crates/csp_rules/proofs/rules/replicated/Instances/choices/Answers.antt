@@ -1,7 +1,7 @@
 -- One more instance, and the chain of all.
 use Rattle.std.proofs.Common.{◌≡◌, List, take, sym, ◌∙◌, ap, subst, arith}
 use Rattle.std.proofs.lemmas.List.{take_all}
-use Rattle.csp_semantics.specs.Syntax.Process.{Process, InternalChoice}
+use Rattle.csp_syntax.specs.Process.{Process, InternalChoice}
 use Rattle.csp_semantics.specs.Meaning.Transitions.{left_grouped}
 use Rattle.csp_value.specs.declared.value.Value.{Value}
 use Rattle.csp_operators.specs.Answering.{target_of, within_limits}

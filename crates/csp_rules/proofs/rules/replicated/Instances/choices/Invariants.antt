@@ -1,6 +1,6 @@
 -- What is made so far is the chain of the instances so far.
 use Rattle.std.proofs.Common.{◌≡◌, take}
-use Rattle.csp_semantics.specs.Syntax.Process.{InternalChoice}
+use Rattle.csp_syntax.specs.Process.{InternalChoice}
 use Rattle.csp_semantics.specs.Meaning.Transitions.{left_grouped}
 use Rattle.csp_operators.specs.Answering.{target_of, within_limits}
 use Rattle.csp_rules.specs.Replicating.{instance_of, instances_of}

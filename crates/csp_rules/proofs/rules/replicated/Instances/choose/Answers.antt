@@ -1,7 +1,7 @@
 -- The chain of the first ones, and the last one.
 use Rattle.std.proofs.Common.{◌≡◌, ◌∷◌, [], IfOk, Option, map, subst}
-use Rattle.csp_semantics.specs.Syntax.Value.{Tau}
-use Rattle.csp_semantics.specs.Syntax.Process.{Process}
+use Rattle.csp_syntax.specs.Value.{Tau}
+use Rattle.csp_syntax.specs.Process.{Process}
 use Rattle.csp_operators.specs.Answering.{answered_of, target_of, within_limits}
 use Rattle.csp_rules.specs.Replicating.{instance_of}
 use Rattle.csp_rules.proofs.rules.replicated.Instances.choose.Goals as goal

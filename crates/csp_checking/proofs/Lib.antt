@@ -1,0 +1,17 @@
+pub mod FirstRefused
+pub mod FineSites
+pub mod Resolving
+pub mod ScriptThere
+pub mod WellKinded
+pub mod Unrefused
+pub mod AlongTokens
+pub mod FitsAbove
+pub mod CheckedRows
+pub mod CheckedTrees
+pub mod Unifying
+pub mod Asking
+pub mod AskingExpressions
+pub mod AskingProcesses
+pub mod AskingItems
+pub mod AskingSets
+pub mod Owning

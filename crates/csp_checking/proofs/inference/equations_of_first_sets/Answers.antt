@@ -1,0 +1,24 @@
+use Rattle.csp_checking.proofs.AskingItems.{set_asked}
+use Rattle.csp_checking.proofs.AskingSets.{none_asked, nametype_asked, field_asked, heads_asked, other_asked, one_declaration_more}
+use Rattle.csp_checking.proofs.inference.equations_of_first_sets.Goals as goal
+
+pub returns-clause-nothing : goal.returns-clause-nothing
+returns-clause-nothing c = λ types o n. none_asked types o n
+
+pub returns-clause-nametype : goal.returns-clause-nametype
+returns-clause-nametype c = λ types above o n m x es name domain owners below found h. nametype_asked types above o n m x es name domain owners below found h
+
+pub returns-clause-declaration : goal.returns-clause-declaration
+returns-clause-declaration c = λ types above d kinds. one_declaration_more types above d kinds
+
+pub returns-clause-set : goal.returns-clause-set
+returns-clause-set c = λ types o n x e owners below small. set_asked types o owners n e x below small
+
+pub returns-clause-field : goal.returns-clause-field
+returns-clause-field c = λ types above o n m es names before d ms owners below same column h. field_asked types o owners above names before d ms same column n m es below h
+
+pub returns-clause-heads : goal.returns-clause-heads
+returns-clause-heads c = λ types above o n m es names le h. heads_asked types above o n m es h names le
+
+pub returns-clause-other : goal.returns-clause-other
+returns-clause-other c = λ types above o n m es d e f h. other_asked types above o n m es h d e f

@@ -1,0 +1,17 @@
+use Rattle.csp_checking.proofs.AskingProcesses.{fields_asks, event_asks, set_asks, pairs_asks, process_asks}
+use Rattle.csp_checking.proofs.inference.equations_of_processes.Goals as goal
+
+pub returns-clause-fields : goal.returns-clause-fields
+returns-clause-fields c = λ types o n names fs ms owners below named h. fields_asks types o owners n names fs ms (below, named) h
+
+pub returns-clause-events : goal.returns-clause-events
+returns-clause-events c = λ types o n names e owners below named. event_asks types o owners names n e (below, named)
+
+pub returns-clause-event_sets : goal.returns-clause-event_sets
+returns-clause-event_sets c = λ types o n names s owners below named. set_asks types o owners names n s (below, named)
+
+pub returns-clause-pairs : goal.returns-clause-pairs
+returns-clause-pairs c = λ script o n names rs owners below named. pairs_asks script o owners n names rs (below, named)
+
+pub returns-clause-processes : goal.returns-clause-processes
+returns-clause-processes c = λ script o n names p owners below named. process_asks script o owners n names p (below, named)

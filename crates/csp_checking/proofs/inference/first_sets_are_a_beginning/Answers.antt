@@ -1,0 +1,8 @@
+use Rattle.csp_checking.proofs.AskingSets.{beginning_above, beginning_in_fields}
+use Rattle.csp_checking.proofs.inference.first_sets_are_a_beginning.Goals as goal
+
+pub returns-clause-above : goal.returns-clause-above
+returns-clause-above c = λ so_far more. beginning_above so_far more
+
+pub returns-clause-fields : goal.returns-clause-fields
+returns-clause-fields c = λ above names ds rest below. beginning_in_fields above names ds rest below

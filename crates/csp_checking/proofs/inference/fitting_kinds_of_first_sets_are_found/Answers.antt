@@ -1,0 +1,11 @@
+use Rattle.csp_checking.proofs.AskingSets.{some_first_fit, no_first_fit, all_asked}
+use Rattle.csp_checking.proofs.inference.fitting_kinds_of_first_sets_are_found.Goals as goal
+
+pub returns-clause-some : goal.returns-clause-some
+returns-clause-some c = λ types raw so_far o n m es t numbers sets solved. some_first_fit types raw so_far o n m es numbers sets t solved
+
+pub returns-clause-none : goal.returns-clause-none
+returns-clause-none c = λ types raw so_far o n m es numbers begins sets none. no_first_fit types raw so_far o n m es numbers sets begins none
+
+pub returns-clause-all : goal.returns-clause-all
+returns-clause-all c = λ types raw o n m es numbers sets. all_asked types raw o n m es numbers sets

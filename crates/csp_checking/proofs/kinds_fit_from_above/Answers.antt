@@ -1,0 +1,8 @@
+use Rattle.csp_checking.proofs.FitsAbove.{fit_above, fit_fewer}
+use Rattle.csp_checking.proofs.kinds_fit_from_above.Goals as goal
+
+pub returns-clause-above : goal.returns-clause-above
+returns-clause-above c = fit_above
+
+pub returns-clause-fields : goal.returns-clause-fields
+returns-clause-fields c = fit_fewer

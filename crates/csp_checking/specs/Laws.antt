@@ -1,0 +1,2 @@
+-- Small trees for the laws.
+pub mod Trees

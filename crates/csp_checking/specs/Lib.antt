@@ -1,0 +1,14 @@
+pub mod Part
+pub mod Names
+pub mod Resolving
+pub mod Sets
+pub mod Scripts
+pub mod Sites
+pub mod Faults
+pub mod Rules
+pub mod Fitting
+pub mod Refusals
+pub mod Checked
+pub mod Order
+pub mod Inference
+pub mod Laws

@@ -1,0 +1,21 @@
+use Rattle.csp_semantics.specs.Kinds.Scripts.{IsWellKindedAssertion}
+use Rattle.csp_semantics.proofs.KindedSteps.{each_member, step_closed, run_closed}
+use Rattle.csp_semantics.proofs.ClosedTerms.{no_misfit, reached_no_misfit}
+use Rattle.csp_semantics.proofs.kinds.terms_of_checked_scripts.Goals as goal
+
+pub returns-clause-sides : goal.returns-clause-sides
+returns-clause-sides c = λ script a checked has.
+    let h = each_member (IsWellKindedAssertion script checked.0) script.assertions a checked.1.assertions has in
+    ((checked.0, checked.1, h.specification), (checked.0, checked.1, h.implementation))
+
+pub returns-clause-step : goal.returns-clause-step
+returns-clause-step c = λ script t x u h step. (h.0, h.1, step_closed script h.0 h.1.sets h.1.equations t x u step h.2)
+
+pub returns-clause-run : goal.returns-clause-run
+returns-clause-run c = λ script t path u h run. (h.0, h.1, run_closed script h.0 h.1.sets h.1.equations path t u run h.2)
+
+pub returns-clause-no_misfit : goal.returns-clause-no_misfit
+returns-clause-no_misfit c = λ script t h. no_misfit script h.0 h.1 t h.2
+
+pub returns-clause-faults : goal.returns-clause-faults
+returns-clause-faults c = λ script t why h some. reached_no_misfit script h.0 h.1 t why h.2 some

@@ -1,0 +1,4 @@
+pub mod Places
+pub mod Equalities
+pub mod Orders
+pub mod ProcessOrder

@@ -1,0 +1,10 @@
+//! What an assertion compares.
+
+/// What a refinement compares (FDR manual).
+#[derive(Clone, Copy, PartialEq, Eq)]
+pub enum Model {
+    /// `[T=`: the traces.
+    Traces,
+    /// `[F=`: the traces and the stable failures.
+    Failures,
+}

@@ -1,0 +1,10 @@
+pub mod Spelling
+pub mod Longest
+pub mod Division
+pub mod Grammatical
+pub mod Heights
+pub mod Fronts
+pub mod TextPlaces
+pub mod Pieces
+pub mod Deciding
+pub mod Refusing

@@ -1,0 +1,9 @@
+pub mod Place
+pub mod Token
+pub mod Spelling
+pub mod Fronts
+pub mod Spans
+pub mod Raw
+pub mod Grammar
+pub mod Height
+pub mod Reading
