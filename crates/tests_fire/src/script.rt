@@ -14,7 +14,8 @@ use csp_value::{ConId, FieldSet, SetOf, Value};
 use std::alloc::{Allocator, Global};
 use std::test::Fail;
 
-static DECLARATIONS: &str = "
+/// The equations and assertions.
+pub(crate) static DECLARATIONS: &str = "
 P(x) = c!x -> STOP
 R(x, y) = d!x!y -> STOP
 COPY1 = in?x -> mid!x -> COPY1
@@ -187,8 +188,8 @@ pub(crate) fn types<A: Allocator + Copy>(alloc: A) -> Result<TypeTable<A>, Memor
     })
 }
 
-/// The script with the equations and assertions of the text.
-fn script_of<A: Allocator + Copy, B: Allocator>(
+/// The script with these equations and assertions.
+pub(crate) fn script_of<A: Allocator + Copy, B: Allocator>(
     alloc: A,
     raw: &Raw<'_, B>,
 ) -> Result<Script<A>, Fail> {
