@@ -6,72 +6,77 @@ use csp_term::AllocHandle;
 use linked_list_allocator::LocalHeap;
 use report::{Buffer, Out};
 use std::alloc::{AllocError, Global};
+use std::process::Abort;
 use std::test::Fail;
 
 const BEYOND_STOP: &str = "channel a, b, c\nassert STOP [T= a -> STOP\n";
 
-// Texts with their reports and statuses.
-const REPORTS: [(&str, &str, u8); 10] = [
-    ("", "", 0),
-    (BEYOND_STOP, "1 fails trace <> event a\n", 1),
+// A text, and the lines that it is answered with.
+type Row = (&'static str, &'static str);
+
+// Scripts whose assertions hold.
+const HOLDING: &[Row] = &[
+    ("", ""),
+    ("channel a, b, c\nassert a -> STOP [T= STOP\n", "1 holds\n"),
+    ("channel a' -- nothing to check é", ""),
+    ("assert STOP [T= STOP", "1 holds\n"),
     (
-        "channel a, b, c\nassert a -> STOP [T= STOP\n",
+        "{- sides in\n   parentheses -} channel a\nassert (a -> ((STOP))) [T= (a->(STOP)) -- one side twice",
         "1 holds\n",
-        0,
     ),
-    ("channel a' -- nothing to check é", "", 0),
-    ("assert STOP [T= STOP", "1 holds\n", 0),
+];
+
+// Scripts with an assertion that fails.
+const FAILING: &[Row] = &[
+    (BEYOND_STOP, "1 fails trace <> event a\n"),
     (
         "channel α\nassert STOP [T= α -> STOP",
         "1 fails trace <> event α\n",
-        1,
     ),
     (
         "channel a, b\nassert a -> b -> STOP [T= a -> a -> STOP",
         "1 fails trace <a> event a\n",
-        1,
     ),
     (
         "assert a -> STOP [T= STOP\nassert STOP [T= b' -> STOP\nassert STOP [T= STOP channel a, b'",
         "1 holds\n2 fails trace <> event b'\n3 holds\n",
-        1,
-    ),
-    (
-        "{- sides in\n   parentheses -} channel a\nassert (a -> ((STOP))) [T= (a->(STOP)) -- one side twice",
-        "1 holds\n",
-        0,
     ),
     (
         "channel stop, if_\r\nassert\tstop -> STOP\n[T=\nif_ -> STOP",
         "1 fails trace <> event if_\n",
-        1,
     ),
 ];
 
 // Scripts outside the part of the language that is checked.
-const OUTSIDE: [&str; 18] = [
-    "channel a\nassert STOP [T= b -> STOP",
-    "channel a\nassert STOP [F= a -> STOP",
-    "channel a, a",
-    "channel a\nchannel b, a",
-    "channel a\nassert STOP [T= a.1 -> STOP",
-    "channel a\nassert STOP [T= a?x -> STOP",
-    "channel a : {0..1}",
-    "nametype N = {0..1}",
-    "datatype D = A | B",
-    "assert STOP [T= SKIP",
-    "assert STOP [T= STOP [] STOP",
-    "channel a\nassert a [T= STOP",
-    "channel a\nassert STOP [T= STOP \\ {a}",
-    "channel a\nassert STOP [T= STOP[[a <- a]]",
-    "assert STOP [T= true & STOP",
-    "assert STOP [T= if true then STOP else STOP",
-    "assert STOP [T= STOP ; STOP",
-    "P = STOP",
+const OUTSIDE: &[Row] = &[
+    ("channel a\nassert STOP [T= b -> STOP", "refused part\n"),
+    ("channel a\nassert STOP [F= a -> STOP", "refused part\n"),
+    ("channel a, a", "refused part\n"),
+    ("channel a\nchannel b, a", "refused part\n"),
+    ("channel a\nassert STOP [T= a.1 -> STOP", "refused part\n"),
+    ("channel a\nassert STOP [T= a?x -> STOP", "refused part\n"),
+    ("channel a : {0..1}", "refused part\n"),
+    ("nametype N = {0..1}", "refused part\n"),
+    ("datatype D = A | B", "refused part\n"),
+    ("assert STOP [T= SKIP", "refused part\n"),
+    ("assert STOP [T= STOP [] STOP", "refused part\n"),
+    ("channel a\nassert a [T= STOP", "refused part\n"),
+    ("channel a\nassert STOP [T= STOP \\ {a}", "refused part\n"),
+    (
+        "channel a\nassert STOP [T= STOP[[a <- a]]",
+        "refused part\n",
+    ),
+    ("assert STOP [T= true & STOP", "refused part\n"),
+    (
+        "assert STOP [T= if true then STOP else STOP",
+        "refused part\n",
+    ),
+    ("assert STOP [T= STOP ; STOP", "refused part\n"),
+    ("P = STOP", "refused part\n"),
 ];
 
 // Texts that are no scripts, with the number and the place of the refusal.
-const NO_SCRIPTS: [(&str, &str); 29] = [
+const NO_SCRIPTS: &[Row] = &[
     (
         "channel a, b, c\nassert STOP [T= a -> STOP \\ {a}",
         "refused S04 at 2:27\n",
@@ -118,6 +123,54 @@ const NO_SCRIPTS: [(&str, &str); 29] = [
     ("assert a, assert", "refused S01 at 1:9\n"),
 ];
 
+// Statuses, and what is answered with each.
+const TEXTS: &[(u8, &[Row])] = &[(0, HOLDING), (1, FAILING), (3, OUTSIDE), (3, NO_SCRIPTS)];
+
+// A text in pieces, each with how often it is repeated.
+type Pieces = &'static [(&'static str, usize)];
+
+// Texts at the limits and past them: a status, the text and its lines.
+const LONG: &[(u8, Pieces, &str)] = &[
+    (
+        1,
+        &[
+            ("channel a\nassert STOP [T= ", 1),
+            ("a -> ", 100),
+            ("STOP", 1),
+        ],
+        "1 fails trace <> event a\n",
+    ),
+    (
+        3,
+        &[
+            ("channel a\nassert STOP [T= ", 1),
+            ("a -> ", 101),
+            ("STOP", 1),
+        ],
+        "refused S02 at 2:519\n",
+    ),
+    (
+        3,
+        &[("P = ", 1), ("(", 100), ("STOP", 1), (")", 100)],
+        "refused part\n",
+    ),
+    (
+        3,
+        &[("P = ", 1), ("(", 101), ("STOP", 1), (")", 101)],
+        "refused S02 at 1:105\n",
+    ),
+    (0, &[(" ", 65_536)], ""),
+    (3, &[(" ", 65_537)], "refused L05 at 1:1\n"),
+];
+
+// Words of the command line that name no file.
+const NO_FILES: &[&[&str]] = &[
+    &[],
+    &["script", "script"],
+    &["other"],
+    &["script", "other", "script"],
+];
+
 // What a run answered and gave to its two outputs.
 #[derive(Drop)]
 struct Told {
@@ -135,6 +188,14 @@ impl Told {
 
     fn is_refused(&self, line: &str) -> bool {
         self.is(3, "", line)
+    }
+
+    // The line of a refusal goes to the error output.
+    fn is_answered(&self, status: u8, lines: &str) -> bool {
+        if status == 3 {
+            return self.is_refused(lines);
+        }
+        self.is(status, lines, "")
     }
 }
 
@@ -183,111 +244,57 @@ fn check(alloc: Global, text: &[u8]) -> Told {
     run_on(alloc, &["script"], text)
 }
 
-// `assert STOP [T=` and a chain of so many prefixes.
-fn chain(alloc: Global, prefixes: usize) -> Result<String, AllocError> {
-    let mut text = String::from_str(alloc, "channel a\nassert STOP [T= ")?;
-    for _ in 0..prefixes {
-        text.push_str("a -> ")?;
+fn are_answered_so(rt: &impl Abort, alloc: Global, status: u8, rows: &[Row]) -> Result<(), Fail> {
+    for (text, lines) in rows {
+        let told = check(alloc, text.as_bytes());
+        assert!(rt; told.is_answered(status, lines), "at {text}");
     }
-    text.push_str("STOP")?;
-    Ok(text)
+    Ok(())
 }
 
-#[test]
-fn scripts_have_their_reports(rt: HostRuntime) -> Result<(), Fail> {
-    for (text, report, status) in REPORTS {
-        let told = check(rt.alloc(), text.as_bytes());
-        assert!(rt; told.is(status, report, ""), "at {text}");
+// Adds a text as often as `times` says.
+fn repeat(whole: &mut String, text: &str, times: usize) -> Result<(), AllocError> {
+    for _ in 0..times {
+        whole.push_str(text)?;
+    }
+    Ok(())
+}
+
+fn put_together(alloc: Global, pieces: Pieces) -> Result<String, AllocError> {
+    let mut whole = String::new(alloc);
+    for (text, times) in pieces {
+        repeat(&mut whole, text, *times)?;
+    }
+    Ok(whole)
+}
+
+fn long_are_answered_so(rt: &impl Abort, alloc: Global) -> Result<(), Fail> {
+    for (status, pieces, lines) in LONG {
+        let text = put_together(alloc, pieces)?;
+        let told = check(alloc, text.as_bytes());
+        assert!(rt; told.is_answered(*status, lines), "at {pieces:?}");
     }
     Ok(())
 }
 
 #[test]
-fn scripts_outside_the_part_are_refused(rt: HostRuntime) -> Result<(), Fail> {
-    for text in OUTSIDE {
-        let told = check(rt.alloc(), text.as_bytes());
-        assert!(rt; told.is_refused("refused part\n"), "at {text}");
+fn texts_are_answered_so(rt: HostRuntime) -> Result<(), Fail> {
+    for (status, rows) in TEXTS {
+        are_answered_so(&rt, rt.alloc(), *status, rows)?;
     }
-    Ok(())
+    long_are_answered_so(&rt, rt.alloc())
 }
 
 #[test]
-fn texts_that_are_no_scripts_are_refused_at_their_places(rt: HostRuntime) -> Result<(), Fail> {
-    for (text, line) in NO_SCRIPTS {
-        let told = check(rt.alloc(), text.as_bytes());
-        assert!(rt; told.is_refused(line), "at {text}");
-    }
-    let told = check(rt.alloc(), &[0x50, 0xff]);
-    assert!(rt; told.is_refused("refused L04 at 1:2\n"));
-    Ok(())
-}
-
-#[test]
-fn a_height_of_100_is_read_and_none_above(rt: HostRuntime) -> Result<(), Fail> {
-    let highest = chain(rt.alloc(), 100)?;
-    let told = check(rt.alloc(), highest.as_bytes());
-    assert!(rt; told.is(1, "1 fails trace <> event a\n", ""));
-    let higher = chain(rt.alloc(), 101)?;
-    let told = check(rt.alloc(), higher.as_bytes());
-    assert!(rt; told.is_refused("refused S02 at 2:519\n"));
-    Ok(())
-}
-
-// `P = STOP` with `STOP` in so many brackets.
-fn bracketed(alloc: Global, brackets: usize) -> Result<String, AllocError> {
-    let mut text = String::from_str(alloc, "P = ")?;
-    for _ in 0..brackets {
-        text.push_str("(")?;
-    }
-    text.push_str("STOP")?;
-    for _ in 0..brackets {
-        text.push_str(")")?;
-    }
-    Ok(text)
-}
-
-#[test]
-fn brackets_may_be_100_deep(rt: HostRuntime) -> Result<(), Fail> {
-    let deepest = bracketed(rt.alloc(), 100)?;
-    let told = check(rt.alloc(), deepest.as_bytes());
-    assert!(rt; told.is_refused("refused part\n"));
-    let deeper = bracketed(rt.alloc(), 101)?;
-    let told = check(rt.alloc(), deeper.as_bytes());
-    assert!(rt; told.is_refused("refused S02 at 1:105\n"));
-    Ok(())
-}
-
-#[test]
-fn a_text_of_65536_bytes_is_read_and_none_longer(rt: HostRuntime) -> Result<(), Fail> {
-    let mut text = Vec::new(rt.alloc());
-    for _ in 0..65_536 {
-        text.push(b' ')?;
-    }
-    assert!(rt; check(rt.alloc(), &text).is(0, "", ""));
-    text.push(b' ')?;
-    assert!(rt; check(rt.alloc(), &text).is_refused("refused L05 at 1:1\n"));
-    Ok(())
-}
-
-#[test]
-fn other_words_than_a_file_are_refused(rt: HostRuntime) -> Result<(), Fail> {
-    let words: [&[&str]; 4] = [
-        &[],
-        &["script", "script"],
-        &["other"],
-        &["script", "other", "script"],
-    ];
-    for words in words {
+fn what_is_no_text_is_refused(rt: HostRuntime) -> Result<(), Fail> {
+    for words in NO_FILES {
         let told = run_on(rt.alloc(), words, b"");
-        assert!(rt; told.is_refused("refused file\n"));
+        assert!(rt; told.is_refused("refused file\n"), "at {words:?}");
     }
-    Ok(())
-}
-
-#[test]
-fn memory_that_a_file_lacks_is_refused(rt: HostRuntime) -> Result<(), Fail> {
     let told = run_in(rt.alloc(), rt.alloc(), &["script"], &mut NoMemory);
     assert!(rt; told.is_refused("refused memory\n"));
+    let told = check(rt.alloc(), &[0x50, 0xff]);
+    assert!(rt; told.is_refused("refused L04 at 1:2\n"));
     Ok(())
 }
 
@@ -366,20 +373,29 @@ fn ending_within(
 }
 
 // In heaps of more and more bytes each request for memory is refused in turn, and then none.
+fn is_answered_or_refused(
+    rt: &impl Abort,
+    alloc: Global,
+    status: u8,
+    row: &Row,
+) -> Result<(), Fail> {
+    let (text, report) = *row;
+    let (mut refused, mut without_answer, mut answered) = (0u32, 0u32, 0u32);
+    for size in 1..256 {
+        match ending_within(alloc, 128 * size, text, report, status)? {
+            Ending::Answered => answered = answered.saturating_add(1),
+            Ending::WithoutAnswer => without_answer = without_answer.saturating_add(1),
+            Ending::Refused => refused = refused.saturating_add(1),
+            Ending::Other => assert!(rt; false, "at {text} in {size}"),
+        }
+    }
+    let each = refused > 4 && without_answer > 4 && answered > 4;
+    assert!(rt; each, "{refused}, {without_answer} and {answered}");
+    Ok(())
+}
+
 #[test]
 fn refused_memory_changes_no_other_answer(rt: HostRuntime) -> Result<(), Fail> {
-    for (text, report, status) in [REPORTS[1], REPORTS[2]] {
-        let (mut refused, mut without_answer, mut answered) = (0u32, 0u32, 0u32);
-        for size in 1..256 {
-            match ending_within(rt.alloc(), 128 * size, text, report, status)? {
-                Ending::Answered => answered = answered.saturating_add(1),
-                Ending::WithoutAnswer => without_answer = without_answer.saturating_add(1),
-                Ending::Refused => refused = refused.saturating_add(1),
-                Ending::Other => assert!(rt; false, "at {text} in {size}"),
-            }
-        }
-        let each = refused > 4 && without_answer > 4 && answered > 4;
-        assert!(rt; each, "{refused}, {without_answer} and {answered}");
-    }
-    Ok(())
+    is_answered_or_refused(&rt, rt.alloc(), 1, &FAILING[0])?;
+    is_answered_or_refused(&rt, rt.alloc(), 0, &HOLDING[1])
 }
