@@ -97,23 +97,24 @@ pub(crate) fn expression<A: Allocator + Copy, B: Allocator>(
     }
 }
 
-/// Adds the expression, or those that its name stands for among others.
-#[cycle(expression)]
-fn add<A: Allocator + Copy, B: Allocator>(
+/// Adds what the name stands for among others: numbers in a row, or the last one again. Whether it is such a name.
+fn add_named<A: Allocator + Copy, B: Allocator>(
     alloc: A,
     item: &Expression<'_, B>,
     all: &mut Vec<Expr<A>, A>,
-) -> Result<(), Fail> {
-    if let Expression::Use(name) = item {
-        if let Some(end) = number_behind(name.text, "BELOW") {
-            return add_numbers(end, all);
-        }
-        if let Some(times) = number_behind(name.text, "AGAIN") {
-            return Ok(add_again(alloc, times, all)?);
-        }
+) -> Result<bool, Fail> {
+    let Expression::Use(name) = item else {
+        return Ok(false);
+    };
+    if let Some(end) = number_behind(name.text, "BELOW") {
+        add_numbers(end, all)?;
+        return Ok(true);
     }
-    all.push(expression(alloc, item)?)?;
-    Ok(())
+    if let Some(times) = number_behind(name.text, "AGAIN") {
+        add_again(alloc, times, all)?;
+        return Ok(true);
+    }
+    Ok(false)
 }
 
 /// Each of the expressions, in order.
@@ -124,7 +125,9 @@ pub(crate) fn expressions<A: Allocator + Copy, B: Allocator>(
 ) -> Result<Vec<Expr<A>, A>, Fail> {
     let mut all = Vec::new(alloc);
     for item in items {
-        add(alloc, item, &mut all)?;
+        if !add_named(alloc, item, &mut all)? {
+            all.push(expression(alloc, item)?)?;
+        }
     }
     Ok(all)
 }
