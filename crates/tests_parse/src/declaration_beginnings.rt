@@ -2,11 +2,9 @@
 
 use crate::follows::{
     ANY_OPERATOR, ATOM, Beginning, CONTROL, DECLARATION, EXPRESSION, INFIX, NAMED, OPERAND, UNARY,
-    first_wrong,
 };
-use std::test::Fail;
 
-static DECLARATIONS: [Beginning; 32] = [
+pub(crate) const DECLARATIONS: &[Beginning] = &[
     ("", &[DECLARATION]),
     ("datatype", &[" x "]),
     ("datatype D", &[" = "]),
@@ -43,12 +41,3 @@ static DECLARATIONS: [Beginning; 32] = [
     ("assert STOP [F=", &[OPERAND, CONTROL]),
     ("assert STOP [F= SKIP", &[INFIX, UNARY, DECLARATION]),
 ];
-
-#[test]
-fn declarations_go_on_so(rt: HostRuntime) -> Result<(), Fail> {
-    for beginning in &DECLARATIONS {
-        let wrong = first_wrong(rt.alloc(), beginning)?;
-        assert!(rt; wrong.is_none(), "{} {wrong:?}", beginning.0);
-    }
-    Ok(())
-}

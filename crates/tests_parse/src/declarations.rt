@@ -1,7 +1,8 @@
-use crate::texts::is_read_as;
-use std::test::Fail;
+//! Declarations and their trees.
 
-static DECLARATIONS: [(&str, &str); 15] = [
+use crate::rows::{ALONE, Row, Subject};
+
+const DECLARATIONS: &[Row] = &[
     ("", ""),
     ("datatype D = A", "datatype D@1:10 A@1:14; "),
     ("datatype D = A | B'", "datatype D@1:10 A@1:14 B'@1:18; "),
@@ -34,10 +35,4 @@ static DECLARATIONS: [(&str, &str); 15] = [
     ),
 ];
 
-#[test]
-fn declarations_have_these_trees(rt: HostRuntime) -> Result<(), Fail> {
-    for (text, expected) in &DECLARATIONS {
-        assert!(rt; is_read_as(rt.alloc(), text, expected)?, "{text}");
-    }
-    Ok(())
-}
+pub(crate) const SUBJECT: Subject = ("declarations", ALONE, DECLARATIONS);

@@ -1,11 +1,10 @@
 //! What may stand behind each beginning of an expression.
 
 use crate::follows::{
-    ANY_OPERATOR, ATOM, Beginning, DECLARATION, EXPRESSION, OPERATOR, SUM_OPERATOR, first_wrong,
+    ANY_OPERATOR, ATOM, Beginning, DECLARATION, EXPRESSION, OPERATOR, SUM_OPERATOR,
 };
-use std::test::Fail;
 
-static EXPRESSIONS: [Beginning; 65] = [
+pub(crate) const EXPRESSIONS: &[Beginning] = &[
     ("nametype N = x", &[ANY_OPERATOR, DECLARATION]),
     ("nametype N = true", &[ANY_OPERATOR, DECLARATION]),
     ("nametype N = false", &[ANY_OPERATOR, DECLARATION]),
@@ -72,12 +71,3 @@ static EXPRESSIONS: [Beginning; 65] = [
     ("nametype N = elem ( x , y", &[ANY_OPERATOR, " ) "]),
     ("nametype N = elem ( x , y )", &[ANY_OPERATOR, DECLARATION]),
 ];
-
-#[test]
-fn expressions_go_on_so(rt: HostRuntime) -> Result<(), Fail> {
-    for beginning in &EXPRESSIONS {
-        let wrong = first_wrong(rt.alloc(), beginning)?;
-        assert!(rt; wrong.is_none(), "{} {wrong:?}", beginning.0);
-    }
-    Ok(())
-}

@@ -1,7 +1,8 @@
-use crate::texts::{Surroundings, has_tree};
-use std::test::Fail;
+//! Expressions and their trees.
 
-static AROUND_EXPRESSIONS: [Surroundings; 5] = [
+use crate::rows::{Row, Subject, Surroundings};
+
+const AROUND: &[Surroundings] = &[
     ("nametype N = ", "", "nametype N@1:10 1:14 ", "; "),
     ("P = ", " & STOP", "P@1:1 = (", " & STOP); "),
     ("P = (", ") & STOP", "P@1:1 = (", " & STOP); "),
@@ -9,7 +10,7 @@ static AROUND_EXPRESSIONS: [Surroundings; 5] = [
     ("P = Q(", ",1)", "P@1:1 = Q(", ",1); "),
 ];
 
-static EXPRESSIONS: [(&str, &str); 46] = [
+const EXPRESSIONS: &[Row] = &[
     ("1", "1"),
     ("x", "x"),
     ("true or false", "(true or false)"),
@@ -61,12 +62,4 @@ static EXPRESSIONS: [(&str, &str); 46] = [
     ("(x or y) and z", "((x or y) and z)"),
 ];
 
-#[test]
-fn expressions_have_these_trees(rt: HostRuntime) -> Result<(), Fail> {
-    for around in &AROUND_EXPRESSIONS {
-        for (part, tree) in &EXPRESSIONS {
-            assert!(rt; has_tree(rt.alloc(), around, part, tree)?, "{part}");
-        }
-    }
-    Ok(())
-}
+pub(crate) const SUBJECT: Subject = ("expressions", AROUND, EXPRESSIONS);

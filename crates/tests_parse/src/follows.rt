@@ -9,7 +9,7 @@ use std::alloc::{AllocError, Global};
 pub(crate) type Beginning = (&'static str, &'static [&'static str]);
 
 /// All keywords and signs, a number and a name.
-static TOKENS: [&str; 71] = [
+const TOKENS: &[&str] = &[
     "datatype", "nametype", "channel", "assert", "if", "then", "else", "and", "or", "not", "true",
     "false", "Bool", "STOP", "SKIP", "head", "tail", "null", "elem", "member", "union", "inter",
     "diff", "card", "->", "<-", "[]", "|~|", "|||", "||", "[|", "|]", "[[", "]]", "{|", "|}",
@@ -63,7 +63,7 @@ pub(crate) fn first_wrong(
     alloc: Global,
     beginning: &Beginning,
 ) -> Result<Option<&'static str>, AllocError> {
-    for token in &TOKENS {
+    for token in TOKENS {
         if !goes_on(alloc, beginning, token)? {
             return Ok(Some(*token));
         }

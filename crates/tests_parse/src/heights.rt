@@ -1,123 +1,136 @@
+//! Texts at the limit of heights and over it.
+
 use crate::texts::{read, repeated};
 use std::alloc::{AllocError, Global};
+use std::process::Abort;
 use std::test::Fail;
 
 /// A text that is put together: what stands first, what is repeated and how often, and what stands behind.
 type Repeated = (&'static str, &'static str, usize, &'static str);
 
-/// The answer to two such texts, the one behind the other.
-fn read_both(alloc: Global, one: &Repeated, other: &Repeated) -> Result<String, AllocError> {
-    let front = repeated(alloc, one.0, one.1, one.2, one.3)?;
-    let back = repeated(alloc, other.0, other.1, other.2, other.3)?;
-    let text = repeated(alloc, &front, &back, 1, "")?;
-    read(alloc, &text)
-}
-
-/// Whether two such texts, the one behind the other, have a tree that begins with an equation for `P`.
-fn are_equations(alloc: Global, one: &Repeated, other: &Repeated) -> Result<bool, AllocError> {
-    let answer = read_both(alloc, one, other)?;
-    Ok(answer.as_str().starts_with("P@"))
-}
-
-/// Whether two such texts, the one behind the other, are refused so.
-fn are_refused(
-    alloc: Global,
-    one: &Repeated,
-    other: &Repeated,
-    expected: &str,
-) -> Result<bool, AllocError> {
-    let answer = read_both(alloc, one, other)?;
-    Ok(answer.as_str() == expected)
-}
+/// Two such texts, the one behind the other, and their refusal. Without one they are equations, the first for `P`.
+type Height = (Repeated, Repeated, Option<&'static str>);
 
 const NOTHING: Repeated = ("", "", 0, "");
 
-/// Groups beside one another do not add up, and each declaration begins anew.
-static LOW: [(Repeated, Repeated); 13] = [
-    (("P = ", "(", 99, "STOP"), ("", ")", 99, "")),
-    (("P = ", "(", 100, "STOP"), ("", ")", 100, "")),
-    (("P = ", "(", 98, "a -> STOP"), ("", ")", 98, "")),
-    (("P = ", "(", 99, "a -> STOP"), ("", ")", 99, "")),
-    (("P = ", "(", 98, "a -> b -> STOP"), ("", ")", 98, "")),
-    (("P = ", "(", 100, "x"), ("", ")", 100, "")),
-    (("P = ", "(", 99, "x"), ("", ")", 99, " & STOP")),
-    (("P = ", "not ", 99, "x & STOP"), NOTHING),
-    (("P = Q", "[[a <- b]]", 100, ""), NOTHING),
-    (("P = ", "a ->", 99, "STOP"), NOTHING),
-    (("P = ", "a ->", 100, "STOP"), NOTHING),
-    (("", "P = Q((1+1)*(1+1),(1+1)*(1+1)) ", 50, ""), NOTHING),
-    (("P = (((1 == 1) & STOP))", "[]STOP", 95, ""), NOTHING),
-];
-
-/// A refused token that is too high is refused for its height.
-static HIGH: [(Repeated, Repeated, &str); 15] = [
+const HEIGHTS: &[Height] = &[
+    // Groups beside one another do not add up, and each declaration begins anew.
+    (("P = ", "(", 99, "STOP"), ("", ")", 99, ""), None),
+    (("P = ", "(", 100, "STOP"), ("", ")", 100, ""), None),
+    (("P = ", "(", 98, "a -> STOP"), ("", ")", 98, ""), None),
+    (("P = ", "(", 99, "a -> STOP"), ("", ")", 99, ""), None),
+    (("P = ", "(", 98, "a -> b -> STOP"), ("", ")", 98, ""), None),
+    (("P = ", "(", 100, "x"), ("", ")", 100, ""), None),
+    (("P = ", "(", 99, "x"), ("", ")", 99, " & STOP"), None),
+    (("P = ", "not ", 99, "x & STOP"), NOTHING, None),
+    (("P = Q", "[[a <- b]]", 100, ""), NOTHING, None),
+    (("P = ", "a ->", 99, "STOP"), NOTHING, None),
+    (("P = ", "a ->", 100, "STOP"), NOTHING, None),
+    (
+        ("", "P = Q((1+1)*(1+1),(1+1)*(1+1)) ", 50, ""),
+        NOTHING,
+        None,
+    ),
+    (("P = (((1 == 1) & STOP))", "[]STOP", 95, ""), NOTHING, None),
+    // A refused token that is too high is refused for its height.
     (
         ("P = ", "(", 101, "STOP"),
         ("", ")", 101, ""),
-        "S02 at 1:105",
+        Some("S02 at 1:105"),
     ),
     (
         ("P = ", "(", 100, "a -> STOP"),
         ("", ")", 100, ""),
-        "S02 at 1:107",
+        Some("S02 at 1:107"),
     ),
     (
         ("P = ", "(", 101, "a -> STOP"),
         ("", ")", 101, ""),
-        "S02 at 1:105",
+        Some("S02 at 1:105"),
     ),
     (
         ("P = ", "(", 99, "a -> b -> STOP"),
         ("", ")", 99, ""),
-        "S02 at 1:111",
+        Some("S02 at 1:111"),
     ),
-    (("P = ", "(", 101, "x"), ("", ")", 101, ""), "S02 at 1:105"),
+    (
+        ("P = ", "(", 101, "x"),
+        ("", ")", 101, ""),
+        Some("S02 at 1:105"),
+    ),
     (
         ("P = ", "(", 100, "x"),
         ("", ")", 100, " & a -> STOP"),
-        "S02 at 1:207",
+        Some("S02 at 1:207"),
     ),
-    (("P = ", "not ", 100, "x & STOP"), NOTHING, "S02 at 1:407"),
-    (("P = Q", "[[a <- b]]", 101, ""), NOTHING, "S02 at 1:1006"),
+    (
+        ("P = ", "not ", 100, "x & STOP"),
+        NOTHING,
+        Some("S02 at 1:407"),
+    ),
+    (
+        ("P = Q", "[[a <- b]]", 101, ""),
+        NOTHING,
+        Some("S02 at 1:1006"),
+    ),
     (
         ("nametype N = ", "(", 101, "1"),
         ("", ")", 101, ""),
-        "S02 at 1:114",
+        Some("S02 at 1:114"),
     ),
-    (("P = ", "a ->", 101, "STOP"), NOTHING, "S02 at 1:407"),
-    (("P = ", "(", 100, "STOP("), NOTHING, "S02 at 1:109"),
+    (("P = ", "a ->", 101, "STOP"), NOTHING, Some("S02 at 1:407")),
+    (("P = ", "(", 100, "STOP("), NOTHING, Some("S02 at 1:109")),
     (
         ("P = ", "(", 99, "STOP"),
         ("", ")", 99, "("),
-        "S01 at 1:207",
+        Some("S01 at 1:207"),
     ),
     (
         ("P = ", "(", 100, "STOP"),
         ("", ")", 100, "("),
-        "S02 at 1:209",
+        Some("S02 at 1:209"),
     ),
     (
         ("P = (1 == 1 & STOP)", "[](1 == 1 & STOP)", 98, ""),
         NOTHING,
-        "S02 at 1:838",
+        Some("S02 at 1:838"),
     ),
     (
         ("P = (((1 == 1) & STOP))", "[]STOP", 96, ""),
         NOTHING,
-        "S02 at 1:594",
+        Some("S02 at 1:594"),
     ),
 ];
 
-#[test]
-fn heights(rt: HostRuntime) -> Result<(), Fail> {
-    for (one, other) in &LOW {
-        assert!(rt; are_equations(rt.alloc(), one, other)?, "{}", one.0);
+fn text_of(alloc: Global, height: &Height) -> Result<String, AllocError> {
+    let (one, other, _) = height;
+    let front = repeated(alloc, one.0, one.1, one.2, one.3)?;
+    let back = repeated(alloc, other.0, other.1, other.2, other.3)?;
+    repeated(alloc, &front, &back, 1, "")
+}
+
+/// Whether the answer is the refusal, or a tree where there is none.
+fn is_expected(answer: &str, refusal: Option<&str>) -> bool {
+    match refusal {
+        Some(expected) => answer == expected,
+        None => answer.starts_with("P@"),
     }
-    for (one, other, expected) in &HIGH {
-        assert!(rt;
-            are_refused(rt.alloc(), one, other, expected)?,
-            "{expected}"
-        );
+}
+
+fn is_as_high(rt: &impl Abort, alloc: Global, height: &Height) -> Result<(), Fail> {
+    let text = text_of(alloc, height)?;
+    let answer = read(alloc, &text)?;
+    assert!(rt;
+        is_expected(&answer, height.2),
+        "`{text}` is read as `{answer}`"
+    );
+    Ok(())
+}
+
+#[test]
+fn heights_have_a_limit(rt: HostRuntime) -> Result<(), Fail> {
+    for height in HEIGHTS {
+        is_as_high(&rt, rt.alloc(), height)?;
     }
     Ok(())
 }

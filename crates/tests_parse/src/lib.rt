@@ -24,11 +24,15 @@ mod mixed;
 #[cfg(test)]
 mod operand_beginnings;
 #[cfg(test)]
+mod out_of_place;
+#[cfg(test)]
 mod process_beginnings;
 #[cfg(test)]
 mod processes;
 #[cfg(test)]
 mod refusals;
+#[cfg(test)]
+mod rows;
 #[cfg(test)]
 mod show;
 #[cfg(test)]

@@ -2,11 +2,10 @@
 
 use crate::follows::{
     ANY_OPERATOR, ATOM, Beginning, CONTROL, DECLARATION, EXPRESSION, INFIX, NAMED, OPERAND,
-    OPERATOR, UNARY, first_wrong,
+    OPERATOR, UNARY,
 };
-use std::test::Fail;
 
-static OPERANDS: [Beginning; 35] = [
+pub(crate) const OPERANDS: &[Beginning] = &[
     ("P = STOP", &[INFIX, UNARY, DECLARATION]),
     ("P = SKIP", &[INFIX, UNARY, DECLARATION]),
     ("P = Q", &[INFIX, UNARY, NAMED, ANY_OPERATOR, DECLARATION]),
@@ -44,7 +43,7 @@ static OPERANDS: [Beginning; 35] = [
     ("P = x & ( Q )", &[INFIX, ANY_OPERATOR, " & ", DECLARATION]),
 ];
 
-static BRACKETS: [Beginning; 25] = [
+pub(crate) const BRACKETS: &[Beginning] = &[
     ("P = (", &[OPERAND, CONTROL]),
     ("P = ( STOP", &[INFIX, UNARY, " ) "]),
     ("P = ( STOP )", &[INFIX, UNARY, DECLARATION]),
@@ -77,21 +76,3 @@ static BRACKETS: [Beginning; 25] = [
     ("P = ( ( x ) [[ a <- b ]]", &[UNARY, " ) "]),
     ("P = ( STOP \\ { }", &[" \\ ) "]),
 ];
-
-#[test]
-fn operands_go_on_so(rt: HostRuntime) -> Result<(), Fail> {
-    for beginning in &OPERANDS {
-        let wrong = first_wrong(rt.alloc(), beginning)?;
-        assert!(rt; wrong.is_none(), "{} {wrong:?}", beginning.0);
-    }
-    Ok(())
-}
-
-#[test]
-fn brackets_go_on_so(rt: HostRuntime) -> Result<(), Fail> {
-    for beginning in &BRACKETS {
-        let wrong = first_wrong(rt.alloc(), beginning)?;
-        assert!(rt; wrong.is_none(), "{} {wrong:?}", beginning.0);
-    }
-    Ok(())
-}

@@ -2,11 +2,10 @@
 
 use crate::follows::{
     ANY_OPERATOR, ATOM, Beginning, CONTROL, DECLARATION, EVENT_SET, EXPRESSION, INFIX, NAMED,
-    OPERAND, OPERATOR, UNARY, first_wrong,
+    OPERAND, OPERATOR, UNARY,
 };
-use std::test::Fail;
 
-static PROCESSES: [Beginning; 40] = [
+pub(crate) const PROCESSES: &[Beginning] = &[
     ("P = if", &[EXPRESSION]),
     ("P = if x", &[ANY_OPERATOR, " then "]),
     ("P = if x == y", &[OPERATOR, " then "]),
@@ -52,7 +51,7 @@ static PROCESSES: [Beginning; 40] = [
     ("P = STOP [ { a } || { b } ] STOP", &[DECLARATION]),
 ];
 
-static RENAMINGS_AND_HIDINGS: [Beginning; 35] = [
+pub(crate) const RENAMINGS_AND_HIDINGS: &[Beginning] = &[
     ("P = STOP [[", &[" x "]),
     ("P = STOP [[ a", &[" . <- "]),
     ("P = STOP [[ a .", &[ATOM]),
@@ -92,21 +91,3 @@ static RENAMINGS_AND_HIDINGS: [Beginning; 35] = [
         &[" \\ ", DECLARATION],
     ),
 ];
-
-#[test]
-fn processes_go_on_so(rt: HostRuntime) -> Result<(), Fail> {
-    for beginning in &PROCESSES {
-        let wrong = first_wrong(rt.alloc(), beginning)?;
-        assert!(rt; wrong.is_none(), "{} {wrong:?}", beginning.0);
-    }
-    Ok(())
-}
-
-#[test]
-fn renamings_and_hidings_go_on_so(rt: HostRuntime) -> Result<(), Fail> {
-    for beginning in &RENAMINGS_AND_HIDINGS {
-        let wrong = first_wrong(rt.alloc(), beginning)?;
-        assert!(rt; wrong.is_none(), "{} {wrong:?}", beginning.0);
-    }
-    Ok(())
-}

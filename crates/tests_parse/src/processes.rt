@@ -1,14 +1,15 @@
-use crate::texts::{Surroundings, has_tree};
-use std::test::Fail;
+//! Processes and their trees.
 
-static AROUND_PROCESSES: [Surroundings; 4] = [
+use crate::rows::{Row, Subject, Surroundings};
+
+const AROUND: &[Surroundings] = &[
     ("P = ", "", "P@1:1 = ", "; "),
     ("P = (", ")", "P@1:1 = ", "; "),
     ("assert ", " [T= Q", "assert 1:1 ", " traces Q(); "),
     ("assert P [F= ", "", "assert 1:1 P() failures ", "; "),
 ];
 
-static PROCESSES: [(&str, &str); 54] = [
+const PROCESSES: &[Row] = &[
     ("STOP", "STOP"),
     ("SKIP", "SKIP"),
     ("Q", "Q()"),
@@ -89,12 +90,4 @@ static PROCESSES: [(&str, &str); 54] = [
     ("([] x:S @ P) ; Q", "(([] x:S @ P()) ; Q())"),
 ];
 
-#[test]
-fn processes_have_these_trees(rt: HostRuntime) -> Result<(), Fail> {
-    for around in &AROUND_PROCESSES {
-        for (part, tree) in &PROCESSES {
-            assert!(rt; has_tree(rt.alloc(), around, part, tree)?, "{part}");
-        }
-    }
-    Ok(())
-}
+pub(crate) const SUBJECT: Subject = ("processes", AROUND, PROCESSES);

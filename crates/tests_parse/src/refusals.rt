@@ -1,7 +1,8 @@
-use crate::texts::is_read_as;
-use std::test::Fail;
+//! Texts that are no scripts, and their refusals.
 
-static REFUSALS: [(&str, &str); 129] = [
+use crate::rows::{ALONE, Row, Subject};
+
+const REFUSALS: &[Row] = &[
     (
         "channel a, b, c\nassert STOP [T= a -> STOP \\ {a}",
         "S04 at 2:27",
@@ -136,10 +137,4 @@ static REFUSALS: [(&str, &str); 129] = [
     ("assert STOP [T= STOP [T= STOP", "S01 at 1:22"),
 ];
 
-#[test]
-fn texts_have_these_refusals(rt: HostRuntime) -> Result<(), Fail> {
-    for (text, expected) in &REFUSALS {
-        assert!(rt; is_read_as(rt.alloc(), text, expected)?, "{text}");
-    }
-    Ok(())
-}
+pub(crate) const SUBJECT: Subject = ("refusals", ALONE, REFUSALS);

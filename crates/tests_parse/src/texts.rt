@@ -16,12 +16,6 @@ pub(crate) fn read(alloc: Global, text: &str) -> Result<String, AllocError> {
     }
 }
 
-/// Whether a text is read with this answer.
-pub(crate) fn is_read_as(alloc: Global, text: &str, expected: &str) -> Result<bool, AllocError> {
-    let answer = read(alloc, text)?;
-    Ok(answer.as_str() == expected)
-}
-
 /// A text as often as `times` says, between two others.
 pub(crate) fn repeated(
     alloc: Global,
@@ -36,19 +30,4 @@ pub(crate) fn repeated(
     }
     text.push_str(behind)?;
     Ok(text)
-}
-
-/// Where a part may stand: the text before it and behind it, and what is shown before its tree and behind it.
-pub(crate) type Surroundings = (&'static str, &'static str, &'static str, &'static str);
-
-/// Whether a part that stands there has this tree.
-pub(crate) fn has_tree(
-    alloc: Global,
-    around: &Surroundings,
-    part: &str,
-    tree: &str,
-) -> Result<bool, AllocError> {
-    let text = repeated(alloc, around.0, part, 1, around.1)?;
-    let expected = repeated(alloc, around.2, tree, 1, around.3)?;
-    is_read_as(alloc, &text, &expected)
 }
