@@ -10,6 +10,8 @@ mod answers;
 mod batches;
 mod held;
 #[cfg(test)]
+mod limits;
+#[cfg(test)]
 mod normal_forms;
 #[cfg(test)]
 mod outcomes;

@@ -58,8 +58,12 @@ T = R(1 % 0, head(<>))
 FAULT = modulus
 ";
 
-pub(crate) const SUBJECTS: &[Subject] = &[
+static SUBJECTS: [Subject; 3] = [
     ("the ends do tick or nothing", ENDS),
     ("a call goes to its body by tau", CALLS),
     ("calls that are stuck", STUCK),
 ];
+
+pub(crate) fn subjects() -> &'static [Subject] {
+    &SUBJECTS
+}

@@ -99,8 +99,12 @@ DOES = a -> STOP
 OFFERS = a -> STOP
 ";
 
-pub(crate) const SUBJECTS: &[Subject] = &[
+static SUBJECTS: [Subject; 3] = [
     ("an event or tick makes an external choice", EXTERNAL),
     ("an internal choice chooses by itself", INTERNAL),
     ("choices that are stuck", STUCK),
 ];
+
+pub(crate) fn subjects() -> &'static [Subject] {
+    &SUBJECTS
+}

@@ -87,9 +87,13 @@ T = if x then c!2 -> STOP else c!2 -> STOP
 FAULT = kind
 ";
 
-pub(crate) const SUBJECTS: &[Subject] = &[
+static SUBJECTS: [Subject; 4] = [
     ("guards do what their body does where they are true", GUARDS),
     ("conditions pick a branch", BRANCHES),
     ("the picked part alone is looked at", PICKED),
     ("conditions without a truth value are faults", CAUSES),
 ];
+
+pub(crate) fn subjects() -> &'static [Subject] {
+    &SUBJECTS
+}

@@ -50,9 +50,13 @@ CAUSE = overflow(2147483647 + 1 + head(<>))
 CAUSE = kind(x)
 ";
 
-pub(crate) const SUBJECTS: &[Subject] = &[
+static SUBJECTS: [Subject; 4] = [
     ("operands of any kind", KINDS),
     ("a left side may decide", SIDES),
     ("truth values are connected", TRUTHS),
     ("the first cause of an expression counts", CAUSES),
 ];
+
+pub(crate) fn subjects() -> &'static [Subject] {
+    &SUBJECTS
+}

@@ -105,7 +105,11 @@ T = Q[[a <- b]]
 LARGE = STOP
 ";
 
-pub(crate) const SUBJECTS: &[Subject] = &[
+static SUBJECTS: [Subject; 2] = [
     ("hidden events are taus", HIDING),
     ("events become their images", RENAMING),
 ];
+
+pub(crate) fn subjects() -> &'static [Subject] {
+    &SUBJECTS
+}

@@ -65,8 +65,12 @@ T = d?x -> STOP
 FAULT = kind
 ";
 
-pub(crate) const SUBJECTS: &[Subject] = &[
+static SUBJECTS: [Subject; 3] = [
     ("fields without a value are faults", CAUSES),
     ("the first cause counts", FIRST_CAUSES),
     ("fields of the wrong kind or number are faults", KINDS),
 ];
+
+pub(crate) fn subjects() -> &'static [Subject] {
+    &SUBJECTS
+}

@@ -42,34 +42,16 @@ fn is_fired_as<'h>(
     }
 }
 
-/// Whether a heap of so many bytes has room for the firing, which then shows this.
-fn is_fired_within<'h>(
+/// Fires the term in the heap, which may have no room, and in the other one, which has.
+fn is_fired<'h>(
     rt: &impl Abort,
-    alloc: Global,
-    script: &Script<&'h LocalHeap>,
-    term: &Term<&'h LocalHeap>,
-    whole: &Form<&'h LocalHeap>,
-    bytes: usize,
-) -> Result<bool, Memory> {
-    let heap = LocalHeap::new(alloc, bytes)?;
-    Ok(is_fired_as(rt, &heap, script, term, whole))
-}
-
-/// Counts firings of the term in heaps of more and more bytes.
-fn count_firings<'h>(
-    rt: &impl Abort,
-    alloc: Global,
     heap: &'h LocalHeap,
+    other: &'h LocalHeap,
     script: &Script<&'h LocalHeap>,
     term: &Term<&'h LocalHeap>,
-    counts: &mut Counts,
-) -> Result<(), Memory> {
-    let whole = fire(heap, script, term)?;
-    for size in 1..256 {
-        let is_fired = is_fired_within(rt, alloc, script, term, whole.form(), 16 * size)?;
-        counts.count(is_fired);
-    }
-    Ok(())
+) -> Result<bool, Memory> {
+    let whole = fire(other, script, term)?;
+    Ok(is_fired_as(rt, heap, script, term, whole.form()))
 }
 
 /// Whether the script is that of the declarations, and the term that of the sample.
@@ -83,24 +65,51 @@ fn are_kept<'h>(
     Ok(term(heap, sample)? == *fired && script_of(heap, declarations)? == *script)
 }
 
-/// Counts firings of the sample. The script and the term are as they were.
-fn count_sample<'h>(
+/// Fires the sample in the heap, which may have no room. Then the script and the term are as they were.
+fn is_sample_fired<'h>(
+    rt: &impl Abort,
+    heap: &'h LocalHeap,
+    other: &'h LocalHeap,
+    declarations: &Raw<'_, Global>,
+    sample: &Process<'_, Global>,
+) -> Result<bool, Fail> {
+    let script = script_of(other, declarations)?;
+    let term = term(other, sample)?;
+    let is_fired = is_fired(rt, heap, other, &script, &term)?;
+    let are_kept = is_fired || are_kept(other, declarations, sample, &script, &term)?;
+    assert!(rt; are_kept);
+    Ok(is_fired)
+}
+
+/// Fires the sample in a heap of so many bytes, for which there may be no room.
+fn is_fired_within(
     rt: &impl Abort,
     alloc: Global,
-    heap: &'h LocalHeap,
+    declarations: &Raw<'_, Global>,
+    sample: &Process<'_, Global>,
+    bytes: usize,
+) -> Result<bool, Fail> {
+    let here = LocalHeap::new(alloc, 131_072)?;
+    let there = LocalHeap::new(alloc, bytes)?;
+    is_sample_fired(rt, &there, &here, declarations, sample)
+}
+
+/// Counts firings of the sample.
+fn count_firings(
+    rt: &impl Abort,
+    alloc: Global,
     declarations: &Raw<'_, Global>,
     sample: &Process<'_, Global>,
     counts: &mut Counts,
 ) -> Result<(), Fail> {
-    let script = script_of(heap, declarations)?;
-    let term = term(heap, sample)?;
-    count_firings(rt, alloc, heap, &script, &term, counts)?;
-    let are_kept = are_kept(heap, declarations, sample, &script, &term)?;
-    assert!(rt; are_kept);
+    for size in 1..256 {
+        let is_fired = is_fired_within(rt, alloc, declarations, sample, 16 * size)?;
+        counts.count(is_fired);
+    }
     Ok(())
 }
 
-fn count_all(
+fn count_all_firings(
     rt: &impl Abort,
     alloc: Global,
     declarations: &Raw<'_, Global>,
@@ -109,8 +118,7 @@ fn count_all(
     let mut counts = Counts::none();
     for sample in &samples.declarations {
         if let Declaration::Equation { body, .. } = sample {
-            let heap = LocalHeap::new(alloc, 131_072)?;
-            count_sample(rt, alloc, &heap, declarations, body, &mut counts)?;
+            count_firings(rt, alloc, declarations, body, &mut counts)?;
         }
     }
     Ok(counts)
@@ -120,7 +128,7 @@ fn count_all(
 fn a_firing_that_finds_no_room_says_so(rt: HostRuntime) -> Result<(), Fail> {
     let declarations = read(rt.alloc(), "the script", DECLARATIONS)?;
     let samples = read(rt.alloc(), "samples", SAMPLES)?;
-    let Counts { refused, answered } = count_all(&rt, rt.alloc(), &declarations, &samples)?;
+    let Counts { refused, answered } = count_all_firings(&rt, rt.alloc(), &declarations, &samples)?;
     assert!(rt;
         refused > 300 && answered > 1000,
         "{refused} and {answered}"

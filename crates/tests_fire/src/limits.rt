@@ -66,8 +66,12 @@ T = s?x!(head(x) + head(x)) -> P(x, x)
 FAULT = range
 ";
 
-pub(crate) const SUBJECTS: &[Subject] = &[
+static SUBJECTS: [Subject; 3] = [
     ("a chain of prefixes is fired up to the limits", CHAINS),
     ("the limits are exact", EXACT),
     ("a step past the limits makes a term large", STEPS),
 ];
+
+pub(crate) fn subjects() -> &'static [Subject] {
+    &SUBJECTS
+}

@@ -175,7 +175,11 @@ T = STOP[[c.head(<>) <- c.(1 % 0)]]
 NONE = empty
 ";
 
-pub(crate) const SUBJECTS: &[Subject] = &[
+static SUBJECTS: [Subject; 2] = [
     ("a set of events has its events", SETS),
     ("a renaming makes its images", RENAMINGS),
 ];
+
+pub(crate) fn subjects() -> &'static [Subject] {
+    &SUBJECTS
+}

@@ -57,7 +57,11 @@ VALUE = OF(LEAST > 2147483647, false)
 VALUE = OF(LEAST >= 2147483647, false)
 ";
 
-pub(crate) const SUBJECTS: &[Subject] = &[
+static SUBJECTS: [Subject; 2] = [
     ("numbers are of 32 bits", NUMBERS),
     ("comparisons", COMPARISONS),
 ];
+
+pub(crate) fn subjects() -> &'static [Subject] {
+    &SUBJECTS
+}

@@ -188,10 +188,14 @@ DOES = STOP
 OFFERS = STOP
 ";
 
-pub(crate) const SUBJECTS: &[Subject] = &[
+static SUBJECTS: [Subject; 5] = [
     ("sides are interleaved", INTERLEAVINGS),
     ("events of the set are done together", GENERALISED),
     ("each side keeps to its own events", ALPHABETISED),
     ("sets of events hold their events", SETS),
     ("compositions that are stuck", STUCK),
 ];
+
+pub(crate) fn subjects() -> &'static [Subject] {
+    &SUBJECTS
+}

@@ -72,8 +72,12 @@ DOES = STOP
 OFFERS = STOP
 ";
 
-pub(crate) const SUBJECTS: &[Subject] = &[
+static SUBJECTS: [Subject; 3] = [
     ("prefixes do what their fields allow", FIELDS),
     ("an event leads to the body", BODIES),
     ("an input from the empty set offers nothing", EMPTY),
 ];
+
+pub(crate) fn subjects() -> &'static [Subject] {
+    &SUBJECTS
+}

@@ -104,11 +104,19 @@ DOES = STOP
 OFFERS = STOP
 ";
 
-pub(crate) const SUBJECTS: &[Subject] = &[
+static SUBJECTS: [Subject; 3] = [
     ("external choices of instances", EXTERNAL),
     ("internal choices of instances", INTERNAL),
     ("interleavings of instances", INTERLEAVING),
 ];
 
+pub(crate) fn subjects() -> &'static [Subject] {
+    &SUBJECTS
+}
+
+static LONG_SUBJECTS: [Subject; 1] = [("chains past the limits are looked at", LONG)];
+
 /// These take long.
-pub(crate) const LONG_SUBJECTS: &[Subject] = &[("chains past the limits are looked at", LONG)];
+pub(crate) fn long_subjects() -> &'static [Subject] {
+    &LONG_SUBJECTS
+}

@@ -34,27 +34,6 @@ use std::test::Fail;
 /// A name, and what is said.
 pub(crate) type Subject = (&'static str, &'static str);
 
-const SUBJECTS: &[&[Subject]] = &[
-    numbers::SUBJECTS,
-    sequences::SUBJECTS,
-    sets::SUBJECTS,
-    decisions::SUBJECTS,
-    substitution::SUBJECTS,
-    lookups::SUBJECTS,
-    limits::SUBJECTS,
-    calls::SUBJECTS,
-    prefixes::SUBJECTS,
-    faults::SUBJECTS,
-    conditions::SUBJECTS,
-    choices::SUBJECTS,
-    successions::SUBJECTS,
-    parallels::SUBJECTS,
-    events_changed::SUBJECTS,
-    replicated::SUBJECTS,
-    rule_steps::SUBJECTS,
-    worked::SUBJECTS,
-];
-
 fn value(
     alloc: Global,
     script: &Script<Global>,
@@ -371,8 +350,27 @@ fn hold(
 #[test]
 fn what_is_said_is_so(rt: HostRuntime) -> Result<(), Fail> {
     let script = script_with_sequences(rt.alloc())?;
-    for subjects in SUBJECTS {
+    for subjects in [
+        numbers::subjects(),
+        sequences::subjects(),
+        sets::subjects(),
+        decisions::subjects(),
+        substitution::subjects(),
+        lookups::subjects(),
+        limits::subjects(),
+        calls::subjects(),
+        prefixes::subjects(),
+        faults::subjects(),
+        conditions::subjects(),
+        choices::subjects(),
+        successions::subjects(),
+        parallels::subjects(),
+        events_changed::subjects(),
+        replicated::subjects(),
+        rule_steps::subjects(),
+        worked::subjects(),
+    ] {
         hold(&rt, rt.alloc(), &script, subjects)?;
     }
-    hold(&rt, rt.alloc(), &script, replicated::LONG_SUBJECTS)
+    hold(&rt, rt.alloc(), &script, replicated::long_subjects())
 }

@@ -91,7 +91,7 @@ T = c!x -> STOP
 STUCK = kind
 ";
 
-pub(crate) const SUBJECTS: &[Subject] = &[
+static SUBJECTS: [Subject; 3] = [
     (
         "a step past the limits is answered without its term",
         LIMITS,
@@ -99,3 +99,7 @@ pub(crate) const SUBJECTS: &[Subject] = &[
     ("values are put in", VALUES),
     ("a rule without a value tells its first cause", CAUSES),
 ];
+
+pub(crate) fn subjects() -> &'static [Subject] {
+    &SUBJECTS
+}

@@ -31,7 +31,11 @@ VALUE = OF(card(union({BELOW1024, 0}, {1023})), 1024)
 CAUSE = overflow({BELOW1025, 0})
 ";
 
-pub(crate) const SUBJECTS: &[Subject] = &[
+static SUBJECTS: [Subject; 2] = [
     ("sequences", SEQUENCES),
     ("sequences and sets are of at most 1024", MANY),
 ];
+
+pub(crate) fn subjects() -> &'static [Subject] {
+    &SUBJECTS
+}

@@ -49,8 +49,12 @@ VALUE = OF(member(A4, D), true)
 VALUE = OF(member(A5, D), false)
 ";
 
-pub(crate) const SUBJECTS: &[Subject] = &[
+static SUBJECTS: [Subject; 3] = [
     ("sets", SETS),
     ("ranges", RANGES),
     ("sets that are named", NAMED),
 ];
+
+pub(crate) fn subjects() -> &'static [Subject] {
+    &SUBJECTS
+}

@@ -106,9 +106,13 @@ T = STOP[[a.x <- b.1, a.2 <- b.x]]
 MEASURES = OF(8, 2)
 ";
 
-pub(crate) const SUBJECTS: &[Subject] = &[
+static SUBJECTS: [Subject; 4] = [
     ("values are put into expressions", EXPRESSIONS),
     ("values are put into terms", TERMS),
     ("values are put into sets of events and renamings", EVENTS),
     ("terms and sets of events have sizes and depths", MEASURED),
 ];
+
+pub(crate) fn subjects() -> &'static [Subject] {
+    &SUBJECTS
+}

@@ -91,8 +91,12 @@ DOES = a -> STOP
 OFFERS = a -> STOP
 ";
 
-pub(crate) const SUBJECTS: &[Subject] = &[
+static SUBJECTS: [Subject; 3] = [
     ("a sequence goes on where the first ends", SEQUENCES),
     ("an interrupt ends what it interrupts", INTERRUPTS),
     ("successions that are stuck", STUCK),
 ];
+
+pub(crate) fn subjects() -> &'static [Subject] {
+    &SUBJECTS
+}

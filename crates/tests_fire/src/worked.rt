@@ -87,7 +87,11 @@ DOES = tau -> (STOP [] (a -> STOP)) [] tau -> (SKIP [] (a -> STOP)) [] a -> STOP
 OFFERS = NOTHING
 ";
 
-pub(crate) const SUBJECTS: &[Subject] = &[
+static SUBJECTS: [Subject; 2] = [
     ("a chain of two copies and a buffer", BUFFER),
     ("worked rows", ROWS),
 ];
+
+pub(crate) fn subjects() -> &'static [Subject] {
+    &SUBJECTS
+}
