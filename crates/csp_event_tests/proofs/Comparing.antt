@@ -8,6 +8,7 @@ use Rattle.std.specs.declared.alloc.Allocator as allocator
 use Rattle.std.specs.Cmp.Lexicographic.{slice_cmp}
 use Rattle.std.specs.FinMap.{slice_cmp-IsAntisymmetric}
 use Rattle.std.specs.Ordering.{is_eq}
+use Rattle.std.specs.Cmp.{both_ways}
 use Rattle.csp_syntax.specs.Value as pure
 use Rattle.csp_semantics.specs.Meaning.Events.{same_sets}
 use Rattle.csp_syntax.proofs.Equalities.{is_eq-Equal, value_same}
@@ -20,7 +21,6 @@ use Rattle.csp_value.proofs.Sameness.{Tells, lists_tell}
 use Rattle.csp_expression.proofs.Forming.{unlisted}
 use Rattle.csp_term.specs.Script.{field_values}
 use Rattle.csp_event_tests.specs.Testing.{sets_of}
-use Rattle.csp_event_tests.proofs.Truths.{same_truth}
 
 module _ (R : RattleType.RattleType) (A : allocator.Ghosts R.Denot) (ad dd : Syntax.Dict) where
   abbrev field_eq : FieldSet R.Denot → FieldSet R.Denot → Bool
@@ -36,6 +36,6 @@ module _ (R : RattleType.RattleType) (A : allocator.Ghosts R.Denot) (ad dd : Syn
   sets_compared xs ys =
       let told = lists_tell field_eq field_values field_tells in
       let order = slice_cmp (slice_cmp pure.value_cmp) in
-      same_truth (pointwise field_eq xs ys) (same_sets (sets_of xs) (sets_of ys))
+      both_ways (pointwise field_eq xs ys) (same_sets (sets_of xs) (sets_of ys))
       (λ e. ap is_eq (ap (order (sets_of xs)) (sym (told.sound xs ys e)) ∙ tied_itself (lists_total (lists_total value_total)) (sets_of xs)))
       (λ e. told.complete xs ys (slice_cmp-IsAntisymmetric (slice_cmp-IsAntisymmetric value_same) (sets_of xs) (sets_of ys) (is_eq-Equal (order (sets_of xs) (sets_of ys)) e)))

@@ -1,10 +1,10 @@
 -- The results of a list one after the other, and a test of each item of a list.
 use Rattle.std.proofs.Common.{◌≡◌, ℕ, ◌+◌, ◌<◌, length, take, drop, get_or, Bool, true, false, List, [], ◌∷◌, ◌++◌, map, Contains, Result, Ok, Err, refl, sym, ◌∙◌, ap, zero, suc, ⊎_elim, arith}
 use Rattle.std.proofs.lemmas.List.{drop_more, map-append, take-append-drop, take_more}
+use Rattle.std.proofs.lemmas.Bool.{or_cases, or_left, or_right}
 use Rattle.std.specs.List.{list_any}
 use Rattle.csp_semantics.specs.Meaning.Evaluation.{Cause, ◌and_then◌}
 use Rattle.csp_semantics.specs.Meaning.Events.{each}
-use Rattle.csp_event_tests.proofs.Truths.{or_cases, or_first, or_second}
 
 module _ {A B : Type 0} (f : A → Result B Cause) where
   each_both : (xs zs : List A) → each f (xs ++ zs) ≡ (each f xs and_then λ ys. each f zs and_then λ ws. Ok (ys ++ ws))
@@ -60,8 +60,8 @@ module _ {K : Type 0} (test : K → Bool) where
   -- an item that passes
   pub any_from : (ks : List K) (k : K) → Contains ks k → test k ≡ true → list_any test ks ≡ true
   any_from [] k (i, h, e) is = absurd (omega arith)
-  any_from (j ∷ ks) k (zero, h, e) is = or_first (test j) (list_any test ks) (ap test e ∙ is)
-  any_from (j ∷ ks) k (suc i, h, e) is = or_second (test j) (list_any test ks) (any_from ks k (i, omega arith, e) is)
+  any_from (j ∷ ks) k (zero, h, e) is = or_left (test j) (list_any test ks) (ap test e ∙ is)
+  any_from (j ∷ ks) k (suc i, h, e) is = or_right (test j) (list_any test ks) (any_from ks k (i, omega arith, e) is)
 
   -- one of the items that pass
   pub any_of : (ks : List K) → list_any test ks ≡ true → (k : K) × Contains ks k × (test k ≡ true)

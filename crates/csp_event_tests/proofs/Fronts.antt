@@ -1,11 +1,12 @@
 -- An event begins with one of some beginnings where one of its fronts, its channel with its first fields, is among them.
-use Rattle.std.proofs.Common.{◌≡◌, ℕ, zero, suc, ◌+◌, ◌<◌, ◌≤◌, Bool, true, false, ◌&&◌, List, [], ◌∷◌, length, take, Contains, nat_eq, refl, sym, ◌∙◌, ap, ap₂, subst, ⊎_elim, arith}
+use Rattle.std.proofs.Common.{◌≡◌, ℕ, zero, suc, ◌+◌, ◌<◌, ◌≤◌, true, false, ◌&&◌, List, [], ◌∷◌, length, take, Contains, nat_eq, refl, sym, ◌∙◌, ap, ap₂, subst, ⊎_elim, arith}
 use Rattle.std.proofs.lemmas.List.{take_all, take-map}
 use Rattle.std.specs.declared.cmp.Ordering.{Ordering}
 use Rattle.std.specs.declared.cmp.Ordering.TheVariants.{Less, Equal, Greater}
 use Rattle.std.specs.List.{list_any, starts_with}
 use Rattle.std.specs.Ordering.{is_eq, ordering_then}
-use Rattle.std.proofs.lemmas.Bool.{eq-eqb, eqb-true}
+use Rattle.std.specs.Cmp.{both_ways}
+use Rattle.std.proofs.lemmas.Bool.{eq-eqb, eqb-true, and_parts, cases_lt}
 use Rattle.csp_syntax.specs.Value as pure
 use Rattle.csp_syntax.specs.Value.{Event, event_eq, value_cmp, value_eq}
 use Rattle.csp_semantics.specs.Meaning.Events.{begins_with}
@@ -16,17 +17,10 @@ use Rattle.csp_value.specs.Action.{event_of}
 use Rattle.csp_value.specs.Value.{value_of}
 use Rattle.csp_event_tests.specs.Testing.{event_with}
 use Rattle.csp_event_tests.proofs.Enumerating.{any_from, any_of}
-use Rattle.csp_event_tests.proofs.Truths.{same_truth}
-use Rattle.csp_event_tests.proofs.Halving.{either_side}
 
 -- the channel with the first k fields
 abbrev pub front : ℕ → Event → Event
 front k e = record { channel = e.channel; fields = take k e.fields }
-
--- two truths
-both_true : (a b : Bool) → a && b ≡ true → (a ≡ true) × (b ≡ true)
-both_true true b is = (refl, is)
-both_true false b is = absurd (cc is)
 
 -- ---- lists
 
@@ -41,7 +35,7 @@ is_front : (vs ws : List pure.Value) → starts_with value_eq vs ws ≡ true →
 is_front vs [] h = refl
 is_front [] (w ∷ ws) h = absurd (cc h)
 is_front (v ∷ vs) (w ∷ ws) h =
-    let both = both_true (value_eq w v) (starts_with value_eq vs ws) h in
+    let both = and_parts (value_eq w v) (starts_with value_eq vs ws) h in
     ap₂ (λ x xs. x ∷ xs) (sym (value_same w v (is_eq-Equal (value_cmp w v) both.0))) (is_front vs ws both.1)
 
 -- ---- events
@@ -58,7 +52,7 @@ module _ (e : Event) where
   -- what an event begins with is a front of it
   front_is : (b : Event) → begins_with e b ≡ true → front (length b.fields) e ≡ b
   front_is b h =
-      let both = both_true (nat_eq e.channel b.channel) (starts_with value_eq e.fields b.fields) h in
+      let both = and_parts (nat_eq e.channel b.channel) (starts_with value_eq e.fields b.fields) h in
       let c = eqb-true e.channel b.channel both.0 in
       let vs = is_front e.fields b.fields both.1 in
       λ i. record { channel = c i; fields = vs i }
@@ -72,13 +66,13 @@ module _ (e : Event) where
 
     -- no shorter front is
     pub begun_at_last : ((k : ℕ) → k < length e.fields → list_any (event_eq (front k e)) bs ≡ false) → list_any (event_eq e) bs ≡ list_any (begins_with e) bs
-    begun_at_last none = same_truth (list_any (event_eq e) bs) (list_any (begins_with e) bs) to back
+    begun_at_last none = both_ways (list_any (event_eq e) bs) (list_any (begins_with e) bs) to back
       where
         to : list_any (event_eq e) bs ≡ true → list_any (begins_with e) bs ≡ true
         to h = let r = any_of (event_eq e) bs h in any_from (begins_with e) bs r.0 r.1 (ap (begins_with e) (sym (event_same e r.0 r.2)) ∙ begins_with_all)
 
         back : list_any (begins_with e) bs ≡ true → list_any (event_eq e) bs ≡ true
-        back h = ⊎_elim whole shorter (either_side (length e.fields) (length r.0.fields))
+        back h = ⊎_elim shorter whole (cases_lt (length r.0.fields) (length e.fields))
           where
             r : (b : Event) × Contains bs b × (begins_with e b ≡ true)
             r = any_of (begins_with e) bs h
@@ -97,7 +91,7 @@ module _ (e : Event) where
 -- ---- one more front
 
 pub none_further : {P : ℕ → Type 0} (n : ℕ) → ((k : ℕ) → k < n → P k) → P n → (k : ℕ) → k < n + 1 → P k
-none_further {P} n all here k within = ⊎_elim (λ above. subst P (let e : n ≡ k = omega (arith, above, within) in e) here) (λ below. all k below) (either_side n k)
+none_further {P} n all here k within = ⊎_elim (λ below. all k below) (λ above. subst P (let e : n ≡ k = omega (arith, above, within) in e) here) (cases_lt k n)
 
 -- the channel with the first fields of an event of the code
 pub front_with : {A : Type 0} (e : CodeEvent A) (k : ℕ) (vs : List (Value A)) → vs ≡ take k e.fields.items → event_with e.channel vs ≡ front k (event_of e)

@@ -2,24 +2,15 @@
 use Rattle.std.proofs.Common.{◌≡◌, ℕ, zero, suc, ◌≤◌, ◌<◌, Bool, true, false, Some, List, [], ◌∷◌, length, map, get_or, slice_get, Result, Ok, Err, refl, sym, ◌∙◌, ap, inl, inr, ◌⊎◌, ⊎_elim, arith}
 use Rattle.std.specs.Result.{is_ok}
 use Rattle.std.specs.declared.cmp.Ordering.{Ordering}
-use Rattle.std.specs.declared.cmp.Ordering.TheVariants.{Less, Equal, Greater}
+use Rattle.std.specs.declared.cmp.Ordering.TheVariants.{Equal}
 use Rattle.std.specs.Cmp.{IsTotalOrder}
 use Rattle.std.specs.Ordering.{is_eq, is_lt, ordering_index, ordering_reverse}
 use Rattle.std.specs.List.{list_any}
 use Rattle.std.specs.List.Sorted.{IsBinarySearchResult, IsNonDecreasingBy, IsSearchInRange, IsSortedBy}
 use Rattle.std.proofs.lemmas.List.Sorted.{searchable_from_sorted}
 use Rattle.std.proofs.lemmas.Option.{slice_get-get_or, slice_get_within, get_or_from_slice_get}
-use Rattle.csp_event_tests.proofs.Truths.{or_cases, or_first, or_second}
-
-is_eq-Equal : (r : Ordering) → is_eq r ≡ true → r ≡ Equal
-is_eq-Equal Less e = absurd (cc e)
-is_eq-Equal Equal e = refl
-is_eq-Equal Greater e = absurd (cc e)
-
-pub either_side : (i j : ℕ) → (i ≤ j) ⊎ (j < i)
-either_side zero j = inl (omega arith)
-either_side (suc i) zero = inr (omega arith)
-either_side (suc i) (suc j) = ⊎_elim (λ le. inl (omega (arith, le))) (λ lt. inr (omega (arith, lt))) (either_side i j)
+use Rattle.std.proofs.lemmas.Bool.{or_cases, or_left, or_right, cases_lt}
+use Rattle.csp_syntax.proofs.Equalities.{is_eq-Equal}
 
 module _ {K X : Type 0} {R : K → K → Ordering} (total : IsTotalOrder R) (key : X → K) (wanted : K) where
   abbrev ties : K → Bool
@@ -27,8 +18,8 @@ module _ {K X : Type 0} {R : K → K → Ordering} (total : IsTotalOrder R) (key
 
   any_at : (xs : List X) (i : ℕ) (y : X) → slice_get xs i ≡ Some y → ties (key y) ≡ true → list_any ties (map key xs) ≡ true
   any_at [] i y at is = absurd (cc at)
-  any_at (z ∷ zs) zero y at is = let f : Some z ≡ Some y = at in let e : z ≡ y = cc f in or_first (ties (key z)) (list_any ties (map key zs)) (ap (λ u. ties (key u)) e ∙ is)
-  any_at (z ∷ zs) (suc i) y at is = or_second (ties (key z)) (list_any ties (map key zs)) (any_at zs i y at is)
+  any_at (z ∷ zs) zero y at is = let f : Some z ≡ Some y = at in let e : z ≡ y = cc f in or_left (ties (key z)) (list_any ties (map key zs)) (ap (λ u. ties (key u)) e ∙ is)
+  any_at (z ∷ zs) (suc i) y at is = or_right (ties (key z)) (list_any ties (map key zs)) (any_at zs i y at is)
 
   any_found : (xs : List X) → list_any ties (map key xs) ≡ true → (j : ℕ) × (y : X) × (slice_get xs j ≡ Some y) × (ties (key y) ≡ true)
   any_found [] h = absurd (cc h)
@@ -45,14 +36,14 @@ module _ {K X : Type 0} {R : K → K → Ordering} (total : IsTotalOrder R) (key
       searchable = searchable_from_sorted total key xs wanted sorted
 
       nowhere : (j : ℕ) (y : X) → slice_get xs j ≡ Some y → ties (key y) ≡ true → ⊥
-      nowhere j y at is = by_side (either_side i j)
+      nowhere j y at is = by_side (cases_lt j i)
         where
           equal : R (key (get_or xs j y)) wanted ≡ Equal
           equal = ap (λ z. R (key z) wanted) (get_or_from_slice_get xs j y y at) ∙ total.antisymm (key y) wanted ∙ ap ordering_reverse (is_eq-Equal (R wanted (key y)) is)
 
-          by_side : (i ≤ j) ⊎ (j < i) → ⊥
-          by_side (inr under) = absurd (cc (sym equal ∙ (parts searchable).0 j y (omega arith) under))
-          by_side (inl over) = absurd (cc (sym equal ∙ (parts searchable).1 j y over (slice_get_within xs j y at)))
+          by_side : (j < i) ⊎ (i ≤ j) → ⊥
+          by_side (inl under) = absurd (cc (sym equal ∙ (parts searchable).0 j y (omega arith) under))
+          by_side (inr over) = absurd (cc (sym equal ∙ (parts searchable).1 j y over (slice_get_within xs j y at)))
 
       by_test : (b : Bool) → list_any ties (map key xs) ≡ b → false ≡ b
       by_test false is = refl

@@ -1,4 +1,3 @@
-pub mod Truths
 pub mod Halving
 pub mod Testing
 pub mod Fronts

@@ -5,7 +5,7 @@ use Rattle.std.specs.declared.cmp.Ordering.{Ordering}
 use Rattle.std.specs.declared.cmp.Ordering.TheVariants.{Less, Equal, Greater}
 use Rattle.std.specs.List.Sorted.{IsPermutation, IsSorted, IsSortedBy}
 use Rattle.std.specs.Ordering.{is_eq, is_lt, nat_cmp, ordering_reverse, ordering_then}
-use Rattle.std.specs.Cmp.{nat_cmp_is}
+use Rattle.std.specs.Cmp.{nat_cmp_is, both_ways}
 use Rattle.std.specs.FinMap.{nat_cmp-IsAntisymmetric}
 use Rattle.std.proofs.Math.Dec.{eqb-suc-zero}
 use Rattle.std.proofs.lemmas.Bool.{eq-eqb, eqb-true}
@@ -34,7 +34,6 @@ use Rattle.csp_expression.specs.declared.eval_fault.EvalFault.TheVariants as eva
 use Rattle.csp_event_tests.specs.Imaging.{AreMade, IsImagesOf, Makes, MakesMore, channel_image, event_image, found_images}
 use Rattle.csp_event_tests.specs.Testing.{AreSetsOf, IsEventOf}
 use Rattle.csp_event_tests.proofs.Alike.{alike_both, alike_by, alike_moved, alike_then, alike_turned}
-use Rattle.csp_event_tests.proofs.Truths.{same_truth}
 
 -- what a renaming makes of events
 abbrev pub Image : Type 0
@@ -248,7 +247,7 @@ firsts_rise first second xs rise k d low high = no_less (first (get_or xs (k + 1
 
 channels_tie : (c k : ℕ) → is_eq (nat_cmp c k) ≡ nat_eq k c
 channels_tie c k =
-    same_truth (is_eq (nat_cmp c k)) (nat_eq k c)
+    both_ways (is_eq (nat_cmp c k)) (nat_eq k c)
     (λ e. eq-eqb k c (sym (nat_cmp-IsAntisymmetric c k (is_eq-Equal (nat_cmp c k) e))))
     (λ e. ap is_eq (sym (nat_cmp_is c k Equal (sym (eqb-true k c e)))))
 

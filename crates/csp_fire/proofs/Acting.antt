@@ -1,5 +1,6 @@
 -- The actions of sorted steps, each once.
 use Rattle.std.proofs.Common.{◌≡◌, Bool, true, false, ◌||◌, cond, List, [], ◌∷◌, map, refl, sym, ◌∙◌, ap, subst, inl, inr, ◌⊎◌, ⊎_elim}
+use Rattle.std.proofs.lemmas.Bool.{or_cases, or_left, or_right}
 use Rattle.std.specs.Prelude.{⊤}
 use Rattle.std.specs.declared.cmp.Ordering.{Ordering}
 use Rattle.std.specs.declared.cmp.Ordering.TheVariants.{Less, Equal, Greater}
@@ -12,7 +13,6 @@ use Rattle.csp_semantics.specs.Meaning.Offers.{IsRising, RisesBy}
 use Rattle.csp_semantics.specs.Meaning.Stepping.{Steps}
 use Rattle.csp_semantics.specs.Laws.Statements.{IsOneOf}
 use Rattle.csp_semantics.proofs.Offering.{action_refl, action_same}
-use Rattle.csp_event_tests.proofs.Truths.{or_cases, or_first, or_second}
 use Rattle.csp_fire.specs.Offering.{actions_of, actions_once, behind_action}
 
 -- ---- each action once
@@ -22,10 +22,10 @@ behind_from x z [] h = h
 behind_from x z (y ∷ ys) h = by_test (action_eq x y) refl (behind_from x z ys) (behind_from y z ys)
   where
     by_test : (b : Bool) → action_eq x y ≡ b → (has_action (behind_action x ys) z ≡ true → has_action ys z ≡ true) → (has_action (behind_action y ys) z ≡ true → has_action ys z ≡ true) → action_eq z y || has_action ys z ≡ true
-    by_test true is one other = or_second (action_eq z y) (has_action ys z) (one (sym (ap (λ c. has_action (cond c (behind_action x ys) (y ∷ behind_action y ys)) z) is) ∙ h))
+    by_test true is one other = or_right (action_eq z y) (has_action ys z) (one (sym (ap (λ c. has_action (cond c (behind_action x ys) (y ∷ behind_action y ys)) z) is) ∙ h))
     by_test false is one other =
         let g : action_eq z y || has_action (behind_action y ys) z ≡ true = sym (ap (λ c. has_action (cond c (behind_action x ys) (y ∷ behind_action y ys)) z) is) ∙ h in
-        ⊎_elim (λ k. or_first (action_eq z y) (has_action ys z) k) (λ k. or_second (action_eq z y) (has_action ys z) (other k)) (or_cases (action_eq z y) (has_action (behind_action y ys) z) g)
+        ⊎_elim (λ k. or_left (action_eq z y) (has_action ys z) k) (λ k. or_right (action_eq z y) (has_action ys z) (other k)) (or_cases (action_eq z y) (has_action (behind_action y ys) z) g)
 
 -- z is x, or is left
 abbrev Left : Action → List Action → Action → Type 0
@@ -45,19 +45,19 @@ behind_has x z (y ∷ ys) h = by_test (action_eq x y) refl (or_cases (action_eq 
     by_test : (b : Bool) → action_eq x y ≡ b → (action_eq z y ≡ true) ⊎ (has_action ys z ≡ true) → (has_action ys z ≡ true → Left x ys z) → (has_action ys z ≡ true → Left y ys z) → (action_eq z x ≡ true) ⊎ Among x y ys z (action_eq x y)
     by_test true is (inl k) one other = let e : x ≡ y = action_same x y is in inl (subst (λ w. action_eq z w ≡ true) (sym e) k)
     by_test true is (inr k) one other = ⊎_elim (λ m. inl m) (λ m. inr (subst (Among x y ys z) (sym is) m)) (one k)
-    by_test false is (inl k) one other = inr (subst (Among x y ys z) (sym is) (or_first (action_eq z y) (has_action (behind_action y ys) z) k))
+    by_test false is (inl k) one other = inr (subst (Among x y ys z) (sym is) (or_left (action_eq z y) (has_action (behind_action y ys) z) k))
     by_test false is (inr k) one other =
-        inr (subst (Among x y ys z) (sym is) (⊎_elim (λ m. or_first (action_eq z y) (has_action (behind_action y ys) z) m) (λ m. or_second (action_eq z y) (has_action (behind_action y ys) z) m) (other k)))
+        inr (subst (Among x y ys z) (sym is) (⊎_elim (λ m. or_left (action_eq z y) (has_action (behind_action y ys) z) m) (λ m. or_right (action_eq z y) (has_action (behind_action y ys) z) m) (other k)))
 
 once_from : (xs : List Action) (z : Action) → has_action (actions_once xs) z ≡ true → has_action xs z ≡ true
 once_from [] z h = h
-once_from (x ∷ xs) z h = ⊎_elim (λ k. or_first (action_eq z x) (has_action xs z) k) (λ k. or_second (action_eq z x) (has_action xs z) (behind_from x z xs k)) (or_cases (action_eq z x) (has_action (behind_action x xs) z) h)
+once_from (x ∷ xs) z h = ⊎_elim (λ k. or_left (action_eq z x) (has_action xs z) k) (λ k. or_right (action_eq z x) (has_action xs z) (behind_from x z xs k)) (or_cases (action_eq z x) (has_action (behind_action x xs) z) h)
 
 once_has : (xs : List Action) (z : Action) → has_action xs z ≡ true → has_action (actions_once xs) z ≡ true
 once_has [] z h = h
 once_has (x ∷ xs) z h =
-    ⊎_elim (λ k. or_first (action_eq z x) (has_action (behind_action x xs) z) k)
-    (λ k. ⊎_elim (λ m. or_first (action_eq z x) (has_action (behind_action x xs) z) m) (λ m. or_second (action_eq z x) (has_action (behind_action x xs) z) m) (behind_has x z xs k)) (or_cases (action_eq z x) (has_action xs z) h)
+    ⊎_elim (λ k. or_left (action_eq z x) (has_action (behind_action x xs) z) k)
+    (λ k. ⊎_elim (λ m. or_left (action_eq z x) (has_action (behind_action x xs) z) m) (λ m. or_right (action_eq z x) (has_action (behind_action x xs) z) m) (behind_has x z xs k)) (or_cases (action_eq z x) (has_action xs z) h)
 
 done_from : (ss : Steps) (z : Action) → has_action (map (λ s. s.0) ss) z ≡ true → (u : Process) × IsOneOf ss z u
 done_from [] z h = absurd (cc h)
@@ -66,8 +66,8 @@ done_from (s ∷ ss) z h =
 
 done_has : (ss : Steps) (z : Action) (u : Process) → IsOneOf ss z u → has_action (map (λ s. s.0) ss) z ≡ true
 done_has [] z u h = absurd h
-done_has (s ∷ ss) z u (inl e) = or_first (action_eq z s.0) (has_action (map (λ s. s.0) ss) z) (subst (λ w. action_eq z w ≡ true) e.0 (action_refl z))
-done_has (s ∷ ss) z u (inr h) = or_second (action_eq z s.0) (has_action (map (λ s. s.0) ss) z) (done_has ss z u h)
+done_has (s ∷ ss) z u (inl e) = or_left (action_eq z s.0) (has_action (map (λ s. s.0) ss) z) (subst (λ w. action_eq z w ≡ true) e.0 (action_refl z))
+done_has (s ∷ ss) z u (inr h) = or_right (action_eq z s.0) (has_action (map (λ s. s.0) ss) z) (done_has ss z u h)
 
 -- an action is among them exactly where some step does it
 pub acts_from : (ss : Steps) (z : Action) → has_action (actions_of ss) z ≡ true → (u : Process) × IsOneOf ss z u

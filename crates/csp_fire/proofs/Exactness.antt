@@ -1,6 +1,6 @@
 -- From the steps of a term, sorted and each once, to its form.
 use Rattle.std.proofs.Common.{◌≡◌, ℕ, zero, suc, nat_eq, Bool, true, false, ◌&&◌, ◌||◌, cond, List, [], ◌∷◌, ◌++◌, length, map, refl, sym, ◌∙◌, ap, subst, inl, inr, ◌⊎◌, ⊎_elim, Contains, Option, Some, None, arith, IsTrue, ◌↔◌}
-use Rattle.std.proofs.lemmas.Bool.{eqb-true}
+use Rattle.std.proofs.lemmas.Bool.{eqb-true, or_cases, or_left, or_right}
 use Rattle.std.specs.List.{list_any}
 use Rattle.std.specs.Option.{option_map}
 use Rattle.std.specs.Ordering.{is_lt}
@@ -17,7 +17,6 @@ use Rattle.csp_semantics.proofs.Rising.{all_that_is_one}
 use Rattle.csp_operators.specs.Answering.{Answered, IsAnswered, all_within, within_limits}
 use Rattle.csp_fire.specs.Offering.{IsFormByAnswer, IsFormBySteps, IsFormWithin, actions_of, has_tau, has_tick, is_tau, is_tick, offers_of}
 use Rattle.csp_operators.proofs.Answered.{among_steps, contains_one_of, one_of_contains, step_among}
-use Rattle.csp_event_tests.proofs.Truths.{or_cases, or_first, or_second}
 use Rattle.csp_fire.proofs.Acting.{acts_from, acts_has, acts_rise}
 
 -- ---- steps by one action
@@ -30,8 +29,8 @@ module _ (test : Action → Bool) (a : Action) (only : (x : Action) → test x �
 
   some_has : (ss : Steps) (u : Process) → IsOneOf ss a u → list_any (λ s. test s.0) ss ≡ true
   some_has [] u h = absurd h
-  some_has (s ∷ ss) u (inl e) = or_first (test s.0) (list_any (λ s. test s.0) ss) (ap test (sym e.0) ∙ passes)
-  some_has (s ∷ ss) u (inr h) = or_second (test s.0) (list_any (λ s. test s.0) ss) (some_has ss u h)
+  some_has (s ∷ ss) u (inl e) = or_left (test s.0) (list_any (λ s. test s.0) ss) (ap test (sym e.0) ∙ passes)
+  some_has (s ∷ ss) u (inr h) = or_right (test s.0) (list_any (λ s. test s.0) ss) (some_has ss u h)
 
 only_tau : (x : Action) → is_tau x ≡ true → Tau ≡ x
 only_tau Tau e = refl

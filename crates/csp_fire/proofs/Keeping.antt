@@ -12,6 +12,7 @@ use Rattle.std.proofs.lemmas.List.Kept.{IsStrictlySortedBy-dedup}
 use Rattle.std.proofs.lemmas.List.Sorted.{Contains-permutation, IsPermutation-map, IsPermutation-sym}
 use Rattle.csp_syntax.specs.Value as pure
 use Rattle.csp_syntax.specs.Process.{Process}
+use Rattle.csp_syntax.proofs.Truths.{and_first, and_second}
 use Rattle.csp_semantics.specs.Meaning.Expansions.{step_cmp}
 use Rattle.csp_semantics.specs.Meaning.Offers.{RisesBy}
 use Rattle.csp_semantics.specs.Laws.Statements.{IsOneOf}
@@ -19,7 +20,6 @@ use Rattle.csp_value.specs.contracts.handle.AllocHandle.TheBound.{Lawful}
 use Rattle.csp_value.specs.declared.handle.AllocHandle as handle
 use Rattle.csp_value.proofs.ActionOrder.{action_ordered}
 use Rattle.csp_value.proofs.ActionEquality.{action_eq, action_tells}
-use Rattle.csp_value.proofs.Sameness.{and_first, and_second}
 use Rattle.csp_term.proofs.Equality.{term_eq, term_tells}
 use Rattle.csp_term.proofs.TermOrder.{ordered}
 use Rattle.csp_fire.specs.declared.form.Step.{Step}

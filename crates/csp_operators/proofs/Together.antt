@@ -12,6 +12,7 @@ use Rattle.std.specs.Ordering.{is_eq, is_lt, is_some_and, ordering_index, orderi
 use Rattle.std.proofs.lemmas.List.{append-nil, append_assoc, get_or_default, get_or-drop, get_or-take, length-drop, length-take-le, map-append, take-append-drop, take_all, take_more}
 use Rattle.std.proofs.lemmas.List.Elements.{All-head, All-tail, All-weaker}
 use Rattle.std.proofs.lemmas.List.Sorted.{IsNonDecreasingBy-drop, searchable_from_sorted}
+use Rattle.std.proofs.lemmas.Bool.{not-true, not-false}
 use Rattle.csp_syntax.specs.Value.{Action, Event, Tau, Tick, Ev, action_cmp, action_eq, event_eq}
 use Rattle.csp_syntax.specs.Process.{Process}
 use Rattle.csp_syntax.proofs.Equalities.{event_refl}
@@ -210,20 +211,12 @@ sliced xs i = let e = length-drop i xs in take_all (length xs - i) (drop i xs) (
 
 -- ---- the derived order of actions
 
-not_true : (b : Bool) → not b ≡ true → b ≡ false
-not_true true is = absurd (cc is)
-not_true false is = refl
-
-not_false : (b : Bool) → not b ≡ false → b ≡ true
-not_false true is = refl
-not_false false is = absurd (cc is)
-
 module _ (R : RattleType.RattleType) (H : handle.Ghosts R.Denot) (hd : Syntax.Dict) (A : allocator.Ghosts R.Denot) (ad : Syntax.Dict) (C : clone.Ghosts R.Denot) (cd : Syntax.Dict) where
   pub told_before : Lawful R H hd A ad C cd → (x y : Code.Action R.Denot) → partial_lt (partial.ghosts R H hd A ad C cd).partial_cmp y x ≡ is_lt (action_cmp (action_of y) (action_of x))
   told_before laws_hold x y = ap (is_some_and is_lt) (laws.matches_partial_cmp-law R H hd A ad C cd laws_hold y x) ∙ ap is_lt (action_ordered R H hd A ad C cd y x)
 
   pub told_other : (y x : Code.Action R.Denot) (r : Bool) → r ≡ not (derived_eq R H hd A ad C cd y x) → r ≡ true → action_eq (action_of y) (action_of x) ≡ false
-  told_other y x r is holds = eq_of (action_tells R H hd A ad C cd) y x ∙ not_true (derived_eq R H hd A ad C cd y x) (sym is ∙ holds)
+  told_other y x r is holds = eq_of (action_tells R H hd A ad C cd) y x ∙ not-true (derived_eq R H hd A ad C cd y x) (sym is ∙ holds)
 
   pub told_same : (y x : Code.Action R.Denot) (r : Bool) → r ≡ not (derived_eq R H hd A ad C cd y x) → r ≡ false → action_of y ≡ action_of x
-  told_same y x r is fails = (action_tells R H hd A ad C cd).sound y x (not_false (derived_eq R H hd A ad C cd y x) (sym is ∙ fails))
+  told_same y x r is fails = (action_tells R H hd A ad C cd).sound y x (not-false (derived_eq R H hd A ad C cd y x) (sym is ∙ fails))

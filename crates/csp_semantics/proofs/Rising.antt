@@ -1,8 +1,8 @@
 -- Lists that rise by a total order.
 use Rattle.std.proofs.Common.{◌≡◌, ℕ, zero, suc, List, [], ◌∷◌, refl, sym, ◌∙◌, ap, ap₂, subst, Bool, true, false, Some, slice_get, Contains, cond, ◌||◌}
 use Rattle.std.specs.declared.cmp.Ordering.{Ordering}
-use Rattle.std.specs.declared.cmp.Ordering.TheVariants.{Less, Equal, Greater}
-use Rattle.std.specs.Ordering.{is_lt, is_eq, ordering_reverse}
+use Rattle.std.specs.declared.cmp.Ordering.TheVariants.{Less}
+use Rattle.std.specs.Ordering.{is_eq, ordering_reverse}
 use Rattle.std.specs.Cmp.{IsTotalOrder}
 use Rattle.std.specs.Map.{lookup, keys_of}
 use Rattle.std.proofs.lemmas.Cmp.{tied_itself}
@@ -12,6 +12,7 @@ use Rattle.csp_syntax.specs.Process.{Process, Script}
 use Rattle.csp_semantics.specs.Meaning.Offers.{RisesBy, IsRising, IsAllThat}
 use Rattle.csp_semantics.proofs.Offering.{action_same, action_refl}
 use Rattle.csp_syntax.proofs.Orders.{action_total}
+use Rattle.csp_syntax.proofs.Equalities.{is_lt-Less}
 
 -- a member, by its place
 abbrev pub Stands : {X : Type 0} → List X → X → Type 0
@@ -22,11 +23,6 @@ stands_from_Contains xs x (k, inside, is) = (k, slice_get-get_or xs k x inside �
 
 pub Contains-from_stands : {X : Type 0} (xs : List X) (x : X) → Stands xs x → Contains xs x
 Contains-from_stands xs x (k, at) = (k, slice_get_within xs k x at, get_or_from_slice_get xs k x x at)
-
-is_lt-Less : (r : Ordering) → is_lt r ≡ true → r ≡ Less
-is_lt-Less Less e = refl
-is_lt-Less Equal e = absurd (cc e)
-is_lt-Less Greater e = absurd (cc e)
 
 module _ {X : Type 0} (R : X → X → Ordering) (total : IsTotalOrder R) where
   rises_behind : (x : X) (xs : List X) → RisesBy R (x ∷ xs) → RisesBy R xs

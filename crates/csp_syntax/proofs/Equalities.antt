@@ -2,7 +2,7 @@
 use Rattle.std.proofs.Common.{◌≡◌, Bool, true, false, List, [], ◌∷◌, refl, sym, ap, ap₂}
 use Rattle.std.specs.declared.cmp.Ordering.{Ordering}
 use Rattle.std.specs.declared.cmp.Ordering.TheVariants.{Less, Equal, Greater}
-use Rattle.std.specs.Ordering.{is_eq, nat_cmp, bool_cmp, ordering_then}
+use Rattle.std.specs.Ordering.{is_eq, is_lt, nat_cmp, bool_cmp, ordering_then}
 use Rattle.std.specs.FinMap.{nat_cmp-IsAntisymmetric, int_cmp-IsAntisymmetric, slice_cmp-IsAntisymmetric}
 use Rattle.std.specs.Cmp.{nat_cmp_is, int_cmp_is}
 use Rattle.std.specs.Cmp.Lexicographic.{slice_cmp}
@@ -23,6 +23,11 @@ pub is_eq-Equal : (r : Ordering) → is_eq r ≡ true → r ≡ Equal
 is_eq-Equal Less e = absurd (cc e)
 is_eq-Equal Equal e = refl
 is_eq-Equal Greater e = absurd (cc e)
+
+pub is_lt-Less : (r : Ordering) → is_lt r ≡ true → r ≡ Less
+is_lt-Less Less e = refl
+is_lt-Less Equal e = absurd (cc e)
+is_lt-Less Greater e = absurd (cc e)
 
 bool_same : (a b : Bool) → bool_cmp a b ≡ Equal → a ≡ b
 bool_same false false e = refl

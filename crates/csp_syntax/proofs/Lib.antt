@@ -2,3 +2,4 @@ pub mod Places
 pub mod Equalities
 pub mod Orders
 pub mod ProcessOrder
+pub mod Truths

@@ -3,6 +3,7 @@ use denote.RattleType
 use mir.Syntax
 use lib.Pointwise.{pointwise}
 use Rattle.std.proofs.Common.{◌≡◌, ℕ, zero, suc, Bool, true, ◌&&◌, nat_eq, List, map, refl, sym, ap, ap₂, ◌∙◌}
+use Rattle.std.proofs.lemmas.Bool.{and_from}
 use Rattle.std.specs.declared.alloc.Allocator as allocator
 use Rattle.std.specs.String.{string_bytes}
 use Rattle.std.specs.Ordering.{is_eq}
@@ -10,6 +11,7 @@ use Rattle.csp_syntax.specs.Value as pure
 use Rattle.csp_syntax.specs.Order.{process_cmp}
 use Rattle.csp_syntax.proofs.Equalities.{is_eq-Equal}
 use Rattle.csp_syntax.proofs.ProcessOrder.{process_same, process_refl}
+use Rattle.csp_syntax.proofs.Truths.{and_first, and_second}
 use Rattle.csp_syntax.specs.declared.model.Model.{Model}
 use Rattle.csp_syntax.specs.declared.model.Model.TheVariants as model
 use Rattle.csp_syntax.specs.contracts.model.ModelPartialEq.TheImpl as model_impl
@@ -43,7 +45,7 @@ use Rattle.csp_term.specs.Script.{assertion_of, channel_of, equation_of, field_v
 use Rattle.csp_term.proofs.Channels.{same_channels, same_names, same_sets}
 use Rattle.csp_expression.proofs.Forming.{unlisted}
 use Rattle.csp_term.proofs.TermOrder.{cmp, ordered}
-use Rattle.csp_value.proofs.Sameness.{Tells, and_first, and_second, both, nat_tells, text_tells, lists_tell}
+use Rattle.csp_value.proofs.Sameness.{Tells, nat_tells, text_tells, lists_tell}
 
 abbrev pub model_eq : Model → Model → Bool
 model_eq = model_impl.ghosts.eq
@@ -84,7 +86,7 @@ constructors_tell = record {
       ap₂ (λ a n. numbers_up a (suc n)) (nat_tells.sound x.first.0 y.first.0 (and_first (nat_eq x.first.0 y.first.0) (nat_eq x.following y.following) e))
       (nat_tells.sound x.following y.following (and_second (nat_eq x.first.0 y.first.0) (nat_eq x.following y.following) e));
   complete = λ x y e.
-      both (nat_eq x.first.0 y.first.0) (nat_eq x.following y.following) (nat_tells.complete x.first.0 y.first.0 (first_up x.first.0 y.first.0 x.following y.following e))
+      and_from (nat_eq x.first.0 y.first.0) (nat_eq x.following y.following) (nat_tells.complete x.first.0 y.first.0 (first_up x.first.0 y.first.0 x.following y.following e))
       (nat_tells.complete x.following y.following (following_up x.first.0 y.first.0 x.following y.following e));
 }
 
@@ -113,9 +115,9 @@ module _ (R : RattleType.RattleType) (A : allocator.Ghosts R.Denot) (ad dd : Syn
 
   assertion_complete : (x y : Assertion R.Denot) → assertion_of x ≡ assertion_of y → assertion_eq x y ≡ true
   assertion_complete x y e =
-      both (model_eq x.model y.model) (term_eq x.specification y.specification && term_eq x.implementation y.implementation)
+      and_from (model_eq x.model y.model) (term_eq x.specification y.specification && term_eq x.implementation y.implementation)
       (model_complete x.model y.model (ap (λ a. a.model) e))
-      (both (term_eq x.specification y.specification) (term_eq x.implementation y.implementation)
+      (and_from (term_eq x.specification y.specification) (term_eq x.implementation y.implementation)
       (term_tells.complete x.specification y.specification (ap (λ a. a.specification) e)) (term_tells.complete x.implementation y.implementation (ap (λ a. a.implementation) e)))
 
   pub assertion_tells : Tells assertion_eq (assertion_of {A = R.Denot})
@@ -159,7 +161,7 @@ module _ (R : RattleType.RattleType) (A : allocator.Ghosts R.Denot) (ad dd : Syn
 
   channel_complete : (x y : Channel R.Denot) → channel_of x ≡ channel_of y → channel_eq x y ≡ true
   channel_complete x y e =
-      both (pointwise nat_eq (string_bytes x.spelling) (string_bytes y.spelling)) (pointwise field_eq x.fields.items y.fields.items)
+      and_from (pointwise nat_eq (string_bytes x.spelling) (string_bytes y.spelling)) (pointwise field_eq x.fields.items y.fields.items)
       (text_tells.complete (string_bytes x.spelling) (string_bytes y.spelling) (ap (λ c. c.0) e)) (fields_tell.complete x.fields.items y.fields.items (ap (λ c. c.1) e))
 
   pub channel_tells : Tells channel_eq (channel_of {A = R.Denot})
@@ -191,7 +193,7 @@ module _ (R : RattleType.RattleType) (A : allocator.Ghosts R.Denot) (ad dd : Syn
 
   table_complete : (x y : TypeTable R.Denot) → table_of x ≡ table_of y → table_eq x y ≡ true
   table_complete x y e =
-      both (pointwise constructors_eq x.datatypes.items y.datatypes.items) (sets_eq x.nametypes.items y.nametypes.items)
+      and_from (pointwise constructors_eq x.datatypes.items y.datatypes.items) (sets_eq x.nametypes.items y.nametypes.items)
       (datatypes_tell.complete x.datatypes.items y.datatypes.items (ap (λ t. t.datatypes) e)) (sets_tell.complete x.nametypes.items y.nametypes.items (ap (λ t. t.nametypes) e))
 
   pub table_tells : Tells table_eq (table_of {A = R.Denot})
@@ -215,7 +217,7 @@ module _ (R : RattleType.RattleType) (A : allocator.Ghosts R.Denot) (ad dd : Syn
 
   equation_complete : (x y : Equation R.Denot) → equation_of x ≡ equation_of y → equation_eq x y ≡ true
   equation_complete x y e =
-      both (pointwise name_eq x.parameters.items y.parameters.items) (term_eq x.body y.body)
+      and_from (pointwise name_eq x.parameters.items y.parameters.items) (term_eq x.body y.body)
       ((lists_tell name_eq (λ n. n.0) name_tells).complete x.parameters.items y.parameters.items (ap (λ a. a.parameters) e)) (term_tells.complete x.body y.body (ap (λ a. a.body) e))
 
   pub equation_tells : Tells equation_eq (equation_of {A = R.Denot})
@@ -250,10 +252,10 @@ module _ (R : RattleType.RattleType) (A : allocator.Ghosts R.Denot) (ad dd : Syn
       let es = pointwise equation_eq x.equations.items y.equations.items in
       let asserted = pointwise assertion_eq x.assertions.items y.assertions.items in
       let channels = same_channels x.channels.items y.channels.items (ap (λ s. s.channel_names) e) (ap (λ s. s.channels) e) in
-      both (table_eq x.types y.types) (ks && (cs && (es && asserted))) (table_tells.complete x.types y.types (ap (λ s. s.types) e))
-      (both ks (cs && (es && asserted)) ((lists_tell constructor_eq (λ c. string_bytes c.spelling) constructor_tells).complete x.constructors.items y.constructors.items (ap (λ s. s.constructor_names) e))
-      (both cs (es && asserted) ((lists_tell channel_eq channel_of channel_tells).complete x.channels.items y.channels.items channels)
-      (both es asserted ((lists_tell equation_eq equation_of equation_tells).complete x.equations.items y.equations.items (ap (λ s. s.equations) e))
+      and_from (table_eq x.types y.types) (ks && (cs && (es && asserted))) (table_tells.complete x.types y.types (ap (λ s. s.types) e))
+      (and_from ks (cs && (es && asserted)) ((lists_tell constructor_eq (λ c. string_bytes c.spelling) constructor_tells).complete x.constructors.items y.constructors.items (ap (λ s. s.constructor_names) e))
+      (and_from cs (es && asserted) ((lists_tell channel_eq channel_of channel_tells).complete x.channels.items y.channels.items channels)
+      (and_from es asserted ((lists_tell equation_eq equation_of equation_tells).complete x.equations.items y.equations.items (ap (λ s. s.equations) e))
       ((lists_tell assertion_eq assertion_of assertion_tells).complete x.assertions.items y.assertions.items (ap (λ s. s.assertions) e)))))
 
   pub script_tells : Tells script_eq (script_of {A = R.Denot})

@@ -2,9 +2,11 @@
 use denote.RattleType
 use mir.Syntax
 use Rattle.std.proofs.Common.{◌≡◌, Bool, true, nat_eq, refl, ap, []}
+use Rattle.std.proofs.lemmas.Bool.{and_from}
 use Rattle.std.specs.declared.alloc.Allocator as allocator
 use Rattle.std.specs.declared.clone.Clone as clone
 use Rattle.csp_syntax.specs.Value as pure
+use Rattle.csp_syntax.proofs.Truths.{and_first, and_second}
 use Rattle.csp_value.specs.declared.handle.AllocHandle as handle
 use Rattle.csp_value.specs.declared.action.Event.{Event}
 use Rattle.csp_value.specs.declared.action.Action.{Action}
@@ -14,7 +16,7 @@ use Rattle.csp_value.specs.contracts.action.ActionPartialEq.TheImpl as action_im
 use Rattle.csp_value.specs.Action.{event_of, action_of}
 use Rattle.csp_value.specs.Value.{value_of}
 use Rattle.csp_value.proofs.Equality.{value_tells}
-use Rattle.csp_value.proofs.Sameness.{Tells, and_first, and_second, both, nat_tells, lists_tell}
+use Rattle.csp_value.proofs.Sameness.{Tells, nat_tells, lists_tell}
 
 abbrev event_of_action : pure.Action → pure.Event
 event_of_action (pure.Ev e) = e
@@ -32,7 +34,7 @@ module _ (R : RattleType.RattleType) (H : handle.Ghosts R.Denot) (hd : Syntax.Di
 
   event_complete : (x y : Event R.Denot) → event_of x ≡ event_of y → event_eq x y ≡ true
   event_complete x y e =
-      both (nat_eq x.channel.0 y.channel.0) _
+      and_from (nat_eq x.channel.0 y.channel.0) _
       (nat_tells.complete x.channel.0 y.channel.0 (ap (λ f. f.channel) e))
       ((lists_tell _ value_of (value_tells R A ad ad)).complete x.fields.items y.fields.items (ap (λ f. f.fields) e))
 

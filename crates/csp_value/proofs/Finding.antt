@@ -9,26 +9,13 @@ use Rattle.std.specs.List.Sorted.{IsStrictlySortedBy, IsBinarySearchResult, IsNo
 use Rattle.std.proofs.lemmas.List.Kept.{IsStrictlySortedBy-filter}
 use Rattle.std.proofs.lemmas.List.Sorted.{searchable_from_sorted}
 use Rattle.std.proofs.lemmas.Option.{slice_get-get_or, slice_get_within, get_or_from_slice_get}
+use Rattle.std.proofs.lemmas.Bool.{cases_lt}
 use Rattle.csp_syntax.specs.Value.{Value, value_cmp, value_eq, has_value}
-use Rattle.csp_syntax.proofs.Equalities.{value_same, value_refl}
+use Rattle.csp_syntax.proofs.Equalities.{value_same, value_refl, is_lt-Less}
 use Rattle.csp_syntax.proofs.Orders.{value_total}
 use Rattle.csp_syntax.proofs.Places.{get_map}
 use Rattle.csp_value.proofs.Sets.{Rises, has_stands, stands_has}
 use Rattle.csp_value.proofs.Sorting.{order, rise_from_sorted}
-
-is_lt-Less : (r : Ordering) → is_lt r ≡ true → r ≡ Less
-is_lt-Less Less e = refl
-is_lt-Less Equal e = absurd (cc e)
-is_lt-Less Greater e = absurd (cc e)
-
-either_side : (i j : ℕ) → (i ≤ j) ⊎ (j < i)
-either_side zero j = inl (omega arith)
-either_side (suc i) zero = inr (omega arith)
-either_side (suc i) (suc j) = next (either_side i j)
-  where
-    next : (i ≤ j) ⊎ (j < i) → (suc i ≤ suc j) ⊎ (suc j < suc i)
-    next (inl le) = inl (omega (arith, le))
-    next (inr lt) = inr (omega (arith, lt))
 
 module _ {X : Type 0} (meaning : X → Value) where
   below : (x k : X) → order meaning x k ≡ Less → (ys : List X) → Rises (map meaning (k ∷ ys)) → AllByRecursion (λ y. order meaning x y ≡ Less) ys
@@ -76,14 +63,14 @@ module _ {X : Type 0} (meaning : X → Value) where
       searchable = searchable_from_sorted value_total meaning xs (meaning x) (λ k d low high. subst (λ n. is_lt (order meaning (get_or xs n d) (get_or xs k d)) ≡ false) {x = suc k} (omega arith) (never_falls xs rises k d (omega (arith, high))))
 
       nowhere : (j : ℕ) (y : X) → slice_get xs j ≡ Some y → meaning y ≡ meaning x → ⊥
-      nowhere j y at same = by (either_side i j)
+      nowhere j y at same = by (cases_lt j i)
         where
           equal : order meaning (get_or xs j y) x ≡ Equal
           equal = ap (λ z. order meaning z x) (get_or_from_slice_get xs j y y at) ∙ ap (λ v. value_cmp v (meaning x)) same ∙ value_refl (meaning x)
 
-          by : (i ≤ j) ⊎ (j < i) → ⊥
-          by (inr under) = absurd (cc (sym equal ∙ (parts searchable).0 j y (omega arith) under))
-          by (inl over) = absurd (cc (sym equal ∙ (parts searchable).1 j y over (slice_get_within xs j y at)))
+          by : (j < i) ⊎ (i ≤ j) → ⊥
+          by (inl under) = absurd (cc (sym equal ∙ (parts searchable).0 j y (omega arith) under))
+          by (inr over) = absurd (cc (sym equal ∙ (parts searchable).1 j y over (slice_get_within xs j y at)))
 
       either : (b : Bool) → has_value (map meaning xs) (meaning x) ≡ b → b ≡ false
       either false is = refl

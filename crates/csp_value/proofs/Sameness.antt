@@ -1,23 +1,14 @@
 -- A test that is true exactly where two values stand for the same.
-use Rattle.std.proofs.Common.{◌≡◌, ℕ, Bool, true, false, ◌&&◌, nat_eq, List, [], ◌∷◌, map, refl, sym, ◌∙◌, ap₂, subst, IsTrue, ◌↔◌}
+use Rattle.std.proofs.Common.{◌≡◌, ℕ, Bool, true, nat_eq, List, [], ◌∷◌, map, refl, sym, ◌∙◌, ap₂, subst, IsTrue, ◌↔◌}
 use Rattle.std.proofs.lemmas.Bool.{eqb-true, eq-eqb}
 use Rattle.std.specs.Cmp.Lexicographic.{same_text}
+pub use Rattle.std.proofs.lemmas.Bool.{and_from as both}
+pub use Rattle.csp_syntax.proofs.Truths.{and_first, and_second}
 use lib.Pointwise.{pointwise}
 
 pub record Tells {X Y : Type 0} (test : X → X → Bool) (meaning : X → Y) : Type 0 where
   pub sound : (x y : X) → test x y ≡ true → meaning x ≡ meaning y
   pub complete : (x y : X) → meaning x ≡ meaning y → test x y ≡ true
-
-pub and_first : (a b : Bool) → a && b ≡ true → a ≡ true
-and_first true b e = refl
-and_first false b e = e
-
-pub and_second : (a b : Bool) → a && b ≡ true → b ≡ true
-and_second true b e = e
-and_second false b e = absurd (cc e)
-
-pub both : (a b : Bool) → a ≡ true → b ≡ true → a && b ≡ true
-both a b e f = ap₂ ◌&&◌ e f
 
 -- numbers stand for themselves
 pub nat_tells : Tells nat_eq (λ n. n)

@@ -4,7 +4,7 @@ use Rattle.std.specs.declared.cmp.Ordering.{Ordering}
 use Rattle.std.specs.Ordering.{is_lt, is_eq}
 use Rattle.std.specs.List.{dedup, dedup_from}
 use Rattle.std.specs.List.Sorted.{IsPermutation, IsSorted, IsStrictlySortedBy}
-use Rattle.std.specs.Cmp.{on_total}
+use Rattle.std.specs.Cmp.{on_total, both_ways}
 use Rattle.std.proofs.lemmas.List.Kept.{IsStrictlySortedBy-dedup}
 use Rattle.std.proofs.lemmas.List.Sorted.{Contains-permutation, IsPermutation-map, IsPermutation-sym}
 use Rattle.csp_syntax.specs.Value.{Value, value_cmp, value_eq, has_value, sorted_values}
@@ -12,19 +12,13 @@ use Rattle.csp_syntax.proofs.Orders.{value_total}
 use Rattle.csp_semantics.proofs.Rising.{stands_from_Contains, Contains-from_stands}
 use Rattle.csp_value.proofs.Sets.{Rises, has_stands, stands_has, rising_alike, sorted_rise, sorted_have}
 
--- a test that is true where another one is, and the other way round
-same_test : (a b : Bool) → (a ≡ true → b ≡ true) → (b ≡ true → a ≡ true) → a ≡ b
-same_test true b to back = sym (to refl)
-same_test false true to back = back refl
-same_test false false to back = refl
-
 moved_to : (vs ws : List Value) (z : Value) → IsPermutation vs ws → has_value vs z ≡ true → has_value ws z ≡ true
 moved_to vs ws z moved has =
     let at = stands_from_Contains ws z (Contains-permutation vs ws z moved (Contains-from_stands vs z (has_stands vs z has))) in stands_has ws z at.0 at.1
 
 -- what is moved about is still there
 pub moved_have : (vs ws : List Value) (z : Value) → IsPermutation vs ws → has_value vs z ≡ has_value ws z
-moved_have vs ws z moved = same_test (has_value vs z) (has_value ws z) (moved_to vs ws z moved) (moved_to ws vs z (IsPermutation-sym vs ws moved))
+moved_have vs ws z moved = both_ways (has_value vs z) (has_value ws z) (moved_to vs ws z moved) (moved_to ws vs z (IsPermutation-sym vs ws moved))
 
 -- the order in which values are given is nothing to the sorted values
 pub moved_sorted : (vs ws : List Value) → IsPermutation vs ws → sorted_values vs ≡ sorted_values ws
