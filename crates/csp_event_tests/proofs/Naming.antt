@@ -4,7 +4,7 @@ use Rattle.std.specs.declared.vec.Vec.{Vec}
 use Rattle.std.specs.declared.cmp.Ordering.{Ordering}
 use Rattle.std.specs.declared.cmp.Ordering.TheVariants.{Less, Equal, Greater}
 use Rattle.std.specs.List.Sorted.{IsPermutation, IsSorted, IsSortedBy}
-use Rattle.std.specs.Ordering.{is_eq, is_lt, nat_cmp, ordering_reverse, ordering_then}
+use Rattle.std.specs.Ordering.{is_eq, is_lt, nat_cmp, ordering_then}
 use Rattle.std.specs.Cmp.{nat_cmp_is, both_ways}
 use Rattle.std.specs.FinMap.{nat_cmp-IsAntisymmetric}
 use Rattle.std.proofs.Math.Dec.{eqb-suc-zero}
@@ -16,7 +16,7 @@ use Rattle.csp_syntax.specs.Process as process
 use Rattle.csp_semantics.specs.Meaning.Evaluation.{Cause, IllKinded, ◌and_then◌}
 use Rattle.csp_semantics.specs.Meaning.Events.{channel_images, event_images, field_sets, is_bare, or_itself, pair_images, renaming, same_sets}
 use Rattle.csp_semantics.specs.Meaning.Events as events
-use Rattle.csp_syntax.proofs.Equalities.{is_eq-Equal}
+use Rattle.csp_syntax.proofs.Equalities.{is_eq-Equal, is_eq-reverse}
 use Rattle.csp_syntax.proofs.Orders.{event_total}
 use Rattle.csp_value.specs.declared.action.Event.{Event}
 use Rattle.csp_value.specs.declared.name.ChannelId.{ChannelId}
@@ -251,13 +251,8 @@ channels_tie c k =
     (λ e. eq-eqb k c (sym (nat_cmp-IsAntisymmetric c k (is_eq-Equal (nat_cmp c k) e))))
     (λ e. ap is_eq (sym (nat_cmp_is c k Equal (sym (eqb-true k c e)))))
 
-turned_tie : (r : Ordering) → is_eq (ordering_reverse r) ≡ is_eq r
-turned_tie Less = refl
-turned_tie Equal = refl
-turned_tie Greater = refl
-
 events_tie : (f e : pure.Event) → is_eq (pure.event_cmp f e) ≡ pure.event_eq e f
-events_tie f e = ap is_eq (event_total.antisymm f e) ∙ turned_tie (pure.event_cmp e f)
+events_tie f e = ap is_eq (event_total.antisymm f e) ∙ is_eq-reverse (pure.event_cmp e f)
 
 -- a pair that does not name the event makes nothing of it
 pub no_channel_image : (e : pure.Event) (p : ChannelId × ChannelId) → is_eq (nat_cmp p.0.0 e.channel) ≡ false → channel_image e p ≡ []

@@ -9,6 +9,7 @@ use Rattle.std.specs.Cmp.{IsTotalOrder}
 use Rattle.std.specs.Ordering.{is_eq, is_lt, ordering_index}
 use Rattle.std.specs.List.{AllWithin}
 use Rattle.std.specs.List.Sorted.{IsNonDecreasingBy, IsPartitionPoint, IsPartitionedBy, IsSortedBy}
+use Rattle.csp_syntax.proofs.Equalities.{is_lt-Less}
 
 -- ---- one more item of which something is made
 
@@ -46,11 +47,6 @@ module _ {X Y : Type 0} (make : X → List Y) where
 
 -- ---- keys that are compared with one
 
-less_no_tie : (r : Ordering) → is_lt r ≡ true → is_eq r ≡ false
-less_no_tie Less e = refl
-less_no_tie Equal e = absurd (cc e)
-less_no_tie Greater e = refl
-
 still_less : (r o : Ordering) → ordering_index r ≤ ordering_index o → is_lt o ≡ true → is_lt r ≡ true
 still_less Less o le e = refl
 still_less Equal Less le e = absurd (omega (arith, le))
@@ -86,7 +82,7 @@ module _ {K X : Type 0} {R : K → K → Ordering} (total : IsTotalOrder R) (key
     from_first : flat_map make xs ≡ flat_map make (drop i xs)
     from_first =
         ap (flat_map make) (sym (take-append-drop i xs)) ∙ flat_map-append make (take i xs) (drop i xs)
-        ∙ ap (λ ys. ys ++ flat_map make (drop i xs)) (nothing_until make xs i (λ j d low high. none (get_or xs j d) (less_no_tie (R (key (get_or xs j d)) k) (parts.0 j d low high))))
+        ∙ ap (λ ys. ys ++ flat_map make (drop i xs)) (nothing_until make xs i (λ j d low high. none (get_or xs j d) (ap is_eq (is_lt-Less (R (key (get_or xs j d)) k) (parts.0 j d low high)))))
 
     -- all is made of the others
     pub all_made : (j : ℕ) → length Rest ≤ j → flat_map make (take j Rest) ≡ flat_map make xs

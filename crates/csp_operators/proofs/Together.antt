@@ -15,7 +15,7 @@ use Rattle.std.proofs.lemmas.List.Sorted.{IsNonDecreasingBy-drop, searchable_fro
 use Rattle.std.proofs.lemmas.Bool.{not-true, not-false}
 use Rattle.csp_syntax.specs.Value.{Action, Event, Tau, Tick, Ev, action_cmp, action_eq, event_eq}
 use Rattle.csp_syntax.specs.Process.{Process}
-use Rattle.csp_syntax.proofs.Equalities.{event_refl}
+use Rattle.csp_syntax.proofs.Equalities.{event_refl, is_lt-Less}
 use Rattle.csp_syntax.proofs.Orders.{action_total}
 use Rattle.csp_value.specs.Action.{action_of}
 use Rattle.csp_value.specs.contracts.action.ActionOrd.TheImpl.Laws as laws
@@ -105,11 +105,6 @@ all_dropped P xs i all k d below =
 
 -- ---- orders
 
-less_is : (o : Ordering) → is_lt o ≡ true → ordering_index o ≡ 0
-less_is Less is = refl
-less_is Equal is = absurd (cc is)
-less_is Greater is = absurd (cc is)
-
 is_less : (o : Ordering) → ordering_index o ≤ 0 → is_lt o ≡ true
 is_less Less le = refl
 is_less Equal le = absurd (omega (arith, le))
@@ -119,11 +114,6 @@ is_greater : (o : Ordering) → is_lt o ≡ false → is_eq o ≡ false → orde
 is_greater Less lt eq = absurd (cc lt)
 is_greater Equal lt eq = absurd (cc eq)
 is_greater Greater lt eq = refl
-
-less_apart : (o : Ordering) → is_lt o ≡ true → is_eq (ordering_reverse o) ≡ false
-less_apart Less is = refl
-less_apart Equal is = absurd (cc is)
-less_apart Greater is = refl
 
 greater_apart : (o : Ordering) → 2 ≤ ordering_index o → is_eq (ordering_reverse o) ≡ false
 greater_apart Less le = refl
@@ -143,7 +133,7 @@ module _ {A : Type 0} (x : Action) where
   pub before_first : (right : List (RuleStep A)) → AreRising right → IsPartitionedBy (is_before x) right
   before_first right rising i j d le within before =
       is_less (action_cmp (action_of (get_or right i d).action) x)
-      (let up = rises right rising i j d le within in let zero = less_is (action_cmp (action_of (get_or right j d).action) x) before in omega (arith, up, zero))
+      (let up = rises right rising i j d le within in let zero = ap ordering_index (is_lt-Less (action_cmp (action_of (get_or right j d).action) x) before) in omega (arith, up, zero))
 
   module _ (shared : Event → Bool) (under : Process → Process → Process) (t : Option Process) where
     -- ---- what the loop has added so far
@@ -173,7 +163,7 @@ module _ {A : Type 0} (x : Action) where
       none_first : All (NoneOf {A = A} (meet_answer shared under x t)) (take first right)
       none_first =
           All-weaker (λ s. is_before x s ≡ true) (NoneOf {A = A} (meet_answer shared under x t))
-          (λ s before. apart shared under x t (action_of s.action) (target_of s.target) (ap is_eq (action_total.antisymm x (action_of s.action)) ∙ less_apart (action_cmp (action_of s.action) x) before))
+          (λ s before. apart shared under x t (action_of s.action) (target_of s.target) (ap is_eq (action_total.antisymm x (action_of s.action)) ∙ ap (λ r. is_eq (ordering_reverse r)) (is_lt-Less (action_cmp (action_of s.action) x) before)))
           (take first right) (all_taken (λ s. is_before x s ≡ true) right first within point.0)
 
       -- what is met stands behind what comes before

@@ -1,5 +1,5 @@
 -- Lists that rise by a total order.
-use Rattle.std.proofs.Common.{◌≡◌, ℕ, zero, suc, List, [], ◌∷◌, refl, sym, ◌∙◌, ap, ap₂, subst, Bool, true, false, Some, slice_get, Contains, cond, ◌||◌}
+use Rattle.std.proofs.Common.{◌≡◌, ℕ, zero, suc, List, [], ◌∷◌, refl, sym, ◌∙◌, ap, ap₂, subst, Bool, true, false, Some, slice_get, Contains, cond, ◌||◌, ⊎_elim}
 use Rattle.std.specs.declared.cmp.Ordering.{Ordering}
 use Rattle.std.specs.declared.cmp.Ordering.TheVariants.{Less}
 use Rattle.std.specs.Ordering.{is_eq, ordering_reverse}
@@ -7,6 +7,7 @@ use Rattle.std.specs.Cmp.{IsTotalOrder}
 use Rattle.std.specs.Map.{lookup, keys_of}
 use Rattle.std.proofs.lemmas.Cmp.{tied_itself}
 use Rattle.std.proofs.lemmas.Option.{slice_get_within, slice_get-get_or, get_or_from_slice_get}
+use Rattle.std.proofs.lemmas.Bool.{or_cases, or_left, or_right}
 use Rattle.csp_syntax.specs.Value.{Action, action_cmp, action_eq, has_action}
 use Rattle.csp_syntax.specs.Process.{Process, Script}
 use Rattle.csp_semantics.specs.Meaning.Offers.{RisesBy, IsRising, IsAllThat}
@@ -24,11 +25,12 @@ stands_from_Contains xs x (k, inside, is) = (k, slice_get-get_or xs k x inside �
 pub Contains-from_stands : {X : Type 0} (xs : List X) (x : X) → Stands xs x → Contains xs x
 Contains-from_stands xs x (k, at) = (k, slice_get_within xs k x at, get_or_from_slice_get xs k x x at)
 
-module _ {X : Type 0} (R : X → X → Ordering) (total : IsTotalOrder R) where
-  rises_behind : (x : X) (xs : List X) → RisesBy R (x ∷ xs) → RisesBy R xs
-  rises_behind x [] rises = tt
-  rises_behind x (y ∷ xs) rises = rises.1
+-- a list that rises rises behind its first
+pub rises_behind : {X : Type 0} (R : X → X → Ordering) (x : X) (xs : List X) → RisesBy R (x ∷ xs) → RisesBy R xs
+rises_behind R x [] rises = tt
+rises_behind R x (y ∷ xs) rises = rises.1
 
+module _ {X : Type 0} (R : X → X → Ordering) (total : IsTotalOrder R) where
   -- the first of a list that rises is less than the others
   pub first_least : (x : X) (xs : List X) → RisesBy R (x ∷ xs) → (i : ℕ) (y : X) → slice_get xs i ≡ Some y → R x y ≡ Less
   first_least x [] rises i y at = absurd (cc at)
@@ -58,26 +60,30 @@ module _ {X : Type 0} (R : X → X → Ordering) (total : IsTotalOrder R) where
   rising_same (x ∷ xs) (y ∷ ys) rx ry to back =
       let e = same_first x y xs ys rx ry (to x (0, refl)) (back y (0, refl)) in
       ap₂ (λ w ws. w ∷ ws) e
-      (rising_same xs ys (rises_behind x xs rx) (rises_behind y ys ry) (λ z at. same_rest x y xs ys rx e z at (to z (suc at.0, at.1))) (λ z at. same_rest y x ys xs ry (sym e) z at (back z (suc at.0, at.1))))
+      (rising_same xs ys (rises_behind R x xs rx) (rises_behind R y ys ry) (λ z at. same_rest x y xs ys rx e z at (to z (suc at.0, at.1))) (λ z at. same_rest y x ys xs ry (sym e) z at (back z (suc at.0, at.1))))
+
+-- ---- a test for a member that compares it with each in turn
+
+module _ {X : Type 0} (eq : X → X → Bool) (same : (x y : X) → eq x y ≡ true → x ≡ y) (has : List X → X → Bool) (none : (x : X) → has [] x ≡ true → ⊥) (more : (y : X) (ys : List X) (x : X) → has (y ∷ ys) x ≡ eq x y || has ys x) where
+  -- what the test finds stands in the list
+  pub told_stands : (xs : List X) (x : X) → has xs x ≡ true → Stands xs x
+  told_stands [] x e = absurd (none x e)
+  told_stands (y ∷ ys) x e = ⊎_elim (λ h. (0, ap Some (sym (same x y h)))) (λ h. let at = told_stands ys x h in (suc at.0, at.1)) (or_cases (eq x y) (has ys x) (sym (more y ys x) ∙ e))
+
+module _ {X : Type 0} (eq : X → X → Bool) (itself : (x : X) → eq x x ≡ true) (has : List X → X → Bool) (more : (y : X) (ys : List X) (x : X) → has (y ∷ ys) x ≡ eq x y || has ys x) where
+  -- the test finds what stands in the list
+  pub stands_told : (xs : List X) (x : X) (i : ℕ) → slice_get xs i ≡ Some x → has xs x ≡ true
+  stands_told [] x i at = absurd (cc at)
+  stands_told (y ∷ ys) x zero at = let f : Some x ≡ Some y = sym at in let g : x ≡ y = cc f in more y ys x ∙ or_left (eq x y) (has ys x) (subst (λ z. eq x z ≡ true) g (itself x))
+  stands_told (y ∷ ys) x (suc i) at = more y ys x ∙ or_right (eq x y) (has ys x) (stands_told ys x i at)
 
 -- ---- sets of actions
 
 has_stands : (xs : List Action) (x : Action) → has_action xs x ≡ true → Stands xs x
-has_stands [] x e = absurd (cc e)
-has_stands (y ∷ ys) x e = either (action_eq x y) refl (has_stands ys x)
-  where
-    either : (b : Bool) → action_eq x y ≡ b → (has_action ys x ≡ true → Stands ys x) → Stands (y ∷ ys) x
-    either true is behind = (0, ap Some (sym (action_same x y is)))
-    either false is behind = let h = behind (sym (ap (λ c. c || has_action ys x) is) ∙ e) in (suc h.0, h.1)
+has_stands = told_stands action_eq action_same has_action (λ x e. cc e) (λ y ys x. refl)
 
 stands_has : (xs : List Action) (x : Action) (i : ℕ) → slice_get xs i ≡ Some x → has_action xs x ≡ true
-stands_has [] x i at = absurd (cc at)
-stands_has (y ∷ ys) x zero at = let f : Some y ≡ Some x = at in let g : y ≡ x = cc f in ap (λ b. b || has_action ys x) (subst (λ z. action_eq x z ≡ true) (sym g) (action_refl x))
-stands_has (y ∷ ys) x (suc i) at = or_true (action_eq x y) (stands_has ys x i at)
-  where
-    or_true : (b : Bool) {c : Bool} → c ≡ true → b || c ≡ true
-    or_true true e = refl
-    or_true false e = e
+stands_has = stands_told action_eq action_refl has_action (λ y ys x. refl)
 
 -- there is one list of all that a term can do
 pub all_that_is_one : (script : Script) (t : Process) (xs ys : List Action) → IsAllThat script t xs → IsAllThat script t ys → xs ≡ ys
@@ -116,4 +122,4 @@ lookup_rising {X} x (p ∷ es) v rising zero at =
     subst (λ q. cond (action_eq x q.0) (Some q.1) (lookup (action_eq x) es) ≡ Some v) (sym g) (ap (λ b. cond b (Some v) (lookup (action_eq x) es)) (action_refl x))
 lookup_rising x (p ∷ es) v rising (suc i) at =
     ap (λ b. cond b (Some p.1) (lookup (action_eq x) es)) (apart_action x p.0 (first_least action_cmp action_total p.0 (keys_of es) rising i x (get_key es i x v at)))
-    ∙ lookup_rising x es v (rises_behind action_cmp action_total p.0 (keys_of es) rising) i at
+    ∙ lookup_rising x es v (rises_behind action_cmp p.0 (keys_of es) rising) i at

@@ -2,7 +2,7 @@
 use Rattle.std.proofs.Common.{◌≡◌, Bool, true, false, List, [], ◌∷◌, refl, sym, ap, ap₂}
 use Rattle.std.specs.declared.cmp.Ordering.{Ordering}
 use Rattle.std.specs.declared.cmp.Ordering.TheVariants.{Less, Equal, Greater}
-use Rattle.std.specs.Ordering.{is_eq, is_lt, nat_cmp, bool_cmp, ordering_then}
+use Rattle.std.specs.Ordering.{is_eq, is_lt, nat_cmp, bool_cmp, ordering_then, ordering_reverse}
 use Rattle.std.specs.FinMap.{nat_cmp-IsAntisymmetric, int_cmp-IsAntisymmetric, slice_cmp-IsAntisymmetric}
 use Rattle.std.specs.Cmp.{nat_cmp_is, int_cmp_is}
 use Rattle.std.specs.Cmp.Lexicographic.{slice_cmp}
@@ -28,6 +28,12 @@ pub is_lt-Less : (r : Ordering) → is_lt r ≡ true → r ≡ Less
 is_lt-Less Less e = refl
 is_lt-Less Equal e = absurd (cc e)
 is_lt-Less Greater e = absurd (cc e)
+
+-- an order turned around ties where it does
+pub is_eq-reverse : (r : Ordering) → is_eq (ordering_reverse r) ≡ is_eq r
+is_eq-reverse Less = refl
+is_eq-reverse Equal = refl
+is_eq-reverse Greater = refl
 
 bool_same : (a b : Bool) → bool_cmp a b ≡ Equal → a ≡ b
 bool_same false false e = refl

@@ -1,8 +1,7 @@
 -- Looking for a value in a list, and what is kept of a list that rises.
 use Rattle.std.proofs.Common.{◌≡◌, ap₂, ◌||◌, ◌⊎◌, inl, inr, ℕ, zero, suc, ◌≤◌, ◌<◌, List, [], ◌∷◌, length, map, filter, get_or, refl, sym, ◌∙◌, ap, subst, Bool, true, false, Some, slice_get, Result, Ok, Err, arith}
 use Rattle.std.specs.Result.{is_ok}
-use Rattle.std.specs.declared.cmp.Ordering.{Ordering}
-use Rattle.std.specs.declared.cmp.Ordering.TheVariants.{Less, Equal, Greater}
+use Rattle.std.specs.declared.cmp.Ordering.TheVariants.{Less, Equal}
 use Rattle.std.specs.Ordering.{is_eq, is_lt, ordering_index, ordering_reverse}
 use Rattle.std.specs.List.{AllByRecursion, list_any}
 use Rattle.std.specs.List.Sorted.{IsStrictlySortedBy, IsBinarySearchResult, IsNonDecreasingBy, IsSearchInRange}
@@ -11,7 +10,7 @@ use Rattle.std.proofs.lemmas.List.Sorted.{searchable_from_sorted}
 use Rattle.std.proofs.lemmas.Option.{slice_get-get_or, slice_get_within, get_or_from_slice_get}
 use Rattle.std.proofs.lemmas.Bool.{cases_lt}
 use Rattle.csp_syntax.specs.Value.{Value, value_cmp, value_eq, has_value}
-use Rattle.csp_syntax.proofs.Equalities.{value_same, value_refl, is_lt-Less}
+use Rattle.csp_syntax.proofs.Equalities.{value_same, value_refl, is_lt-Less, is_eq-reverse}
 use Rattle.csp_syntax.proofs.Orders.{value_total}
 use Rattle.csp_syntax.proofs.Places.{get_map}
 use Rattle.csp_value.proofs.Sets.{Rises, has_stands, stands_has}
@@ -85,12 +84,7 @@ module _ {X : Type 0} (meaning : X → Value) where
   search_tells xs x (Err i) rises within parts = sym (missed_nowhere xs x (Err i) rises parts refl)
 
   turned : (v w : Value) → value_eq w v ≡ value_eq v w
-  turned v w = ap is_eq (value_total.antisymm w v) ∙ is_eq_reverse (value_cmp v w)
-    where
-      is_eq_reverse : (r : Ordering) → is_eq (ordering_reverse r) ≡ is_eq r
-      is_eq_reverse Less = refl
-      is_eq_reverse Equal = refl
-      is_eq_reverse Greater = refl
+  turned v w = ap is_eq (value_total.antisymm w v) ∙ is_eq-reverse (value_cmp v w)
 
   -- a test of each for sameness
   pub any_has : (same : X → X → Bool) → ((x y : X) → same x y ≡ value_eq (meaning x) (meaning y)) → (xs : List X) (x : X) → list_any (λ y. same y x) xs ≡ has_value (map meaning xs) (meaning x)

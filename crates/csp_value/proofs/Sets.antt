@@ -1,5 +1,5 @@
 -- Lists of values that rise, and what they have.
-use Rattle.std.proofs.Common.{◌≡◌, ℕ, zero, suc, List, [], ◌∷◌, ◌++◌, map, filter, refl, sym, ◌∙◌, ap, subst, Bool, true, false, ◌||◌, Some, slice_get}
+use Rattle.std.proofs.Common.{◌≡◌, ℕ, List, [], ◌∷◌, ◌++◌, map, filter, refl, sym, ◌∙◌, ap, subst, Bool, true, false, ◌||◌, Some, slice_get}
 use Rattle.std.specs.declared.cmp.Ordering.{Ordering}
 use Rattle.std.specs.declared.cmp.Ordering.TheVariants.{Less, Equal, Greater}
 use Rattle.std.specs.Ordering.{is_lt, is_eq, ordering_reverse}
@@ -7,23 +7,19 @@ use Rattle.csp_syntax.specs.Value.{Value, value_cmp, value_eq, has_value, insert
 use Rattle.csp_semantics.specs.Meaning.Offers.{RisesBy}
 use Rattle.csp_syntax.proofs.Equalities.{is_eq-Equal, value_same, value_refl}
 use Rattle.csp_syntax.proofs.Orders.{value_total}
-use Rattle.csp_semantics.proofs.Rising.{Stands, rising_same}
+use Rattle.csp_semantics.proofs.Rising.{Stands, rising_same, rises_behind, told_stands, stands_told}
 
 abbrev pub Rises : List Value → Type 0
 Rises = RisesBy value_cmp
 
 -- ---- tests
 
-or_true : (a : Bool) → a || true ≡ true
-or_true true = refl
-or_true false = refl
-
 or_swap : (a b c : Bool) → a || (b || c) ≡ b || (a || c)
 or_swap true true c = refl
 or_swap true false c = refl
 or_swap false b c = refl
 
-or_again : (a c : Bool) → a || c ≡ a || (a || c)
+pub or_again : (a c : Bool) → a || c ≡ a || (a || c)
 or_again true c = refl
 or_again false c = refl
 
@@ -38,20 +34,10 @@ eq_refl v = ap is_eq (value_refl v)
 -- ---- what a list has
 
 pub has_stands : (vs : List Value) (v : Value) → has_value vs v ≡ true → Stands vs v
-has_stands [] v e = absurd (cc e)
-has_stands (w ∷ ws) v e = either (value_eq v w) refl (has_stands ws v)
-  where
-    either : (b : Bool) → value_eq v w ≡ b → (has_value ws v ≡ true → Stands ws v) → Stands (w ∷ ws) v
-    either true is behind = (0, ap Some (sym (eq_same v w is)))
-    either false is behind = let h = behind (sym (ap (λ c. c || has_value ws v) is) ∙ e) in (suc h.0, h.1)
+has_stands = told_stands value_eq eq_same has_value (λ v e. cc e) (λ w ws v. refl)
 
 pub stands_has : (vs : List Value) (v : Value) (i : ℕ) → slice_get vs i ≡ Some v → has_value vs v ≡ true
-stands_has [] v i at = absurd (cc at)
-stands_has (w ∷ ws) v zero at =
-    let f : Some w ≡ Some v = at in
-    let g : w ≡ v = cc f in
-    ap (λ b. b || has_value ws v) (subst (λ z. value_eq v z ≡ true) (sym g) (eq_refl v))
-stands_has (w ∷ ws) v (suc i) at = ap (λ b. value_eq v w || b) (stands_has ws v i at) ∙ or_true (value_eq v w)
+stands_has = stands_told value_eq eq_refl has_value (λ w ws v. refl)
 
 -- lists that rise and have the same values are the same
 pub rising_alike : (vs ws : List Value) → Rises vs → Rises ws → ((v : Value) → has_value vs v ≡ has_value ws v) → vs ≡ ws
@@ -70,16 +56,12 @@ insert_has v (w ∷ ws) z = by_order (value_cmp v w) refl (insert_has v ws z)
     by_order Equal is behind = rw is (let same = value_same v w is in subst (λ u. value_eq z w || has_value ws z ≡ value_eq z u || (value_eq z w || has_value ws z)) (sym same) (or_again (value_eq z w) (has_value ws z)))
     by_order Greater is behind = rw is (ap (λ b. value_eq z w || b) behind ∙ or_swap (value_eq z w) (value_eq z v) (has_value ws z))
 
-pub rises_behind : (w : Value) (us : List Value) → Rises (w ∷ us) → Rises us
-rises_behind w [] r = tt
-rises_behind w (u ∷ us) r = r.1
-
 above : (v w : Value) → value_cmp v w ≡ Greater → is_lt (value_cmp w v) ≡ true
 above v w is = ap is_lt (value_total.antisymm w v ∙ ap ordering_reverse is)
 
 pub insert_rises : (v : Value) (ws : List Value) → Rises ws → Rises (insert_value v ws)
 insert_rises v [] rises = tt
-insert_rises v (w ∷ ws) rises = by_order (value_cmp v w) refl (insert_rises v ws (rises_behind w ws rises))
+insert_rises v (w ∷ ws) rises = by_order (value_cmp v w) refl (insert_rises v ws (rises_behind value_cmp w ws rises))
   where
     below : (us : List Value) → Rises (w ∷ us) → value_cmp v w ≡ Greater → Rises (insert_value v us) → Rises (w ∷ insert_value v us)
     below [] r is behind = (above v w is, tt)

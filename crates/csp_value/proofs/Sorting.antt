@@ -10,7 +10,7 @@ use Rattle.std.proofs.lemmas.List.Sorted.{Contains-permutation, IsPermutation-ma
 use Rattle.csp_syntax.specs.Value.{Value, value_cmp, value_eq, has_value, sorted_values}
 use Rattle.csp_syntax.proofs.Orders.{value_total}
 use Rattle.csp_semantics.proofs.Rising.{stands_from_Contains, Contains-from_stands}
-use Rattle.csp_value.proofs.Sets.{Rises, has_stands, stands_has, rising_alike, sorted_rise, sorted_have}
+use Rattle.csp_value.proofs.Sets.{Rises, has_stands, stands_has, rising_alike, sorted_rise, sorted_have, or_again}
 
 moved_to : (vs ws : List Value) (z : Value) → IsPermutation vs ws → has_value vs z ≡ true → has_value ws z ≡ true
 moved_to vs ws z moved has =
@@ -24,12 +24,6 @@ moved_have vs ws z moved = both_ways (has_value vs z) (has_value ws z) (moved_to
 pub moved_sorted : (vs ws : List Value) → IsPermutation vs ws → sorted_values vs ≡ sorted_values ws
 moved_sorted vs ws moved =
     rising_alike (sorted_values vs) (sorted_values ws) (sorted_rise vs) (sorted_rise ws) (λ z. sorted_have vs z ∙ moved_have vs ws z moved ∙ sym (sorted_have ws z))
-
-or_again : (a b c : Bool) → a ≡ b → a || c ≡ b || (a || c)
-or_again true true c e = refl
-or_again true false c e = absurd (cc e)
-or_again false true c e = absurd (cc e)
-or_again false false c e = refl
 
 -- things in the order of the values that they stand for
 module _ {X : Type 0} (meaning : X → Value) where
@@ -51,7 +45,7 @@ module _ {X : Type 0} (meaning : X → Value) (same : X → X → Bool) (tells :
       by_test : (b : Bool) → same x k ≡ b → has_value (map meaning (dedup_from same k xs)) z ≡ value_eq z (meaning k) || has_value (map meaning xs) z →
           has_value (map meaning (dedup_from same x xs)) z ≡ value_eq z (meaning x) || has_value (map meaning xs) z →
           has_value (map meaning (dedup_from same k (x ∷ xs))) z ≡ value_eq z (meaning k) || (value_eq z (meaning x) || has_value (map meaning xs) z)
-      by_test true is one other = rw is (one ∙ subst (λ v. value_eq z (meaning k) || has_value (map meaning xs) z ≡ value_eq z (meaning k) || (value_eq z v || has_value (map meaning xs) z)) (sym (tells x k is)) (or_again (value_eq z (meaning k)) (value_eq z (meaning k)) (has_value (map meaning xs) z) refl))
+      by_test true is one other = rw is (one ∙ subst (λ v. value_eq z (meaning k) || has_value (map meaning xs) z ≡ value_eq z (meaning k) || (value_eq z v || has_value (map meaning xs) z)) (sym (tells x k is)) (or_again (value_eq z (meaning k)) (has_value (map meaning xs) z)))
       by_test false is one other = rw is (ap (λ b. value_eq z (meaning k) || b) other)
 
   -- what is kept once is still there
