@@ -7,6 +7,7 @@ use Rattle.csp_syntax.specs.Value.{Event, Value, has_value}
 use Rattle.csp_syntax.specs.Expression.{Expression, Expressions, expression_and, to_expressions}
 use Rattle.csp_syntax.specs.Process.{EventExpression, Script}
 use Rattle.csp_syntax.specs.Types.{Types}
+use Rattle.csp_syntax.proofs.Places.{get_some, drop_at}
 use Rattle.csp_semantics.specs.Meaning.Evaluation.{Cause, IllKinded, OutOfRange, ◌and_then◌, value}
 use Rattle.csp_semantics.specs.Meaning.Events.{beginning_of, event_of, field_sets, given_values, in_field_set}
 use Rattle.csp_value.specs.declared.field_set.FieldSet.{FieldSet}
@@ -14,7 +15,7 @@ use Rattle.csp_value.specs.declared.value.Value as code
 use Rattle.csp_value.specs.Value.{value_of, values_of}
 use Rattle.csp_expression.specs.declared.expr.Expr.{Expr}
 use Rattle.csp_expression.specs.Expression.{expression_of, expressions_of}
-use Rattle.csp_expression.proofs.Forming.{get_none, get_some}
+use Rattle.csp_expression.proofs.Forming.{get_none}
 use Rattle.csp_expression.specs.Fault.{cause_of}
 use Rattle.csp_term.specs.Script.{field_values}
 use Rattle.csp_expression.specs.declared.eval_fault.EvalFault.{EvalFault}
@@ -23,13 +24,7 @@ use Rattle.csp_event_tests.specs.Testing.{AreGivenBy, AreSetsOf, IsEventOf, IsGi
 
 -- ---- what is left of a list
 
--- there is a set for the next field
-drop_at : {X : Type 0} (xs : List X) (i : ℕ) (x : X) → slice_get xs i ≡ Some x → drop i xs ≡ x ∷ drop (suc i) xs
-drop_at [] i x at = absurd (cc at)
-drop_at (y ∷ ys) zero x at = let f : Some y ≡ Some x = at in let e : y ≡ x = cc f in ap (λ z. z ∷ ys) e
-drop_at (y ∷ ys) (suc i) x at = drop_at ys i x at
-
--- there is none
+-- there is no set for the next field
 drop_past : {X : Type 0} (xs : List X) (i : ℕ) → slice_get xs i ≡ None → drop i xs ≡ []
 drop_past [] zero at = refl
 drop_past [] (suc i) at = refl

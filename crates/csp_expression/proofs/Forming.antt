@@ -1,7 +1,7 @@
 -- What operators make of sequences and sets, in the words of the code.
-use Rattle.std.proofs.Common.{◌≡◌, ℕ, zero, suc, nat_eq, nat_le, Bool, true, false, List, [], ◌∷◌, ◌++◌, length, map, slice_get, Some, None, pos, Ok, Err, refl, sym, ◌∙◌, ap, ap₂, arith}
+use Rattle.std.proofs.Common.{◌≡◌, ℕ, zero, suc, nat_eq, nat_le, Bool, true, false, List, [], ◌∷◌, ◌++◌, length, map, slice_get, None, pos, Ok, Err, refl, sym, ◌∙◌, ap, ap₂, arith}
 use Rattle.std.proofs.lemmas.Bool.{eqb-true}
-use Rattle.std.proofs.lemmas.List.{map-append}
+use Rattle.std.proofs.lemmas.List.{map-append, length-map}
 use Rattle.std.specs.List.{remove}
 use Rattle.std.specs.declared.vec.Vec.{Vec}
 use Rattle.csp_syntax.specs.Value as pure
@@ -25,13 +25,9 @@ pub unlisted : (vs : pure.Values) → pure.to_values (pure.values_list vs) ≡ v
 unlisted pure.no_values = refl
 unlisted (pure.value_and v vs) = ap (pure.value_and v) (unlisted vs)
 
-same_length : {X Y : Type 0} (f : X → Y) (xs : List X) → length (map f xs) ≡ length xs
-same_length f [] = refl
-same_length f (x ∷ xs) = ap suc (same_length f xs)
-
 -- as many values as things that stand for them
 pub as_many : {A : Type 0} (items : List (Value A)) (vs : List pure.Value) → values_of items ≡ vs → length vs ≡ length items
-as_many items vs same = ap length (sym same) ∙ same_length value_of items
+as_many items vs same = ap length (sym same) ∙ length-map items value_of
 
 -- ---- limits
 
@@ -87,11 +83,6 @@ pub set_listed : (ms : pure.Values) (vs : List pure.Value) → ms ≡ pure.to_va
 set_listed ms vs is = ap set_of (ap pure.values_list is ∙ listed vs)
 
 -- ---- tables
-
-pub get_some : {X Y : Type 0} (f : X → Y) (xs : List X) (i : ℕ) (x : X) → slice_get xs i ≡ Some x → slice_get (map f xs) i ≡ Some (f x)
-get_some f [] i x at = absurd (cc at)
-get_some f (y ∷ ys) zero x at = let g : Some y ≡ Some x = at in let e : y ≡ x = cc g in ap (λ z. Some (f z)) e
-get_some f (y ∷ ys) (suc i) x at = get_some f ys i x at
 
 pub get_none : {X Y : Type 0} (f : X → Y) (xs : List X) (i : ℕ) → slice_get xs i ≡ None → slice_get (map f xs) i ≡ None
 get_none f [] i at = refl

@@ -6,6 +6,7 @@ use Rattle.std.specs.Option.{option_map}
 use Rattle.std.specs.Ordering.{is_lt}
 use Rattle.csp_syntax.specs.Value.{Action, Tau, Tick, Ev, Event, action_eq, has_action}
 use Rattle.csp_syntax.specs.Process.{Process, Script}
+use Rattle.csp_syntax.proofs.Members.{contains_none, contains_here, contains_one}
 use Rattle.csp_semantics.specs.Meaning.Limits.{fits}
 use Rattle.csp_semantics.specs.Meaning.Expansions.{Form, IsFired, IsFormOf, offers_cmp, step_cmp}
 use Rattle.csp_semantics.specs.Meaning.Faults.{cause_in}
@@ -73,20 +74,10 @@ tick_first (Ev e ∷ z ∷ zs) rise has tauless more = absurd (no_tick_above e (
 
 -- ---- lists of one or two
 
-in_one : {X : Type 0} (x y : X) → Contains (x ∷ []) y → x ≡ y
-in_one x y (zero, h, e) = e
-in_one x y (suc k, h, e) = absurd (omega arith)
-
 in_two : {X : Type 0} (w x y : X) → Contains (w ∷ x ∷ []) y → (w ≡ y) ⊎ (x ≡ y)
 in_two w x y (zero, h, e) = inl e
 in_two w x y (suc zero, h, e) = inr e
 in_two w x y (suc (suc k), h, e) = absurd (omega arith)
-
-in_none : {X : Type 0} (y : X) → Contains [] y → ⊥
-in_none y (k, h, e) = omega arith
-
-first : {X : Type 0} (x : X) (xs : List X) → Contains (x ∷ xs) x
-first x xs = (0, omega arith, refl)
 
 second : {X : Type 0} (w x : X) → Contains (w ∷ x ∷ []) x
 second w x = (1, omega arith, refl)
@@ -149,20 +140,20 @@ module _ (s : Script) (t : Process) (ss : Steps) (free : IsNotStuck s t) (each :
   exact_offers : (tick tau one : Bool) → has_tick ss ≡ tick → has_tau ss ≡ tau → nat_eq (length (actions_of ss)) 1 ≡ one → Exact (by_tests tick tau one)
   exact_offers false false one ticked taued ones =
       only_list (actions_of ss ∷ [])
-      (λ xs a. ⊎_elim (λ e. among (actions_of ss ∷ []) e.1 (first (actions_of ss) [])) (λ e. absurd (let f = e.0 in cc (f, ticked))) (stable_is false taued xs a))
-      (λ xs h. along (in_one (actions_of ss) xs h) (accepts_all taued)) tt
+      (λ xs a. ⊎_elim (λ e. among (actions_of ss ∷ []) e.1 (contains_here (actions_of ss) [])) (λ e. absurd (let f = e.0 in cc (f, ticked))) (stable_is false taued xs a))
+      (λ xs h. along (contains_one (actions_of ss) xs h) (accepts_all taued)) tt
   exact_offers false true one ticked taued ones =
-      only_list [] (λ xs a. ⊎_elim (λ e. absurd (let f = e.0 in cc f)) (λ e. absurd (let f = e.0 in cc (f, ticked))) (stable_is true taued xs a)) (λ xs h. absurd (in_none xs h)) tt
+      only_list [] (λ xs a. ⊎_elim (λ e. absurd (let f = e.0 in cc f)) (λ e. absurd (let f = e.0 in cc (f, ticked))) (stable_is true taued xs a)) (λ xs h. absurd (contains_none xs h)) tt
   exact_offers true true one ticked taued ones =
-      only_list ((Tick ∷ []) ∷ []) (λ xs a. ⊎_elim (λ e. absurd (let f = e.0 in cc f)) (λ e. among ((Tick ∷ []) ∷ []) e.1 (first (Tick ∷ []) [])) (stable_is true taued xs a))
-      (λ xs h. along (in_one (Tick ∷ []) xs h) (of_tick (ticks ticked))) tt
+      only_list ((Tick ∷ []) ∷ []) (λ xs a. ⊎_elim (λ e. absurd (let f = e.0 in cc f)) (λ e. among ((Tick ∷ []) ∷ []) e.1 (contains_here (Tick ∷ []) [])) (stable_is true taued xs a))
+      (λ xs h. along (contains_one (Tick ∷ []) xs h) (of_tick (ticks ticked))) tt
   exact_offers true false true ticked taued ones =
       let is : actions_of ss ≡ Tick ∷ [] = alone (actions_of ss) ones (tick_among ticked) in
-      only_list ((Tick ∷ []) ∷ []) (λ xs a. ⊎_elim (λ e. among ((Tick ∷ []) ∷ []) (e.1 ∙ is) (first (Tick ∷ []) [])) (λ e. among ((Tick ∷ []) ∷ []) e.1 (first (Tick ∷ []) [])) (stable_is false taued xs a))
-      (λ xs h. along (in_one (Tick ∷ []) xs h) (of_tick (ticks ticked))) tt
+      only_list ((Tick ∷ []) ∷ []) (λ xs a. ⊎_elim (λ e. among ((Tick ∷ []) ∷ []) (e.1 ∙ is) (contains_here (Tick ∷ []) [])) (λ e. among ((Tick ∷ []) ∷ []) e.1 (contains_here (Tick ∷ []) [])) (stable_is false taued xs a))
+      (λ xs h. along (contains_one (Tick ∷ []) xs h) (of_tick (ticks ticked))) tt
   exact_offers true false false ticked taued ones =
       only_list ((Tick ∷ []) ∷ actions_of ss ∷ [])
-      (λ xs a. ⊎_elim (λ e. among ((Tick ∷ []) ∷ actions_of ss ∷ []) e.1 (second (Tick ∷ []) (actions_of ss))) (λ e. among ((Tick ∷ []) ∷ actions_of ss ∷ []) e.1 (first (Tick ∷ []) (actions_of ss ∷ []))) (stable_is false taued xs a))
+      (λ xs a. ⊎_elim (λ e. among ((Tick ∷ []) ∷ actions_of ss ∷ []) e.1 (second (Tick ∷ []) (actions_of ss))) (λ e. among ((Tick ∷ []) ∷ actions_of ss ∷ []) e.1 (contains_here (Tick ∷ []) (actions_of ss ∷ []))) (stable_is false taued xs a))
       (λ xs h. ⊎_elim (λ e. along e (of_tick (ticks ticked))) (λ e. along e (accepts_all taued)) (in_two (Tick ∷ []) (actions_of ss) xs h))
       (tick_first (actions_of ss) (acts_rise ss rise) (tick_among ticked) (λ h. let can = can_from Tau h in no_tau taued can.0 can.1.1) ones, tt)
 
@@ -211,7 +202,7 @@ all_marked ((x, Some u) ∷ answers) ss e = by_rest (all_within answers) refl e 
 
 past_among : (answers : List Answered) → all_within answers ≡ None → (x : Action) × Contains answers (x, None)
 past_among [] e = absurd (cc e)
-past_among ((x, None) ∷ answers) e = (x, first {X = Answered} (x, None) answers)
+past_among ((x, None) ∷ answers) e = (x, contains_here {X = Answered} (x, None) answers)
 past_among ((x, Some u) ∷ answers) e = by_rest (all_within answers) refl e (past_among answers)
   where
     by_rest : (r : Option Steps) → all_within answers ≡ r → option_map (λ us. (x, u) ∷ us) r ≡ None → (all_within answers ≡ None → (y : Action) × Contains answers (y, None)) → (y : Action) × Contains {X = Answered} ((x, Some u) ∷ answers) (y, None)

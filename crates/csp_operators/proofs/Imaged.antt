@@ -5,6 +5,7 @@ use Rattle.std.specs.Option.{option_or}
 use Rattle.std.specs.Result.{result_err}
 use Rattle.csp_syntax.specs.Value.{Action, Event, Tau, Tick, Ev}
 use Rattle.csp_syntax.specs.Process.{Process, RenamingPair, Renaming, Script}
+use Rattle.csp_syntax.proofs.Members.{contains_none}
 use Rattle.csp_semantics.specs.Meaning.Events.{images_by, or_itself, renaming}
 use Rattle.csp_semantics.specs.Meaning.Faults.{cause_in}
 use Rattle.csp_value.specs.declared.action.Event as concrete
@@ -59,13 +60,10 @@ one_image_more t before now more taken image copy so_far same pushed =
 
 -- ---- an event that no pair names
 
-nowhere : {X : Type 0} (x : X) → Contains [] x → ⊥
-nowhere x (k, h, e) = omega arith
-
 itself_alike : (e : Event) (fs gs : List Event) → AreAlike fs gs → AreAlike (or_itself e fs) (or_itself e gs)
 itself_alike e [] [] alike = alike_by (e ∷ []) (e ∷ []) refl
-itself_alike e [] (g ∷ gs) alike = absurd (nowhere g ((alike g).1 (0, omega arith, refl)))
-itself_alike e (f ∷ fs) [] alike = absurd (nowhere f ((alike f).0 (0, omega arith, refl)))
+itself_alike e [] (g ∷ gs) alike = absurd (contains_none g ((alike g).1 (0, omega arith, refl)))
+itself_alike e (f ∷ fs) [] alike = absurd (contains_none f ((alike f).0 (0, omega arith, refl)))
 itself_alike e (f ∷ fs) (g ∷ gs) alike = alike
 
 -- ---- the steps

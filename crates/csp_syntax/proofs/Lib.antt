@@ -3,3 +3,4 @@ pub mod Equalities
 pub mod Orders
 pub mod ProcessOrder
 pub mod Truths
+pub mod Members

@@ -6,6 +6,7 @@ use Rattle.std.specs.declared.vec.Vec.{Vec}
 use Rattle.csp_syntax.specs.Expression.{to_expressions}
 use Rattle.csp_syntax.specs.Process.{Call}
 use Rattle.csp_syntax.specs.Value.{Tau}
+use Rattle.csp_syntax.proofs.Places.{get_some}
 use Rattle.csp_semantics.specs.Meaning.Evaluation.{Cause}
 use Rattle.csp_semantics.specs.Meaning.Events.{parameter_bindings}
 use Rattle.csp_semantics.specs.Meaning.Substitution.{Bindings, put, put_expressions}
@@ -13,7 +14,7 @@ use Rattle.csp_expression.specs.Bindings.{bindings_of}
 use Rattle.csp_expression.specs.Expression.{expressions_of}
 use Rattle.csp_term.specs.Script.{equation_of, script_of}
 use Rattle.csp_term.specs.Term.{process_of}
-use Rattle.csp_expression.proofs.Forming.{get_none, get_some}
+use Rattle.csp_expression.proofs.Forming.{get_none}
 use Rattle.csp_operators.specs.declared.rule_step.RuleStep.{RuleStep}
 use Rattle.csp_expression.specs.declared.eval_fault.EvalFault.{EvalFault}
 use Rattle.csp_operators.specs.Answering.{Answered, Answers, IsAnswered, within_limits}

@@ -2,13 +2,14 @@
 use Rattle.std.proofs.Common.{List, [], length, slice_get, refl, sym, ◌∙◌, ap, subst}
 use Rattle.std.proofs.lemmas.Option.{slice_get_past, slice_get_read}
 use Rattle.csp_syntax.specs.Value as pure
+use Rattle.csp_syntax.proofs.Places.{get_some}
 use Rattle.csp_semantics.specs.Meaning.Events.{communications}
 use Rattle.csp_semantics.specs.Meaning.Substitution.{Bindings, behind, put, put_fields}
 use Rattle.csp_expression.specs.Bindings.{bindings_of}
 use Rattle.csp_term.specs.Field.{fields_of}
 use Rattle.csp_term.specs.Script.{field_sets_of, script_of}
 use Rattle.csp_term.specs.Term.{process_of}
-use Rattle.csp_expression.proofs.Forming.{get_none, get_some}
+use Rattle.csp_expression.proofs.Forming.{get_none}
 use Rattle.csp_rules.specs.Communicating.{Finds}
 use Rattle.csp_event_tests.specs.Testing.{sets_of}
 use Rattle.csp_rules.proofs.Prefixing.{answered_fields, no_channel}
