@@ -18,7 +18,7 @@ use Rattle.csp_checking.specs.Inference.Equations.{Ask, never, when, Numbering, 
 use Rattle.csp_checking.specs.Inference.Expressions.{behind_expression}
 use Rattle.csp_checking.specs.Inference.Processes.{behind_process, of_process}
 use Rattle.csp_checking.specs.Inference.Items.{behind_set, of_set, behind_sets, of_sets, behind_rows, of_rows, numbered, of_equation, of_assertion, behind_item, of_item, behind_items, of_items, HaveShape, AreNumbersFor, numbers_from, rows_from, behind_all, numbers_of, next_number}
-use Rattle.std.proofs.lemmas.List.{append_assoc}
+use Rattle.std.proofs.lemmas.List.{append_assoc, length-map}
 use Rattle.csp_checking.specs.Faults.{KindFault}
 use Rattle.csp_checking.proofs.Unrefused.{set_kept, turn_map}
 use Rattle.csp_semantics.proofs.Misfits.{in_turn_length}
@@ -26,6 +26,7 @@ use Rattle.csp_checking.proofs.Unifying.{IsRight, solve_right, nothing_resolved}
 use Rattle.csp_checking.proofs.Asking.{made_of, same_record, below_more, agree_on, assigned, assigned_above, fixed_kinds, each_less, rows_less, fixed_rows, fixed_numbers, Fixed, Hangs, ask_nothing, ask_both, ask_same, ask_never, asked_sound, asked_complete, asked_none, asked_some}
 use Rattle.csp_checking.proofs.AskingExpressions.{each_got, InUse, hangs, expression_asks}
 use Rattle.csp_checking.proofs.AskingProcesses.{ask_found, named_hangs, Fits, fits_hangs, process_asks}
+use Rattle.csp_checking.proofs.Owning.{row_length}
 
 module _ (types : Types) (o : Numbering) (owners : AreOwners types o) where
   in_use : (n : ℕ) → IsBelow n o → InUse types o owners n []
@@ -103,13 +104,9 @@ numbered_below n [] ms small = tt
 numbered_below n (x ∷ xs) [] small = tt
 numbered_below n (x ∷ xs) (m ∷ ms) small = (small.0, numbered_below n xs ms small.1)
 
-pub length_mapped : {A B : Type 0} (f : A → B) (xs : List A) → length (map f xs) ≡ length xs
-length_mapped f [] = refl
-length_mapped f (x ∷ xs) = ap suc (length_mapped f xs)
-
 pub rows_counted : (a : Assignment) (mss : List (List ℕ)) → map length (map (map a) mss) ≡ map length mss
 rows_counted a [] = refl
-rows_counted a (ms ∷ mss) = ap₂ ◌∷◌ (length_mapped a ms) (rows_counted a mss)
+rows_counted a (ms ∷ mss) = ap₂ ◌∷◌ (length-map ms a) (rows_counted a mss)
 
 module _ (script : Script) (o : Numbering) (owners : AreOwners script.types o) where
   process_rises : (n : ℕ) (p : Process) → IsBelow n o → n ≤ behind_process n p
@@ -123,12 +120,12 @@ module _ (script : Script) (o : Numbering) (owners : AreOwners script.types o) w
       by_test true is = ask_same n (behind_process n q.body) (of_process script o n (numbered q.parameters ms) q.body) (Fits script o owners (numbered q.parameters ms) q.body) (λ a. IsWellKindedEquation script (kinds_under a o) q (map a ms))
           (process_asks script o owners n (numbered q.parameters ms) q.body (below, numbered_below n q.parameters ms small))
           (λ a h. record {
-            parameters = eqb-true (length q.parameters) (length ms) is ∙ sym (length_mapped a ms);
+            parameters = eqb-true (length q.parameters) (length ms) is ∙ sym (length-map ms a);
             body = subst (λ S. IsWellKinded script (kinds_under a o) S q.body) (sym (scope_numbered a q.parameters ms)) h;
           })
           (λ a h. subst (λ S. IsWellKinded script (kinds_under a o) S q.body) (scope_numbered a q.parameters ms) h.body)
       by_test false is = ask_never n (behind_process n q.body) (λ a. IsWellKindedEquation script (kinds_under a o) q (map a ms)) (process_rises n q.body below)
-          (λ a h. eqb-false (length q.parameters) (length ms) is (h.parameters ∙ length_mapped a ms))
+          (λ a h. eqb-false (length q.parameters) (length ms) is (h.parameters ∙ length-map ms a))
 
   assertion_asked : (n : ℕ) (x : Assertion) → IsBelow n o → Ask n (of_assertion script o n x) (behind_process (behind_process n x.specification) x.implementation) (λ a. IsWellKindedAssertion script (kinds_under a o) x)
   assertion_asked n x below =
@@ -276,13 +273,9 @@ items_and_one script o n (y ∷ before) x =
 
 -- ---- numbers in a row are numbers for a tree
 
-numbers_counted : (n k : ℕ) → length (numbers_from n k) ≡ k
-numbers_counted n zero = refl
-numbers_counted n (suc k) = ap suc (numbers_counted (suc n) k)
-
 rows_from_counted : (n : ℕ) (ks : List ℕ) → map length (rows_from n ks) ≡ ks
 rows_from_counted n [] = refl
-rows_from_counted n (k ∷ ks) = ap₂ ◌∷◌ (numbers_counted n k) (rows_from_counted (n + k) ks)
+rows_from_counted n (k ∷ ks) = ap₂ ◌∷◌ (row_length n k) (rows_from_counted (n + k) ks)
 
 numbers_small : (n k m : ℕ) → n + k ≤ m → Each (λ x. x < m) (numbers_from n k)
 numbers_small n zero m le = tt
@@ -343,7 +336,7 @@ row_numbers_for owners raw = record {
         channels = rows_small (length (nametype_sets raw)) (next_number raw) (map length (channel_sets raw)) (omega arith);
         parameters = rows_small (behind_all (length (nametype_sets raw)) (map length (channel_sets raw))) (next_number raw) (flat_map parameters_declared raw) (omega arith);
       };
-  nametypes = numbers_counted 0 (length (nametype_sets raw));
+  nametypes = row_length 0 (length (nametype_sets raw));
   channels = rows_from_counted (length (nametype_sets raw)) (map length (channel_sets raw));
   parameters = rows_from_counted (behind_all (length (nametype_sets raw)) (map length (channel_sets raw))) (flat_map parameters_declared raw);
   cover = λ kinds shape.

@@ -2,7 +2,7 @@
 use Rattle.std.proofs.Common.{◌≡◌, ℕ, suc, ◌≤◌, ◌<◌, Bool, true, false, ◌&&◌, cond, List, [], ◌∷◌, ◌++◌, map, slice_get, Option, Some, None, refl, sym, ◌∙◌, ap, ap₂, subst, inl, inr, arith}
 use Rattle.std.specs.Prelude.{⊤, option_map, IsTrue}
 use Rattle.std.specs.declared.cmp.Ordering.TheVariants.{Equal}
-use Rattle.std.specs.Ordering.{is_eq, ordering_then}
+use Rattle.std.specs.Ordering.{is_eq}
 use Rattle.std.specs.Cmp.Lexicographic.{slice_cmp}
 use Rattle.std.specs.FinMap.{slice_cmp-IsAntisymmetric}
 use Rattle.std.proofs.lemmas.Option.{slice_get-map}
@@ -15,12 +15,13 @@ use Rattle.csp_semantics.specs.Kinds.Kind.{Kind, SetKind, Kinds, Scope, Each}
 use Rattle.csp_semantics.specs.Kinds.Expressions.{HasKind, HaveKinds, HaveFirstKinds}
 use Rattle.csp_semantics.specs.Kinds.Events.{FieldsHaveKinds, scope_behind, IsEvent, IsBeginning, IsEventSet, HaveSameSets, IsPair}
 use Rattle.csp_semantics.specs.Kinds.Processes.{IsWellKinded}
+use Rattle.csp_semantics.proofs.KindedTerms.{sets_refl}
 use Rattle.csp_checking.specs.Inference.Chain.{BoolEnd, OpenEnd, SetOver, Assignment, assign, AgreeBelow}
 use Rattle.csp_checking.specs.Inference.State.{KindEquation}
 use Rattle.csp_checking.specs.Inference.Equations.{Ask, when, Numbering, kinds_under, Numbered, scope_under, IsBelow, NamesBelow, AreOwners}
 use Rattle.csp_checking.specs.Inference.Expressions.{behind_expression, behind_expressions, of_expression, of_all, of_first}
 use Rattle.csp_checking.specs.Inference.Processes.{behind_fields, behind_event, behind_events, behind_event_set, behind_pairs, behind_process, of_fields, names_behind, of_event, of_beginning, of_events, of_beginnings, of_event_set, are_same_sets, are_bare_alike, of_pair, of_pairs, of_process}
-use Rattle.csp_syntax.proofs.Equalities.{value_same, fields_refl, is_eq-Equal}
+use Rattle.csp_syntax.proofs.Equalities.{value_same, is_eq-Equal}
 use Rattle.csp_checking.proofs.Asking.{below_more, each_less, fixed_numbers, assigned, assigned_above, Hangs, ask_nothing, ask_both, ask_more, ask_same, ask_never, ask_when}
 use Rattle.csp_checking.proofs.AskingExpressions.{each_got, InUse, in_use_more, hangs, Kinded, expression_asks, expressions_asks, all_asks, first_asks}
 
@@ -44,10 +45,6 @@ ask_found n p rows c f P le found = ask_when n p (slice_get rows c) f (λ a. (ks
 
 sets_same : (s t : List (List Value)) → slice_cmp (slice_cmp value_cmp) s t ≡ Equal → s ≡ t
 sets_same s t e = slice_cmp-IsAntisymmetric (slice_cmp-IsAntisymmetric value_same) s t e
-
-sets_refl : (s : List (List Value)) → slice_cmp (slice_cmp value_cmp) s s ≡ Equal
-sets_refl [] = refl
-sets_refl (vs ∷ s) = ap₂ ordering_then (fields_refl vs) (sets_refl s)
 
 alike_sets : (x y : Option (List (List Value))) → are_same_sets x y ≡ true → (s : List (List Value)) × (x ≡ Some s) × (y ≡ Some s)
 alike_sets (Some s) (Some t) e = let same : s ≡ t = sets_same s t (is_eq-Equal (slice_cmp (slice_cmp value_cmp) s t) e) in (s, refl, ap Some (sym same))

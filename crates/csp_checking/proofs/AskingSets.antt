@@ -3,6 +3,7 @@ use Rattle.std.proofs.Common.{◌≡◌, ℕ, zero, suc, ◌+◌, ◌≤◌, ◌
 use Rattle.std.specs.Prelude.{⊤, flat_map, replicate, option_map, ◌↔◌}
 use Rattle.csp_syntax.specs.Expression.{Expression}
 use Rattle.csp_syntax.specs.Types.{Types}
+use Rattle.csp_syntax.proofs.Places.{drop_at}
 use Rattle.csp_semantics.specs.Kinds.Kind.{Kind, IntKind, SetKind, Kinds, InTurn, BeginsInTurn, Each}
 use Rattle.csp_text.specs.Raw.{RawName, RawDomain, RawDeclaration, RawNametype, RawChannels, RawScript}
 use Rattle.csp_checking.specs.Names.{NametypeName, names_of}
@@ -14,14 +15,16 @@ use Rattle.csp_checking.specs.Inference.Equations.{Ask, Numbering, kinds_under, 
 use Rattle.csp_checking.specs.Inference.Items.{behind_set, of_set, behind_copies, of_copies, HaveShape, AreNumbersFor}
 use Rattle.csp_checking.specs.Inference.Sets.{FitFirstSets, IsBeginningOf, IsColumn}
 use Rattle.std.proofs.lemmas.Option.{slice_get-map}
-use Rattle.std.proofs.lemmas.List.{map-append}
+use Rattle.std.proofs.lemmas.List.{map-append, length-map}
 use Rattle.csp_checking.proofs.AskingExpressions.{each_got, hangs}
 use Rattle.csp_semantics.proofs.Misfits.{in_turn_length}
+use Rattle.csp_semantics.proofs.KindedTerms.{begins}
+use Rattle.csp_semantics.proofs.KindedSets.{begins_all}
 use Rattle.csp_checking.proofs.WellKinded.{expression_moves}
 use Rattle.csp_checking.proofs.ScriptThere.{behind-append, behind_one_more}
 use Rattle.csp_checking.proofs.FitsAbove.{SetWithin, nametypes_within, channels_within, cut_kept, nametypes_counted}
 use Rattle.csp_checking.proofs.Asking.{each_less, fixed_numbers, ask_nothing, ask_same, ask_both, below_more, asked_none, asked_some}
-use Rattle.csp_checking.proofs.AskingItems.{repeated, repeated_rows, length_mapped, rows_counted, set_asked, set_hangs_on}
+use Rattle.csp_checking.proofs.AskingItems.{repeated, repeated_rows, rows_counted, set_asked, set_hangs_on}
 
 -- ---- from the first kinds of many to those of the sets so far
 
@@ -150,21 +153,15 @@ begins_both P [] ys zs = (λ h. (tt, h), λ h. h.1)
 begins_both P (x ∷ xs) ys [] = (λ h. absurd h, λ h. absurd h.0)
 begins_both P (x ∷ xs) ys (z ∷ zs) = let rest = begins_both P xs ys zs in (λ h. let r = rest.0 h.1 in ((h.0, r.0), r.1), λ h. (h.0.0, rest.1 (h.0.1, h.1)))
 
-begins_all : {A B : Type 0} (P : A → B → Type 0) (xs : List A) (ys : List B) → length ys ≡ length xs → BeginsInTurn P xs ys → InTurn P xs ys
-begins_all P [] [] e h = tt
-begins_all P [] (y ∷ ys) e h = absurd (cc e)
-begins_all P (x ∷ xs) [] e h = absurd h
-begins_all P (x ∷ xs) (y ∷ ys) e h = (h.0, begins_all P xs ys (cc e) h.1)
-
 rows_all : {A B : Type 0} (P : A → B → Type 0) (xs : List (List A)) (ys : List (List B)) → map length ys ≡ map length xs → BeginsInTurn (BeginsInTurn P) xs ys → InTurn (InTurn P) xs ys
 rows_all P [] [] e h = tt
 rows_all P [] (y ∷ ys) e h = absurd (cc e)
 rows_all P (x ∷ xs) [] e h = absurd h
-rows_all P (x ∷ xs) (y ∷ ys) e h = let first : length y ≡ length x = cc e in let rest : map length ys ≡ map length xs = cc e in (begins_all P x y first h.0, rows_all P xs ys rest h.1)
+rows_all P (x ∷ xs) (y ∷ ys) e h = let first : length y ≡ length x = cc e in let rest : map length ys ≡ map length xs = cc e in (begins_all P x y h.0 (sym first), rows_all P xs ys rest h.1)
 
 pub all_sets_fit : (types : Types) (raw : RawScript) (kinds : Kinds) → HaveShape raw kinds → FitFirstSets types raw kinds → FitSets types raw kinds
 all_sets_fit types raw kinds shape h = record {
-  nametypes = begins_all (IsSetOf types kinds) (nametype_sets raw) kinds.nametypes shape.nametypes h.nametypes;
+  nametypes = begins_all (IsSetOf types kinds) (nametype_sets raw) kinds.nametypes h.nametypes (sym shape.nametypes);
   channels = rows_all (IsSetOf types kinds) (channel_sets raw) kinds.channels shape.channels h.channels;
 }
 
@@ -188,36 +185,25 @@ one_declaration_more types above d kinds =
 
 shape_under : (raw : RawScript) (n : ℕ) (o : Numbering) (a : Assignment) → AreNumbersFor raw n o → HaveShape raw (kinds_under a o)
 shape_under raw n o a numbers = record {
-  nametypes = length_mapped a o.nametypes ∙ numbers.nametypes;
+  nametypes = length-map o.nametypes a ∙ numbers.nametypes;
   channels = rows_counted a o.channels ∙ numbers.channels;
   parameters = rows_counted a o.parameters ∙ numbers.parameters;
 }
-
-begins_front : {A B : Type 0} (P : A → B → Type 0) (xs : List A) (ys : List B) → InTurn P xs ys → BeginsInTurn P xs ys
-begins_front P [] [] h = tt
-begins_front P [] (y ∷ ys) h = absurd h
-begins_front P (x ∷ xs) [] h = absurd h
-begins_front P (x ∷ xs) (y ∷ ys) h = (h.0, begins_front P xs ys h.1)
 
 rows_front : {A B : Type 0} (P : A → B → Type 0) (xs : List (List A)) (ys : List (List B)) → InTurn (InTurn P) xs ys → BeginsInTurn (BeginsInTurn P) xs ys
 rows_front P [] [] h = tt
 rows_front P [] (y ∷ ys) h = absurd h
 rows_front P (x ∷ xs) [] h = absurd h
-rows_front P (x ∷ xs) (y ∷ ys) h = (begins_front P x y h.0, rows_front P xs ys h.1)
+rows_front P (x ∷ xs) (y ∷ ys) h = (begins P x y h.0, rows_front P xs ys h.1)
 
 pub all_asked : (types : Types) (raw : RawScript) (o : Numbering) (n m : ℕ) (es : List KindEquation) → AreNumbersFor raw n o → Ask n es m (λ a. FitFirstSets types raw (kinds_under a o)) → Ask n es m (λ a. FitSets types raw (kinds_under a o))
 all_asked types raw o n m es numbers h =
     ask_same n m es (λ a. FitFirstSets types raw (kinds_under a o)) (λ a. FitSets types raw (kinds_under a o)) h (λ a x. all_sets_fit types raw (kinds_under a o) (shape_under raw n o a numbers) x)
-    (λ a x. record { nametypes = begins_front (IsSetOf types (kinds_under a o)) (nametype_sets raw) (kinds_under a o).nametypes x.nametypes; channels = rows_front (IsSetOf types (kinds_under a o)) (channel_sets raw) (kinds_under a o).channels x.channels })
+    (λ a x. record { nametypes = begins (IsSetOf types (kinds_under a o)) (nametype_sets raw) (kinds_under a o).nametypes x.nametypes; channels = rows_front (IsSetOf types (kinds_under a o)) (channel_sets raw) (kinds_under a o).channels x.channels })
 
 -- nothing is asked before the first declaration
 pub none_asked : (types : Types) (o : Numbering) (n : ℕ) → Ask n [] n (λ a. FitFirstSets types [] (kinds_under a o))
 none_asked types o n = ask_same n n [] (λ a. ⊤) (λ a. FitFirstSets types [] (kinds_under a o)) (ask_nothing n) (λ a x. record { nametypes = tt; channels = tt }) (λ a x. tt)
-
-dropped : {A : Type 0} (xs : List A) (n : ℕ) (x : A) → slice_get xs n ≡ Some x → drop n xs ≡ x ∷ drop (suc n) xs
-dropped [] n x e = absurd (cc e)
-dropped (y ∷ xs) zero x e = let same : y ≡ x = cc e in ap (λ z. z ∷ xs) same
-dropped (y ∷ xs) (suc n) x e = dropped xs n x e
 
 pub nametype_asked : (types : Types) (above : RawScript) (o : Numbering) (n m x : ℕ) (es : List KindEquation) (name : RawName) (domain : RawDomain) → AreOwners types o → IsBelow n o → slice_get o.nametypes (length (nametype_sets above)) ≡ Some x →
     Ask n es m (λ a. FitFirstSets types above (kinds_under a o)) →
@@ -234,7 +220,7 @@ nametype_asked types above o n m x es name domain owners below found h =
     let w : BeginsInTurn (IsSetOf types (kinds_under a o)) (e ∷ []) (a x ∷ drop (suc (length (nametype_sets above))) (map a o.nametypes)) = subst (λ z. BeginsInTurn (IsSetOf types (kinds_under a o)) (e ∷ []) z) (tail_of a) z.1 in (z.0, w.0))
   where
     tail_of : (a : Assignment) → drop (length (nametype_sets above)) (map a o.nametypes) ≡ a x ∷ drop (suc (length (nametype_sets above))) (map a o.nametypes)
-    tail_of a = dropped (map a o.nametypes) (length (nametype_sets above)) (a x) (slice_get-map a o.nametypes (length (nametype_sets above)) ∙ ap (option_map a) found)
+    tail_of a = drop_at (map a o.nametypes) (length (nametype_sets above)) (a x) (slice_get-map a o.nametypes (length (nametype_sets above)) ∙ ap (option_map a) found)
 
 -- ---- declarations of channels, field by field
 
@@ -247,7 +233,7 @@ module _ (P : Option Expression → Kind → Type 0) (a : Assignment) (fs : List
   row_more : (row : List ℕ) (m : ℕ) → slice_get row (length fs) ≡ Some m → BeginsInTurn P (fs ++ e ∷ []) (map a row) ↔ (BeginsInTurn P fs (map a row) × P e (a m))
   row_more row m found =
       let both = begins_both P fs (e ∷ []) (map a row) in
-      let is = dropped (map a row) (length fs) (a m) (slice_get-map a row (length fs) ∙ ap (option_map a) found) in (
+      let is = drop_at (map a row) (length fs) (a m) (slice_get-map a row (length fs) ∙ ap (option_map a) found) in (
         λ h. let x = both.0 h in let y : BeginsInTurn P (e ∷ []) (a m ∷ drop (suc (length fs)) (map a row)) = subst (λ z. BeginsInTurn P (e ∷ []) z) is x.1 in (x.0, y.0),
         λ h. both.1 (h.0, subst (λ z. BeginsInTurn P (e ∷ []) z) (sym is) (h.1, tt)),
       )
@@ -291,7 +277,7 @@ module _ (types : Types) (o : Numbering) (owners : AreOwners types o) where
         let fs = map (set_expression above) ds in
         let e = set_expression above d in
         let c = length (channel_sets above) in
-        let here : IsColumn (length fs) ms (drop c o.channels) = subst (λ i. IsColumn i ms (drop c o.channels)) (sym (length_mapped (set_expression above) ds)) column in
+        let here : IsColumn (length fs) ms (drop c o.channels) = subst (λ i. IsColumn i ms (drop c o.channels)) (sym (length-map ds (set_expression above))) column in
         let long = one_declaration_more types above (RawChannels names (ds ++ d ∷ [])) K in
         let short = one_declaration_more types above (RawChannels names ds) K in
         let more = rows_more (IsSetOf types K) a fs e names ms (drop c o.channels) same here in
@@ -356,7 +342,7 @@ module _ (types : Types) (above : RawScript) (o : Numbering) (n m : ℕ) (es : L
       enough : (a : Assignment) → BeginsInTurn (BeginsInTurn (IsSetOf types (kinds_under a o))) (replicate (length names) []) (drop (length (channel_sets above)) (map (map a) o.channels))
       enough a =
           empty_rows (IsSetOf types (kinds_under a o)) (length names) (drop (length (channel_sets above)) (map (map a) o.channels))
-          (left_over (length (channel_sets above)) (length names) (map (map a) o.channels) (subst (λ k. length (channel_sets above) + length names ≤ k) (sym (length_mapped (map a) o.channels)) le))
+          (left_over (length (channel_sets above)) (length names) (map (map a) o.channels) (subst (λ k. length (channel_sets above) + length names ≤ k) (sym (length-map o.channels (map a))) le))
 
 -- ---- beginnings of a tree
 

@@ -9,6 +9,7 @@ use Rattle.csp_syntax.specs.Expression.{Expression, Literal, Booleans, Datatype,
 use Rattle.csp_syntax.specs.Value.{Integer, Truth, Constructor}
 use Rattle.csp_syntax.specs.Types.{Types}
 use Rattle.csp_semantics.specs.Kinds.Kind.{Kind, SetKind, Kinds, InTurn, Each}
+use Rattle.csp_semantics.proofs.Misfits.{each_append}
 use Rattle.csp_text.specs.Raw.{RawName, RawExpression, RawNumber, RawTruth, RawBooleans, RawUse, RawApply, RawCombine, RawSequence, RawSet, RawRange, RawExpressions, no_raw_expressions, raw_expression_and, RawDomain, RawDeclaration, RawDatatype, RawNametype, RawChannels, RawEquation, RawAssertion, RawScript}
 use Rattle.csp_checking.specs.Names.{DatatypeName, ConstructorName, NametypeName, ChannelName, EquationName, Declared, declared_as, names_of, number_in, environment_above, meaning}
 use Rattle.csp_checking.specs.Resolving.{of_two, as_expression, expression_of, expressions_of}
@@ -17,6 +18,7 @@ use Rattle.csp_checking.specs.Rules.{SomeFit}
 use Rattle.csp_checking.proofs.ScriptThere.{behind-append, behind_one_more}
 use Rattle.csp_checking.proofs.Unrefused.{set_kept, turn_map}
 use Rattle.csp_checking.proofs.WellKinded.{expression_moves}
+use Rattle.csp_checking.proofs.AskingExpressions.{some_mapped}
 
 -- ---- a set uses nametypes above alone
 
@@ -63,10 +65,6 @@ parts f (Some x) (Some y) z e = (x, y, refl, refl, cc e)
 parts f None p z e = absurd (cc e)
 parts f (Some x) None z e = absurd (cc e)
 
-part : {A B : Type 0} (f : A → B) (o : Option A) (z : B) → option_map f o ≡ Some z → (x : A) × (o ≡ Some x) × (f x ≡ z)
-part f (Some x) z e = (x, refl, cc e)
-part f None z e = absurd (cc e)
-
 module _ (above : RawScript) where
   mutual
     pub expression_within : (r : RawExpression) (e : Expression) → expression_of (environment_above above) r ≡ Some e → Within (length (names_of NametypeName above)) (nametypes_in e)
@@ -75,14 +73,14 @@ module _ (above : RawScript) where
     expression_within RawBooleans e is = moved (length (names_of NametypeName above)) Booleans e (cc is) tt
     expression_within (RawUse n) e is = use_within above n e is
     expression_within (RawApply op r) e is =
-        let p = part _ (expression_of (environment_above above) r) e is in moved (length (names_of NametypeName above)) _ e p.2 (expression_within r p.0 p.1)
+        let p = some_mapped _ (expression_of (environment_above above) r) e is in moved (length (names_of NametypeName above)) _ e p.2 (expression_within r p.0 p.1)
     expression_within (RawCombine op r s) e is =
         let p = parts _ (expression_of (environment_above above) r) (expression_of (environment_above above) s) e is in
         moved (length (names_of NametypeName above)) _ e p.4 (within_append (length (names_of NametypeName above)) (nametypes_in p.0) (nametypes_in p.1) (expression_within r p.0 p.2) (expression_within s p.1 p.3))
     expression_within (RawSequence rs) e is =
-        let p = part _ (expressions_of (environment_above above) rs) e is in moved (length (names_of NametypeName above)) _ e p.2 (expressions_within rs p.0 p.1)
+        let p = some_mapped _ (expressions_of (environment_above above) rs) e is in moved (length (names_of NametypeName above)) _ e p.2 (expressions_within rs p.0 p.1)
     expression_within (RawSet rs) e is =
-        let p = part _ (expressions_of (environment_above above) rs) e is in moved (length (names_of NametypeName above)) _ e p.2 (expressions_within rs p.0 p.1)
+        let p = some_mapped _ (expressions_of (environment_above above) rs) e is in moved (length (names_of NametypeName above)) _ e p.2 (expressions_within rs p.0 p.1)
     expression_within (RawRange r s) e is =
         let p = parts _ (expression_of (environment_above above) r) (expression_of (environment_above above) s) e is in
         moved (length (names_of NametypeName above)) _ e p.4 (within_append (length (names_of NametypeName above)) (nametypes_in p.0) (nametypes_in p.1) (expression_within r p.0 p.2) (expression_within s p.1 p.3))
@@ -134,10 +132,6 @@ nametypes_within m above (RawEquation name ns p ∷ ds) le =
 nametypes_within m above (RawAssertion place model p q ∷ ds) le =
     let more : length (names_of NametypeName (above ++ RawAssertion place model p q ∷ [])) ≡ length (names_of NametypeName above) + 0 = names_more above (RawAssertion place model p q) in nametypes_within m (above ++ RawAssertion place model p q ∷ []) ds (omega arith)
 
-each_both : {A : Type 0} (P : A → Type 0) (xs ys : List A) → Each P xs → Each P ys → Each P (xs ++ ys)
-each_both P [] ys h k = k
-each_both P (x ∷ xs) ys h k = (h.0, each_both P xs ys h.1 k)
-
 fields_within : (m : ℕ) (above : RawScript) (domains : List RawDomain) → length (names_of NametypeName above) ≤ m → Each (SetWithin m) (map (set_expression above) domains)
 fields_within m above [] le = tt
 fields_within m above (d ∷ ds) le = (set_within above d m le, fields_within m above ds le)
@@ -150,7 +144,7 @@ pub channels_within : (m : ℕ) (above ds : RawScript) → length (names_of Name
 channels_within m above [] le = tt
 channels_within m above (RawChannels names domains ∷ ds) le =
     let more : length (names_of NametypeName (above ++ RawChannels names domains ∷ [])) ≡ length (names_of NametypeName above) + 0 = names_more above (RawChannels names domains) in
-    each_both (Each (SetWithin m)) (replicate (length names) (map (set_expression above) domains)) (behind_each channels_declared (above ++ RawChannels names domains ∷ []) ds)
+    each_append (Each (SetWithin m)) (replicate (length names) (map (set_expression above) domains)) (behind_each channels_declared (above ++ RawChannels names domains ∷ []) ds)
     (copies_within m (map (set_expression above) domains) names (fields_within m above domains (omega arith))) (channels_within m (above ++ RawChannels names domains ∷ []) ds (omega arith))
 channels_within m above (RawNametype name domain ∷ ds) le =
     let more : length (names_of NametypeName (above ++ RawNametype name domain ∷ [])) ≡ length (names_of NametypeName above) + 1 = names_more above (RawNametype name domain) in channels_within m (above ++ RawNametype name domain ∷ []) ds (omega arith)

@@ -6,7 +6,7 @@ use Rattle.csp_semantics.specs.Kinds.Values.{IsConstructorOf}
 use Rattle.csp_checking.specs.Inference.Equations.{Numbering, AreOwners}
 use Rattle.csp_checking.specs.Inference.Items.{numbers_from, rows_from, owners_from}
 
-row_length : (n k : ℕ) → length (numbers_from n k) ≡ k
+pub row_length : (n k : ℕ) → length (numbers_from n k) ≡ k
 row_length n zero = refl
 row_length n (suc k) = ap suc (row_length (suc n) k)
 

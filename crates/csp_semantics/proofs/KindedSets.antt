@@ -65,7 +65,8 @@ begins_next P [] (z ∷ ys) x y h e p = let same : z ≡ y = cc e in (subst (P x
 begins_next P (w ∷ xs) [] x y h e p = absurd h
 begins_next P (w ∷ xs) (z ∷ ys) x y h e p = (h.0, begins_next P xs ys x y h.1 e p)
 
-begins_all : {A B : Type 0} (P : A → B → Type 0) (xs : List A) (ys : List B) → BeginsInTurn P xs ys → length xs ≡ length ys → InTurn P xs ys
+-- a list that begins in step with one as long is in step with it
+pub begins_all : {A B : Type 0} (P : A → B → Type 0) (xs : List A) (ys : List B) → BeginsInTurn P xs ys → length xs ≡ length ys → InTurn P xs ys
 begins_all P [] [] h e = tt
 begins_all P [] (y ∷ ys) h e = absurd (omega (arith, e))
 begins_all P (x ∷ xs) [] h e = absurd h

@@ -18,7 +18,7 @@ use Rattle.csp_semantics.specs.Kinds.Events.{FieldsHaveKinds, scope_behind, IsEv
 use Rattle.csp_semantics.specs.Kinds.Processes.{IsWellKinded, IsClosedTerm}
 use Rattle.csp_semantics.specs.Kinds.Putting.{BindingsFit}
 use Rattle.csp_semantics.specs.Kinds.Scripts.{MembersHaveKind, IsWellKindedEquation, SetsHaveKinds}
-use Rattle.csp_syntax.proofs.Equalities.{value_refl}
+use Rattle.csp_syntax.proofs.Equalities.{fields_refl}
 use Rattle.csp_semantics.proofs.Misfits.{Gives, gives_then, gives_cond, gives_each, gives_each_list, each_filter, in_turn_get, in_turn_length}
 use Rattle.csp_semantics.proofs.KindedValues.{listed, value_kind}
 use Rattle.csp_semantics.proofs.KindedPutting.{fit_bind, fit_more, fit_nothing, put_expression_kind, put_kinded}
@@ -31,18 +31,15 @@ any_cond : {A : Type 0} (b : Bool) (x : A) (c : Cause) → b ≡ true → GivesA
 any_cond true x c e = tt
 any_cond false x c e = absurd (cc e)
 
-begins : {A B : Type 0} (P : A → B → Type 0) (xs : List A) (ys : List B) → InTurn P xs ys → BeginsInTurn P xs ys
+-- a list in step with one begins in step with it
+pub begins : {A B : Type 0} (P : A → B → Type 0) (xs : List A) (ys : List B) → InTurn P xs ys → BeginsInTurn P xs ys
 begins P [] ys h = tt
 begins P (x ∷ xs) [] h = absurd h
 begins P (x ∷ xs) (y ∷ ys) h = (h.0, begins P xs ys h.1)
 
-set_refl : (vs : List Value) → slice_cmp value_cmp vs vs ≡ Equal
-set_refl [] = refl
-set_refl (v ∷ vs) = ap₂ ordering_then (value_refl v) (set_refl vs)
-
-sets_refl : (s : List (List Value)) → slice_cmp (slice_cmp value_cmp) s s ≡ Equal
+pub sets_refl : (s : List (List Value)) → slice_cmp (slice_cmp value_cmp) s s ≡ Equal
 sets_refl [] = refl
-sets_refl (vs ∷ s) = ap₂ ordering_then (set_refl vs) (sets_refl s)
+sets_refl (vs ∷ s) = ap₂ ordering_then (fields_refl vs) (sets_refl s)
 
 with_each : (P : Bindings → Type 0) (v : Value) (ms : List Communication) → Each (λ m. P m.bindings) ms → Each (λ m. P m.bindings) (with_value v ms)
 with_each P v [] h = tt
