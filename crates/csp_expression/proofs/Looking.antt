@@ -1,7 +1,7 @@
 -- Looking a name up in a list of bindings.
-use Rattle.std.proofs.Common.{◌≡◌, ℕ, ◌+◌, ◌<◌, nat_eq, cond, true, false, List, ◌∷◌, length, map, drop, get_or, Some, sym, ◌∙◌, ap}
-use Rattle.std.proofs.lemmas.List.{drop_more}
+use Rattle.std.proofs.Common.{◌≡◌, ℕ, ◌+◌, ◌<◌, nat_eq, cond, true, false, List, length, map, drop, get_or, Some, sym, ◌∙◌, ap}
 use Rattle.csp_syntax.specs.Value.{Value}
+use Rattle.csp_syntax.proofs.Places.{cut}
 use Rattle.csp_semantics.specs.Meaning.Substitution.{bound}
 
 module _ {X : Type 0} (name : X → ℕ) (value : X → Value) (n : ℕ) (xs : List X) (i : ℕ) (x : X) where
@@ -12,11 +12,8 @@ module _ {X : Type 0} (name : X → ℕ) (value : X → Value) (n : ℕ) (xs : L
   abbrev pub Rests : Type 0
   Rests = bound (map binding (drop i xs)) n ≡ bound (map binding xs) n
 
-  cut : i < length xs → x ≡ get_or xs i x → x ∷ drop (i + 1) xs ≡ drop i xs
-  cut within read = ap (λ z. z ∷ drop (i + 1) xs) read ∙ sym (drop_more xs i x within)
-
   looked : i < length xs → x ≡ get_or xs i x → Rests → cond (nat_eq (name x) n) (Some (value x)) (bound (map binding (drop (i + 1) xs)) n) ≡ bound (map binding xs) n
-  looked within read rests = ap (λ ys. bound (map binding ys) n) (cut within read) ∙ rests
+  looked within read rests = ap (λ ys. bound (map binding ys) n) (cut xs i x within read) ∙ rests
 
   -- the name is there
   pub bound_here : i < length xs → x ≡ get_or xs i x → Rests → nat_eq (name x) n ≡ true → Some (value x) ≡ bound (map binding xs) n

@@ -1,22 +1,19 @@
 -- Looking through a list for an item that passes a test.
-use Rattle.std.proofs.Common.{◌≡◌, ℕ, ◌+◌, ◌<◌, ◌||◌, Bool, true, false, List, ◌∷◌, length, map, drop, get_or, refl, sym, ◌∙◌, ap}
-use Rattle.std.proofs.lemmas.List.{drop_more}
+use Rattle.std.proofs.Common.{◌≡◌, ℕ, ◌+◌, ◌<◌, ◌||◌, Bool, true, false, List, length, map, drop, get_or, refl, sym, ◌∙◌, ap}
 use Rattle.std.specs.List.{list_any}
 use Rattle.csp_value.specs.declared.action.Action.{Action}
 use Rattle.csp_value.specs.declared.action.Action.TheVariants as variant
 use Rattle.csp_value.specs.Action.{action_of}
 use Rattle.csp_fire.specs.Offering.{is_tau, is_tick}
+use Rattle.csp_syntax.proofs.Places.{cut}
 
 module _ {X Y : Type 0} (meaning : X → Y) (test : Y → Bool) (xs : List X) (i : ℕ) (x : X) where
   -- what is left decides
   abbrev pub Rests : Type 0
   Rests = list_any test (map meaning (drop i xs)) ≡ list_any test (map meaning xs)
 
-  cut : i < length xs → x ≡ get_or xs i x → x ∷ drop (i + 1) xs ≡ drop i xs
-  cut within read = ap (λ z. z ∷ drop (i + 1) xs) read ∙ sym (drop_more xs i x within)
-
   looked : i < length xs → x ≡ get_or xs i x → Rests → test (meaning x) || list_any test (map meaning (drop (i + 1) xs)) ≡ list_any test (map meaning xs)
-  looked within read rests = ap (λ ys. list_any test (map meaning ys)) (cut within read) ∙ rests
+  looked within read rests = ap (λ ys. list_any test (map meaning ys)) (cut xs i x within read) ∙ rests
 
   -- the item passes
   pub found_here : i < length xs → x ≡ get_or xs i x → Rests → test (meaning x) ≡ true → true ≡ list_any test (map meaning xs)

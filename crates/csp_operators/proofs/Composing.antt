@@ -1,15 +1,15 @@
 -- What is answered of a term is composed of what is answered of its parts, along the definitions' steps.
-use Rattle.std.proofs.Common.{◌≡◌, ◌∙◌, zero, suc, Bool, true, false, cond, List, [], ◌∷◌, ◌++◌, Option, Some, None, refl, sym, ap, subst, inl, inr, ◌⊎◌, ⊎_elim, Contains, arith}
+use Rattle.std.proofs.Common.{◌≡◌, ◌∙◌, zero, suc, Bool, true, false, cond, List, [], ◌∷◌, ◌++◌, Option, Some, None, refl, sym, ap, subst, ◌⊎◌, ⊎_elim, Contains, arith}
 use Rattle.std.proofs.lemmas.List.{append-nil, append_assoc}
 use Rattle.std.proofs.lemmas.List.Elements.{Contains-append_cases, Contains-append_left, Contains-append_right}
 use Rattle.csp_syntax.specs.Value.{Action, Event, Tau, Tick, Ev}
 use Rattle.csp_syntax.specs.Process.{Process}
 use Rattle.csp_semantics.specs.Meaning.Limits.{fits}
 use Rattle.csp_semantics.specs.Meaning.Stepping.{Steps, each_step, leave, stay}
-use Rattle.csp_semantics.specs.Laws.Statements.{IsOneOf}
+use Rattle.csp_semantics.proofs.Stepping.{append_cases, append_left, append_right, each_in, each_of}
 use Rattle.csp_operators.specs.Answering.{Answered, within_limits}
 use Rattle.csp_operators.specs.Composing.{each_answer, leave_answer, stay_answer, under_both, under_limits}
-use Rattle.csp_operators.proofs.Answered.{AreAnswered, contains_one_of, kept_answers, one_of_contains}
+use Rattle.csp_operators.proofs.Answered.{AreAnswered, kept_answers}
 use Rattle.csp_operators.proofs.Past.{StaysPast}
 
 -- ---- one step, and two lists
@@ -21,25 +21,16 @@ one_answered x t u is =
 pub none_answered : AreAnswered [] []
 none_answered = kept_answers []
 
-one_of_left : (ss zs : Steps) (x : Action) (u : Process) → IsOneOf ss x u → IsOneOf (ss ++ zs) x u
-one_of_left ss zs x u h = one_of_contains (ss ++ zs) x u (Contains-append_left ss zs (x, u) (contains_one_of ss x u h))
-
-one_of_right : (ss zs : Steps) (x : Action) (u : Process) → IsOneOf zs x u → IsOneOf (ss ++ zs) x u
-one_of_right ss zs x u h = one_of_contains (ss ++ zs) x u (Contains-append_right ss zs (x, u) (contains_one_of zs x u h))
-
-one_of_cases : (ss zs : Steps) (x : Action) (u : Process) → IsOneOf (ss ++ zs) x u → IsOneOf ss x u ⊎ IsOneOf zs x u
-one_of_cases ss zs x u h = ⊎_elim (λ k. inl (one_of_contains ss x u k)) (λ k. inr (one_of_contains zs x u k)) (Contains-append_cases ss zs (x, u) (contains_one_of (ss ++ zs) x u h))
-
 pub both_answered : (ss zs : Steps) (bs cs : List Answered) → AreAnswered ss bs → AreAnswered zs cs → AreAnswered (ss ++ zs) (bs ++ cs)
 both_answered ss zs bs cs first second = record {
   sound = λ x t h. ⊎_elim
-      (λ k. let r = first.sound x t k in (r.0, one_of_left ss zs x r.0 r.1, r.2))
-      (λ k. let r = second.sound x t k in (r.0, one_of_right ss zs x r.0 r.1, r.2))
+      (λ k. let r = first.sound x t k in (r.0, append_left ss zs x r.0 r.1, r.2))
+      (λ k. let r = second.sound x t k in (r.0, append_right ss zs x r.0 r.1, r.2))
       (Contains-append_cases bs cs (x, t) h);
   complete = λ x u h. ⊎_elim
       (λ k. Contains-append_left bs cs (x, within_limits u) (first.complete x u k))
       (λ k. Contains-append_right bs cs (x, within_limits u) (second.complete x u k))
-      (one_of_cases ss zs x u h);
+      (append_cases ss zs x u h);
 }
 
 -- ---- what is made of each step
@@ -48,19 +39,6 @@ both_answered ss zs bs cs first second = record {
 pub each_more : (f : Action → Option Process → List Answered) (bs : List Answered) (b : Answered) → each_answer f (bs ++ b ∷ []) ≡ each_answer f bs ++ f b.0 b.1
 each_more f [] b = append-nil (f b.0 b.1)
 each_more f (c ∷ bs) b = ap (λ cs. f c.0 c.1 ++ cs) (each_more f bs b) ∙ sym (append_assoc (f c.0 c.1) (each_answer f bs) (f b.0 b.1))
-
-module _ (f : Action → Process → Steps) where
-  each_from : (ss : Steps) (x : Action) (u : Process) → IsOneOf (each_step f ss) x u → (y : Action) × (v : Process) × IsOneOf ss y v × IsOneOf (f y v) x u
-  each_from [] x u h = absurd h
-  each_from (s ∷ ss) x u h =
-      ⊎_elim (λ k. (s.0, s.1, inl (refl, refl), k)) (λ k. let r = each_from ss x u k in (r.0, r.1, inr r.2, r.3)) (one_of_cases (f s.0 s.1) (each_step f ss) x u h)
-
-  each_to : (ss : Steps) (y : Action) (v : Process) (x : Action) (u : Process) → IsOneOf ss y v → IsOneOf (f y v) x u → IsOneOf (each_step f ss) x u
-  each_to [] y v x u k h = absurd k
-  each_to (s ∷ ss) y v x u (inl e) h =
-      let P : Action → Type 0 = λ a. IsOneOf (f a v) x u in
-      let Q : Process → Type 0 = λ p. IsOneOf (f s.0 p) x u in one_of_left (f s.0 s.1) (each_step f ss) x u (subst Q e.1 (subst P e.0 h))
-  each_to (s ∷ ss) y v x u (inr k) h = one_of_right (f s.0 s.1) (each_step f ss) x u (each_to ss y v x u k h)
 
 module _ (g : Action → Option Process → List Answered) where
   pub answers_from : (bs : List Answered) (a : Answered) → Contains (each_answer g bs) a → (b : Answered) × Contains bs b × Contains (g b.0 b.1) a
@@ -86,9 +64,9 @@ each_answered f g one ss bs all = record {
       let step = all.sound b.0 b.1 r.1 in
       let P : Option Process → Type 0 = λ o. Contains (g b.0 o) (x, t) in
       let made = (one b.0 step.0).sound x t (subst P step.2 r.2) in
-      (made.0, each_to f ss b.0 step.0 x made.0 step.1 made.1, made.2);
+      (made.0, each_of f ss b.0 step.0 x made.0 step.1 made.1, made.2);
   complete = λ x u h.
-      let r = each_from f ss x u h in
+      let r = each_in f ss x u h in
       answers_to g bs (r.0, within_limits r.1) (x, within_limits u) (all.complete r.0 r.1 r.2) ((one r.0 r.1).complete x u r.3);
 }
 

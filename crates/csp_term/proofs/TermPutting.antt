@@ -1,12 +1,13 @@
 -- Values are put into the fields of a prefix in turn, and what the parts of a term make up.
 use Rattle.std.proofs.Common.{◌≡◌, ℕ, ◌+◌, ◌<◌, ◌≤◌, Result, IfOk, List, [], ◌∷◌, ◌++◌, length, drop, get_or, append-nil, refl, sym, ◌∙◌, ap, ap₂}
-use Rattle.std.proofs.lemmas.List.{map-append, append_assoc, drop_all, drop_more}
+use Rattle.std.proofs.lemmas.List.{map-append, append_assoc, drop_all}
 use Rattle.std.specs.declared.vec.Vec.{Vec}
 use Rattle.csp_syntax.specs.Expression.{to_expressions}
 use Rattle.csp_syntax.specs.Process as pure
 use Rattle.csp_syntax.specs.declared.process_operator.ProcessOperator.{ProcessOperator}
 use Rattle.csp_syntax.specs.declared.process_operator.ReplicatedOperator.{ReplicatedOperator}
 use Rattle.csp_syntax.specs.Operators.{binary_process, replicated_process}
+use Rattle.csp_syntax.proofs.Places.{cut}
 use Rattle.csp_semantics.specs.Meaning.Substitution.{Bindings, behind, put, put_event_set, put_expression, put_fields, put_pairs, without}
 use Rattle.csp_value.specs.declared.name.ChannelId.{ChannelId}
 use Rattle.csp_term.specs.declared.name.EquationId.{EquationId}
@@ -39,10 +40,6 @@ behind_first : (bs : Bindings) (f : pure.Field) (fs : List pure.Field) → behin
 behind_first bs (pure.Given e) fs = refl
 behind_first bs (pure.Input n) fs = refl
 behind_first bs (pure.InputFrom n e) fs = refl
-
--- a field and those behind it
-cut : {X : Type 0} (xs : List X) (i : ℕ) (x : X) → i < length xs → x ≡ get_or xs i x → x ∷ drop (i + 1) xs ≡ drop i xs
-cut xs i x within read = ap (λ z. z ∷ drop (i + 1) xs) read ∙ sym (drop_more xs i x within)
 
 module _ {A : Type 0} (bs : Bindings) (fs : List (Field A)) where
   -- what is put in so far, and then into what is left, is put into all of them

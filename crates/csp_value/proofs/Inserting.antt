@@ -1,14 +1,12 @@
 -- A value that is put into a list before the first one above it.
 use Rattle.std.proofs.Common.{◌≡◌, ℕ, ◌+◌, ◌<◌, List, [], ◌∷◌, ◌++◌, length, map, take, drop, get_or, refl, sym, ◌∙◌, ap, subst}
-use Rattle.std.proofs.lemmas.List.{take_more, drop_more, take-append-drop, map-append}
+use Rattle.std.proofs.lemmas.List.{take_more, take-append-drop, map-append}
 use Rattle.std.specs.List.{insert}
 use Rattle.std.specs.declared.cmp.Ordering.TheVariants.{Less, Equal, Greater}
 use Rattle.csp_syntax.specs.Value.{Value, value_cmp, insert_value}
+use Rattle.csp_syntax.proofs.Places.{cut}
 
 module _ {X : Type 0} (meaning : X → Value) where
-  cut : (xs : List X) (i : ℕ) (y : X) → i < length xs → y ≡ get_or xs i y → y ∷ drop (i + 1) xs ≡ drop i xs
-  cut xs i y within read = ap (λ z. z ∷ drop (i + 1) xs) read ∙ sym (drop_more xs i y within)
-
   at_less : (x y : X) (ys : List X) → value_cmp (meaning x) (meaning y) ≡ Less → insert_value (meaning x) (map meaning (y ∷ ys)) ≡ meaning x ∷ map meaning (y ∷ ys)
   at_less x y ys less = rw less refl
 

@@ -1,8 +1,9 @@
 -- Loops over a list that add up the sizes of its items, or look for one that is too deep.
 use Rattle.std.proofs.Common.{◌≡◌, ℕ, zero, suc, ◌+◌, ◌-◌, ◌<◌, ◌≤◌, max, refl, Option, Some, None, SomeIff, List, [], ◌∷◌, length, drop, get_or, sym, ◌∙◌, ap, subst, Bool, true, false, IsTrue, ◌↔◌, arith}
-use Rattle.std.proofs.lemmas.List.{drop_more, drop_all}
+use Rattle.std.proofs.lemmas.List.{drop_all}
 use Rattle.std.proofs.lemmas.List.Recursion.{max_bounds}
 use Rattle.std.proofs.Math.Nat.{max-le}
+use Rattle.csp_syntax.proofs.Places.{cut}
 
 -- what is left of the items and the room say the same as all of them
 abbrev pub Left : {X : Type 0} → (List X → ℕ) → List X → ℕ → ℕ → ℕ → Type 0
@@ -35,10 +36,6 @@ pub one_deeper : (P : Type 0) (most items all : ℕ) → ¬ (most ≡ 0) → all
 one_deeper P most items all some one told =
     let least : 1 ≤ most = at_least_one most some in
     (λ p. let fits : items ≤ most - 1 = told.0 p in omega arith, λ fits. told.1 (omega arith))
-
--- an item and what is behind it
-pub cut : {X : Type 0} (xs : List X) (i : ℕ) (x : X) → i < length xs → x ≡ get_or xs i x → x ∷ drop (i + 1) xs ≡ drop i xs
-cut xs i x within read = ap (λ z. z ∷ drop (i + 1) xs) read ∙ sym (drop_more xs i x within)
 
 -- F is the sum over the items
 module _ {X : Type 0} (F : List X → ℕ) (f : X → ℕ) (none : F [] ≡ 0) (step : (x : X) (xs : List X) → F (x ∷ xs) ≡ f x + F xs) (xs : List X) (room : ℕ) where
