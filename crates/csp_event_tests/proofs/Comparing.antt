@@ -18,7 +18,7 @@ use Rattle.csp_value.specs.contracts.field_set.FieldSetPartialEq.TheImpl as fiel
 use Rattle.csp_value.specs.Value.{members_of}
 use Rattle.csp_value.proofs.Equality.{set_tells}
 use Rattle.csp_value.proofs.Sameness.{Tells, lists_tell}
-use Rattle.csp_expression.proofs.Forming.{unlisted}
+use Rattle.csp_value.proofs.Forms.{unlisted}
 use Rattle.csp_term.specs.Script.{field_values}
 use Rattle.csp_event_tests.specs.Testing.{sets_of}
 

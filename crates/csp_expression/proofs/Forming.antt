@@ -11,7 +11,7 @@ use Rattle.csp_value.specs.declared.value.Value.{Value}
 use Rattle.csp_value.specs.declared.value.Value.TheVariants as views
 use Rattle.csp_value.specs.declared.set.SetOf.{SetOf}
 use Rattle.csp_value.specs.Value.{members_of, value_of, values_of}
-use Rattle.csp_value.proofs.Forms.{listed, value_of_seq, value_of_set}
+use Rattle.csp_value.proofs.Forms.{listed, value_of_seq, value_of_set, unlisted}
 
 -- a value that is this sequence, or this set
 pub seq_is : {A : Type 0} (v : Value A) (items : Vec (Value A) A) → v ≡ views.Seq items → value_of v ≡ pure.Sequence (pure.to_values (values_of items.items))
@@ -19,11 +19,6 @@ seq_is {A} v items is = ap value_of is ∙ value_of_seq A items
 
 pub set_is : {A : Type 0} (v : Value A) (s : SetOf A) → v ≡ views.Set s → value_of v ≡ pure.Set (members_of s)
 set_is {A} v s is = ap value_of is ∙ value_of_set A s
-
--- a list of values made anew
-pub unlisted : (vs : pure.Values) → pure.to_values (pure.values_list vs) ≡ vs
-unlisted pure.no_values = refl
-unlisted (pure.value_and v vs) = ap (pure.value_and v) (unlisted vs)
 
 -- as many values as things that stand for them
 pub as_many : {A : Type 0} (items : List (Value A)) (vs : List pure.Value) → values_of items ≡ vs → length vs ≡ length items

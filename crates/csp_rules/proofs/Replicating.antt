@@ -14,11 +14,11 @@ use Rattle.csp_semantics.specs.Meaning.Evaluation.{Cause, IllKinded, ◌and_then
 use Rattle.csp_semantics.specs.Meaning.Events.{elements, instances, members_of}
 use Rattle.csp_semantics.specs.Meaning.Faults.{cause_in, first_cause, in_instances, in_internal_chain}
 use Rattle.csp_semantics.specs.Meaning.Stepping.{always, never}
-use Rattle.csp_semantics.specs.Meaning.Substitution.{Bindings, bind, put, put_expression, without}
+use Rattle.csp_semantics.specs.Meaning.Substitution.{Bindings, bind, put, without}
 use Rattle.csp_semantics.specs.Meaning.Transitions as rule
 use Rattle.csp_semantics.specs.Meaning.Transitions.{chain, left_grouped}
 use Rattle.csp_semantics.proofs.Causes.{replicated_external_cause, replicated_interleaving_cause, replicated_internal_cause}
-use Rattle.csp_semantics.proofs.Chains.{external_chain_cause, interleaving_chain_cause, internal_chain_cause}
+use Rattle.csp_semantics.proofs.Chains.{external_chain_cause, interleaving_chain_cause, internal_chain_cause, or_assoc}
 use Rattle.csp_value.specs.declared.value.Value.{Value}
 use Rattle.csp_value.specs.Value.{members_of as set_members, value_of, values_of}
 use Rattle.csp_value.specs.declared.value.Value.TheVariants as views
@@ -68,13 +68,9 @@ pub grouped_more : (op : Process → Process → Process) (p : Process) (qs : Li
 grouped_more op p [] q = refl
 grouped_more op p (r ∷ qs) q = grouped_more op (op p r) qs q
 
-or_assoc : (a b c : Option Cause) → option_or a (option_or b c) ≡ option_or (option_or a b) c
-or_assoc None b c = refl
-or_assoc (Some d) b c = refl
-
 first_of_both : (look : Process → Option Cause) (ps qs : List Process) → first_cause look (ps ++ qs) ≡ option_or (first_cause look ps) (first_cause look qs)
 first_of_both look [] qs = refl
-first_of_both look (p ∷ ps) qs = ap (option_or (look p)) (first_of_both look ps qs) ∙ or_assoc (look p) (first_cause look ps) (first_cause look qs)
+first_of_both look (p ∷ ps) qs = ap (option_or (look p)) (first_of_both look ps qs) ∙ sym (or_assoc (look p) (first_cause look ps) (first_cause look qs))
 
 module _ (s : Script) where
   grouped_cause : (k : Looking) (p : Process) (qs : List Process) → cause_in s (left_grouped (looking_process k) p qs) ≡ first_cause (cause_in s) (p ∷ qs)
@@ -127,11 +123,6 @@ pub choice_within : (p q : Process) (o r : Option Process) → o ≡ within_limi
 choice_within p q o r first_is second_is = ap₂ (under_both InternalChoice) first_is second_is ∙ limits_under_both InternalChoice internal_first internal_second p q
 
 -- ---- replicated forms
-
-pub put_replicated : (bs : Bindings) (op : ReplicatedOperator) (n : ℕ) (e : Expression) (p : Process) → put bs (replicated_process op n e p) ≡ replicated_process op n (put_expression bs e) (put (without n bs) p)
-put_replicated bs operator.ExternalChoice n e p = refl
-put_replicated bs operator.InternalChoice n e p = refl
-put_replicated bs operator.Interleaving n e p = refl
 
 module _ (s : Script) (n : ℕ) (e : Expression) (p : Process) where
   -- a set without elements to put in

@@ -43,9 +43,9 @@ use Rattle.csp_term.specs.Term.{process_of}
 use Rattle.csp_expression.specs.Evaluation.{constructors_of, members_listed, numbers_up, table_of}
 use Rattle.csp_term.specs.Script.{assertion_of, channel_of, equation_of, field_values, script_of}
 use Rattle.csp_term.proofs.Channels.{same_channels, same_names, same_sets}
-use Rattle.csp_expression.proofs.Forming.{unlisted}
 use Rattle.csp_term.proofs.TermOrder.{cmp, ordered}
 use Rattle.csp_value.proofs.Sameness.{Tells, nat_tells, text_tells, lists_tell}
+use Rattle.csp_value.proofs.Forms.{unlisted}
 
 abbrev pub model_eq : Model → Model → Bool
 model_eq = model_impl.ghosts.eq

@@ -15,6 +15,11 @@ pub listed : (vs : List pure.Value) → pure.values_list (pure.to_values vs) ≡
 listed [] = refl
 listed (v ∷ vs) = ap (λ ws. v ∷ ws) (listed vs)
 
+-- and the other way round
+pub unlisted : (vs : pure.Values) → pure.to_values (pure.values_list vs) ≡ vs
+unlisted pure.no_values = refl
+unlisted (pure.value_and v vs) = ap (pure.value_and v) (unlisted vs)
+
 module _ (A : Type 0) where
   pub value_of_int : (n : ℤ) → value_of {A = A} (views.Int n) ≡ pure.Integer n
   value_of_int n = ap (value_of {A = A}) (sym (views.rolls-Int n)) ∙ fold-roll-Value A pure.Value pure.Values value_step members_step (layer.Int n)

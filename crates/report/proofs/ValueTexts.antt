@@ -9,24 +9,19 @@ use Rattle.csp_value.specs.declared.value.Value.{Value}
 use Rattle.csp_value.specs.declared.value.Value.TheVariants as views
 use Rattle.csp_value.specs.declared.set.SetOf.{SetOf}
 use Rattle.csp_value.specs.Value.{value_of, values_of, members_of}
-use Rattle.csp_value.proofs.Forms.{value_of_seq, value_of_set}
+use Rattle.csp_value.proofs.Forms.{value_of_seq, value_of_set, unlisted}
 
 -- values with a comma between each two
 pub joined : (names : List (List ℕ)) (v : pure.Value) (vs : List pure.Value) → values_text names (pure.to_values (v ∷ vs)) ≡ join_with_byte 44 (map (value_text names) (v ∷ vs))
 joined names v [] = refl
 joined names v (w ∷ ws) = ap (λ (ts : List ℕ). value_text names v ++ (44 ∷ ts)) (joined names w ws)
 
--- the values of a list, and the list of those
-pub listed_again : (vs : pure.Values) → pure.to_values (pure.values_list vs) ≡ vs
-listed_again pure.no_values = refl
-listed_again (pure.value_and v vs) = ap (pure.value_and v) (listed_again vs)
-
 -- the members of a sequence or a set, as they are read
 pub of_sequence : {A : Type 0} (v : Value A) (vs : Vec (Value A) A) (read : List (Value A)) → v ≡ views.Seq vs → read ≡ vs.items → value_of v ≡ pure.Sequence (pure.to_values (values_of read))
 of_sequence {A} v vs read is same = ap value_of is ∙ value_of_seq A vs ∙ ap (λ ws. pure.Sequence (pure.to_values (values_of ws))) (sym same)
 
 pub of_set : {A : Type 0} (v : Value A) (s : SetOf A) (read : List (Value A)) → v ≡ views.Set s → values_of read ≡ pure.values_list (members_of s) → value_of v ≡ pure.Set (pure.to_values (values_of read))
-of_set {A} v s read is same = ap value_of is ∙ value_of_set A s ∙ ap pure.Set (sym (ap pure.to_values same ∙ listed_again (members_of s)))
+of_set {A} v s read is same = ap value_of is ∙ value_of_set A s ∙ ap pure.Set (sym (ap pure.to_values same ∙ unlisted (members_of s)))
 
 -- a member is no larger than all of them
 pub member_size : {A : Type 0} (values : List (Value A)) (i : ℕ) (v : Value A) → i < length values → v ≡ get_or values i v → value_size (value_of v) ≤ values_size (pure.to_values (values_of values))

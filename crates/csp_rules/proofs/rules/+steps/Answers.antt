@@ -9,6 +9,7 @@ use Rattle.csp_syntax.specs.declared.process_operator.ProcessOperator.{ProcessOp
 use Rattle.csp_expression.specs.Expression.{expression_of, expressions_of}
 use Rattle.csp_term.specs.Field.{fields_of}
 use Rattle.csp_term.proofs.Forms.{of_alphabetised, of_binary, of_call, of_conditional, of_generalised, of_guard, of_hiding, of_omega_term, of_prefix, of_renaming, of_replicated, of_skip, of_stop}
+use Rattle.csp_term.proofs.OperatorForms.{replicated_put}
 use Rattle.csp_syntax.specs.Expression.{to_expressions}
 use Rattle.csp_syntax.specs.Process.{EventSet, Process}
 use Rattle.csp_syntax.specs.declared.process_operator.ReplicatedOperator.{ReplicatedOperator}
@@ -31,7 +32,7 @@ use Rattle.csp_operators.specs.Answering.{Answers, IsAnswered, answered_of}
 use Rattle.csp_operators.specs.Composing.{AreSidesOf, IsSideOf}
 use Rattle.csp_rules.specs.Replicating.{AnswersChoices, instance_of, instances_of, looking_process}
 use Rattle.csp_rules.proofs.Members.{no_members}
-use Rattle.csp_rules.proofs.Replicating.{external_by_chain, grouped_more, instances_are, interleaving_by_chain, internal_by_chain, last_choice, mapped_more, mapped_split, no_set, put_replicated, seen_elements, set_stuck, stuck_at_first, stuck_behind, two_sides}
+use Rattle.csp_rules.proofs.Replicating.{external_by_chain, grouped_more, instances_are, interleaving_by_chain, internal_by_chain, last_choice, mapped_more, mapped_split, no_set, seen_elements, set_stuck, stuck_at_first, stuck_behind, two_sides}
 use Rattle.csp_operators.proofs.Siding.{side_of_stuck, stuck_at_first_side, stuck_at_second_side, stuck_of_side}
 use Rattle.csp_rules.proofs.Smaller.{alphabetised_height, binary_height, branch_height, generalised_height, guard_height, height_of, hiding_height, renaming_height, replicated_height}
 use Rattle.csp_rules.proofs.Ruling.{guarded, closed, first_branch, second_branch, guard_stuck, if_stuck, ended, stopped}
@@ -280,7 +281,7 @@ replicated::steps-returns-in_err-seen g t c =
     let q = err_from_is_err_and c.from_residual.result c.from_residual.ensures.1 in
     let P : Process → Type 0 = λ p. Answers {A = g.row.A.Denot} script p (Err why) in
     let Q : Result (Vec (RuleStep g.row.A.Denot) g.row.A.Denot) EvalFault → Type 0 = λ r. Answers script (put bs (replicated_process op n e body)) r in
-    subst Q (sym (q.1 ∙ ap Err q.2)) (subst P (sym (put_replicated bs op n e body)) (set_stuck script n (put_expression bs e) (put (without n bs) body) g.row.A.Denot op why c.in_err-seen.ensures))
+    subst Q (sym (q.1 ∙ ap Err q.2)) (subst P (sym (replicated_put bs op n e body)) (set_stuck script n (put_expression bs e) (put (without n bs) body) g.row.A.Denot op why c.in_err-seen.ensures))
 
 pub replicated::steps-returns-in_default : goal.replicated::steps-returns-in_default
 replicated::steps-returns-in_default g t c =
@@ -294,7 +295,7 @@ replicated::steps-returns-in_default g t c =
     let seen : value script.types (put_expression bs e) ≡ Ok (value_of v) = c.in_ok-seen.ensures ∙ ap Ok (sym c.value.ensures) in
     let none : members_of (value_of v) ≡ Err IllKinded = no_members g.row.A g.A.Allocator v c.in_default.not-Set in
     let P : Process → Type 0 = λ p. cause_in script p ≡ Some IllKinded in
-    subst P (sym (put_replicated bs op n e body)) (no_set script n (put_expression bs e) (put (without n bs) body) op (value_of v) seen none)
+    subst P (sym (replicated_put bs op n e body)) (no_set script n (put_expression bs e) (put (without n bs) body) op (value_of v) seen none)
 
 pub replicated::steps-returns-in-ExternalChoice : goal.replicated::steps-returns-in-ExternalChoice
 replicated::steps-returns-in-ExternalChoice g t c =
