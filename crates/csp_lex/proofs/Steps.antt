@@ -3,9 +3,9 @@ use Rattle.std.proofs.Common.{◌≡◌, ℕ, Bool, true, List, [], ◌∷◌, �
 use Rattle.std.specs.List.{list_all}
 use Rattle.std.specs.Str.{encode_utf8_all, all_scalars}
 use Rattle.std.proofs.lemmas.Str.{encodes-append, encodes-chars, scalars-chars, IsUtf8-had}
+use Rattle.std.proofs.lemmas.Bool.{and_parts}
 use lib.Utf8.{scalar}
 use Rattle.csp_text.proofs.TextPlaces.{place_after-append, bytes_of-append}
-use Rattle.csp_text.proofs.Spelling.{both}
 use Rattle.csp_text.specs.Place.{place_after}
 use Rattle.csp_lex.specs.declared.cursors.Cursor.{Cursor}
 use Rattle.csp_lex.specs.Places.{place_of}
@@ -22,7 +22,7 @@ passes_then {from} {by} {to} {xs} {ys} a b = record {
 pub list_all-push : (p : ℕ → Bool) (xs : List ℕ) (x : ℕ) → list_all p xs ≡ true → p x ≡ true → list_all p (xs ++ x ∷ []) ≡ true
 list_all-push p [] x all one = rw one refl
 list_all-push p (y ∷ ys) x all one =
-    let b = both (p y) (list_all p ys) all in rw (b.0) (list_all-push p ys x b.1 one)
+    let b = and_parts (p y) (list_all p ys) all in rw (b.0) (list_all-push p ys x b.1 one)
 
 -- what is left, in bytes
 pub rest_bytes : {old new : Cursor} {front : List ℕ} → Passes old front new → old.rest.now ≡ encode_utf8_all front ++ new.rest.now
@@ -32,7 +32,7 @@ rest_bytes {old} {new} {front} passes =
 
 scalars_front : (xs ys : List ℕ) → all_scalars (xs ++ ys) ≡ true → all_scalars xs ≡ true
 scalars_front [] ys h = refl
-scalars_front (x ∷ xs) ys h = let b = both (scalar x) (all_scalars (xs ++ ys)) h in rw (b.0) (scalars_front xs ys b.1)
+scalars_front (x ∷ xs) ys h = let b = and_parts (scalar x) (all_scalars (xs ++ ys)) h in rw (b.0) (scalars_front xs ys b.1)
 
 -- the characters that a step passes over are characters
 pub passed_scalars : {old new : Cursor} {front : List ℕ} → Passes old front new → all_scalars front ≡ true

@@ -1,10 +1,9 @@
 -- Words and numbers, from the runs of characters that they are.
 use Rattle.std.proofs.Common.{◌≡◌, ℕ, suc, ◌+◌, ◌-◌, ◌*◌, ◌<◌, ◌≤◌, leb, true, false, nat_eq, List, [], ◌∷◌, ◌++◌, length, drop, get_or, refl, sym, ap, subst, ◌∙◌, Some, arith, drop-cons}
-use Rattle.std.proofs.lemmas.Bool.{leb-true}
+use Rattle.std.proofs.lemmas.Bool.{leb-true, and_parts}
 use Rattle.std.proofs.lemmas.Str.{encode_ascii}
 use Rattle.std.specs.List.{list_all}
 use Rattle.std.specs.Str.{encode_utf8_all, all_ascii_digits}
-use Rattle.csp_text.proofs.Spelling.{both}
 use Rattle.std.specs.Char.{is_ascii_digit}
 use Rattle.unicode_ident.specs.Ident.{is_xid_start, is_xid_continue}
 use Rattle.csp_text.specs.Fronts.{StartsWith, StopsAt}
@@ -50,9 +49,9 @@ large_already limit n i cs within past =
 pub digits_are_bytes : (cs : List ℕ) → list_all is_ascii_digit cs ≡ true → (encode_utf8_all cs ≡ cs) × (all_ascii_digits cs ≡ true)
 digits_are_bytes [] all = (refl, refl)
 digits_are_bytes (c ∷ cs) all =
-    let b = both (is_ascii_digit c) (list_all is_ascii_digit cs) all in
+    let b = and_parts (is_ascii_digit c) (list_all is_ascii_digit cs) all in
     let ih = digits_are_bytes cs b.1 in
-    let small : c < 128 = omega (arith, leb-true c 57 (both (leb 48 c) (leb c 57) b.0).1) in
+    let small : c < 128 = omega (arith, leb-true c 57 (and_parts (leb 48 c) (leb c 57) b.0).1) in
     (rw (encode_ascii c small) (ap (λ zs. c ∷ zs) ih.0), rw (b.0) ih.1)
 
 module _ {from to : Cursor} (starts : StartsWith is_ascii_digit (left_of from)) (run : RunsOver is_ascii_digit from to) where

@@ -1,6 +1,6 @@
 -- When the front of some characters is the longest lexeme that begins them.
 use Rattle.std.proofs.Common.{◌≡◌, ◌≢◌, ℕ, zero, suc, ◌<◌, ◌≤◌, leb, Bool, true, false, not, cond, ◌||◌, List, [], ◌∷◌, ◌++◌, length, take, drop, refl, sym, ap, subst, inl, inr, ◌∙◌, Some, None, arith, nat_eq, nat_lt, codes, append_assoc, length-append, take-append-drop, length-take-le}
-use Rattle.std.proofs.lemmas.Bool.{cases_Bool, both_ways, or_cases, cases_lt, leb-true, ltb-true, eqb-true, ne_eqb}
+use Rattle.std.proofs.lemmas.Bool.{cases_Bool, both_ways, or_cases, cases_lt, leb-true, ltb-true, eqb-true, ne_eqb, and_parts}
 use Rattle.std.specs.List.{list_all, list_any}
 use Rattle.std.proofs.Math.Dec.{eqb-suc-zero}
 use Rattle.std.proofs.Math.Seq.{take-append_seam, take-nil}
@@ -14,7 +14,7 @@ use Rattle.unicode_ident.proofs.IdentLemmas.{is_xid_start-is_xid_continue}
 use Rattle.csp_text.specs.Token.{keywords, keyword_spelling, is_keyword, Token, NameToken, Sign, SignToken, ToLineEnd, ToMark, sign_spelling, all_continue, all_primes, is_white, Spells, Lexeme, TokenLexeme, White, NumberToken, digits_value, IsLexeme, IsLongest, StartsWithNoLexeme}
 use Rattle.csp_text.specs.Spelling.{lexeme_of, ends_name, mark_of, sign_of, signs}
 use Rattle.csp_text.specs.Fronts.{StartsWith, StopsAt, StartsPlainly}
-use Rattle.csp_text.proofs.Spelling.{both, lexeme_is, digit_starts_no_name}
+use Rattle.csp_text.proofs.Spelling.{lexeme_is, digit_starts_no_name}
 
 pub same_bytes : (xs ys : List ℕ) → bytes_eq xs ys ≡ true → xs ≡ ys
 same_bytes xs ys h = (bytes_eq-Decides xs ys).0 h
@@ -73,20 +73,20 @@ primes_broken (p ∷ primes) y ys h = elim (cases_Bool (nat_eq p 39)) [ inl e �
 -- where a name's last part goes on with what is no `'`
 ends_at_primes : (primes : List ℕ) (y : ℕ) (ys : List ℕ) → all_primes primes ≡ true → StopsAt is_xid_continue (primes ++ y ∷ ys) → nat_eq y 39 ≡ false → ends_name (primes ++ y ∷ ys) ≡ false
 ends_at_primes [] y ys all stops h = rw (stops, h) refl
-ends_at_primes (p ∷ primes) y ys all stops h = rw (stops, (both (nat_eq p 39) (all_primes primes) all).0) (primes_broken primes y ys h)
+ends_at_primes (p ∷ primes) y ys all stops h = rw (stops, (and_parts (nat_eq p 39) (all_primes primes) all).0) (primes_broken primes y ys h)
 
 -- where a whole name does
 name_broken : (cs primes : List ℕ) (y : ℕ) (ys : List ℕ) → all_continue cs ≡ true → all_primes primes ≡ true → StopsAt is_xid_continue (primes ++ y ∷ ys) → nat_eq y 39 ≡ false
     → ends_name (cs ++ (primes ++ y ∷ ys)) ≡ false
 name_broken [] primes y ys goes all stops h = ends_at_primes primes y ys all stops h
 name_broken (c ∷ cs) primes y ys goes all stops h =
-    let b = both (is_xid_continue c) (all_continue cs) goes in rw (b.0) (name_broken cs primes y ys b.1 all stops h)
+    let b = and_parts (is_xid_continue c) (all_continue cs) goes in rw (b.0) (name_broken cs primes y ys b.1 all stops h)
 
 -- of some members one passes the one test, and all pass the other
 pub one_of_all : {X : Type 0} (p q : X → Bool) (xs : List X) → list_any p xs ≡ true → list_all q xs ≡ true → (x : X) × (p x ≡ true) × (q x ≡ true)
 one_of_all p q [] some all = absurd (cc some)
 one_of_all p q (x ∷ xs) some all =
-    let b = both (q x) (list_all q xs) all in
+    let b = and_parts (q x) (list_all q xs) all in
     elim (or_cases (p x) (list_any p xs) some) [ inl e ↦ (x, e, b.0) | inr e ↦ one_of_all p q xs e b.1 ]
 
 abbrev rest_of : List ℕ → List ℕ
@@ -126,11 +126,11 @@ name_longest c cs primes rest t starts goes all stops ends spells =
 
 continue_all : (cs : List ℕ) → list_all is_xid_continue cs ≡ true → all_continue cs ≡ true
 continue_all [] h = refl
-continue_all (c ∷ cs) h = let b = both (is_xid_continue c) (list_all is_xid_continue cs) h in rw (b.0) (continue_all cs b.1)
+continue_all (c ∷ cs) h = let b = and_parts (is_xid_continue c) (list_all is_xid_continue cs) h in rw (b.0) (continue_all cs b.1)
 
 primes_all : (cs : List ℕ) → list_all (λ c. nat_eq c 39) cs ≡ true → all_primes cs ≡ true
 primes_all [] h = refl
-primes_all (c ∷ cs) h = let b = both (nat_eq c 39) (list_all (λ c. nat_eq c 39) cs) h in rw (b.0) (primes_all cs b.1)
+primes_all (c ∷ cs) h = let b = and_parts (nat_eq c 39) (list_all (λ c. nat_eq c 39) cs) h in rw (b.0) (primes_all cs b.1)
 
 -- The characters of a word: a run of what goes on in a name, and one of `'`.
 pub record IsWord (run primes rest : List ℕ) : Type 0 where
@@ -147,12 +147,12 @@ starts_and_stops (c ∷ cs) starts stops = both_ways (is_xid_continue c) stops (
 pub word_longest : (run primes rest : List ℕ) (t : Token) → IsWord run primes rest → Spells (run ++ primes) t → IsLongest ((run ++ primes) ++ rest) (length (run ++ primes)) (TokenLexeme t)
 word_longest [] primes rest t word spells = absurd (starts_and_stops (primes ++ rest) word.starts word.run_stops)
 word_longest (c ∷ run) primes rest t word spells =
-    name_longest c run primes rest t word.starts (continue_all run (both (is_xid_continue c) (list_all is_xid_continue run) word.run_all).1) (primes_all primes word.primes_all) word.run_stops word.primes_stop spells
+    name_longest c run primes rest t word.starts (continue_all run (and_parts (is_xid_continue c) (list_all is_xid_continue run) word.run_all).1) (primes_all primes word.primes_all) word.run_stops word.primes_stop spells
 
 pub word_spells : (run primes rest : List ℕ) → IsWord run primes rest → is_keyword (run ++ primes) ≡ false → Spells (run ++ primes) (NameToken (run ++ primes))
 word_spells [] primes rest word free = absurd (starts_and_stops (primes ++ rest) word.starts word.run_stops)
 word_spells (c ∷ run) primes rest word free =
-    Spells.name c run primes word.starts (continue_all run (both (is_xid_continue c) (list_all is_xid_continue run) word.run_all).1) (primes_all primes word.primes_all) free
+    Spells.name c run primes word.starts (continue_all run (and_parts (is_xid_continue c) (list_all is_xid_continue run) word.run_all).1) (primes_all primes word.primes_all) free
 
 -- NUMBERS
 
@@ -166,11 +166,11 @@ begins_none ss c = list_all (λ s. not (nat_eq (head_of (sign_spelling s)) c)) s
 
 all_weaker : {X : Type 0} (p q : X → Bool) (xs : List X) → ((x : X) → q x ≡ true → p x ≡ true) → list_all q xs ≡ true → list_all p xs ≡ true
 all_weaker p q [] weaker all = refl
-all_weaker p q (x ∷ xs) weaker all = let b = both (q x) (list_all q xs) all in rw (weaker x b.0) (all_weaker p q xs weaker b.1)
+all_weaker p q (x ∷ xs) weaker all = let b = and_parts (q x) (list_all q xs) all in rw (weaker x b.0) (all_weaker p q xs weaker b.1)
 
 differs_from_digit : (c d : ℕ) → is_ascii_digit c ≡ true → (nat_lt d 48 || nat_lt 57 d) ≡ true → not (nat_eq d c) ≡ true
 differs_from_digit c d digit outside =
-    let b = both (leb 48 c) (leb c 57) digit in
+    let b = and_parts (leb 48 c) (leb c 57) digit in
     let low = leb-true 48 c b.0 in
     let high = leb-true c 57 b.1 in
     let differ : d ≢ c = λ e. elim (or_cases (nat_lt d 48) (nat_lt 57 d) outside) [ inl k ↦ absurd (omega (arith, ltb-true d 48 k)) | inr k ↦ absurd (omega (arith, ltb-true 57 d k)) ] in
@@ -185,14 +185,14 @@ digit_begins_none c digit =
 sign_elsewhere : (ss : List Sign) (c : ℕ) (cs : List ℕ) → begins_none ss c ≡ true → sign_of ss (c ∷ cs) ≡ None
 sign_elsewhere [] c cs h = refl
 sign_elsewhere (s ∷ ss) c cs h =
-    let b = both (not (nat_eq (head_of (sign_spelling s)) c)) (begins_none ss c) h in rw (other_head (sign_spelling s) c cs b.0) (sign_elsewhere ss c cs b.1)
+    let b = and_parts (not (nat_eq (head_of (sign_spelling s)) c)) (begins_none ss c) h in rw (other_head (sign_spelling s) c cs b.0) (sign_elsewhere ss c cs b.1)
 
 mark_elsewhere : (c : ℕ) (cs : List ℕ) → begins_none signs c ≡ true → not (nat_eq 45 c) ≡ true → not (nat_eq 123 c) ≡ true → mark_of (c ∷ cs) ≡ None
 mark_elsewhere c cs none dash brace = rw (other_head (codes "--") c cs dash, other_head (codes "{-") c cs brace) (sign_elsewhere signs c cs none)
 
 digit_no_white : (c : ℕ) → is_ascii_digit c ≡ true → is_white c ≡ false
 digit_no_white c digit =
-    let b = both (leb 48 c) (leb c 57) digit in
+    let b = and_parts (leb 48 c) (leb c 57) digit in
     let low = leb-true 48 c b.0 in
     rw (ne_eqb c 32 (λ e. absurd (omega arith)), ne_eqb c 9 (λ e. absurd (omega arith)), ne_eqb c 13 (λ e. absurd (omega arith)), ne_eqb c 10 (λ e. absurd (omega arith))) refl
 
@@ -206,11 +206,11 @@ number_longest c cs rest all stops =
     longest_front (c ∷ cs) rest (TokenLexeme (NumberToken (digits_value 0 (c ∷ cs)))) (IsLexeme.token (Spells.number c cs all))
     (λ y ys zs e.
     let end : is_ascii_digit y ≡ false = subst (StopsAt is_ascii_digit) e stops in
-    none_is_no_lexeme (c ∷ cs ++ y ∷ ys) (no_number c (cs ++ y ∷ ys) (both (is_ascii_digit c) (all_ascii_digits cs) all).0 (digits_broken (c ∷ cs) y ys end)))
+    none_is_no_lexeme (c ∷ cs ++ y ∷ ys) (no_number c (cs ++ y ∷ ys) (and_parts (is_ascii_digit c) (all_ascii_digits cs) all).0 (digits_broken (c ∷ cs) y ys end)))
 
 digits_all : (cs : List ℕ) → list_all is_ascii_digit cs ≡ true → all_ascii_digits cs ≡ true
 digits_all [] h = refl
-digits_all (c ∷ cs) h = let b = both (is_ascii_digit c) (list_all is_ascii_digit cs) h in rw (b.0) (digits_all cs b.1)
+digits_all (c ∷ cs) h = let b = and_parts (is_ascii_digit c) (list_all is_ascii_digit cs) h in rw (b.0) (digits_all cs b.1)
 
 starts_or_stops : (p : ℕ → Bool) (cs : List ℕ) → StartsWith p cs → ¬ (StopsAt p cs)
 starts_or_stops p [] starts stops = absurd starts
@@ -272,7 +272,7 @@ other_length xs cs short long = unequal nat_eq xs cs (λ e. absurd (omega (arith
 sign_shorter : (ss : List Sign) (cs : List ℕ) → list_all (λ s. nat_lt (length (sign_spelling s)) 4) ss ≡ true → 3 < length cs → sign_of ss cs ≡ None
 sign_shorter [] cs short long = refl
 sign_shorter (s ∷ ss) cs short long =
-    let b = both (nat_lt (length (sign_spelling s)) 4) (list_all (λ s. nat_lt (length (sign_spelling s)) 4) ss) short in
+    let b = and_parts (nat_lt (length (sign_spelling s)) 4) (list_all (λ s. nat_lt (length (sign_spelling s)) 4) ss) short in
     rw (other_length (sign_spelling s) cs b.0 long) (sign_shorter ss cs b.1 long)
 
 mark_shorter : (cs : List ℕ) → 3 < length cs → mark_of cs ≡ None

@@ -1,12 +1,12 @@
 -- The longest lexeme at a place, by computing.
 use Rattle.std.proofs.Common.{◌≡◌, ℕ, zero, suc, ◌<◌, ◌≤◌, Bool, true, ◌&&◌, ◌||◌, List, [], ◌∷◌, length, take, refl, inl, inr, ◌⊎◌, codes, arith, nat_lt, is_none, subst}
-use Rattle.std.proofs.lemmas.Bool.{or_cases, ltb-true, ltb-false, cases_Bool}
+use Rattle.std.proofs.lemmas.Bool.{or_cases, ltb-true, ltb-false, cases_Bool, and_parts}
 use Rattle.std.specs.Char.{encode_utf8}
 use Rattle.unicode_ident.proofs.Computing.{unicode_ident}
 use Rattle.csp_text.specs.Place.{first_place}
 use Rattle.csp_text.specs.Token.{CloseSharedSign, SignToken, NameToken, NumberToken, Spells, Lexeme, TokenLexeme, ToLineEnd, ToMark, IsLexeme, IsLongest, StartsWithNoLexeme, IsDivided, IsRefusedHere, LargeNumber, IsTextRefusal}
 use Rattle.csp_text.specs.Spelling.{lexeme_of}
-use Rattle.csp_text.proofs.Spelling.{both, lexeme_is}
+use Rattle.csp_text.proofs.Spelling.{lexeme_is}
 
 pub no_lexeme : (cs : List ℕ) → is_none (lexeme_of cs) ≡ true → (y : Lexeme) → ¬ (IsLexeme cs y)
 no_lexeme cs none y s = let e = subst (λ o. is_none o ≡ true) (lexeme_is cs y s) none in absurd (cc e)
@@ -28,7 +28,7 @@ at_top cs n k m y h above e s = elim (or_cases (nat_lt k n) (is_none (lexeme_of 
 longer : (cs : List ℕ) (n k m : ℕ) (y : Lexeme) → none_longer cs n k ≡ true → n < m → m ≤ k → ¬ (IsLexeme (take m cs) y)
 longer cs n zero m y h above within s = absurd (omega (arith, above, within))
 longer cs n (suc k) m y h above within s =
-    let b = both (nat_lt k n || is_none (lexeme_of (take (suc k) cs))) (none_longer cs n k) h in
+    let b = and_parts (nat_lt k n || is_none (lexeme_of (take (suc k) cs))) (none_longer cs n k) h in
     elim (top m k within) [ inl e ↦ at_top cs n k m y b.0 above e s | inr g ↦ longer cs n k m y b.1 above g s ]
 
 pub longest_is : (cs : List ℕ) (n : ℕ) (x : Lexeme) → n ≤ length cs → IsLexeme (take n cs) x → none_longer cs n (length cs) ≡ true → IsLongest cs n x

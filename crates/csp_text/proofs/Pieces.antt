@@ -1,13 +1,13 @@
 -- The pieces of a text, from what stands at their fronts.
 use Rattle.std.proofs.Common.{◌≡◌, ℕ, zero, suc, ◌+◌, ◌<◌, true, false, not, List, [], ◌∷◌, ◌++◌, length, take, drop, refl, sym, ap, subst, ◌∙◌, Option, None, arith, nat_eq, codes, append_assoc, append-nil, inl, inr, length-append, take-append-drop, length-take-le}
-use Rattle.std.proofs.lemmas.Bool.{cases_Bool, both_ways}
+use Rattle.std.proofs.lemmas.Bool.{cases_Bool, both_ways, and_parts}
 use Rattle.std.proofs.lemmas.List.{append_cancel_right}
 use Rattle.std.proofs.Math.Seq.{take-append_seam, drop-append_seam}
 use Rattle.std.specs.List.{list_all}
 use Rattle.csp_text.specs.Place.{line_feed}
 use Rattle.csp_text.specs.Token.{Token, Lexeme, TokenLexeme, ToLineEnd, ToMark, IsLexeme, IsLongest, IsPiece, is_at_line_end, IsLineEnd, IsFirstMark, HasNoMark, PlacedToken, placed, IsDivided, IsRefusedHere, OpenComment}
 use Rattle.csp_text.specs.Fronts.{StopsAt}
-use Rattle.csp_text.proofs.Spelling.{both, lexeme_is}
+use Rattle.csp_text.proofs.Spelling.{lexeme_is}
 
 longest_is_some : (cs : List ℕ) (n : ℕ) (x : Lexeme) → IsLongest cs n x → 0 < n
 longest_is_some cs zero x a = let e = lexeme_is [] x a.spelled in absurd (cc e)
@@ -39,9 +39,9 @@ at_end_of_run (c ∷ cs) stops = elim (cases_Bool (nat_eq c line_feed)) [ inl e 
 within_run : (run rest : List ℕ) (m : ℕ) → list_all (λ c. not (nat_eq c line_feed)) run ≡ true → m < length run → is_at_line_end (drop m (run ++ rest)) ≡ false
 within_run [] rest m all within = absurd (omega (arith, within))
 within_run (c ∷ run) rest zero all within =
-    elim (cases_Bool (nat_eq c line_feed)) [ inr e ↦ e | inl e ↦ absurd (both_ways (not (nat_eq c line_feed)) (ap not e) (both (not (nat_eq c line_feed)) (list_all (λ c. not (nat_eq c line_feed)) run) all).0) ]
+    elim (cases_Bool (nat_eq c line_feed)) [ inr e ↦ e | inl e ↦ absurd (both_ways (not (nat_eq c line_feed)) (ap not e) (and_parts (not (nat_eq c line_feed)) (list_all (λ c. not (nat_eq c line_feed)) run) all).0) ]
 within_run (c ∷ run) rest (suc m) all within =
-    within_run run rest m (both (not (nat_eq c line_feed)) (list_all (λ c. not (nat_eq c line_feed)) run) all).1 (omega (arith, within))
+    within_run run rest m (and_parts (not (nat_eq c line_feed)) (list_all (λ c. not (nat_eq c line_feed)) run) all).1 (omega (arith, within))
 
 -- a run of characters within a line ends at the line's end
 pub line_end_of_run : (run rest : List ℕ) → list_all (λ c. not (nat_eq c line_feed)) run ≡ true → StopsAt (λ c. not (nat_eq c line_feed)) rest → IsLineEnd (run ++ rest) (length run)

@@ -1,6 +1,6 @@
 -- A lexeme is what its characters compute to.
-use Rattle.std.proofs.Common.{◌≡◌, ℕ, leb, Bool, true, false, cond, ◌&&◌, ◌||◌, List, [], ◌∷◌, ◌++◌, refl, sym, subst, inl, inr, ◌∙◌, Some, arith, nat_eq}
-use Rattle.std.proofs.lemmas.Bool.{or_cases, eqb-true, leb-true, lt-leb}
+use Rattle.std.proofs.Common.{◌≡◌, ℕ, leb, Bool, true, false, cond, ◌||◌, List, [], ◌∷◌, ◌++◌, refl, sym, subst, inl, inr, ◌∙◌, Some, arith, nat_eq}
+use Rattle.std.proofs.lemmas.Bool.{or_cases, eqb-true, leb-true, lt-leb, and_parts}
 use Rattle.std.specs.Char.{is_ascii_digit}
 use Rattle.std.specs.Str.{all_ascii_digits}
 use Rattle.unicode_ident.proofs.IdentLemmas.{is_xid_start-ascii}
@@ -84,29 +84,25 @@ sign_computed CloseSquareSign = refl
 sign_computed OpenBraceSign = refl
 sign_computed CloseBraceSign = refl
 
-pub both : (a b : Bool) → (a && b) ≡ true → (a ≡ true) × (b ≡ true)
-both true b h = (refl, h)
-both false b h = absurd (cc h)
-
 cond_true : (b x y : Bool) → x ≡ true → y ≡ true → cond b x y ≡ true
 cond_true true x y h k = h
 cond_true false x y h k = k
 
 pub primes_end : (primes : List ℕ) → all_primes primes ≡ true → ends_name primes ≡ true
 primes_end [] h = refl
-primes_end (c ∷ cs) h = cond_true (is_xid_continue c) (ends_name cs) (all_primes (c ∷ cs)) (primes_end cs (both (nat_eq c 39) (all_primes cs) h).1) h
+primes_end (c ∷ cs) h = cond_true (is_xid_continue c) (ends_name cs) (all_primes (c ∷ cs)) (primes_end cs (and_parts (nat_eq c 39) (all_primes cs) h).1) h
 
 pub name_ends : (cs primes : List ℕ) → all_continue cs ≡ true → all_primes primes ≡ true → ends_name (cs ++ primes) ≡ true
 name_ends [] primes h k = primes_end primes k
-name_ends (c ∷ cs) primes h k = let b = both (is_xid_continue c) (all_continue cs) h in rw (b.0) (name_ends cs primes b.1 k)
+name_ends (c ∷ cs) primes h k = let b = and_parts (is_xid_continue c) (all_continue cs) h in rw (b.0) (name_ends cs primes b.1 k)
 
 -- no digit begins a name
 pub digit_starts_no_name : (c : ℕ) → is_ascii_digit c ≡ true → is_xid_start c ≡ false
-digit_starts_no_name c h = let b = leb-true c 57 (both (leb 48 c) (leb c 57) h).1 in
+digit_starts_no_name c h = let b = leb-true c 57 (and_parts (leb 48 c) (leb c 57) h).1 in
     is_xid_start-ascii c (omega arith) ∙ rw (lt-leb 65 c (omega arith), lt-leb 97 c (omega arith)) refl
 
 pub number_computed : (c : ℕ) (cs : List ℕ) → all_ascii_digits (c ∷ cs) ≡ true → lexeme_of (c ∷ cs) ≡ Some (TokenLexeme (NumberToken (digits_value 0 (c ∷ cs))))
-number_computed c cs h = rw (digit_starts_no_name c (both (is_ascii_digit c) (all_ascii_digits cs) h).0, h) refl
+number_computed c cs h = rw (digit_starts_no_name c (and_parts (is_ascii_digit c) (all_ascii_digits cs) h).0, h) refl
 
 white_one : (c n : ℕ) → lexeme_of (n ∷ []) ≡ Some White → nat_eq c n ≡ true → lexeme_of (c ∷ []) ≡ Some White
 white_one c n known h = subst (λ x. lexeme_of (x ∷ []) ≡ Some White) (sym (eqb-true c n h)) known
