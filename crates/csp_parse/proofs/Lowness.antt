@@ -3,10 +3,12 @@ use Rattle.std.proofs.Common.{◌≡◌, ◌∙◌, ◌≤◌, ◌⊎◌, inl, i
 use Rattle.csp_text.specs.Token.{Keyword, Token, KeywordToken, SignToken, NameToken, NumberToken, PlacedToken, DatatypeWord, NametypeWord, ChannelWord, AssertWord}
 use Rattle.csp_text.specs.Raw.{RawDeclaration, RawScript}
 use Rattle.csp_text.specs.Grammar.{IsDeclaration, IsScript, declarations, no_declarations}
-use Rattle.csp_text.specs.Height.{Nest, Plain, nesting, after_token, after_tokens, nest_height, tokens_height, greatest_height, BeginsDeclaration, IsLatest, latest, nothing, HasNoneTooHigh}
+use Rattle.csp_text.specs.Height.{Plain, nesting, after_token, after_tokens, nest_height, tokens_height, greatest_height, BeginsDeclaration, IsLatest, latest, nothing, HasNoneTooHigh}
+use Rattle.csp_text.proofs.Heights.{joined}
 use Rattle.csp_parse.specs.Nests.{start}
 use Rattle.csp_parse.specs.Limits.{IsLow, IsLowScript}
 use Rattle.csp_parse.proofs.Beginning.{Scan, behind, begins, begins_word, Walks, stays, goes, outside, Declares, declaration}
+use Rattle.csp_parse.proofs.Passing.{after_both}
 
 abbrev pick : Bool → List PlacedToken → List PlacedToken → List PlacedToken
 pick true a b = a
@@ -60,10 +62,6 @@ latest_is ts l (IsLatest.latest before s t us script begins) = let k = scripted 
 pub one_latest : (ts l m : List PlacedToken) → IsLatest ts l → IsLatest ts m → l ≡ m
 one_latest ts l m one other = sym (latest_is ts l one) ∙ latest_is ts m other
 
-after_both : (n : Nest) (a b : List PlacedToken) → after_tokens n (a ++ b) ≡ after_tokens (after_tokens n a) b
-after_both n [] b = refl
-after_both n (t ∷ ts) b = after_both (after_token (nesting t.token) n) ts b
-
 -- what begins a declaration counts nothing
 plain_word : (k : Keyword) → begins_word k ≡ true → nesting (KeywordToken k) ≡ Plain
 plain_word DatatypeWord e = refl
@@ -81,11 +79,6 @@ plain (NumberToken n) e = absurd (cc e)
 -- the tokens, and t behind them, with their height
 abbrev pub Fine : List PlacedToken → PlacedToken → Type 0
 Fine before t = (l : List PlacedToken) × IsLatest before l × (tokens_height (l ++ t ∷ []) ≤ greatest_height)
-
-pub joined : (a b : List PlacedToken) (s u : RawScript) → IsScript a s → IsScript b u → IsScript (a ++ b) (s ++ u)
-joined x y s u IsScript.no_declarations k = k
-joined x y s u (IsScript.declarations {a} {b} {d} {ds} one rest) k =
-    subst (λ ts. IsScript ts (d ∷ (ds ++ u))) (sym (append_assoc a b y)) (declarations one (joined b y ds u rest k))
 
 -- two ways to divide a list
 abbrev pub Divided : List PlacedToken → List PlacedToken → List PlacedToken → PlacedToken → List PlacedToken → Type 0

@@ -4,9 +4,10 @@ use Rattle.csp_text.specs.Token.{PlacedToken}
 use Rattle.csp_text.specs.Raw.{RawScript}
 use Rattle.csp_text.specs.Grammar.{IsDeclaration, IsScript, declarations, no_declarations}
 use Rattle.csp_text.specs.Height.{tokens_height, greatest_height, BeginsDeclaration, latest, nothing, HasNoneTooHigh}
+use Rattle.csp_text.proofs.Heights.{joined}
 use Rattle.csp_parse.specs.Limits.{IsLow, IsLowScript}
 use Rattle.csp_parse.proofs.Beginning.{begins, outside, declaration}
-use Rattle.csp_parse.proofs.Lowness.{one_latest, Fine, joined, divided, fine_at_end, fine_within}
+use Rattle.csp_parse.proofs.Lowness.{one_latest, Fine, divided, fine_at_end, fine_within}
 
 -- The tokens begin a declaration, with no more than one token behind them, and no beginning of all these is too high.
 pub record Unfinished (ts : List PlacedToken) : Type 0 where
