@@ -15,3 +15,5 @@ pub mod AskingProcesses
 pub mod AskingItems
 pub mod AskingSets
 pub mod Owning
+pub mod Walking
+pub mod SingleSites

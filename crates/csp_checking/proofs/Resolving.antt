@@ -11,13 +11,10 @@ use Rattle.csp_checking.specs.Sites.{Use, AsExpression, AsEquation, AsEvent, AsP
 use Rattle.csp_checking.specs.Faults.{KindFault, UnknownName, WrongKind}
 use Rattle.csp_checking.specs.Rules.{IsRefusedSite, unknown, wrong_class, suits}
 use Rattle.csp_checking.specs.Refusals.{IsRefusedAt}
+pub use Rattle.csp_checking.specs.Walks.{AllFine}
 use Rattle.csp_checking.proofs.FirstRefused.{EachFine}
 
 -- ---- sites that are fine
-
-abbrev pub AllFine : List Site → Type 0
-AllFine [] = ⊤
-AllFine (x ∷ xs) = ((f : KindFault) → ¬ (IsRefusedSite x f)) × AllFine xs
 
 pub all_fine : (before xs : List Site) → EachFine IsRefusedAt before xs → AllFine xs
 all_fine before [] h = tt

@@ -8,6 +8,7 @@ pub mod Faults
 pub mod Rules
 pub mod Fitting
 pub mod Refusals
+pub mod Walks
 pub mod Checked
 pub mod Order
 pub mod Inference
