@@ -22,7 +22,7 @@ use Rattle.csp_checking.proofs.AskingExpressions.{some_mapped}
 
 -- ---- a set uses nametypes above alone
 
-number_within : (ss : List (List ℕ)) (s : List ℕ) (k : ℕ) → number_in ss s ≡ Some k → k < length ss
+pub number_within : (ss : List (List ℕ)) (s : List ℕ) (k : ℕ) → number_in ss s ≡ Some k → k < length ss
 number_within [] s k e = absurd (cc e)
 number_within (t ∷ ss) s k e = go (bytes_eq t s) (number_in ss s) (λ j f. number_within ss s j f) e
   where

@@ -16,4 +16,5 @@ pub mod AskingItems
 pub mod AskingSets
 pub mod Owning
 pub mod Walking
+pub mod Counts
 pub mod SingleSites
