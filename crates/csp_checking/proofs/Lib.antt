@@ -18,3 +18,4 @@ pub mod Owning
 pub mod Walking
 pub mod Counts
 pub mod SingleSites
+pub mod DeclaredRows

@@ -10,6 +10,7 @@ pub mod Fitting
 pub mod Refusals
 pub mod Walks
 pub mod Checked
+pub mod DeclaredRows
 pub mod Order
 pub mod Inference
 pub mod Laws

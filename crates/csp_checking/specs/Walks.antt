@@ -1,0 +1,21 @@
+-- How a walk over sites ends: all of them are fine, or it stops at the first that is refused.
+use Rattle.std.specs.Prelude.{◌≡◌, List, [], ◌∷◌, ⊤}
+use Rattle.csp_text.specs.Place.{Place}
+use Rattle.csp_checking.specs.Sites.{Site, site_place}
+use Rattle.csp_checking.specs.Faults.{KindFault, IsFirstRefused}
+use Rattle.csp_checking.specs.Rules.{IsRefusedSite}
+use Rattle.csp_checking.specs.Refusals.{IsRefusedAt}
+
+-- nothing is refused there
+abbrev pub IsFine : Site → Type 0
+IsFine x = (f : KindFault) → ¬ (IsRefusedSite x f)
+
+abbrev pub AllFine : List Site → Type 0
+AllFine [] = ⊤
+AllFine (x ∷ xs) = IsFine x × AllFine xs
+
+-- The first of the sites that is refused is refused with this fault, at this place.
+pub record IsStoppedAt (xs : List Site) (f : KindFault) (p : Place) : Type 0 where
+  pub site : Site
+  pub first : IsFirstRefused IsRefusedAt xs site f
+  pub place : p ≡ site_place site
