@@ -1,5 +1,5 @@
 -- The declared names of a tree as the rows of one list, each with what it means.
-use Rattle.std.specs.Prelude.{◌×◌, ℕ, suc, cond, List, [], ◌∷◌, length, map, Option, Some, None}
+use Rattle.std.specs.Prelude.{ℕ, suc, cond, List, [], ◌∷◌, length, map, Option, Some, None}
 use Rattle.std.specs.Str.{bytes_eq}
 use Rattle.csp_text.specs.Raw.{RawName, RawDeclaration, RawDatatype, RawNametype, RawChannels, RawEquation, RawAssertion, RawScript}
 use Rattle.csp_checking.specs.Names.{Class, DatatypeName, ConstructorName, NametypeName, ChannelName, EquationName, Meaning, Declared, names_of}
