@@ -18,4 +18,6 @@ pub mod Owning
 pub mod Walking
 pub mod Counts
 pub mod SingleSites
+pub mod Spellings
 pub mod DeclaredRows
+pub mod RowMeanings

@@ -1,8 +1,8 @@
 -- The declared names of a tree as the rows of one list, each with what it means.
-use Rattle.std.specs.Prelude.{ℕ, suc, cond, List, [], ◌∷◌, length, map, Option, Some, None}
+use Rattle.std.specs.Prelude.{◌≡◌, ⊤, ℕ, suc, cond, List, [], ◌∷◌, length, map, Option, Some, None}
 use Rattle.std.specs.Str.{bytes_eq}
 use Rattle.csp_text.specs.Raw.{RawName, RawDeclaration, RawDatatype, RawNametype, RawChannels, RawEquation, RawAssertion, RawScript}
-use Rattle.csp_checking.specs.Names.{Class, DatatypeName, ConstructorName, NametypeName, ChannelName, EquationName, Meaning, Declared, names_of}
+use Rattle.csp_checking.specs.Names.{Class, DatatypeName, ConstructorName, NametypeName, ChannelName, EquationName, Meaning, Declared, names_of, number_in}
 use Rattle.csp_checking.specs.Sets.{in_order}
 
 -- a spelling, and what it means
@@ -34,3 +34,8 @@ row_spellings rows = map (λ r. r.0) rows
 abbrev pub meaning_in : List Row → List ℕ → Option Meaning
 meaning_in [] s = None
 meaning_in (r ∷ rows) s = cond (bytes_eq r.0 s) (Some r.1) (meaning_in rows s)
+
+-- no spelling stands twice
+abbrev pub EachOnce : List (List ℕ) → Type 0
+EachOnce [] = ⊤
+EachOnce (s ∷ ss) = (number_in ss s ≡ None) × EachOnce ss
