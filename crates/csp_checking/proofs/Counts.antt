@@ -16,7 +16,7 @@ use Rattle.csp_checking.proofs.FitsAbove.{number_within}
 
 -- ---- as many as there are names of the class
 
-length-replicate : {A : Type 0} (n : ℕ) (x : A) → length (replicate n x) ≡ n
+pub length-replicate : {A : Type 0} (n : ℕ) (x : A) → length (replicate n x) ≡ n
 length-replicate zero x = refl
 length-replicate (suc n) x = ap suc (length-replicate n x)
 

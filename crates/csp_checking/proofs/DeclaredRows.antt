@@ -12,7 +12,9 @@ use Rattle.std.proofs.Common.{◌≡◌, ◌≢◌, ◌≤◌, ◌⊎◌, ℕ, z
 use Rattle.csp_text.specs.Raw.{RawName, RawDeclaration, RawDatatype, RawNametype, RawChannels, RawEquation, RawAssertion, RawScript}
 use Rattle.csp_checking.specs.Names.{Class, DatatypeName, ConstructorName, NametypeName, ChannelName, EquationName, Meaning, Declared, Bound, declared, declared_as, names_of, spellings, number_in, has_spelling, declared_meaning}
 use Rattle.csp_checking.specs.Sets.{behind_each}
-use Rattle.csp_checking.specs.Faults.{KindFault, DeclaredTwice, NoneRefused}
+use Rattle.csp_checking.specs.Faults.{KindFault, DeclaredTwice, fault_number, NoneRefused, IsFirstRefused}
+use Rattle.csp_checking.specs.Refusals.{IsKindRefusal, in_first_pass}
+use Rattle.csp_checking.proofs.FirstRefused.{EachFine, each_of_none, none_refused}
 use Rattle.csp_checking.specs.Rules.{all_declared, IsRedeclared, redeclared}
 use Rattle.csp_checking.specs.DeclaredRows.{Row, numbered_rows, rows_declared, declared_rows, row_spellings, EachOnce, meaning_in}
 use Rattle.csp_checking.proofs.ScriptThere.{behind-append, behind_one_more}
@@ -20,11 +22,11 @@ use Rattle.csp_checking.proofs.Spellings.{none_in_second, has_there}
 
 -- ---- the spellings of the rows
 
-numbered_spellings : (class : Class) (n : ℕ) (xs : List RawName) → row_spellings (numbered_rows class n xs) ≡ spellings xs
+pub numbered_spellings : (class : Class) (n : ℕ) (xs : List RawName) → row_spellings (numbered_rows class n xs) ≡ spellings xs
 numbered_spellings class n [] = refl
 numbered_spellings class n (x ∷ xs) = ap (λ ss. x.spelling ∷ ss) (numbered_spellings class (suc n) xs)
 
-spellings_declared : (above : RawScript) (d : RawDeclaration) → row_spellings (rows_declared above d) ≡ spellings (declared d)
+pub spellings_declared : (above : RawScript) (d : RawDeclaration) → row_spellings (rows_declared above d) ≡ spellings (declared d)
 spellings_declared above (RawDatatype name constructors) = ap (λ ss. name.spelling ∷ ss) (numbered_spellings ConstructorName (length (names_of ConstructorName above)) constructors)
 spellings_declared above (RawNametype name domain) = refl
 spellings_declared above (RawChannels names domains) = numbered_spellings ChannelName (length (names_of ChannelName above)) names
@@ -99,3 +101,45 @@ rows_once raw none = let P : List (List ℕ) → Type 0 = EachOnce in subst P (s
 pub none_redeclared_above : (above more : RawScript) → NoneRefused IsRedeclared (all_declared (above ++ more)) → NoneRefused IsRedeclared (all_declared above)
 none_redeclared_above above more none before after x f e =
     none before (after ++ all_declared more) x f (declared_go_on above more ∙ ap (λ zs. zs ++ all_declared more) e ∙ append_assoc before (x ∷ after) (all_declared more))
+
+-- ---- the first pass, name by name
+
+each_join : {A : Type 0} (R : List A → A → KindFault → Type 0) (done xs ys : List A) → EachFine R done xs → EachFine R (done ++ xs) ys → EachFine R done (xs ++ ys)
+each_join {A} R done [] ys h k = let P : List A → Type 0 = λ zs. EachFine R zs ys in subst P (append-nil done) k
+each_join {A} R done (x ∷ xs) ys h k = (h.0, each_join R (done ++ x ∷ []) xs ys h.1 (let P : List A → Type 0 = λ zs. EachFine R zs ys in subst P (sym (append_assoc done (x ∷ []) xs)) k))
+
+not_redeclared : (before : List RawName) (n : RawName) → has_spelling (spellings before) n.spelling ≡ false → (f : KindFault) → ¬ (IsRedeclared before n f)
+not_redeclared before n e f (redeclared h) = let both : false ≡ true = sym e ∙ h in cc both
+
+-- a name that stands nowhere before is not refused, and one that does is the first that is refused
+pub once_with_one_more : (before : List RawName) (n : RawName) → NoneRefused IsRedeclared before → has_spelling (spellings before) n.spelling ≡ false → NoneRefused IsRedeclared (before ++ n ∷ [])
+once_with_one_more before n none e =
+    none_refused IsRedeclared (before ++ n ∷ []) (each_join IsRedeclared [] before (n ∷ []) (each_of_none IsRedeclared [] before none) (not_redeclared before n e, tt))
+
+pub redeclared_first : (before after : List RawName) (n : RawName) → NoneRefused IsRedeclared before → has_spelling (spellings before) n.spelling ≡ true → IsFirstRefused IsRedeclared (before ++ n ∷ after) n DeclaredTwice
+redeclared_first before after n none e = record { before = before; after = after; stands = refl; refused = redeclared e; lowest = lowest; none_before = none }
+  where
+    lowest : (g : KindFault) → IsRedeclared before n g → 2 ≤ fault_number g
+    lowest g (redeclared h) = omega arith
+
+pub redeclared_is_refusal : (raw : RawScript) (before after : List RawName) (n : RawName) → all_declared raw ≡ before ++ n ∷ after → NoneRefused IsRedeclared before → has_spelling (spellings before) n.spelling ≡ true →
+    IsKindRefusal raw DeclaredTwice n.place
+redeclared_is_refusal raw before after n is none e =
+    let P : List RawName → Type 0 = λ all. IsFirstRefused IsRedeclared all n DeclaredTwice in in_first_pass (subst P (sym is) (redeclared_first before after n none e))
+
+-- ---- numbers go on
+
+pub numbered_one_more : (class : Class) (n : ℕ) (xs : List RawName) (x : RawName) → numbered_rows class n (xs ++ x ∷ []) ≡ numbered_rows class n xs ++ (x.spelling, Declared class (n + length xs)) ∷ []
+numbered_one_more class n [] x = let e : n ≡ n + 0 = omega arith in ap (λ k. (x.spelling, Declared class k) ∷ []) e
+numbered_one_more class n (y ∷ xs) x =
+    let e : suc n + length xs ≡ n + suc (length xs) = omega arith in
+    ap (λ rows. (y.spelling, Declared class n) ∷ rows) (numbered_one_more class (suc n) xs x ∙ ap (λ k. numbered_rows class (suc n) xs ++ (x.spelling, Declared class k) ∷ []) e)
+
+pub names_of_one_more : (class : Class) (above : RawScript) (d : RawDeclaration) → names_of class (above ++ d ∷ []) ≡ names_of class above ++ spellings (declared_as class d)
+names_of_one_more class above d =
+    ap spellings (flat_map-append (declared_as class) above (d ∷ []) ∙ ap (λ zs. flat_map (declared_as class) above ++ zs) (append-nil (declared_as class d)))
+    ∙ map-append (λ n. n.spelling) (flat_map (declared_as class) above) (declared_as class d)
+
+pub class_counts : (class : Class) (above : RawScript) (d : RawDeclaration) → length (names_of class (above ++ d ∷ [])) ≡ length (names_of class above) + length (declared_as class d)
+class_counts class above d =
+    ap length (names_of_one_more class above d) ∙ length-append (names_of class above) (spellings (declared_as class d)) ∙ ap (λ k. length (names_of class above) + k) (length-map (declared_as class d) (λ n. n.spelling))

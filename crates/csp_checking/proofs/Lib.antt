@@ -21,3 +21,4 @@ pub mod SingleSites
 pub mod Spellings
 pub mod DeclaredRows
 pub mod RowMeanings
+pub mod ConstructorRows

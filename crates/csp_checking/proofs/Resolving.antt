@@ -11,7 +11,7 @@ use Rattle.csp_checking.specs.Sites.{Use, AsExpression, AsEquation, AsEvent, AsP
 use Rattle.csp_checking.specs.Faults.{KindFault, UnknownName, WrongKind}
 use Rattle.csp_checking.specs.Rules.{IsRefusedSite, unknown, wrong_class, suits}
 use Rattle.csp_checking.specs.Refusals.{IsRefusedAt}
-pub use Rattle.csp_checking.specs.Walks.{AllFine}
+pub use Rattle.csp_checking.specs.Walks.{AllFine, IsThere, AreNumbered}
 use Rattle.csp_checking.proofs.FirstRefused.{EachFine}
 
 -- ---- sites that are fine
@@ -29,9 +29,6 @@ fine_right [] ys h = h
 fine_right (x ∷ xs) ys h = fine_right xs ys h.1
 
 -- ---- what is there
-
-abbrev pub IsThere : {A : Type 0} → Option A → Type 0
-IsThere {A} o = (x : A) × (o ≡ Some x)
 
 pub there_map : {A B : Type 0} (f : A → B) (o : Option A) → IsThere o → IsThere (option_map f o)
 there_map f o h = (f h.0, ap (option_map f) h.1)
@@ -211,11 +208,6 @@ pair_there env r fine = go (has_no_fields r.from) (has_no_fields r.to) refl refl
     go false c e f = two (at false (rw e refl))
 
 -- ---- bound names
-
--- the names have their numbers
-abbrev pub AreNumbered : List (List ℕ) → List RawName → Type 0
-AreNumbered table [] = ⊤
-AreNumbered table (n ∷ ns) = IsThere (number_in table n.spelling) × AreNumbered table ns
 
 pub numbered_left : (table : List (List ℕ)) (ms ns : List RawName) → AreNumbered table (ms ++ ns) → AreNumbered table ms
 numbered_left table [] ns h = tt

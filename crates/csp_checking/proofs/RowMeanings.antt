@@ -326,3 +326,20 @@ pub row_tells : (raw : RawScript) (i : ℕ) (s : List ℕ) (m : Meaning) → Non
 row_tells raw i s m once e =
     let small : i < length (declared_rows raw) = slice_get_within (declared_rows raw) i (s, m) e in
     row_above raw raw [] once (sym (append-nil raw)) i s m e (subst (λ z. i < z) (rows_counted raw) small)
+
+-- ---- the names of a class stand once
+
+once_of_class : (class : Class) (rows : List Row) → EachOnce (row_spellings rows) → EachOnce (of_class class rows)
+once_of_class class [] once = tt
+once_of_class class (r ∷ rows) once = by r.1 (once_of_class class rows once.1)
+  where
+    by : (m : Meaning) → EachOnce (of_class class rows) → EachOnce (chosen class m r.0 (of_class class rows))
+    by (Bound k) rest = rest
+    by (Declared c k) rest = pick (same_class class c)
+      where
+        pick : (b : Bool) → EachOnce (cond b (r.0 ∷ of_class class rows) (of_class class rows))
+        pick true = (none_of_class class rows r.0 once.0, rest)
+        pick false = rest
+
+pub names_once : (class : Class) (raw : RawScript) → NoneRefused IsRedeclared (all_declared raw) → EachOnce (names_of class raw)
+names_once class raw none = let P : List (List ℕ) → Type 0 = EachOnce in subst P (of_rows class raw) (once_of_class class (declared_rows raw) (rows_once raw none))

@@ -8,8 +8,8 @@ use Rattle.csp_text.specs.Raw.{RawDeclaration, RawScript}
 use Rattle.csp_checking.specs.Sets.{behind_each, in_order}
 use Rattle.csp_checking.specs.Sites.{Site, site_place, in_declaration, sites}
 use Rattle.csp_checking.specs.Faults.{KindFault, fault_number, NoneRefused, IsFirstRefused}
-use Rattle.csp_checking.specs.Rules.{IsRefusedSite}
-use Rattle.csp_checking.specs.Refusals.{IsRefusedAt}
+use Rattle.csp_checking.specs.Rules.{all_declared, IsRedeclared, IsRefusedSite}
+use Rattle.csp_checking.specs.Refusals.{IsRefusedAt, PassesNames, IsKindRefusal, in_second_pass}
 use Rattle.csp_checking.specs.Walks.{IsFine, AllFine, IsStoppedAt}
 use Rattle.csp_checking.proofs.FirstRefused.{EachFine, each_of_none, none_refused, refused_somewhere}
 use Rattle.csp_checking.proofs.Resolving.{all_fine}
@@ -112,3 +112,10 @@ pub stopped_in_declaration : {f : KindFault} {p : Place} (raw above below : RawS
 stopped_in_declaration {f} {p} raw above below d is h k =
     let P : RawScript → Type 0 = λ ds. IsStoppedAt (in_order (in_declaration raw) ds) f p in
     subst P (sym is) (stopped_in_next (in_declaration raw) above below d h k)
+
+-- Where no name is declared twice, a walk over the sites that stops is the tree's refusal, and one that does not is the second pass.
+pub stopped_is_refusal : {f : KindFault} {p : Place} (raw : RawScript) → NoneRefused IsRedeclared (all_declared raw) → IsStoppedAt (sites raw) f p → IsKindRefusal raw f p
+stopped_is_refusal {f} {p} raw once h = let P : Place → Type 0 = λ q. IsKindRefusal raw f q in subst P (sym h.place) (in_second_pass once h.first)
+
+pub fine_passes : (raw : RawScript) → NoneRefused IsRedeclared (all_declared raw) → AllFine (sites raw) → PassesNames raw
+fine_passes raw once fine = record { once = once; fine = fine_is_none_refused (sites raw) fine }

@@ -11,6 +11,7 @@ pub mod Refusals
 pub mod Walks
 pub mod Checked
 pub mod DeclaredRows
+pub mod ConstructorRows
 pub mod Order
 pub mod Inference
 pub mod Laws

@@ -1,6 +1,8 @@
 -- How a walk over sites ends: all of them are fine, or it stops at the first that is refused.
-use Rattle.std.specs.Prelude.{◌≡◌, List, [], ◌∷◌, ⊤}
+use Rattle.std.specs.Prelude.{◌≡◌, ℕ, List, [], ◌∷◌, Option, Some, ⊤}
 use Rattle.csp_text.specs.Place.{Place}
+use Rattle.csp_text.specs.Raw.{RawName}
+use Rattle.csp_checking.specs.Names.{number_in}
 use Rattle.csp_checking.specs.Sites.{Site, site_place}
 use Rattle.csp_checking.specs.Faults.{KindFault, IsFirstRefused}
 use Rattle.csp_checking.specs.Rules.{IsRefusedSite}
@@ -19,3 +21,11 @@ pub record IsStoppedAt (xs : List Site) (f : KindFault) (p : Place) : Type 0 whe
   pub site : Site
   pub first : IsFirstRefused IsRefusedAt xs site f
   pub place : p ≡ site_place site
+
+abbrev pub IsThere : {A : Type 0} → Option A → Type 0
+IsThere {A} o = (x : A) × (o ≡ Some x)
+
+-- the names have their numbers
+abbrev pub AreNumbered : List (List ℕ) → List RawName → Type 0
+AreNumbered table [] = ⊤
+AreNumbered table (n ∷ ns) = IsThere (number_in table n.spelling) × AreNumbered table ns
