@@ -109,6 +109,18 @@ owners_counted d (RawChannels names domains ∷ ds) = owners_counted d ds
 owners_counted d (RawEquation name ns p ∷ ds) = owners_counted d ds
 owners_counted d (RawAssertion place m p q ∷ ds) = owners_counted d ds
 
+pub constructors_counted : (n : ℕ) (raw : RawScript) → behind_all n (constructor_counts raw) ≡ n + length (names_of ConstructorName raw)
+constructors_counted n [] = omega arith
+constructors_counted n (RawDatatype name cs ∷ ds) =
+    let rest : behind_all (n + length cs) (constructor_counts ds) ≡ n + length cs + length (names_of ConstructorName ds) = constructors_counted (n + length cs) ds in
+    let count : length (names_of ConstructorName (RawDatatype name cs ∷ ds)) ≡ length cs + length (names_of ConstructorName ds) =
+    ap length (map-append (λ n. n.spelling) cs (flat_map (declared_as ConstructorName) ds)) ∙ length-append (spellings cs) (names_of ConstructorName ds) ∙ ap (λ k. k + length (names_of ConstructorName ds)) (length-map cs (λ n. n.spelling)) in
+    omega (arith, rest, count)
+constructors_counted n (RawNametype name domain ∷ ds) = constructors_counted n ds
+constructors_counted n (RawChannels names domains ∷ ds) = constructors_counted n ds
+constructors_counted n (RawEquation name ns p ∷ ds) = constructors_counted n ds
+constructors_counted n (RawAssertion place m p q ∷ ds) = constructors_counted n ds
+
 pub datatypes_counted : (raw : RawScript) → length (constructor_counts raw) ≡ length (names_of DatatypeName raw)
 datatypes_counted [] = refl
 datatypes_counted (RawDatatype name cs ∷ ds) = ap suc (datatypes_counted ds)

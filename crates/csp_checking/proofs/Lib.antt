@@ -16,6 +16,7 @@ pub mod AskingItems
 pub mod AskingSets
 pub mod Owning
 pub mod Walking
+pub mod OneMore
 pub mod Counts
 pub mod SingleSites
 pub mod Spellings

@@ -197,6 +197,12 @@ once_with_spellings ss (t ∷ ts) once = once_with_spellings (cond (has_spelling
 pub bound_once : (raw : RawScript) → EachOnce (bound_spellings raw)
 bound_once raw = once_with_spellings [] (spellings (flat_map bound_in_declaration raw)) tt
 
+-- the number of a name that is met stays its number in the tree
+pub number_stays_in_tree : (raw : RawScript) (met more : List RawName) (s : List ℕ) (k : ℕ) → flat_map bound_in_declaration raw ≡ met ++ more → number_in (with_spellings [] (spellings met)) s ≡ Some k → number_in (bound_spellings raw) s ≡ Some k
+number_stays_in_tree raw met more s k is e =
+    ap (λ zs. number_in zs s) (ap (λ ns. with_spellings [] (spellings ns)) is ∙ ap (with_spellings []) (map-append (λ n. n.spelling) met more) ∙ with_more [] (spellings met) (spellings more))
+    ∙ number_stays_with (with_spellings [] (spellings met)) (spellings more) s k e
+
 -- the bound names of each declaration of the tree have their numbers
 pub bound_are_numbered : (raw above below : RawScript) (d : RawDeclaration) → raw ≡ above ++ d ∷ below → AreNumbered (bound_spellings raw) (bound_in_declaration d)
 bound_are_numbered raw above below d is =
