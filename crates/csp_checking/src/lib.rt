@@ -23,6 +23,7 @@ ghost use Rattle.csp_checking.specs.Checked.{IsCheckedTree};
 ghost use Rattle.csp_checking.specs.Laws.Trees.{at, unknown_process, declared_parameter, channel_as_process, too_few_arguments, empty_field_set, channel_twice, growing_parameter, many_events, large_field_set, channel_of_itself, parameter_twice, unlike_channels, bare_and_unknown, mixed_nametype, one_event_too_many, outputs, outputs_script};
 
 pub mod inference;
+pub mod names;
 
 /// A tree has at most one refusal, at one place.
 pub fn kind_refusal_is_one()

@@ -1,0 +1,18 @@
+use Rattle.csp_checking.proofs.FineSites.{bound_fine, parameter_fine}
+use Rattle.csp_checking.proofs.SingleSites.{bound_stops, declared_parameter_stops, parameter_again_stops}
+use Rattle.csp_checking.proofs.names.bound_names_are_fine_or_refused.Goals as goal
+
+pub returns-clause-bound : goal.returns-clause-bound
+returns-clause-bound c = bound_fine
+
+pub returns-clause-declared : goal.returns-clause-declared
+returns-clause-declared c = bound_stops
+
+pub returns-clause-parameter : goal.returns-clause-parameter
+returns-clause-parameter c = parameter_fine
+
+pub returns-clause-declared_parameter : goal.returns-clause-declared_parameter
+returns-clause-declared_parameter c = declared_parameter_stops
+
+pub returns-clause-parameter_again : goal.returns-clause-parameter_again
+returns-clause-parameter_again c = parameter_again_stops
