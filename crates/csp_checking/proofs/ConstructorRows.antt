@@ -1,11 +1,10 @@
 -- Where no name is declared twice, the constructors of a tree's datatypes are numbered in a row.
-use Rattle.std.specs.Prelude.{flat_map, filter_map, map, replicate, slice_get, option_map}
+use Rattle.std.specs.Prelude.{flat_map, filter_map, replicate}
 use Rattle.std.proofs.lemmas.Grind.{flat_map-append}
 use Rattle.std.proofs.lemmas.List.{append_assoc, map-append, length-map}
-use Rattle.std.proofs.Common.{◌≡◌, ℕ, zero, suc, ◌+◌, List, [], ◌∷◌, ◌++◌, append-nil, length, length-append, Option, Some, None, refl, sym, ap, ◌∙◌, subst, arith}
+use Rattle.std.proofs.Common.{◌≡◌, ℕ, suc, ◌+◌, List, [], ◌∷◌, ◌++◌, append-nil, length, length-append, Some, refl, sym, ap, ◌∙◌, subst, arith}
 use Rattle.csp_syntax.specs.Process.{Script}
-use Rattle.csp_syntax.specs.Types.{Types}
-use Rattle.csp_text.specs.Raw.{RawName, RawDeclaration, RawDatatype, RawNametype, RawChannels, RawEquation, RawAssertion, RawScript}
+use Rattle.csp_text.specs.Raw.{RawDeclaration, RawDatatype, RawNametype, RawChannels, RawEquation, RawAssertion, RawScript}
 use Rattle.csp_checking.specs.Names.{ConstructorName, declared_as, names_of, spellings, number_in, DatatypeName}
 use Rattle.csp_checking.specs.Sets.{datatype_of, datatypes_of, types_of}
 use Rattle.csp_checking.specs.Scripts.{IsScriptOf}
@@ -14,7 +13,7 @@ use Rattle.csp_checking.specs.Rules.{all_declared, IsRedeclared}
 use Rattle.csp_checking.specs.DeclaredRows.{EachOnce}
 use Rattle.csp_checking.specs.ConstructorRows.{constructors_declared, constructor_counts}
 use Rattle.csp_checking.specs.Inference.Equations.{Numbering, AreOwners}
-use Rattle.csp_checking.specs.Inference.Items.{numbers_from, rows_from, owners_from, behind_all, numbers_of}
+use Rattle.csp_checking.specs.Inference.Items.{numbers_from, rows_from, owners_from, behind_all}
 use Rattle.csp_checking.proofs.Counts.{length-replicate}
 use Rattle.csp_checking.proofs.Spellings.{place_of_spelling}
 use Rattle.csp_checking.proofs.RowMeanings.{names_once}

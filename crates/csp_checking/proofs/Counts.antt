@@ -1,16 +1,15 @@
 -- How many fields the channels of a tree have, and how many parameters its equations.
-use Rattle.std.specs.Prelude.{◌<◌, cond, is_some, flat_map, map, replicate, slice_get, option_and_then, option_map}
+use Rattle.std.specs.Prelude.{◌<◌, cond, flat_map, map, replicate, slice_get, option_and_then, option_map}
 use Rattle.std.specs.Option.{option_or}
-use Rattle.std.proofs.lemmas.Grind.{flat_map-append}
 use Rattle.std.proofs.lemmas.List.{map-append, length-map}
-use Rattle.std.proofs.lemmas.Option.{slice_get-map, slice_get-get_or}
-use Rattle.std.proofs.Common.{◌≡◌, ◌≢◌, ◌≤◌, ℕ, zero, suc, ◌+◌, Bool, true, false, List, [], ◌∷◌, ◌++◌, get_or, length, length-append, Option, Some, None, refl, sym, ap, ◌∙◌, subst, arith}
+use Rattle.std.proofs.lemmas.Option.{slice_get-map}
+use Rattle.std.proofs.Common.{◌≡◌, ℕ, zero, suc, ◌+◌, Bool, true, false, List, [], ◌∷◌, ◌++◌, length, length-append, Option, Some, None, refl, sym, ap, ◌∙◌, subst}
 use Rattle.csp_syntax.specs.Value.{Value}
 use Rattle.csp_syntax.specs.Expression.{Expression}
 use Rattle.csp_text.specs.Raw.{RawName, RawDeclaration, RawDatatype, RawNametype, RawChannels, RawEquation, RawAssertion, RawScript}
-use Rattle.csp_checking.specs.Names.{Class, DatatypeName, ConstructorName, NametypeName, ChannelName, EquationName, Meaning, Declared, Bound, declared_as, names_of, spellings, number_in, has_spelling, declared_meaning, Environment, meaning}
+use Rattle.csp_checking.specs.Names.{Class, DatatypeName, ConstructorName, NametypeName, ChannelName, EquationName, Declared, Bound, declared_as, names_of, spellings, number_in, has_spelling, declared_meaning, Environment, meaning}
 use Rattle.csp_checking.specs.Resolving.{of_two, every, as_channel, as_equation}
-use Rattle.csp_checking.specs.Sets.{behind_each, set_expression, channels_declared, channel_sets, channel_members, field_members}
+use Rattle.csp_checking.specs.Sets.{behind_each, set_expression, channels_declared, channel_sets, field_members}
 use Rattle.csp_checking.specs.Rules.{parameters_declared, fields_declared, parameter_count, field_count, HasFieldSets}
 use Rattle.csp_checking.proofs.FitsAbove.{number_within}
 

@@ -1,24 +1,21 @@
 -- The rows of the declared names of a tree: their spellings, and those of the declarations above.
-use Rattle.std.specs.Prelude.{◌<◌, nat_lt, ⊤, cond, is_some, flat_map, map, take, slice_get, option_map, option_and_then}
-use Rattle.std.specs.Option.{option_or}
+use Rattle.std.specs.Prelude.{cond, flat_map, take, option_map}
 use Rattle.std.specs.Str.{bytes_eq}
-use Rattle.std.proofs.lemmas.Bool.{lt-ltb, le-ltb, ltb-true, ltb-false}
-use Rattle.std.proofs.lemmas.Option.{slice_get_within}
 use Rattle.std.proofs.lemmas.Grind.{flat_map-append}
 use Rattle.std.proofs.lemmas.List.{append_assoc, map-append, length-map}
 use Rattle.std.proofs.lemmas.Slice.Eq.{bytes_eq-Decides}
 use Rattle.std.proofs.Math.Seq.{take-append_seam}
-use Rattle.std.proofs.Common.{◌≡◌, ◌≢◌, ◌≤◌, ◌⊎◌, ℕ, zero, suc, ◌+◌, Bool, true, false, List, [], ◌∷◌, ◌++◌, append-nil, length, length-append, Option, Some, None, refl, sym, ap, ◌∙◌, subst, inl, inr, arith}
+use Rattle.std.proofs.Common.{◌≡◌, ◌≤◌, ℕ, suc, ◌+◌, Bool, true, false, List, [], ◌∷◌, ◌++◌, append-nil, length, length-append, Option, Some, None, refl, sym, ap, ◌∙◌, subst, arith}
 use Rattle.csp_text.specs.Raw.{RawName, RawDeclaration, RawDatatype, RawNametype, RawChannels, RawEquation, RawAssertion, RawScript}
-use Rattle.csp_checking.specs.Names.{Class, DatatypeName, ConstructorName, NametypeName, ChannelName, EquationName, Meaning, Declared, Bound, declared, declared_as, names_of, spellings, number_in, has_spelling, declared_meaning}
+use Rattle.csp_checking.specs.Names.{Class, ConstructorName, ChannelName, Declared, declared, declared_as, names_of, spellings, number_in, has_spelling}
 use Rattle.csp_checking.specs.Sets.{behind_each}
 use Rattle.csp_checking.specs.Faults.{KindFault, DeclaredTwice, fault_number, NoneRefused, IsFirstRefused}
 use Rattle.csp_checking.specs.Refusals.{IsKindRefusal, in_first_pass}
 use Rattle.csp_checking.proofs.FirstRefused.{EachFine, each_of_none, none_refused}
 use Rattle.csp_checking.specs.Rules.{all_declared, IsRedeclared, redeclared}
-use Rattle.csp_checking.specs.DeclaredRows.{Row, numbered_rows, rows_declared, declared_rows, row_spellings, EachOnce, meaning_in}
+use Rattle.csp_checking.specs.DeclaredRows.{numbered_rows, rows_declared, declared_rows, row_spellings, EachOnce}
 use Rattle.csp_checking.proofs.ScriptThere.{behind-append, behind_one_more}
-use Rattle.csp_checking.proofs.Spellings.{none_in_second, has_there}
+use Rattle.csp_checking.proofs.Spellings.{has_there}
 
 -- ---- the spellings of the rows
 

@@ -9,10 +9,9 @@ use Rattle.csp_text.specs.Place.{Place}
 use Rattle.csp_text.specs.Raw.{RawName, RawScript}
 use Rattle.csp_checking.specs.Names.{Meaning, declared_meaning, has_spelling, Environment, meaning}
 use Rattle.csp_checking.specs.Sets.{number_of_events}
-use Rattle.csp_checking.specs.Sites.{Use, AsExpression, AsEquation, AsEvent, AsBareLeft, Site, Used, BoundThere, Parameter, FieldSet, ChannelHead}
-use Rattle.csp_checking.specs.Faults.{KindFault}
+use Rattle.csp_checking.specs.Sites.{Use, AsExpression, AsEquation, AsEvent, AsBareLeft, Used, BoundThere, Parameter, FieldSet, ChannelHead}
 pub use Rattle.csp_checking.specs.Walks.{IsFine}
-use Rattle.csp_checking.specs.Rules.{suits, parameter_count, field_count, SomeFit, most_events, IsRefusedSite, unknown, bound_declared, parameter_declared, parameter_again, wrong_class, arguments, fields, left_fields, field_kind, too_many_events}
+use Rattle.csp_checking.specs.Rules.{suits, parameter_count, field_count, SomeFit, most_events, unknown, bound_declared, parameter_declared, parameter_again, wrong_class, arguments, fields, left_fields, field_kind, too_many_events}
 
 not_both : {b : Bool} → b ≡ false → b ≡ true → ⊥
 not_both e f = let both : false ≡ true = sym e ∙ f in cc both

@@ -1,21 +1,18 @@
 -- What a declared name means is what its row says.
-use Rattle.std.specs.Prelude.{◌<◌, nat_lt, ⊤, cond, is_some, flat_map, map, take, slice_get, option_map, option_and_then}
+use Rattle.std.specs.Prelude.{◌<◌, nat_lt, ⊤, cond, flat_map, take, slice_get, option_map, option_and_then}
 use Rattle.std.specs.Option.{option_or}
 use Rattle.std.specs.Str.{bytes_eq}
 use Rattle.std.proofs.lemmas.Bool.{lt-ltb, le-ltb, ltb-true, ltb-false}
 use Rattle.std.proofs.lemmas.Option.{slice_get_within}
-use Rattle.std.proofs.lemmas.Grind.{flat_map-append}
-use Rattle.std.proofs.lemmas.List.{append_assoc, map-append, length-map}
+use Rattle.std.proofs.lemmas.List.{append_assoc, map-append}
 use Rattle.std.proofs.lemmas.Slice.Eq.{bytes_eq-Decides}
-use Rattle.std.proofs.Math.Seq.{take-append_seam}
-use Rattle.std.proofs.Common.{◌≡◌, ◌≢◌, ◌≤◌, ◌⊎◌, ℕ, zero, suc, ◌+◌, Bool, true, false, List, [], ◌∷◌, ◌++◌, append-nil, length, length-append, Option, Some, None, refl, sym, ap, ◌∙◌, subst, inl, inr, arith}
+use Rattle.std.proofs.Common.{◌≡◌, ◌≤◌, ℕ, zero, suc, ◌+◌, Bool, true, false, List, [], ◌∷◌, ◌++◌, append-nil, length, length-append, Option, Some, None, refl, sym, ap, ◌∙◌, subst, arith}
 use Rattle.csp_text.specs.Raw.{RawName, RawDeclaration, RawDatatype, RawNametype, RawChannels, RawEquation, RawAssertion, RawScript}
-use Rattle.csp_checking.specs.Names.{Class, DatatypeName, ConstructorName, NametypeName, ChannelName, EquationName, Meaning, Declared, Bound, declared, declared_as, names_of, spellings, number_in, has_spelling, declared_meaning}
+use Rattle.csp_checking.specs.Names.{Class, DatatypeName, ConstructorName, NametypeName, ChannelName, EquationName, Meaning, Declared, Bound, declared_as, names_of, spellings, number_in, declared_meaning}
 use Rattle.csp_checking.specs.Sets.{behind_each}
-use Rattle.csp_checking.specs.Faults.{KindFault, DeclaredTwice, NoneRefused}
-use Rattle.csp_checking.specs.Rules.{all_declared, IsRedeclared, redeclared}
+use Rattle.csp_checking.specs.Faults.{NoneRefused}
+use Rattle.csp_checking.specs.Rules.{all_declared, IsRedeclared}
 use Rattle.csp_checking.specs.DeclaredRows.{Row, numbered_rows, rows_declared, declared_rows, row_spellings, EachOnce, meaning_in}
-use Rattle.csp_checking.proofs.ScriptThere.{behind-append, behind_one_more}
 use Rattle.csp_checking.proofs.Spellings.{number_of_append, none_in_append, none_in_one}
 use Rattle.csp_checking.proofs.DeclaredRows.{rows_have_spellings, rows_counted, rows_of_one_more, first_rows, rows_once, none_redeclared_above}
 
@@ -136,9 +133,11 @@ class_count class raw = sym (ap length (of_rows class raw))
 
 declared_counted : (above : RawScript) (d : RawDeclaration) → AreCounted (declared_rows above) (rows_declared above d)
 declared_counted above (RawDatatype name cs) =
-    let head : Row = (name.spelling, Declared DatatypeName (length (names_of DatatypeName above))) in
-    (class_count DatatypeName above, numbered_counted ConstructorName (length (names_of ConstructorName above)) cs (declared_rows above ++ (name.spelling, Declared DatatypeName (length (names_of DatatypeName above))) ∷ [])
-    (class_count ConstructorName above ∙ sym (ap length (of_class_append ConstructorName (declared_rows above) ((name.spelling, Declared DatatypeName (length (names_of DatatypeName above))) ∷ []) ∙ append-nil (of_class ConstructorName (declared_rows above))))))
+    let head : Row = (name.spelling, Declared DatatypeName (length (names_of DatatypeName above))) in (
+      class_count DatatypeName above,
+      numbered_counted ConstructorName (length (names_of ConstructorName above)) cs (declared_rows above ++ (name.spelling, Declared DatatypeName (length (names_of DatatypeName above))) ∷ [])
+          (class_count ConstructorName above ∙ sym (ap length (of_class_append ConstructorName (declared_rows above) ((name.spelling, Declared DatatypeName (length (names_of DatatypeName above))) ∷ []) ∙ append-nil (of_class ConstructorName (declared_rows above))))),
+    )
 declared_counted above (RawNametype name domain) = (class_count NametypeName above, tt)
 declared_counted above (RawChannels names domains) = numbered_counted ChannelName (length (names_of ChannelName above)) names (declared_rows above) (class_count ChannelName above)
 declared_counted above (RawEquation name ns p) = (class_count EquationName above, tt)

@@ -1,6 +1,6 @@
 -- What a single site comes to, rule by rule: it is fine, or a walk stops there with the lowest of its faults.
-use Rattle.std.specs.Prelude.{◌<◌, ⊤, IsFalse, is_some, flat_map, map, replicate, slice_get, option_and_then}
-use Rattle.std.proofs.Common.{◌≡◌, ◌≢◌, ◌≤◌, ◌⊎◌, ℕ, zero, suc, Bool, true, false, List, [], ◌∷◌, ◌++◌, length, Option, Some, None, refl, sym, ap, ◌∙◌, subst, inl, inr, arith}
+use Rattle.std.specs.Prelude.{◌<◌, IsFalse, is_some, flat_map, slice_get, option_and_then}
+use Rattle.std.proofs.Common.{◌≡◌, ◌≢◌, ◌≤◌, ℕ, Bool, true, false, List, [], ◌∷◌, length, Option, Some, None, refl, sym, ap, ◌∙◌, arith}
 use Rattle.csp_syntax.specs.Value.{Value}
 use Rattle.csp_syntax.specs.Expression.{Expression}
 use Rattle.csp_syntax.specs.Types.{Types}

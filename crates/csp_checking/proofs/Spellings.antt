@@ -4,23 +4,15 @@ use Rattle.csp_checking.specs.Walks.{AreNumbered}
 use Rattle.csp_checking.proofs.Resolving.{numbered_left, numbered_right, all_numbered}
 use Rattle.std.proofs.lemmas.Iterator.Adapters.{position_from-zero}
 use Rattle.std.proofs.lemmas.List.{reverse-append}
-use Rattle.std.specs.Prelude.{reverse, ◌||◌, ◌<◌, nat_lt, ⊤, cond, is_some, flat_map, map, take, slice_get, option_map, option_and_then}
-use Rattle.std.specs.Option.{option_or}
+use Rattle.std.specs.Prelude.{reverse, ◌||◌, cond, is_some, flat_map, map, slice_get, option_map}
 use Rattle.std.specs.Str.{bytes_eq}
-use Rattle.std.proofs.lemmas.Bool.{lt-ltb, le-ltb, ltb-true, ltb-false}
-use Rattle.std.proofs.lemmas.Option.{slice_get_within}
 use Rattle.std.proofs.lemmas.Grind.{flat_map-append}
-use Rattle.std.proofs.lemmas.List.{append_assoc, map-append, length-map}
+use Rattle.std.proofs.lemmas.List.{map-append}
 use Rattle.std.proofs.lemmas.Slice.Eq.{bytes_eq-Decides}
-use Rattle.std.proofs.Math.Seq.{take-append_seam}
-use Rattle.std.proofs.Common.{◌≡◌, ◌≢◌, ◌≤◌, ◌⊎◌, ℕ, zero, suc, ◌+◌, Bool, true, false, List, [], ◌∷◌, ◌++◌, append-nil, length, length-append, Option, Some, None, refl, sym, ap, ◌∙◌, subst, inl, inr, arith}
-use Rattle.csp_text.specs.Raw.{RawName, RawDeclaration, RawDatatype, RawNametype, RawChannels, RawEquation, RawAssertion, RawScript}
-use Rattle.csp_checking.specs.Names.{with_spellings, bound_spellings, bound_in_declaration, Class, DatatypeName, ConstructorName, NametypeName, ChannelName, EquationName, Meaning, Declared, Bound, declared, declared_as, names_of, spellings, number_in, has_spelling, declared_meaning}
-use Rattle.csp_checking.specs.Sets.{behind_each}
-use Rattle.csp_checking.specs.Faults.{KindFault, DeclaredTwice, NoneRefused}
-use Rattle.csp_checking.specs.Rules.{all_declared, IsRedeclared, redeclared}
-use Rattle.csp_checking.specs.DeclaredRows.{Row, numbered_rows, rows_declared, declared_rows, row_spellings, EachOnce, meaning_in}
-use Rattle.csp_checking.proofs.ScriptThere.{behind-append, behind_one_more}
+use Rattle.std.proofs.Common.{◌≡◌, ℕ, zero, suc, ◌+◌, Bool, true, false, List, [], ◌∷◌, ◌++◌, length, Option, Some, None, refl, sym, ap, ◌∙◌, subst, arith}
+use Rattle.csp_text.specs.Raw.{RawName, RawDeclaration, RawScript}
+use Rattle.csp_checking.specs.Names.{with_spellings, bound_spellings, bound_in_declaration, spellings, number_in, has_spelling}
+use Rattle.csp_checking.specs.DeclaredRows.{EachOnce}
 
 -- ---- numbers in lists of spellings
 

@@ -1,8 +1,8 @@
 -- What walks over sites come to, part by part.
-use Rattle.std.specs.Prelude.{⊤, flat_map}
+use Rattle.std.specs.Prelude.{flat_map}
 use Rattle.std.proofs.lemmas.Grind.{flat_map-append}
 use Rattle.std.proofs.lemmas.List.{append_assoc}
-use Rattle.std.proofs.Common.{◌≡◌, ◌≤◌, List, [], ◌∷◌, ◌++◌, append-nil, refl, sym, ap, ◌∙◌, subst, arith}
+use Rattle.std.proofs.Common.{◌≡◌, ◌≤◌, List, [], ◌∷◌, ◌++◌, append-nil, refl, sym, ap, ◌∙◌, subst}
 use Rattle.csp_text.specs.Place.{Place}
 use Rattle.csp_text.specs.Raw.{RawDeclaration, RawScript}
 use Rattle.csp_checking.specs.Sets.{behind_each, in_order}
