@@ -1,14 +1,15 @@
 -- What one more name, field or expression adds to the sites and to the terms.
-use Rattle.std.specs.Prelude.{take, unwrap_or, slice_get}
+use Rattle.std.proofs.lemmas.Grind.{flat_map-append}
+use Rattle.std.specs.Prelude.{◌&&◌, true, false, cond, flat_map, take, unwrap_or, slice_get}
 use Rattle.std.proofs.lemmas.List.{append_assoc}
 use Rattle.std.proofs.Common.{◌≡◌, ℕ, suc, ◌+◌, List, [], ◌∷◌, ◌++◌, append-nil, length, Option, Some, None, refl, sym, ap, ◌∙◌, arith}
 use Rattle.csp_syntax.specs.Expression.{Expression}
 use Rattle.csp_syntax.specs.Process.{Field, Given, Input, InputFrom}
-use Rattle.csp_text.specs.Raw.{RawName, RawField, RawGiven, RawInput, RawInputFrom, RawDomain, RawChannels, RawScript}
+use Rattle.csp_text.specs.Raw.{RawName, RawField, RawGiven, RawInput, RawInputFrom, RawPair, RawDomain, RawChannels, RawScript}
 use Rattle.csp_checking.specs.Names.{Environment, environment_above, binding, bound_by_fields}
 use Rattle.csp_checking.specs.Sets.{types_of, set_expression, channel_members, field_members}
 use Rattle.csp_checking.specs.Resolving.{of_two, of_three, every, expression_of, bound_number, fields_of}
-use Rattle.csp_checking.specs.Sites.{BoundThere, Parameter, FieldSet, ChannelHead, in_expression, in_parameters, in_fields, in_heads, in_field_sets}
+use Rattle.csp_checking.specs.Sites.{BoundThere, Parameter, FieldSet, ChannelHead, in_expression, in_parameters, in_fields, in_heads, in_field_sets, Used, AsBareLeft, AsBareRight, in_event, in_pair, has_no_fields}
 
 -- ---- names that are bound
 
@@ -53,6 +54,19 @@ in_more_field_sets raw above names before (d ∷ ds) es =
     ap (λ xs. FieldSet d.place (types_of raw) (above ++ RawChannels names (before ++ d ∷ []) ∷ []) (set_expression above d) (field_members raw (set_expression above d)) ∷ xs)
     (ap (λ xs. in_expression (environment_above above) d.set ++ xs) (in_more_field_sets raw above names (before ++ d ∷ []) ds es ∙ ap (λ zs. in_field_sets raw above names (before ++ d ∷ []) ds ++ in_field_sets raw above names zs es) (append_assoc before (d ∷ []) ds))
     ∙ sym (append_assoc (in_expression (environment_above above) d.set) (in_field_sets raw above names (before ++ d ∷ []) ds) (in_field_sets raw above names (before ++ (d ∷ ds)) es)))
+
+-- a pair of two bare channels, and any other pair
+pub in_bare_pair : (env : Environment) (r : RawPair) → has_no_fields r.from ≡ true → has_no_fields r.to ≡ true → in_pair env r ≡ Used env (AsBareLeft r.to.channel) r.from.channel ∷ Used env (AsBareRight r.from.channel) r.to.channel ∷ []
+in_bare_pair env r e f =
+    ap (λ b. cond b (Used env (AsBareLeft r.to.channel) r.from.channel ∷ Used env (AsBareRight r.from.channel) r.to.channel ∷ []) (in_event env r.from ++ in_event env r.to))
+    (ap (λ a. a && has_no_fields r.to) e ∙ ap (λ b. true && b) f)
+
+pub in_other_pair : (env : Environment) (r : RawPair) → (has_no_fields r.from && has_no_fields r.to) ≡ false → in_pair env r ≡ in_event env r.from ++ in_event env r.to
+in_other_pair env r e = ap (λ b. cond b (Used env (AsBareLeft r.to.channel) r.from.channel ∷ Used env (AsBareRight r.from.channel) r.to.channel ∷ []) (in_event env r.from ++ in_event env r.to)) e
+
+-- what each thing gives, with one more
+pub flat_map_one_more : {A B : Type 0} (f : A → List B) (xs : List A) (x : A) → flat_map f (xs ++ x ∷ []) ≡ flat_map f xs ++ f x
+flat_map_one_more f xs x = flat_map-append f xs (x ∷ []) ∙ ap (λ zs. flat_map f xs ++ zs) (append-nil (f x))
 
 -- ---- terms
 

@@ -1,5 +1,6 @@
 -- What a single site comes to, rule by rule: it is fine, or a walk stops there with the lowest of its faults.
 use Rattle.std.specs.Prelude.{◌<◌, IsFalse, is_some, flat_map, slice_get, option_and_then}
+use Rattle.std.specs.Prelude.{◌↔◌}
 use Rattle.std.proofs.Common.{◌≡◌, ◌≢◌, ◌≤◌, ℕ, Bool, true, false, List, [], ◌∷◌, length, Option, Some, None, refl, sym, ap, ◌∙◌, arith}
 use Rattle.csp_syntax.specs.Value.{Value}
 use Rattle.csp_syntax.specs.Expression.{Expression}
@@ -151,6 +152,39 @@ right_sets_stop env n left m c d vs ws e is_left is_right has_left has_right lik
 pub rows_as_long : (env : Environment) (n left : RawName) (p c d : ℕ) (vs ws : List (List Value)) → field_count env n ≡ Some p → field_count env left ≡ Some p → as_channel (meaning env left) ≡ Some c → as_channel (meaning env n) ≡ Some d →
     HasFieldSets env.declarations c vs → HasFieldSets env.declarations d ws → length vs ≡ length ws
 rows_as_long env n left p c d vs ws fields_right fields_left is_left is_right has_left has_right = same_there (sets_counted env left c vs is_left has_left) fields_left ∙ sym (same_there (sets_counted env n d ws is_right has_right) fields_right)
+
+-- By a table that has the field sets of each channel of which no rule refuses one: two channels with equal numbers of fields are fine where one has no row there or the rows are equal, and are else refused.
+module _ (env : Environment) (n left : RawName) (m : Meaning) (p c d : ℕ) (table : List (Option (List (List Value)))) (knows : (i : ℕ) (sets : List (List Value)) → (slice_get table i ≡ Some (Some sets)) ↔ HasFieldSets env.declarations i sets)
+    (means : meaning env n ≡ Some m) (fits : suits (AsBareRight left) m ≡ true) (fields_right : field_count env n ≡ Some p) (fields_left : field_count env left ≡ Some p)
+    (is_left : as_channel (meaning env left) ≡ Some c) (is_right : as_channel (meaning env n) ≡ Some d) where
+  by_rows : ((vs ws : List (List Value)) → slice_get table c ≡ Some (Some vs) → slice_get table d ≡ Some (Some ws) → vs ≡ ws) → IsFine (Used env (AsBareRight left) n)
+  by_rows equal = right_fine env n left m p means fits fields_right fields_left rows
+    where
+      rows : (i j : ℕ) (vs ws : List (List Value)) → as_channel (meaning env left) ≡ Some i → as_channel (meaning env n) ≡ Some j → HasFieldSets env.declarations i vs → HasFieldSets env.declarations j ws → vs ≡ ws
+      rows i j vs ws e f has_left has_right =
+          equal vs ws (ap (slice_get table) (same_there is_left e) ∙ (knows i vs).1 has_left) (ap (slice_get table) (same_there is_right f) ∙ (knows j ws).1 has_right)
+
+  pub equal_rows_fine : (vs ws : List (List Value)) → slice_get table c ≡ Some (Some vs) → slice_get table d ≡ Some (Some ws) → vs ≡ ws → IsFine (Used env (AsBareRight left) n)
+  equal_rows_fine vs ws e f same = by_rows rows
+    where
+      rows : (v w : List (List Value)) → slice_get table c ≡ Some (Some v) → slice_get table d ≡ Some (Some w) → v ≡ w
+      rows v w g h =
+          let one : Some v ≡ Some vs = same_there g e in
+          let other : Some w ≡ Some ws = same_there h f in
+          let v_is : v ≡ vs = cc one in
+          let w_is : w ≡ ws = cc other in v_is ∙ same ∙ sym w_is
+
+  pub unknown_left_fine : ((vs : List (List Value)) → slice_get table c ≢ Some (Some vs)) → IsFine (Used env (AsBareRight left) n)
+  unknown_left_fine none = by_rows (λ vs ws e f. absurd (none vs e))
+
+  pub unknown_right_fine : ((ws : List (List Value)) → slice_get table d ≢ Some (Some ws)) → IsFine (Used env (AsBareRight left) n)
+  unknown_right_fine none = by_rows (λ vs ws e f. absurd (none ws f))
+
+  pub unlike_rows_stop : (vs ws : List (List Value)) → slice_get table c ≡ Some (Some vs) → slice_get table d ≡ Some (Some ws) → vs ≢ ws → IsStoppedAt (Used env (AsBareRight left) n ∷ []) WrongKind n.place
+  unlike_rows_stop vs ws e f unlike =
+      let has_left = (knows c vs).0 e in
+      let has_right = (knows d ws).0 f in
+      right_sets_stop env n left m c d vs ws means is_left is_right has_left has_right (rows_as_long env n left p c d vs ws fields_right fields_left is_left is_right has_left has_right) unlike
 
 -- ---- K02: names that are bound
 
