@@ -4,7 +4,7 @@ use crate::follows::{
     ANY_OPERATOR, ATOM, Beginning, CONTROL, DECLARATION, EXPRESSION, INFIX, NAMED, OPERAND, UNARY,
 };
 
-pub(crate) const DECLARATIONS: &[Beginning] = &[
+static DECLARATIONS: [Beginning; 32] = [
     ("", &[DECLARATION]),
     ("datatype", &[" x "]),
     ("datatype D", &[" = "]),
@@ -41,3 +41,7 @@ pub(crate) const DECLARATIONS: &[Beginning] = &[
     ("assert STOP [F=", &[OPERAND, CONTROL]),
     ("assert STOP [F= SKIP", &[INFIX, UNARY, DECLARATION]),
 ];
+
+pub(crate) fn declarations() -> &'static [Beginning] {
+    &DECLARATIONS
+}

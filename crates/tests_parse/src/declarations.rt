@@ -35,4 +35,8 @@ const DECLARATIONS: &[Row] = &[
     ),
 ];
 
-pub(crate) const SUBJECT: Subject = ("declarations", ALONE, DECLARATIONS);
+static SUBJECT: Subject = ("declarations", ALONE, DECLARATIONS);
+
+pub(crate) fn subject() -> &'static Subject {
+    &SUBJECT
+}

@@ -4,7 +4,7 @@ use crate::follows::{
     ANY_OPERATOR, ATOM, Beginning, DECLARATION, EXPRESSION, OPERATOR, SUM_OPERATOR,
 };
 
-pub(crate) const EXPRESSIONS: &[Beginning] = &[
+static EXPRESSIONS: [Beginning; 65] = [
     ("nametype N = x", &[ANY_OPERATOR, DECLARATION]),
     ("nametype N = true", &[ANY_OPERATOR, DECLARATION]),
     ("nametype N = false", &[ANY_OPERATOR, DECLARATION]),
@@ -71,3 +71,7 @@ pub(crate) const EXPRESSIONS: &[Beginning] = &[
     ("nametype N = elem ( x , y", &[ANY_OPERATOR, " ) "]),
     ("nametype N = elem ( x , y )", &[ANY_OPERATOR, DECLARATION]),
 ];
+
+pub(crate) fn expressions() -> &'static [Beginning] {
+    &EXPRESSIONS
+}

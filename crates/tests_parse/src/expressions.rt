@@ -62,4 +62,8 @@ const EXPRESSIONS: &[Row] = &[
     ("(x or y) and z", "((x or y) and z)"),
 ];
 
-pub(crate) const SUBJECT: Subject = ("expressions", AROUND, EXPRESSIONS);
+static SUBJECT: Subject = ("expressions", AROUND, EXPRESSIONS);
+
+pub(crate) fn subject() -> &'static Subject {
+    &SUBJECT
+}

@@ -6,7 +6,7 @@ use std::alloc::{AllocError, Global};
 /// A process, the refusal of an operator behind it, and the operators that are not refused there.
 pub(crate) type First = (&'static str, &'static str, [&'static str; 2]);
 
-pub(crate) const FIRSTS: &[First] = &[
+static FIRSTS: [First; 16] = [
     ("P = Q [] R ", "S04 at 1:12", ["[]", ""]),
     ("P = Q |~| R ", "S04 at 1:13", ["|~|", ""]),
     ("P = Q ; R ", "S04 at 1:11", [";", ""]),
@@ -24,6 +24,10 @@ pub(crate) const FIRSTS: &[First] = &[
     ("P = Q[[a <- b]][[c <- d]] ", "S04 at 1:27", ["[[", "\\"]),
     ("P = Q[[a <- b]] \\ {a} ", "S04 at 1:23", ["\\", ""]),
 ];
+
+pub(crate) fn firsts() -> &'static [First] {
+    &FIRSTS
+}
 
 /// Each operator, and what it stands with.
 const SECONDS: &[(&str, &str)] = &[

@@ -5,7 +5,7 @@ use crate::follows::{
     OPERATOR, UNARY,
 };
 
-pub(crate) const OPERANDS: &[Beginning] = &[
+static OPERANDS: [Beginning; 35] = [
     ("P = STOP", &[INFIX, UNARY, DECLARATION]),
     ("P = SKIP", &[INFIX, UNARY, DECLARATION]),
     ("P = Q", &[INFIX, UNARY, NAMED, ANY_OPERATOR, DECLARATION]),
@@ -43,7 +43,11 @@ pub(crate) const OPERANDS: &[Beginning] = &[
     ("P = x & ( Q )", &[INFIX, ANY_OPERATOR, " & ", DECLARATION]),
 ];
 
-pub(crate) const BRACKETS: &[Beginning] = &[
+pub(crate) fn operands() -> &'static [Beginning] {
+    &OPERANDS
+}
+
+static BRACKETS: [Beginning; 25] = [
     ("P = (", &[OPERAND, CONTROL]),
     ("P = ( STOP", &[INFIX, UNARY, " ) "]),
     ("P = ( STOP )", &[INFIX, UNARY, DECLARATION]),
@@ -76,3 +80,7 @@ pub(crate) const BRACKETS: &[Beginning] = &[
     ("P = ( ( x ) [[ a <- b ]]", &[UNARY, " ) "]),
     ("P = ( STOP \\ { }", &[" \\ ) "]),
 ];
+
+pub(crate) fn brackets() -> &'static [Beginning] {
+    &BRACKETS
+}

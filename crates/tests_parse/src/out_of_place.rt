@@ -29,4 +29,8 @@ const OUT_OF_PLACE: &[Row] = &[
     ("P = x & [] y:S @ R", "S04 at 1:9"),
 ];
 
-pub(crate) const SUBJECT: Subject = ("out of place", ALONE, OUT_OF_PLACE);
+static SUBJECT: Subject = ("out of place", ALONE, OUT_OF_PLACE);
+
+pub(crate) fn subject() -> &'static Subject {
+    &SUBJECT
+}

@@ -5,7 +5,7 @@ use crate::follows::{
     OPERAND, OPERATOR, UNARY,
 };
 
-pub(crate) const PROCESSES: &[Beginning] = &[
+static PROCESSES: [Beginning; 40] = [
     ("P = if", &[EXPRESSION]),
     ("P = if x", &[ANY_OPERATOR, " then "]),
     ("P = if x == y", &[OPERATOR, " then "]),
@@ -51,7 +51,11 @@ pub(crate) const PROCESSES: &[Beginning] = &[
     ("P = STOP [ { a } || { b } ] STOP", &[DECLARATION]),
 ];
 
-pub(crate) const RENAMINGS_AND_HIDINGS: &[Beginning] = &[
+pub(crate) fn processes() -> &'static [Beginning] {
+    &PROCESSES
+}
+
+static RENAMINGS_AND_HIDINGS: [Beginning; 35] = [
     ("P = STOP [[", &[" x "]),
     ("P = STOP [[ a", &[" . <- "]),
     ("P = STOP [[ a .", &[ATOM]),
@@ -91,3 +95,7 @@ pub(crate) const RENAMINGS_AND_HIDINGS: &[Beginning] = &[
         &[" \\ ", DECLARATION],
     ),
 ];
+
+pub(crate) fn renamings_and_hidings() -> &'static [Beginning] {
+    &RENAMINGS_AND_HIDINGS
+}

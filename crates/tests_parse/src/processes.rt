@@ -90,4 +90,8 @@ const PROCESSES: &[Row] = &[
     ("([] x:S @ P) ; Q", "(([] x:S @ P()) ; Q())"),
 ];
 
-pub(crate) const SUBJECT: Subject = ("processes", AROUND, PROCESSES);
+static SUBJECT: Subject = ("processes", AROUND, PROCESSES);
+
+pub(crate) fn subject() -> &'static Subject {
+    &SUBJECT
+}

@@ -137,4 +137,8 @@ const REFUSALS: &[Row] = &[
     ("assert STOP [T= STOP [T= STOP", "S01 at 1:22"),
 ];
 
-pub(crate) const SUBJECT: Subject = ("refusals", ALONE, REFUSALS);
+static SUBJECT: Subject = ("refusals", ALONE, REFUSALS);
+
+pub(crate) fn subject() -> &'static Subject {
+    &SUBJECT
+}

@@ -22,23 +22,6 @@ pub(crate) type Subject = (&'static str, &'static [Surroundings], &'static [Row]
 /// For rows that are whole texts.
 pub(crate) const ALONE: &[Surroundings] = &[("", "", "", "")];
 
-const SUBJECTS: &[Subject] = &[
-    expressions::SUBJECT,
-    processes::SUBJECT,
-    declarations::SUBJECT,
-    refusals::SUBJECT,
-    out_of_place::SUBJECT,
-];
-
-const BEGINNINGS: &[&[Beginning]] = &[
-    declaration_beginnings::DECLARATIONS,
-    expression_beginnings::EXPRESSIONS,
-    operand_beginnings::OPERANDS,
-    operand_beginnings::BRACKETS,
-    process_beginnings::PROCESSES,
-    process_beginnings::RENAMINGS_AND_HIDINGS,
-];
-
 /// The row is read so where it stands.
 fn is_read_so(
     rt: &impl Abort,
@@ -78,7 +61,13 @@ fn subject_is_read_so(rt: &impl Abort, alloc: Global, subject: &Subject) -> Resu
 
 #[test]
 fn texts_are_read_so(rt: HostRuntime) -> Result<(), Fail> {
-    for subject in SUBJECTS {
+    for subject in [
+        expressions::subject(),
+        processes::subject(),
+        declarations::subject(),
+        refusals::subject(),
+        out_of_place::subject(),
+    ] {
         subject_is_read_so(&rt, rt.alloc(), subject)?;
     }
     Ok(())
@@ -97,7 +86,7 @@ fn beginnings_go_on_so(
 }
 
 fn operators_go_on_so(rt: &impl Abort, alloc: Global) -> Result<(), Fail> {
-    for first in mixed::FIRSTS {
+    for first in mixed::firsts() {
         let wrong = mixed::first_wrong(alloc, first)?;
         assert!(rt; wrong.is_none(), "`{}` {wrong:?}", first.0);
     }
@@ -106,7 +95,14 @@ fn operators_go_on_so(rt: &impl Abort, alloc: Global) -> Result<(), Fail> {
 
 #[test]
 fn texts_go_on_so(rt: HostRuntime) -> Result<(), Fail> {
-    for beginnings in BEGINNINGS {
+    for beginnings in [
+        declaration_beginnings::declarations(),
+        expression_beginnings::expressions(),
+        operand_beginnings::operands(),
+        operand_beginnings::brackets(),
+        process_beginnings::processes(),
+        process_beginnings::renamings_and_hidings(),
+    ] {
         beginnings_go_on_so(&rt, rt.alloc(), beginnings)?;
     }
     operators_go_on_so(&rt, rt.alloc())
