@@ -1,0 +1,15 @@
+pub mod Layers
+pub mod Finding
+pub mod Uniting
+pub mod Solving
+pub mod Adding
+pub mod AskingValues
+pub mod AskingExpressions
+pub mod Asking
+pub mod AskingArguments
+pub mod AskingEvents
+pub mod AskingFields
+pub mod AskingProcesses
+pub mod AskingRenamings
+pub mod AskingScripts
+pub mod AskingSets

@@ -1,0 +1,18 @@
+use Rattle.std.proofs.Common.{◌+◌, ◌*◌}
+use Rattle.csp_syntax.specs.Value.{to_values}
+use Rattle.csp_semantics.specs.Meaning.Limits.{value_size, values_size}
+use Rattle.csp_value.specs.Value.{value_of, values_of}
+use Rattle.csp_inference.specs.Chain.{demand_of}
+use Rattle.csp_inference.specs.Numbering.{numbering_of}
+use Rattle.csp_inference.proofs.Adding.{Rests}
+use Rattle.csp_inference.proofs.AskingValues.{asked_values, behind_asked}
+use Rattle.csp_inference.proofs.equations.Equations.+ask_value.Given as goal
+
+abbrev pub decreases-ask_value : goal.decreases-ask_value
+decreases-ask_value g l = 2 * value_size (value_of l.value.now)
+
+abbrev pub decreases-ask_values : goal.decreases-ask_values
+decreases-ask_values g l = 2 * values_size (to_values (values_of l.values.now)) + 1
+
+abbrev pub invariant-ask_values-loop-value : goal.invariant-ask_values-loop-value
+invariant-ask_values-loop-value g l = Rests (asked_values (numbering_of l.numbering) (demand_of l.kind)) behind_asked l.initial.self l.self l.values l.value-index

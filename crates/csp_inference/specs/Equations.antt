@@ -1,0 +1,39 @@
+-- Equations that are met one after the other.
+use Rattle.std.specs.Prelude.{◌≡◌, ◌⊎◌, ℕ, List, ◌++◌, map, slice_get, Some, None}
+use Rattle.csp_checking.specs.Inference.Chain.{Assignment}
+use Rattle.csp_checking.specs.Inference.State as pure
+use Rattle.csp_checking.specs.Inference.Equations.{Numbered, Numbering}
+use Rattle.csp_checking.specs.Inference.Processes.{names_behind}
+use Rattle.csp_syntax.specs.Process.{Field}
+use Rattle.csp_inference.specs.declared.equations.KindEquation.{KindEquation}
+use Rattle.csp_inference.specs.declared.equations.Equations.{Equations}
+use Rattle.csp_inference.specs.Chain.{demand_of}
+
+abbrev pub equation_of : KindEquation → pure.KindEquation
+equation_of e = (demand_of e.left, demand_of e.right)
+
+abbrev pub equations_of : {A : Type 0} → Equations A → List pure.KindEquation
+equations_of s = map equation_of s.met.items
+
+-- Behind the equations so far stand these, and m is the next number.
+pub record Adds {A : Type 0} (old new : Equations A) (es : List pure.KindEquation) (m : ℕ) : Type 0 where
+  pub met : equations_of new ≡ equations_of old ++ es
+  pub next : new.next ≡ m
+
+-- No kinds solve the equations.
+abbrev pub AreHopeless : List pure.KindEquation → Type 0
+AreHopeless es = (a : Assignment) → ¬ pure.Solves a es
+
+-- These equations stand behind those so far, and m is the next number. Or those so far have no solution with these, and those
+-- that stand there now have none either; then the next number does not matter.
+pub data Asks {A : Type 0} (old new : Equations A) (es : List pure.KindEquation) (m : ℕ) : Type 0 where
+  exactly : Adds old new es m → Asks old new es m
+  hopelessly : AreHopeless (equations_of old ++ es) → AreHopeless (equations_of new) → Asks old new es m
+
+-- These are the names, or the equations have no solution anyway.
+abbrev pub HasNames : {A : Type 0} → Equations A → Numbered → Numbered → Type 0
+HasNames now names wanted = (names ≡ wanted) ⊎ AreHopeless (equations_of now)
+
+-- the names behind the inputs of a prefix of the channel
+abbrev pub names_behind_prefix : Numbering → Numbered → ℕ → List Field → Numbered
+names_behind_prefix o names c fs = elim (slice_get o.channels c) [ Some ms ↦ names_behind names fs ms | None ↦ names ]

@@ -1,0 +1,4 @@
+pub mod Chain
+pub mod Equations
+pub mod Numbering
+pub mod State

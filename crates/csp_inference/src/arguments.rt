@@ -1,0 +1,76 @@
+//! What expressions in the places of fields and parameters ask for.
+
+ghost use Rattle.std.specs.Prelude.{◌≤◌, IfOk, length, map};
+ghost use Rattle.csp_syntax.specs.Expression.{to_expressions};
+ghost use Rattle.csp_checking.specs.Inference.Expressions.{behind_expressions, of_all, of_first};
+ghost use Rattle.csp_expression.specs.Evaluation.{table_of};
+ghost use Rattle.csp_expression.specs.Expression.{expressions_of};
+ghost use Rattle.csp_inference.specs.Equations.{Adds, Asks};
+ghost use Rattle.csp_inference.specs.Numbering.{names_of, numbering_of};
+
+use crate::chain::{Demand, End, KindNumber};
+use crate::equations::Equations;
+use crate::numbering::{NumberedName, Numbering};
+use csp_expression::{Expr, TypeTable};
+use csp_value::Memory;
+use std::alloc::Allocator;
+
+impl<A: Allocator + Copy> Equations<A> {
+    /// Adds the equations for expressions that are to have the kinds of the numbers in turn. No kinds fit where there are
+    /// more expressions than numbers, or fewer. `Memory` where there is no room.
+    pub(crate) fn ask_all(
+        &mut self,
+        types: &TypeTable<A>,
+        numbering: &Numbering<A>,
+        names: &[NumberedName],
+        expressions: &[Expr<A>],
+        numbers: &[KindNumber],
+    ) -> Result<(), Memory>
+        ensures { IfOk result (λ _. Asks self.old self.new (of_all (table_of types.now) (numbering_of numbering.now) self.old.next (names_of names.now) (to_expressions (expressions_of expressions.now)) (map (λ n. n.0) numbers.now)) (behind_expressions self.old.next (to_expressions (expressions_of expressions.now)))) }
+    {
+        if expressions.len() != numbers.len() {
+            self.push_never()?;
+            return Ok(());
+        }
+        self.ask_each(types, numbering, names, expressions, numbers)?;
+        Ok(())
+    }
+
+    /// The same where there may be more numbers.
+    pub(crate) fn ask_first(
+        &mut self,
+        types: &TypeTable<A>,
+        numbering: &Numbering<A>,
+        names: &[NumberedName],
+        expressions: &[Expr<A>],
+        numbers: &[KindNumber],
+    ) -> Result<(), Memory>
+        ensures { IfOk result (λ _. Asks self.old self.new (of_first (table_of types.now) (numbering_of numbering.now) self.old.next (names_of names.now) (to_expressions (expressions_of expressions.now)) (map (λ n. n.0) numbers.now)) (behind_expressions self.old.next (to_expressions (expressions_of expressions.now)))) }
+    {
+        if numbers.len() < expressions.len() {
+            self.push_never()?;
+            return Ok(());
+        }
+        self.ask_each(types, numbering, names, expressions, numbers)?;
+        Ok(())
+    }
+
+    /// Adds the equations for expressions that are to have the kinds of the first numbers in turn.
+    fn ask_each(
+        &mut self,
+        types: &TypeTable<A>,
+        numbering: &Numbering<A>,
+        names: &[NumberedName],
+        expressions: &[Expr<A>],
+        numbers: &[KindNumber],
+    ) -> Result<(), Memory>
+        requires { length expressions.now ≤ length numbers.now }
+        ensures { IfOk result (λ _. Adds self.old self.new (of_first (table_of types.now) (numbering_of numbering.now) self.old.next (names_of names.now) (to_expressions (expressions_of expressions.now)) (map (λ n. n.0) numbers.now)) (behind_expressions self.old.next (to_expressions (expressions_of expressions.now)))) }
+    {
+        for (index, expression) in expressions.iter().enumerate() {
+            let kind = Demand::Plain(End::Open(numbers[index]));
+            self.ask_expression(types, numbering, names, expression, kind)?;
+        }
+        Ok(())
+    }
+}

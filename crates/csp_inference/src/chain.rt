@@ -1,0 +1,98 @@
+//! Kinds with open ends.
+
+ghost use Rattle.std.specs.Prelude.{◌≡◌, IfOk};
+ghost use Rattle.csp_checking.specs.Inference.Chain.{in_place_of, with_ends};
+ghost use Rattle.csp_inference.specs.Chain.{chain_of, demand_of, end_of, over, over_all};
+
+use csp_expression::DatatypeId;
+use csp_value::Memory;
+use std::alloc::Allocator;
+
+/// A kind that is not known yet, by its number.
+#[derive(Clone, Copy, PartialEq, Eq)]
+pub struct KindNumber(pub usize);
+
+/// What a kind ends in below all sequences and sets.
+#[derive(Clone, Copy, PartialEq, Eq)]
+pub enum End {
+    /// Whole numbers.
+    Int,
+    /// Truth values.
+    Bool,
+    /// The values of a datatype.
+    Datatype(DatatypeId),
+    /// A kind that is not known yet.
+    Open(KindNumber),
+}
+
+/// What a kind is of another kind.
+#[derive(Clone, Copy, PartialEq, Eq)]
+pub(crate) enum Layer {
+    Sequence,
+    Set,
+}
+
+/// A kind as terms ask for it: an end, or sequences or sets of it.
+#[derive(Clone, Copy, PartialEq, Eq)]
+pub enum Demand {
+    Plain(End),
+    SequenceOf(End),
+    SetOf(End),
+}
+
+/// A kind with its layers, the outer ones first, and its end.
+#[derive(Drop)]
+pub(crate) struct Chain<A: Allocator> {
+    pub(crate) layers: Vec<Layer, A>,
+    pub(crate) end: End,
+}
+
+impl<A: Allocator + Copy> Chain<A> {
+    /// The kind that is asked for, or `Memory` where there is no room.
+    pub(crate) fn new(alloc: A, demand: Demand) -> Result<Chain<A>, Memory>
+        ensures { IfOk result (λ chain. chain_of chain ≡ demand_of demand) }
+    {
+        match demand {
+            Demand::Plain(end) => Ok(Chain {
+                layers: Vec::new(alloc),
+                end,
+            }),
+            Demand::SequenceOf(end) => Chain::of_one_layer(alloc, Layer::Sequence, end),
+            Demand::SetOf(end) => Chain::of_one_layer(alloc, Layer::Set, end),
+        }
+    }
+
+    fn of_one_layer(alloc: A, layer: Layer, end: End) -> Result<Chain<A>, Memory>
+        ensures { IfOk result (λ chain. chain_of chain ≡ over layer (end_of end)) }
+    {
+        let mut layers = Vec::new(alloc);
+        layers.push(layer)?;
+        Ok(Chain { layers, end })
+    }
+
+    #[tactic(auto, using(crate::proofs::Layers::over_append))]
+    /// Puts the layers and the end in the place of the chain's end, or does nothing and is `Memory` where there is no room.
+    pub(crate) fn go_on(&mut self, layers: &[Layer], end: End) -> Result<(), Memory>
+        ensures { IfOk result (λ _. chain_of self.new ≡ over_all self.old.layers.items (over_all layers.now (end_of end))) }
+    {
+        self.layers.extend_from_slice(layers)?;
+        self.end = end;
+        Ok(())
+    }
+
+    /// Puts the layers and the end in the place of the chain's end, if it is the number.
+    pub(crate) fn put_in(
+        &mut self,
+        number: KindNumber,
+        layers: &[Layer],
+        end: End,
+    ) -> Result<(), Memory>
+        ensures { IfOk result (λ _. chain_of self.new ≡ with_ends (in_place_of number.0 (over_all layers.now (end_of end))) (chain_of self.old)) }
+    {
+        if self.end != End::Open(number) {
+            return Ok(());
+        }
+        self.go_on(layers, end)?;
+        Ok(())
+    }
+}

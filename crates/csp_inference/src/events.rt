@@ -1,0 +1,105 @@
+//! What events and sets of events ask for.
+
+ghost use Rattle.std.specs.Prelude.{IfOk};
+ghost use Rattle.csp_checking.specs.Inference.Processes.{behind_event, behind_event_set, behind_events, of_beginning, of_beginnings, of_event, of_event_set, of_events};
+ghost use Rattle.csp_event_sets.specs.Events.{event_expression_of, event_expressions_of, event_set_of};
+ghost use Rattle.csp_expression.specs.Evaluation.{table_of};
+ghost use Rattle.csp_inference.specs.Equations.{Asks};
+ghost use Rattle.csp_inference.specs.Numbering.{names_of, numbering_of};
+
+use crate::equations::Equations;
+use crate::numbering::{NumberedName, Numbering};
+use csp_event_sets::{EventExpression, EventSet};
+use csp_expression::TypeTable;
+use csp_value::Memory;
+use std::alloc::Allocator;
+
+impl<A: Allocator + Copy> Equations<A> {
+    /// Adds the equations for an event of a channel with all its fields, or is `Memory` where there is no room for them.
+    pub(crate) fn ask_event(
+        &mut self,
+        types: &TypeTable<A>,
+        numbering: &Numbering<A>,
+        names: &[NumberedName],
+        event: &EventExpression<A>,
+    ) -> Result<(), Memory>
+        ensures { IfOk result (λ _. Asks self.old self.new (of_event (table_of types.now) (numbering_of numbering.now) self.old.next (names_of names.now) (event_expression_of event.now)) (behind_event self.old.next (event_expression_of event.now))) }
+    {
+        let Some(numbers) = numbering.channels.get(event.channel.0 as usize) else {
+            self.push_never()?;
+            return Ok(());
+        };
+        self.ask_all(types, numbering, names, &event.fields, numbers)?;
+        Ok(())
+    }
+
+    /// The same for the beginning of an event, with the first of the channel's fields.
+    fn ask_beginning(
+        &mut self,
+        types: &TypeTable<A>,
+        numbering: &Numbering<A>,
+        names: &[NumberedName],
+        event: &EventExpression<A>,
+    ) -> Result<(), Memory>
+        ensures { IfOk result (λ _. Asks self.old self.new (of_beginning (table_of types.now) (numbering_of numbering.now) self.old.next (names_of names.now) (event_expression_of event.now)) (behind_event self.old.next (event_expression_of event.now))) }
+    {
+        let Some(numbers) = numbering.channels.get(event.channel.0 as usize) else {
+            self.push_never()?;
+            return Ok(());
+        };
+        self.ask_first(types, numbering, names, &event.fields, numbers)?;
+        Ok(())
+    }
+
+    /// Adds the equations for each event.
+    fn ask_events(
+        &mut self,
+        types: &TypeTable<A>,
+        numbering: &Numbering<A>,
+        names: &[NumberedName],
+        events: &[EventExpression<A>],
+    ) -> Result<(), Memory>
+        ensures { IfOk result (λ _. Asks self.old self.new (of_events (table_of types.now) (numbering_of numbering.now) self.old.next (names_of names.now) (event_expressions_of events.now)) (behind_events self.old.next (event_expressions_of events.now))) }
+    {
+        for event in events {
+            self.ask_event(types, numbering, names, event)?;
+        }
+        Ok(())
+    }
+
+    /// Adds the equations for the beginning of each event.
+    fn ask_beginnings(
+        &mut self,
+        types: &TypeTable<A>,
+        numbering: &Numbering<A>,
+        names: &[NumberedName],
+        events: &[EventExpression<A>],
+    ) -> Result<(), Memory>
+        ensures { IfOk result (λ _. Asks self.old self.new (of_beginnings (table_of types.now) (numbering_of numbering.now) self.old.next (names_of names.now) (event_expressions_of events.now)) (behind_events self.old.next (event_expressions_of events.now))) }
+    {
+        for event in events {
+            self.ask_beginning(types, numbering, names, event)?;
+        }
+        Ok(())
+    }
+
+    /// Adds the equations for a set of events, or is `Memory` where there is no room for them.
+    pub(crate) fn ask_event_set(
+        &mut self,
+        types: &TypeTable<A>,
+        numbering: &Numbering<A>,
+        names: &[NumberedName],
+        set: &EventSet<A>,
+    ) -> Result<(), Memory>
+        ensures { IfOk result (λ _. Asks self.old self.new (of_event_set (table_of types.now) (numbering_of numbering.now) self.old.next (names_of names.now) (event_set_of set.now)) (behind_event_set self.old.next (event_set_of set.now))) }
+    {
+        match set {
+            EventSet::Enumeration(events) => self.ask_events(types, numbering, names, events),
+            EventSet::Productions(events) => self.ask_beginnings(types, numbering, names, events),
+            EventSet::Combine(_, left, right) => {
+                self.ask_event_set(types, numbering, names, left)?;
+                self.ask_event_set(types, numbering, names, right)
+            }
+        }
+    }
+}

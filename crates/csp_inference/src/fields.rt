@@ -1,0 +1,83 @@
+//! What the fields of a prefix ask for.
+
+ghost use Rattle.std.specs.Prelude.{◌≡◌, ◌∷◌, [], IfOk, length, map};
+ghost use Rattle.csp_checking.specs.Inference.Processes.{behind_fields, names_behind, of_fields};
+ghost use Rattle.csp_expression.specs.Evaluation.{table_of};
+ghost use Rattle.csp_term.specs.Field.{field_of, fields_of};
+ghost use Rattle.csp_inference.specs.Equations.{Adds, Asks, HasNames};
+ghost use Rattle.csp_inference.specs.Numbering.{names_of, numbering_of};
+
+use crate::chain::{Demand, End, KindNumber};
+use crate::equations::Equations;
+use crate::numbering::{NumberedName, Numbering};
+use csp_expression::{Name, TypeTable};
+use csp_term::Field;
+use csp_value::Memory;
+use std::alloc::Allocator;
+
+/// The name comes before the others, and hides those of them that are the same.
+pub(crate) fn bind_name<A: Allocator + Copy>(
+    names: &mut Vec<NumberedName, A>,
+    name: Name,
+    number: KindNumber,
+) -> Result<(), Memory>
+    ensures { IfOk result (λ _. names_of names.new.items ≡ (name.0, number.0) ∷ names_of names.old.items) }
+{
+    names.insert(0, NumberedName { name, number })?;
+    Ok(())
+}
+
+impl<A: Allocator + Copy> Equations<A> {
+    /// Adds the equations for the fields of a prefix, which are to have the kinds of the numbers in turn, and gives the
+    /// names behind their inputs. No kinds fit where there are more fields than numbers, or fewer. `Memory` where there is
+    /// no room.
+    pub(crate) fn ask_fields(
+        &mut self,
+        alloc: A,
+        types: &TypeTable<A>,
+        numbering: &Numbering<A>,
+        names: &[NumberedName],
+        fields: &[Field<A>],
+        numbers: &[KindNumber],
+    ) -> Result<Vec<NumberedName, A>, Memory>
+        ensures asks { IfOk result (λ _. Asks self.old self.new (of_fields (table_of types.now) (numbering_of numbering.now) self.old.next (names_of names.now) (fields_of fields.now) (map (λ n. n.0) numbers.now)) (behind_fields self.old.next (fields_of fields.now))) }
+        ensures names { IfOk result (λ inner. HasNames self.new (names_of inner.items) (names_behind (names_of names.now) (fields_of fields.now) (map (λ n. n.0) numbers.now))) }
+    {
+        let mut inner = Vec::from_slice(alloc, names)?;
+        if fields.len() != numbers.len() {
+            self.push_never()?;
+            return Ok(inner);
+        }
+        for (index, field) in fields.iter().enumerate() {
+            self.ask_field(types, numbering, &mut inner, field, numbers[index])?;
+        }
+        Ok(inner)
+    }
+
+    /// Adds the equations for one field, and puts the name of an input before the others.
+    fn ask_field(
+        &mut self,
+        types: &TypeTable<A>,
+        numbering: &Numbering<A>,
+        names: &mut Vec<NumberedName, A>,
+        field: &Field<A>,
+        number: KindNumber,
+    ) -> Result<(), Memory>
+        ensures asks { IfOk result (λ _. Adds self.old self.new (of_fields (table_of types.now) (numbering_of numbering.now) self.old.next (names_of names.old.items) (field_of field.now ∷ []) (number.0 ∷ [])) (behind_fields self.old.next (field_of field.now ∷ []))) }
+        ensures names { IfOk result (λ _. names_of names.new.items ≡ names_behind (names_of names.old.items) (field_of field.now ∷ []) (number.0 ∷ [])) }
+    {
+        match field {
+            Field::Given(value) => {
+                let kind = Demand::Plain(End::Open(number));
+                self.ask_expression(types, numbering, names, value, kind)?;
+            }
+            Field::Input(name) => bind_name(names, *name, number)?,
+            Field::InputFrom(name, set) => {
+                let kind = Demand::SetOf(End::Open(number));
+                self.ask_expression(types, numbering, names, set, kind)?;
+                bind_name(names, *name, number)?;
+            }
+        }
+        Ok(())
+    }
+}

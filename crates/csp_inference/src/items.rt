@@ -1,0 +1,73 @@
+//! What the equations and the assertions of a script ask for.
+
+ghost use Rattle.std.specs.Prelude.{◌≡◌, IfOk, length, map};
+ghost use Rattle.csp_checking.specs.Inference.Items.{numbered, of_assertion, of_equation};
+ghost use Rattle.csp_checking.specs.Inference.Processes.{behind_process};
+ghost use Rattle.csp_term.specs.Script.{assertion_of, equation_of, script_of};
+ghost use Rattle.csp_term.specs.Term.{process_of};
+ghost use Rattle.csp_inference.specs.Equations.{Asks};
+ghost use Rattle.csp_inference.specs.Numbering.{names_of, numbering_of};
+
+use crate::chain::KindNumber;
+use crate::equations::Equations;
+use crate::numbering::{NumberedName, Numbering};
+use csp_expression::Name;
+use csp_term::{Assertion, Equation, Script};
+use csp_value::Memory;
+use std::alloc::Allocator;
+
+/// The parameters with the numbers of their kinds.
+fn number_parameters<A: Allocator + Copy>(
+    alloc: A,
+    parameters: &[Name],
+    numbers: &[KindNumber],
+) -> Result<Vec<NumberedName, A>, Memory>
+    requires { length parameters.now ≡ length numbers.now }
+    ensures { IfOk result (λ names. names_of names.items ≡ numbered (map (λ x. x.0) parameters.now) (map (λ n. n.0) numbers.now)) }
+{
+    let mut names = Vec::new(alloc);
+    for index in 0..parameters.len() {
+        let name = parameters[index];
+        let number = numbers[index];
+        names.push(NumberedName { name, number })?;
+    }
+    Ok(names)
+}
+
+impl<A: Allocator + Copy> Equations<A> {
+    /// Adds the equations for an equation of the script whose parameters have the kinds of the numbers. No kinds fit where
+    /// there are more parameters than numbers, or fewer. `Memory` where there is no room.
+    pub fn ask_equation(
+        &mut self,
+        alloc: A,
+        script: &Script<A>,
+        numbering: &Numbering<A>,
+        equation: &Equation<A>,
+        numbers: &[KindNumber],
+    ) -> Result<(), Memory>
+        ensures { IfOk result (λ _. Asks self.old self.new (of_equation (script_of script.now) (numbering_of numbering.now) self.old.next (equation_of equation.now) (map (λ n. n.0) numbers.now)) (behind_process self.old.next (process_of equation.now.body))) }
+    {
+        if equation.parameters.len() != numbers.len() {
+            self.push_never()?;
+            return Ok(());
+        }
+        let names = number_parameters(alloc, &equation.parameters, numbers)?;
+        self.ask_process(alloc, script, numbering, &names, &equation.body)?;
+        Ok(())
+    }
+
+    /// Adds the equations for both processes of an assertion, or is `Memory` where there is no room for them.
+    pub fn ask_assertion(
+        &mut self,
+        alloc: A,
+        script: &Script<A>,
+        numbering: &Numbering<A>,
+        assertion: &Assertion<A>,
+    ) -> Result<(), Memory>
+        ensures { IfOk result (λ _. Asks self.old self.new (of_assertion (script_of script.now) (numbering_of numbering.now) self.old.next (assertion_of assertion.now)) (behind_process (behind_process self.old.next (process_of assertion.now.specification)) (process_of assertion.now.implementation))) }
+    {
+        self.ask_process(alloc, script, numbering, &[], &assertion.specification)?;
+        self.ask_process(alloc, script, numbering, &[], &assertion.implementation)?;
+        Ok(())
+    }
+}

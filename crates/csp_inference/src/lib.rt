@@ -1,0 +1,28 @@
+//! Whether the kinds of a script fit, and which they are.
+//!
+//! The kind of each nametype, field, parameter and bound name has a number. Terms ask for equations between kinds with
+//! open ends, which are solved one by one as they are met.
+#![tactic(auto)]
+
+mod arguments;
+mod chain;
+mod equations;
+mod events;
+mod expressions;
+mod fields;
+mod heads;
+mod items;
+mod misfit;
+mod numbering;
+mod operators;
+mod processes;
+mod renamings;
+mod sets;
+mod state;
+mod values;
+
+pub use chain::{Demand, End, KindNumber};
+pub use equations::{Equations, KindEquation};
+pub use misfit::Misfit;
+pub use numbering::{NumberedName, Numbering};
+pub use state::State;

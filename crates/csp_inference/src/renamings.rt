@@ -1,0 +1,86 @@
+//! What renamings ask for.
+
+ghost use Rattle.std.specs.Prelude.{◌≡◌, ◌&&◌, IfOk, map, slice_get};
+ghost use Rattle.csp_semantics.specs.Meaning.Events.{is_bare, same_sets};
+ghost use Rattle.csp_checking.specs.Inference.Processes.{are_bare_alike, are_same_sets, behind_event, behind_pairs, of_pair, of_pairs};
+ghost use Rattle.csp_event_sets.specs.Events.{event_expression_of, renaming_pair_of, renaming_pairs_of};
+ghost use Rattle.csp_term.specs.Script.{field_sets_of, field_values, script_of};
+ghost use Rattle.csp_inference.specs.Equations.{Asks};
+ghost use Rattle.csp_inference.specs.Numbering.{names_of, numbering_of};
+
+use crate::equations::Equations;
+use crate::numbering::{NumberedName, Numbering};
+use csp_event_sets::{EventExpression, RenamingPair};
+use csp_term::{ChannelId, Script};
+use csp_value::{FieldSet, Memory};
+use std::alloc::Allocator;
+
+fn is_bare<A: Allocator + Copy>(event: &EventExpression<A>) -> bool
+    ensures { result ≡ is_bare (event_expression_of event.now) }
+{
+    event.fields.is_empty()
+}
+
+fn same_sets<A: Allocator + Copy>(sets: &[FieldSet<A>], others: &[FieldSet<A>]) -> bool
+    ensures { result ≡ same_sets (map field_values sets.now) (map field_values others.now) }
+{
+    *sets == *others
+}
+
+/// Whether the script has both channels, with the same sets for their fields.
+fn have_same_sets<A: Allocator + Copy>(script: &Script<A>, from: ChannelId, to: ChannelId) -> bool
+    ensures { result ≡ are_same_sets (slice_get (script_of script.now).channels from.0) (slice_get (script_of script.now).channels to.0) }
+{
+    let Some(from) = script.channels.get(from.0 as usize) else {
+        return false;
+    };
+    let Some(to) = script.channels.get(to.0 as usize) else {
+        return false;
+    };
+    same_sets(&from.fields, &to.fields)
+}
+
+/// Whether the pair names two channels with the same sets for their fields.
+fn are_bare_alike<A: Allocator + Copy>(script: &Script<A>, pair: &RenamingPair<A>) -> bool
+    ensures { result ≡ are_bare_alike (script_of script.now) (renaming_pair_of pair.now) }
+{
+    is_bare(&pair.from)
+        && is_bare(&pair.to)
+        && have_same_sets(script, pair.from.channel, pair.to.channel)
+}
+
+impl<A: Allocator + Copy> Equations<A> {
+    /// Adds the equations for each pair, or is `Memory` where there is no room for them.
+    pub(crate) fn ask_pairs(
+        &mut self,
+        script: &Script<A>,
+        numbering: &Numbering<A>,
+        names: &[NumberedName],
+        pairs: &[RenamingPair<A>],
+    ) -> Result<(), Memory>
+        ensures { IfOk result (λ _. Asks self.old self.new (of_pairs (script_of script.now) (numbering_of numbering.now) self.old.next (names_of names.now) (renaming_pairs_of pairs.now)) (behind_pairs self.old.next (renaming_pairs_of pairs.now))) }
+    {
+        for pair in pairs {
+            self.ask_pair(script, numbering, names, pair)?;
+        }
+        Ok(())
+    }
+
+    /// Adds the equations for a pair. Two channels with the same sets for their fields ask nothing.
+    fn ask_pair(
+        &mut self,
+        script: &Script<A>,
+        numbering: &Numbering<A>,
+        names: &[NumberedName],
+        pair: &RenamingPair<A>,
+    ) -> Result<(), Memory>
+        ensures { IfOk result (λ _. Asks self.old self.new (of_pair (script_of script.now) (numbering_of numbering.now) self.old.next (names_of names.now) (renaming_pair_of pair.now)) (behind_event (behind_event self.old.next (event_expression_of pair.now.from)) (event_expression_of pair.now.to))) }
+    {
+        if are_bare_alike(script, pair) {
+            return Ok(());
+        }
+        self.ask_event(&script.types, numbering, names, &pair.from)?;
+        self.ask_event(&script.types, numbering, names, &pair.to)?;
+        Ok(())
+    }
+}
