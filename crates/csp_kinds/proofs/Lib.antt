@@ -1,0 +1,12 @@
+pub mod Rows
+pub mod BoundRows
+pub mod Walking
+pub mod Written
+pub mod Expressions
+pub mod Going
+pub mod NameMeanings
+pub mod ChannelNames
+pub mod Sizes
+pub mod Fields
+pub mod Resolves
+pub mod Processes
