@@ -1,0 +1,60 @@
+-- Walks that bind no name, of two parts or over a list.
+use Rattle.std.specs.Prelude.{flat_map, IfOk, IfErr}
+use Rattle.std.proofs.Common.{◌≡◌, ◌<◌, ◌≤◌, ◌+◌, ℕ, suc, get_or, length, map, List, [], ◌∷◌, ◌++◌, Option, Some, Result, Ok, Err, refl, sym, ap, ap₂, ◌∙◌, subst}
+use Rattle.csp_text.specs.Raw.{RawName, RawExpressions}
+use Rattle.csp_checking.specs.Names.{Environment, meaning}
+use Rattle.csp_checking.specs.Resolving as resolving
+use Rattle.csp_checking.specs.Resolving.{every, of_two}
+use Rattle.csp_checking.specs.Sites.{Use, AsEquation, AsEvent, AsProductions, Site, Used, number_of}
+use Rattle.csp_checking.specs.Walks.{AllFine}
+use Rattle.csp_checking.proofs.Walking.{fine_both}
+use Rattle.csp_parse.specs.declared.expressions.Expression.{Expression}
+use Rattle.csp_parse.specs.Expressions.{expressions_of}
+use Rattle.csp_names.specs.declared.bound_names.BoundNames.{BoundNames}
+use Rattle.csp_names.specs.declared.refusals.Refused.{Refused}
+use Rattle.csp_names.specs.declared.refusals.Refused.TheVariants as refused
+use Rattle.csp_names.specs.declared.scope.Scope.{Scope}
+use Rattle.csp_names.specs.Scopes.{KnowsScript, StandsFor}
+use Rattle.csp_names.specs.Walks.{Done, Goes, Halts, Resolves, Stops, Walked}
+use Rattle.csp_names.proofs.Going.{still_done, still_halts}
+use Rattle.csp_names.proofs.Walking.{made, Passed, all_passed, one_passed, passed_stops, stops_behind, stops_first, stops_for_room}
+
+-- as many as the list has
+pub number_of_list : {A : Type 0} (es : List (Expression A)) → length es ≡ number_of (expressions_of es)
+number_of_list [] = refl
+number_of_list (e ∷ es) = ap suc (number_of_list es)
+
+module _ {A : Type 0} (scope : Scope A) (b : BoundNames A) where
+  -- ---- two parts
+
+  module _ {X Y : Type 0} (xs ys : Environment → List Site) (m : Environment → Option X) (m' : Environment → Option Y) where
+    pub first_stops : {S T Z : Type 0} (ofx : S → X) (of : T → Z) (whole : Environment → Option Z) (f : Refused) → Resolves scope b xs m ofx (Err f) → Resolves scope b (λ env. xs env ++ ys env) whole of (Err f)
+    first_stops ofx of whole f h env stands knows = stops_first (xs env) (ys env) f (h env stands knows)
+
+    pub second_stops : {S T V Z : Type 0} (ofx : S → X) (ofy : V → Y) (of : T → Z) (whole : Environment → Option Z) (x : S) (f : Refused) → Resolves scope b xs m ofx (Ok x) → Resolves scope b ys m' ofy (Err f) → Resolves scope b (λ env. xs env ++ ys env) whole of (Err f)
+    second_stops ofx ofy of whole x f h k env stands knows = stops_behind (xs env) (ys env) f (h env stands knows).0 (k env stands knows)
+
+    pub both_made : {S T V Z : Type 0} (ofx : S → X) (ofy : V → Y) (of : T → Z) (g : X → Y → Z) (x : S) (y : V) (r : Result T Refused) → Resolves scope b xs m ofx (Ok x) → Resolves scope b ys m' ofy (Ok y) → IfOk r (λ t. of t ≡ g (ofx x) (ofy y)) → IfErr r (λ e. e ≡ refused.Memory) →
+        Resolves scope b (λ env. xs env ++ ys env) (λ env. of_two g (m env) (m' env)) of r
+    both_made ofx ofy of g x y r h k makes stops env stands knows =
+        let first = h env stands knows in
+        let second = k env stands knows in
+        made (xs env ++ ys env) (of_two g (m env) (m' env)) of (g (ofx x) (ofy y)) r (fine_both (xs env) (ys env) first.0 second.0) (ap₂ (of_two g) first.1 second.1) makes stops
+
+  -- ---- over a list
+
+  module _ {I R T Y : Type 0} (raw : I → R) (g : Environment → R → List Site) (f : Environment → R → Option Y) (of : T → Y) (items : List I) where
+    abbrev pub SoFar : ℕ → List T → Type 0
+    SoFar i done = (env : Environment) → StandsFor scope b env → KnowsScript scope env.declarations → Passed (λ x. g env (raw x)) (λ x. f env (raw x)) of items i done
+
+-- ---- a walk that binds nothing is one of those that may
+
+pub goes_still : {A T X : Type 0} (scope : Scope A) (b : BoundNames A) (sites : Environment → List Site) (meaning : Environment → Option X) (of : T → X) (r : Result T Refused) → Resolves scope b sites meaning of r → Goes scope b b sites meaning [] [] of r
+goes_still scope b sites meaning of (Ok t) h = still_done scope b sites meaning (of t) h
+goes_still scope b sites meaning of (Err f) h = still_halts scope b sites f h
+
+-- what was made of what is done
+pub goes_made : {A T X : Type 0} (scope : Scope A) (old new : BoundNames A) (sites : Environment → List Site) (meaning : Environment → Option X) (met inner : List (List ℕ)) (of : T → X) (x : X) (r : Result T Refused) → Done scope old new sites meaning met inner x →
+    IfOk r (λ t. of t ≡ x) → IfErr r (λ e. e ≡ refused.Memory) → Goes scope old new sites meaning met inner of r
+goes_made scope old new sites meaning met inner of x (Ok t) h makes stops = subst (Done scope old new sites meaning met inner) (sym makes) h
+goes_made scope old new sites meaning met inner of x (Err f) h makes stops = λ env serves. stops_for_room (sites env) f stops

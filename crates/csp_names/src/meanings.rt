@@ -1,0 +1,77 @@
+//! What names mean.
+
+ghost use Rattle.std.specs.Prelude.{◌≡◌, option_map, Some};
+ghost use Rattle.csp_checking.specs.Resolving.{as_channel, as_equation, as_expression};
+ghost use Rattle.csp_expression.specs.Expression.{expression_of};
+ghost use Rattle.csp_names.specs.Meanings.{meaning_of};
+
+use csp_expression::{DatatypeId, Expr, Name, NametypeId};
+use csp_term::EquationId;
+use csp_value::{ChannelId, ConId, Value};
+use std::alloc::Allocator;
+
+/// What a name is declared as.
+#[derive(Clone, Copy)]
+pub(crate) enum Declared {
+    Datatype(DatatypeId),
+    Constructor(ConId),
+    Nametype(NametypeId),
+    Channel(ChannelId),
+    Equation(EquationId),
+}
+
+/// What a name means where it stands.
+#[derive(Clone, Copy)]
+pub(crate) enum Meaning {
+    Declared(Declared),
+    Bound(Name),
+}
+
+impl Meaning {
+    /// The channel, if it is one.
+    pub(crate) fn channel(self) -> Option<ChannelId>
+        ensures { option_map (λ c. c.0) result ≡ as_channel (Some (meaning_of self)) }
+    {
+        match self {
+            Meaning::Declared(Declared::Channel(channel)) => Some(channel),
+            Meaning::Declared(
+                Declared::Datatype(_)
+                | Declared::Constructor(_)
+                | Declared::Nametype(_)
+                | Declared::Equation(_),
+            )
+            | Meaning::Bound(_) => None,
+        }
+    }
+
+    /// The equation, if it is one.
+    pub(crate) fn equation(self) -> Option<EquationId>
+        ensures { option_map (λ q. q.0) result ≡ as_equation (Some (meaning_of self)) }
+    {
+        match self {
+            Meaning::Declared(Declared::Equation(equation)) => Some(equation),
+            Meaning::Declared(
+                Declared::Datatype(_)
+                | Declared::Constructor(_)
+                | Declared::Nametype(_)
+                | Declared::Channel(_),
+            )
+            | Meaning::Bound(_) => None,
+        }
+    }
+
+    /// The expression that the name alone is, if it is one.
+    pub(crate) fn expression<A: Allocator>(self) -> Option<Expr<A>>
+        ensures { option_map expression_of result ≡ as_expression (Some (meaning_of self)) }
+    {
+        match self {
+            Meaning::Bound(name) => Some(Expr::Name(name)),
+            Meaning::Declared(Declared::Constructor(constructor)) => {
+                Some(Expr::Literal(Value::Con(constructor)))
+            }
+            Meaning::Declared(Declared::Datatype(datatype)) => Some(Expr::Datatype(datatype)),
+            Meaning::Declared(Declared::Nametype(nametype)) => Some(Expr::Nametype(nametype)),
+            Meaning::Declared(Declared::Channel(_) | Declared::Equation(_)) => None,
+        }
+    }
+}
