@@ -1,4 +1,3 @@
-pub mod Part
 pub mod Names
 pub mod Resolving
 pub mod Sets
