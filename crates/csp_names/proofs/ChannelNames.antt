@@ -1,19 +1,18 @@
 -- Names of channels and equations, and how many fields and arguments are given.
-use Rattle.std.specs.Prelude.{flat_map, nat_eq, nat_lt, not, slice_get, option_and_then}
-use Rattle.std.proofs.lemmas.Bool.{eqb-true, eqb-false, lt-ltb, ltb-true, ltb-false}
-use Rattle.std.proofs.Common.{◌≡◌, ◌≢◌, ◌<◌, ◌≤◌, ℕ, Bool, true, false, List, [], ◌∷◌, Option, Some, None, Result, Ok, Err, refl, sym, ap, ◌∙◌, subst, arith}
+use Rattle.std.specs.Prelude.{flat_map, nat_lt, not, slice_get, option_and_then}
+use Rattle.std.proofs.lemmas.Bool.{eqb-true, eqb-false, ltb-true, ltb-false}
+use Rattle.std.proofs.Common.{◌≡◌, ◌<◌, ◌≤◌, ℕ, Bool, true, false, List, [], ◌∷◌, Option, Some, None, refl, sym, ap, ◌∙◌, subst}
 use Rattle.csp_syntax.specs.Expression.{Expression}
 use Rattle.csp_text.specs.Raw.{RawName}
 use Rattle.csp_lex.specs.declared.places.Place.{Place}
 use Rattle.csp_lex.specs.Places.{place_of}
 use Rattle.csp_checking.specs.Names.{DatatypeName, ConstructorName, NametypeName, ChannelName, EquationName, Meaning, Declared, Bound, Environment, meaning}
 use Rattle.csp_checking.specs.Resolving.{as_channel, as_equation, as_expression}
-use Rattle.csp_checking.specs.Rules.{suits, parameters_declared, fields_declared, parameter_count, field_count, IsRefusedSite, unknown, wrong_class, arguments, fields, left_fields, too_many_fields}
+use Rattle.csp_checking.specs.Rules.{suits, parameters_declared, fields_declared, parameter_count, field_count, unknown, wrong_class, arguments, fields, too_many_fields}
 use Rattle.csp_checking.specs.Sites.{Use, AsExpression, AsEquation, AsEvent, AsProductions, AsBareLeft, AsBareRight, Site, Used}
 use Rattle.csp_checking.specs.Walks.{IsFine, IsStoppedAt}
 use Rattle.csp_checking.proofs.FineSites.{equation_fine, event_fine, expression_fine}
-use Rattle.csp_checking.proofs.SingleSites.{arguments_stop, class_stops, fields_stop, productions_fine, productions_stop, unknown_stops}
-use Rattle.csp_names.specs.declared.bound_names.BoundNames.{BoundNames}
+use Rattle.csp_checking.proofs.SingleSites.{arguments_stop, class_stops, fields_stop, productions_fine, productions_stop}
 use Rattle.csp_names.specs.declared.refusals.KindFault.{KindFault}
 use Rattle.csp_names.specs.declared.refusals.KindFault.TheVariants as fault
 use Rattle.csp_names.specs.declared.refusals.Refused.{Refused}

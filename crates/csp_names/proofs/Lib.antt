@@ -1,5 +1,7 @@
 pub mod Rows
 pub mod BoundRows
+pub mod NamesAdded
+pub mod DeclarationsAdded
 pub mod Walking
 pub mod Written
 pub mod Expressions
@@ -9,4 +11,15 @@ pub mod ChannelNames
 pub mod Sizes
 pub mod Fields
 pub mod Resolves
+pub mod Events
+pub mod EventSets
+pub mod Pairs
 pub mod Processes
+pub mod Standing
+pub mod Inside
+pub mod Forms
+pub mod BindingForms
+pub mod WrittenProcesses
+pub mod Parameters
+pub mod Calls
+pub mod DefinitionForms

@@ -1,11 +1,10 @@
 -- Walks that bind no name, of two parts or over a list.
 use Rattle.std.specs.Prelude.{flat_map, IfOk, IfErr}
-use Rattle.std.proofs.Common.{◌≡◌, ◌<◌, ◌≤◌, ◌+◌, ℕ, suc, get_or, length, map, List, [], ◌∷◌, ◌++◌, Option, Some, Result, Ok, Err, refl, sym, ap, ap₂, ◌∙◌, subst}
-use Rattle.csp_text.specs.Raw.{RawName, RawExpressions}
+use Rattle.std.proofs.Common.{◌≡◌, ◌<◌, ◌≤◌, ◌+◌, ℕ, suc, get_or, length, map, List, [], ◌∷◌, ◌++◌, Option, Result, Ok, Err, refl, sym, ap, ap₂, ◌∙◌, subst}
+use Rattle.std.specs.declared.vec.Vec.{Vec}
 use Rattle.csp_checking.specs.Names.{Environment, meaning}
-use Rattle.csp_checking.specs.Resolving as resolving
 use Rattle.csp_checking.specs.Resolving.{every, of_two}
-use Rattle.csp_checking.specs.Sites.{Use, AsEquation, AsEvent, AsProductions, Site, Used, number_of}
+use Rattle.csp_checking.specs.Sites.{Site, number_of}
 use Rattle.csp_checking.specs.Walks.{AllFine}
 use Rattle.csp_checking.proofs.Walking.{fine_both}
 use Rattle.csp_parse.specs.declared.expressions.Expression.{Expression}
@@ -15,9 +14,9 @@ use Rattle.csp_names.specs.declared.refusals.Refused.{Refused}
 use Rattle.csp_names.specs.declared.refusals.Refused.TheVariants as refused
 use Rattle.csp_names.specs.declared.scope.Scope.{Scope}
 use Rattle.csp_names.specs.Scopes.{KnowsScript, StandsFor}
-use Rattle.csp_names.specs.Walks.{Done, Goes, Halts, Resolves, Stops, Walked}
+use Rattle.csp_names.specs.Walks.{Done, Goes, Resolves, Stops}
 use Rattle.csp_names.proofs.Going.{still_done, still_halts}
-use Rattle.csp_names.proofs.Walking.{made, Passed, all_passed, one_passed, passed_stops, stops_behind, stops_first, stops_for_room}
+use Rattle.csp_names.proofs.Walking.{made, Passed, all_passed, nothing_passed, one_passed, passed_stops, stops_behind, stops_first, stops_for_room}
 
 -- as many as the list has
 pub number_of_list : {A : Type 0} (es : List (Expression A)) → length es ≡ number_of (expressions_of es)
@@ -46,6 +45,39 @@ module _ {A : Type 0} (scope : Scope A) (b : BoundNames A) where
   module _ {I R T Y : Type 0} (raw : I → R) (g : Environment → R → List Site) (f : Environment → R → Option Y) (of : T → Y) (items : List I) where
     abbrev pub SoFar : ℕ → List T → Type 0
     SoFar i done = (env : Environment) → StandsFor scope b env → KnowsScript scope env.declarations → Passed (λ x. g env (raw x)) (λ x. f env (raw x)) of items i done
+
+    pub none_so_far : SoFar 0 []
+    none_so_far env stands knows = nothing_passed (λ x. g env (raw x)) (λ x. f env (raw x)) of items
+
+    pub one_more_so_far : (i : ℕ) (done new : List T) (x : I) (t : T) → i < length items → x ≡ get_or items i x → SoFar i done → Resolves scope b (λ env. g env (raw x)) (λ env. f env (raw x)) of (Ok t) → new ≡ done ++ t ∷ [] → SoFar (i + 1) new
+    one_more_so_far i done new x t within read so_far one pushed env stands knows =
+        let h = one env stands knows in
+        one_passed (λ y. g env (raw y)) (λ y. f env (raw y)) of items i done new x t within read (so_far env stands knows) h.0 h.1 pushed
+
+    sites_in_turn : (env : Environment) (xs : List I) → flat_map (g env) (map raw xs) ≡ flat_map (λ x. g env (raw x)) xs
+    sites_in_turn env [] = refl
+    sites_in_turn env (x ∷ xs) = ap (λ ys. g env (raw x) ++ ys) (sites_in_turn env xs)
+
+    meanings_in_turn : (env : Environment) (xs : List I) → every (f env) (map raw xs) ≡ every (λ x. f env (raw x)) xs
+    meanings_in_turn env [] = refl
+    meanings_in_turn env (x ∷ xs) = ap (of_two ◌∷◌ (f env (raw x))) (meanings_in_turn env xs)
+
+    abbrev pub InTurn : {A : Type 0} → Result (Vec T A) Refused → Type 0
+    InTurn r = Resolves scope b (λ env. flat_map (g env) (map raw items)) (λ env. every (f env) (map raw items)) (λ v. map of v.items) r
+
+    pub all_so_far : {A : Type 0} (i : ℕ) (v : Vec T A) → length items ≤ i → SoFar i v.items → InTurn (Ok v)
+    all_so_far i v over so_far env stands knows =
+        let h = all_passed (λ x. g env (raw x)) (λ x. f env (raw x)) of items i v.items over (so_far env stands knows) in
+        let P : List Site → Type 0 = AllFine in
+        (subst P (sym (sites_in_turn env items)) h.0, meanings_in_turn env items ∙ h.1)
+
+    pub one_stops_all : (A : Type 0) (i : ℕ) (done : List T) (x : I) (r : Refused) → i < length items → x ≡ get_or items i x → SoFar i done → Resolves scope b (λ env. g env (raw x)) (λ env. f env (raw x)) of (Err r) → InTurn {A = A} (Err r)
+    one_stops_all A i done x r within read so_far one env stands knows =
+        let P : List Site → Type 0 = λ xs. Stops xs r in
+        subst P (sym (sites_in_turn env items)) (passed_stops (λ y. g env (raw y)) (λ y. f env (raw y)) of items i done x r within read (so_far env stands knows) (one env stands knows))
+
+    pub room_stops_all : (A : Type 0) (r : Refused) → r ≡ refused.Memory → InTurn {A = A} (Err r)
+    room_stops_all A r is env stands knows = stops_for_room (flat_map (g env) (map raw items)) r is
 
 -- ---- a walk that binds nothing is one of those that may
 

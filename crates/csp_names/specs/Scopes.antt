@@ -1,5 +1,5 @@
 -- The environment that a scope stands for.
-use Rattle.std.specs.Prelude.{◌≡◌, ◌≢◌, ◌↔◌, ℕ, suc, ◌+◌, cond, List, [], ◌∷◌, length, map, flat_map, take, slice_get, Option, Some, None, option_map}
+use Rattle.std.specs.Prelude.{◌≡◌, ◌≢◌, ◌↔◌, ℕ, suc, ◌+◌, cond, List, [], ◌∷◌, length, map, flat_map, take, slice_get, Option, Some, option_and_then, option_map}
 use Rattle.std.specs.Option.{option_map_or}
 use Rattle.std.specs.Str.{bytes_eq}
 use Rattle.csp_text.specs.Raw.{RawScript}
@@ -70,6 +70,12 @@ pub record Releases {A : Type 0} (old new : BoundNames A) (inner : List (List �
   pub spellings : bound_spellings new ≡ bound_spellings old
   pub times : (s : List ℕ) (k : ℕ) → times_at old s ≡ occurrences inner s + k → times_at new s ≡ k
 
+-- Between two declarations: the names so far are those that the declarations above bind, and none of them is bound here.
+pub record IsBetween {A : Type 0} (bound : BoundNames A) (above : RawScript) : Type 0 where
+  pub in_order : IsInOrder bound
+  pub spellings : bound_spellings bound ≡ checking.bound_spellings above
+  pub unbound : (s : List ℕ) → times_at bound s ≡ 0
+
 -- ---- both
 
 -- The scope, with the names that are bound here, is the environment.
@@ -90,11 +96,11 @@ pub record KnowsScript {A : Type 0} (scope : Scope A) (raw : RawScript) : Type 0
   pub fields : flat_map fields_declared raw ≡ scope.names.now.fields.items
   pub field_sets : (c : ℕ) (sets : List (List Value)) → (slice_get (map known_sets scope.field_sets.now) c ≡ Some (Some sets)) ↔ HasFieldSets raw c sets
 
--- the field sets of both channels are known, as many, and not equal in turn
-pub record AreOtherSets {A : Type 0} (scope : Scope A) (c d : ℕ) : Type 0 where
-  pub left : List (List Value)
-  pub right : List (List Value)
-  pub known_left : slice_get (map known_sets scope.field_sets.now) c ≡ Some (Some left)
-  pub known_right : slice_get (map known_sets scope.field_sets.now) d ≡ Some (Some right)
-  pub as_many : length left ≡ length right
-  pub unlike : left ≢ right
+-- those of this channel
+abbrev pub sets_at : {A : Type 0} → Scope A → ℕ → Option (List (List Value))
+sets_at scope c = option_and_then (λ o. o) (slice_get (map known_sets scope.field_sets.now) c)
+
+-- both are known, as many, and not equal in turn
+abbrev pub AreUnlike : Option (List (List Value)) → Option (List (List Value)) → Type 0
+AreUnlike (Some s) (Some t) = (length s ≡ length t) × (s ≢ t)
+AreUnlike _ _ = ⊥

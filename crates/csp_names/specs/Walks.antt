@@ -1,11 +1,10 @@
 -- What a walk answers.
 use Rattle.std.specs.declared.vec.Vec.{Vec}
-use Rattle.std.specs.Prelude.{◌≡◌, ℕ, Bool, true, false, List, [], ◌∷◌, ◌++◌, map, flat_map, Option, Some, Result, Ok, Err, MatchBool, ⊤}
+use Rattle.std.specs.Prelude.{◌≡◌, ℕ, Bool, true, false, List, [], ◌∷◌, ◌++◌, map, flat_map, Option, Some, Result, Ok, Err, IsTrue, ◌↔◌, ⊤}
 use Rattle.csp_text.specs.Raw.{RawName, RawExpression, RawExpressions, RawField, RawEvent, RawEventSet, RawPair, RawProcess}
 use Rattle.csp_syntax.specs.Expression as pure
 use Rattle.csp_syntax.specs.Process.{Model}
 use Rattle.csp_syntax.specs.Process as process
-use Rattle.csp_syntax.specs.Value.{Value}
 use Rattle.csp_lex.specs.Places.{place_of}
 use Rattle.csp_checking.specs.Names.{Environment, Declared, ChannelName, EquationName, binding, bound_by_fields, bound_in, meaning, spellings, with_spellings}
 use Rattle.csp_checking.specs.Resolving as resolving
@@ -34,7 +33,7 @@ use Rattle.csp_names.specs.declared.refusals.Refused.TheVariants as refused
 use Rattle.csp_names.specs.declared.scope.Scope.{Scope}
 use Rattle.csp_names.specs.Refusals.{fault_of}
 use Rattle.csp_names.specs.Names.{fields_agree}
-use Rattle.csp_names.specs.Scopes.{AreOtherSets, Binds, bound_spellings, HaveNumbersIn, IsInOrder, KnowsScript, StandsFor}
+use Rattle.csp_names.specs.Scopes.{AreUnlike, Binds, bound_spellings, HaveNumbersIn, IsInOrder, KnowsScript, sets_at, StandsFor}
 
 -- This is the first of the sites that is refused. Where there is no room, nothing is said.
 abbrev pub Stops : List Site → Refused → Type 0
@@ -120,7 +119,7 @@ AgreesInFields scope bound n other result = (env : Environment) → StandsFor sc
 
 -- what is known of the field sets of two channels: both have some, as many, and not equal in turn
 abbrev pub HasOtherSets : {A : Type 0} → Scope A → ChannelId → ChannelId → Bool → Type 0
-HasOtherSets scope left right result = MatchBool result (AreOtherSets scope left.0 right.0) (¬ (AreOtherSets scope left.0 right.0))
+HasOtherSets scope left right result = IsTrue result ↔ AreUnlike (sets_at scope left.0) (sets_at scope right.0)
 
 -- the right channel of two bare ones, where the left one names this channel
 abbrev pub ResolvesBareRight : {A : Type 0} → Scope A → BoundNames A → ChannelId → RawName → RawName → Result ChannelId Refused → Type 0

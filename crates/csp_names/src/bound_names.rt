@@ -1,8 +1,9 @@
 //! The bound names of a script.
 
-ghost use Rattle.std.specs.Prelude.{◌≡◌, ◌∷◌, [], cond, length, nat_lt, None, Some, option_map, IfOk, OnOk};
+ghost use Rattle.std.specs.Prelude.{◌≡◌, ◌∷◌, [], cond, length, nat_lt, None, Some, option_map, IfErr, IfOk, OnOk};
 ghost use Rattle.std.specs.Str.{chars, IsUtf8};
 ghost use Rattle.csp_checking.specs.Names.{number_in};
+ghost use Rattle.csp_names.specs.declared.refusals.Refused.TheVariants.{Memory as no_room};
 ghost use Rattle.csp_names.specs.Rows.{AreTexts, row_at};
 ghost use Rattle.csp_names.specs.Scopes.{Binds, bound_rows, bound_spellings, IsInOrder, IsPut, number_at, Releases, times_at};
 
@@ -15,20 +16,20 @@ use std::hash::{BuildHasherDefault, FoldHasher};
 
 /// A bound name's number, and how often the name is bound where the text is looked at.
 #[derive(Clone, Copy)]
-pub(crate) struct BoundName {
-    pub(crate) name: Name,
-    pub(crate) times: u32,
+pub struct BoundName {
+    pub name: Name,
+    pub times: u32,
 }
 
 /// The names that the text binds so far, each once, in the order in which they first are.
 #[derive(Drop)]
-pub(crate) struct BoundNames<'t, A: Allocator> {
-    pub(crate) table: IndexMap<&'t [u8], BoundName, BuildHasherDefault<FoldHasher>, A>,
+pub struct BoundNames<'t, A: Allocator> {
+    pub table: IndexMap<&'t [u8], BoundName, BuildHasherDefault<FoldHasher>, A>,
 }
 
 impl<'t, A: Allocator + Copy> BoundNames<'t, A> {
     /// No names.
-    pub(crate) fn new(alloc: A) -> BoundNames<'t, A>
+    pub fn new(alloc: A) -> BoundNames<'t, A>
         ensures { result.table.entries ≡ [] }
     {
         BoundNames {
@@ -60,6 +61,7 @@ impl<'t, A: Allocator + Copy> BoundNames<'t, A> {
     pub(crate) fn bind(&mut self, name: RawName<'t>) -> Result<Name, Refused>
         ensures number { IfOk result (λ n. IsInOrder self.old → number_in (bound_spellings self.new) (chars name.entry.text.now) ≡ Some n.0) }
         ensures binds { OnOk result (IsInOrder self.old → Binds self.old self.new (chars name.entry.text.now ∷ []) (chars name.entry.text.now ∷ [])) }
+        ensures stops { IfErr result (λ refused. refused ≡ no_room) }
     {
         let text = name.text.as_bytes();
         let known = match self.row(text) {
@@ -72,9 +74,10 @@ impl<'t, A: Allocator + Copy> BoundNames<'t, A> {
         Ok(name)
     }
 
-    /// Ends one binding of the name.
+    /// Ends one binding of the name. It is `Memory` where there is no room for the table.
     pub(crate) fn release(&mut self, name: RawName<'t>) -> Result<(), Refused>
-        ensures { OnOk result (IsInOrder self.old → Releases self.old self.new (chars name.entry.text.now ∷ [])) }
+        ensures releases { OnOk result (IsInOrder self.old → Releases self.old self.new (chars name.entry.text.now ∷ [])) }
+        ensures stops { IfErr result (λ refused. refused ≡ no_room) }
     {
         let text = name.text.as_bytes();
         match self.row(text) {
@@ -98,6 +101,7 @@ impl<'t, A: Allocator + Copy> BoundNames<'t, A> {
     fn next(&self) -> Result<BoundName, Refused>
         ensures number { IfOk result (λ row. row.name.0 ≡ length self.now.table.entries) }
         ensures times { IfOk result (λ row. row.times ≡ 0) }
+        ensures stops { IfErr result (λ refused. refused ≡ no_room) }
     {
         match u32::try_from(self.table.len()) {
             Ok(number) => Ok(BoundName {
@@ -110,7 +114,8 @@ impl<'t, A: Allocator + Copy> BoundNames<'t, A> {
 
     /// Puts a row in the place of that of the bytes, or behind the others.
     fn put(&mut self, text: &'t [u8], row: BoundName) -> Result<(), Refused>
-        ensures { OnOk result (IsUtf8 text.entry.now → AreTexts self.old.table.entries → IsPut self.old self.new (chars text.entry.now) row) }
+        ensures puts { OnOk result (IsUtf8 text.entry.now → AreTexts self.old.table.entries → IsPut self.old self.new (chars text.entry.now) row) }
+        ensures stops { IfErr result (λ refused. refused ≡ no_room) }
     {
         self.table.insert(text, row)?;
         Ok(())

@@ -12,7 +12,7 @@ use std::alloc::Allocator;
 
 /// What a name is declared as.
 #[derive(Clone, Copy)]
-pub(crate) enum Declared {
+pub enum Declared {
     Datatype(DatatypeId),
     Constructor(ConId),
     Nametype(NametypeId),

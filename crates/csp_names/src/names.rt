@@ -1,6 +1,6 @@
 //! The declared names of a script.
 
-ghost use Rattle.std.specs.Prelude.{◌≡◌, option_map, slice_get, take};
+ghost use Rattle.std.specs.Prelude.{◌≡◌, length, option_map, slice_get, take};
 ghost use Rattle.std.specs.Str.{chars};
 ghost use Rattle.csp_names.specs.Meanings.{declared_of};
 ghost use Rattle.csp_names.specs.Rows.{AreTexts, row_at, spelled};
@@ -16,13 +16,20 @@ use std::hash::{BuildHasherDefault, FoldHasher};
 /// Every declared name in the order of the text, with what it is declared as, and how many parameters each equation and
 /// how many fields each channel has.
 #[derive(Drop)]
-pub(crate) struct Names<'t, A: Allocator> {
-    pub(crate) table: IndexMap<&'t [u8], Declared, BuildHasherDefault<FoldHasher>, A>,
-    pub(crate) parameters: Vec<usize, A>,
-    pub(crate) fields: Vec<usize, A>,
+pub struct Names<'t, A: Allocator> {
+    pub table: IndexMap<&'t [u8], Declared, BuildHasherDefault<FoldHasher>, A>,
+    pub parameters: Vec<usize, A>,
+    pub fields: Vec<usize, A>,
 }
 
 impl<'t, A: Allocator> Names<'t, A> {
+    /// How many names are declared.
+    pub fn len(&self) -> usize
+        ensures { result ≡ length self.now.table.entries }
+    {
+        self.table.len()
+    }
+
     /// What the name is declared as, if it is among so many first names.
     pub(crate) fn find(&self, name: RawName<'t>, visible: usize) -> Option<Declared>
         ensures { AreTexts self.now.table.entries → option_map declared_of result ≡ option_map declared_of (row_at (take visible (spelled self.now.table.entries)) (chars name.entry.text.now)) }

@@ -16,7 +16,7 @@ use std::alloc::Allocator;
 impl<'n, 't, A: Allocator + Copy> Scope<'n, 't, A> {
     /// The expression that is written, or the first fault of a name in it.
     #[cycle(resolve_expression)]
-    pub(crate) fn resolve_expression(
+    pub fn resolve_expression(
         &self,
         alloc: A,
         bound: &BoundNames<'t, A>,

@@ -17,13 +17,31 @@ use std::alloc::Allocator;
 
 /// The declared names of a script of which so many first ones can be used, and the field sets of each channel, if no rule
 /// refuses one of them.
-pub(crate) struct Scope<'n, 't, A: Allocator> {
-    pub(crate) names: &'n Names<'t, A>,
-    pub(crate) visible: usize,
-    pub(crate) field_sets: &'n [Option<Vec<FieldSet<A>, A>>],
+#[derive(Drop)]
+pub struct Scope<'n, 't, A: Allocator> {
+    pub names: &'n Names<'t, A>,
+    pub visible: usize,
+    pub field_sets: &'n [Option<Vec<FieldSet<A>, A>>],
 }
 
 impl<'n, 't, A: Allocator + Copy> Scope<'n, 't, A> {
+    /// A scope of so many first names.
+    pub fn new(
+        names: &'n Names<'t, A>,
+        visible: usize,
+        field_sets: &'n [Option<Vec<FieldSet<A>, A>>],
+    ) -> Scope<'n, 't, A>
+        ensures names { result.names.now ≡ names.now }
+        ensures visible { result.visible ≡ visible }
+        ensures field_sets { result.field_sets.now ≡ field_sets.now }
+    {
+        Scope {
+            names,
+            visible,
+            field_sets,
+        }
+    }
+
     /// What the name means here, if anything. A bound name hides a declared one.
     pub(crate) fn meaning(&self, bound: &BoundNames<'t, A>, name: RawName<'t>) -> Option<Meaning>
         ensures { (env : Environment) → StandsFor self.now bound.now env → meaning env (name_of name.entry) ≡ option_map meaning_of result }

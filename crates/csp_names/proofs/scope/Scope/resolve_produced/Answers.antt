@@ -1,0 +1,27 @@
+use Rattle.std.proofs.Common.{◌∷◌, [], ap, refl, sym}
+use Rattle.csp_checking.specs.Resolving.{as_channel}
+use Rattle.csp_checking.specs.Sites.{AsProductions, Used}
+use Rattle.csp_parse.specs.Names.{name_of}
+use Rattle.csp_names.specs.declared.refusals.KindFault.TheVariants as fault
+use Rattle.csp_names.specs.Walks.{ResolvesChannel}
+use Rattle.csp_names.proofs.ChannelNames.{production_suffices, production_exceeds, fields_counted, stops_at}
+use Rattle.csp_names.proofs.Walking.{handed_on}
+use Rattle.csp_names.proofs.scope.Scope.resolve_produced.Goals as goal
+
+pub returns-in_err-channel : goal.returns-in_err-channel
+returns-in_err-channel g c =
+    handed_on (ResolvesChannel c.args.self.now c.args.bound.now (AsProductions c.args.fields) (name_of c.args.name)) c.from_residual.result c.in_err-channel.field-0.0 c.from_residual.ensures (λ env stands knows. c.in_err-channel.ensures env stands (AsProductions c.args.fields) refl)
+
+pub returns-then-count_suffices : goal.returns-then-count_suffices
+returns-then-count_suffices g c env stands knows =
+    let n = name_of c.args.name in
+    let is = c.in_ok-channel.ensures env stands in
+    let counted = fields_counted c.args.self.now env knows n c.in_ok-channel.channel.0 c.field_count.result is c.field_count.ensures in
+    ((production_suffices env n c.args.fields c.in_ok-channel.channel.0 is c.field_count.result counted (sym c.if-count_suffices.ensures), tt), ap as_channel is)
+
+pub returns-else-count_suffices : goal.returns-else-count_suffices
+returns-else-count_suffices g c env stands knows =
+    let n = name_of c.args.name in
+    let is = c.in_ok-channel.ensures env stands in
+    let counted = fields_counted c.args.self.now env knows n c.in_ok-channel.channel.0 c.field_count.result is c.field_count.ensures in
+    stops_at (Used env (AsProductions c.args.fields) n ∷ []) c.at.result fault.WrongCount c.args.name.place c.at.ensures (production_exceeds env n c.args.fields c.in_ok-channel.channel.0 is c.field_count.result counted (sym c.if-count_suffices.ensures))

@@ -1,0 +1,105 @@
+//! Equations and assertions.
+
+ghost use Rattle.std.specs.Prelude.{◌≡◌, map, IfErr, OnOk};
+ghost use Rattle.csp_checking.specs.Names.{spellings};
+ghost use Rattle.csp_parse.specs.Names.{name_of};
+ghost use Rattle.csp_parse.specs.Processes.{process_of};
+ghost use Rattle.csp_syntax.specs.Models.{model_of};
+ghost use Rattle.csp_names.specs.declared.refusals.Refused.TheVariants.{Memory as no_room};
+ghost use Rattle.csp_names.specs.Scopes.{IsInOrder, Releases};
+ghost use Rattle.csp_names.specs.Walks.{BindsParameter, BindsParameters, ResolvesAssertion, ResolvesDefinition};
+
+use crate::bound_names::BoundNames;
+use crate::refusals::{KindFault, Refused};
+use crate::scope::Scope;
+use csp_expression::Name;
+use csp_parse::{Name as RawName, Process as RawProcess};
+use csp_syntax::Model;
+use csp_term::{Assertion, Equation};
+use std::alloc::Allocator;
+
+impl<'n, 't, A: Allocator + Copy> Scope<'n, 't, A> {
+    /// The equation with these parameters and this body, or the first fault of a name in it.
+    pub fn resolve_definition(
+        &self,
+        alloc: A,
+        bound: &mut BoundNames<'t, A>,
+        parameters: &[RawName<'t>],
+        body: &RawProcess<'t, A>,
+    ) -> Result<Equation<A>, Refused>
+        ensures { ResolvesDefinition self.now bound.old bound.new (map name_of parameters.now) (process_of body.now) result }
+    {
+        let names = self.resolve_parameters(alloc, bound, parameters)?;
+        let body = self.resolve_process(alloc, bound, body)?;
+        release_parameters(bound, parameters)?;
+        Ok(Equation {
+            parameters: names,
+            body,
+        })
+    }
+
+    /// The assertion of these two processes, or the first fault of a name in them.
+    pub fn resolve_assertion(
+        &self,
+        alloc: A,
+        bound: &mut BoundNames<'t, A>,
+        model: Model,
+        specification: &RawProcess<'t, A>,
+        implementation: &RawProcess<'t, A>,
+    ) -> Result<Assertion<A>, Refused>
+        ensures { ResolvesAssertion self.now bound.old bound.new (model_of model) (process_of specification.now) (process_of implementation.now) result }
+    {
+        let specification = self.resolve_process(alloc, bound, specification)?;
+        let implementation = self.resolve_process(alloc, bound, implementation)?;
+        Ok(Assertion {
+            model,
+            specification,
+            implementation,
+        })
+    }
+
+    fn resolve_parameters(
+        &self,
+        alloc: A,
+        bound: &mut BoundNames<'t, A>,
+        parameters: &[RawName<'t>],
+    ) -> Result<Vec<Name, A>, Refused>
+        ensures { BindsParameters self.now bound.old bound.new (map name_of parameters.now) result }
+    {
+        let mut names = Vec::new(alloc);
+        for parameter in parameters {
+            let name = self.bind_parameter(bound, *parameter)?;
+            names.push(name)?;
+        }
+        Ok(names)
+    }
+
+    /// Binds a parameter, which may be neither a declared name nor one of those of its head before it.
+    fn bind_parameter(
+        &self,
+        bound: &mut BoundNames<'t, A>,
+        name: RawName<'t>,
+    ) -> Result<Name, Refused>
+        ensures { BindsParameter self.now bound.old bound.new (name_of name.entry) result }
+    {
+        if bound.is_bound(name) || self.names.find(name, self.visible).is_some() {
+            Err(Refused::at(KindFault::DeclaredTwice, name.place))
+        } else {
+            bound.bind(name)
+        }
+    }
+}
+
+/// Ends the bindings of the parameters. It is `Memory` where there is no room for the table.
+fn release_parameters<'t, A: Allocator + Copy>(
+    bound: &mut BoundNames<'t, A>,
+    parameters: &[RawName<'t>],
+) -> Result<(), Refused>
+    ensures releases { OnOk result (IsInOrder bound.old → Releases bound.old bound.new (spellings (map name_of parameters.now))) }
+    ensures stops { IfErr result (λ refused. refused ≡ no_room) }
+{
+    for parameter in parameters {
+        bound.release(*parameter)?;
+    }
+    Ok(())
+}
