@@ -1,0 +1,12 @@
+pub mod AskingItems
+pub mod Columns
+pub mod Copying
+pub mod Counting
+pub mod Fitting
+pub mod ItemsInTurn
+pub mod Knowing
+pub mod Listing
+pub mod OneMore
+pub mod Rowing
+pub mod SetsInTurn
+pub mod Solving
