@@ -1,0 +1,9 @@
+pub mod Channels
+pub mod Faults
+pub mod Fields
+pub mod Fit
+pub mod Looking
+pub mod Members
+pub mod Pass
+pub mod Passing
+pub mod Sets

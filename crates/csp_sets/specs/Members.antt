@@ -1,0 +1,30 @@
+-- The members of the sets of the declarations so far.
+use Rattle.std.specs.Prelude.{◌≡◌, ℕ, ◌<◌, ◌≤◌, [], ◌∷◌, List, map, Option, Some, None}
+use Rattle.csp_syntax.specs.Value.{Value}
+use Rattle.csp_text.specs.Raw.{RawScript}
+use Rattle.csp_checking.specs.Resolving.{every}
+use Rattle.csp_checking.specs.Sets.{datatypes_of, Members, with_members, nametype_sets, channel_sets, field_members, product_of_sizes}
+use Rattle.csp_checking.specs.Rules.{most_events}
+
+-- the members of the nametypes of these declarations of the tree
+abbrev pub members_above : RawScript → RawScript → Members
+members_above raw above = with_members (datatypes_of raw) [] (nametype_sets above)
+
+-- the field sets of their channels, by their members, where each has some
+abbrev pub channels_above : RawScript → RawScript → List (Option (List (List Value)))
+channels_above raw above = map (every (field_members raw)) (channel_sets above)
+
+-- a number, if there is one
+abbrev pub counted : Option ℕ → List ℕ
+counted (Some n) = n ∷ []
+counted None = []
+
+-- the number of events of a channel, of one without field sets none
+abbrev pub events_in : Option (List (List Value)) → ℕ
+events_in (Some sets) = product_of_sizes sets
+events_in None = 0
+
+-- the number of events, or none where there are too many
+abbrev pub IsCount : Option ℕ → ℕ → Type 0
+IsCount (Some k) n = (k ≡ n) × (n ≤ most_events)
+IsCount None n = most_events < n
