@@ -1,0 +1,9 @@
+pub mod Refusing
+pub mod SetsPassed
+pub mod ItemsInTurn
+pub mod Passing
+pub mod Adding
+pub mod Spelling
+pub mod Pairing
+pub mod Making
+pub mod Checking
