@@ -1,9 +1,5 @@
 pub mod Answering
 pub mod Reporting
 pub mod Giving
-pub mod Naming
-pub mod Advancing
-pub mod Declaring
-pub mod Asserting
-pub mod Outside
+pub mod Reading
 pub mod Refusing

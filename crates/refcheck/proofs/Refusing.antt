@@ -4,21 +4,30 @@ use Rattle.std.specs.Result.{IsErr, IsErrAnd}
 use Rattle.std.proofs.lemmas.Result.{err_from_is_err_and}
 use Rattle.std.specs.Borrow.{Bor}
 use Rattle.csp_text.specs.Place.{Place}
-use Rattle.csp_text.specs.Reading.{of_grammar}
+use Rattle.csp_text.specs.Raw.{RawScript}
+use Rattle.csp_text.specs.Reading.{IsRead, of_grammar}
 use Rattle.csp_text.specs.Token.{PlacedToken, AreTokens}
 use Rattle.csp_parse.specs.Stopping as parsing
 use Rattle.csp_parse.specs.declared.refusals.Refused as parser
 use Rattle.csp_parse.specs.declared.refusals.Refused.TheVariants as parser_fault
+use Rattle.csp_kinds.specs.Refusals as checking
+use Rattle.csp_names.specs.declared.refusals.Refused as checker
+use Rattle.csp_names.specs.declared.refusals.Refused.TheVariants as checker_fault
 use Rattle.refcheck.specs.declared.refusal.Refusal.{Refusal}
 use Rattle.refcheck.specs.declared.refusal.Refusal.TheVariants as refusal
 use Rattle.refcheck.specs.Reading.{IsRefusalOf}
-use Rattle.refcheck.specs.Refusal.{of_parser}
+use Rattle.refcheck.specs.Refusal.{of_kinds, of_parser}
 use Rattle.refcheck.specs.Running.{IsCause, texts_of}
 
 -- what the parser refuses of a text's tokens is refused of the text
 pub of_tokens : (bytes : List ℕ) (tokens : List PlacedToken) (end : Place) (refused : parser.Refused) → AreTokens bytes tokens end → parsing.IsRefusalOf tokens end refused → IsRefusalOf bytes (of_parser refused)
 of_tokens bytes tokens end (parser_fault.Grammar f p) are is = of_grammar {tokens = tokens} {end = end} are is
 of_tokens bytes tokens end parser_fault.Memory are is = tt
+
+-- what is refused of a text's tree is refused of the text
+pub of_tree : (bytes : List ℕ) (tree : RawScript) (refused : checker.Refused) → IsRead bytes tree → checking.IsRefusalOf tree refused → IsRefusalOf bytes (of_kinds refused)
+of_tree bytes tree (checker_fault.Fault f p) is_read is = (tree, is_read, is)
+of_tree bytes tree checker_fault.Memory is_read is = tt
 
 -- a refusal is handed on
 pub handed : {T : Type 0} (r : Result T Refusal) {why : Refusal} (P : Refusal → Type 0) → IsErr r × IsErrAnd r (λ e. e ≡ why) → P why → IfErr r P
@@ -35,6 +44,7 @@ pub cause_of_text : (may_hold : List ℕ → List ℕ → Type 0) (may_lack : Li
 cause_of_text may_hold may_lack words name text refusal.File named held is = absurd is
 cause_of_text may_hold may_lack words name text (refusal.Text f p) named held is = (name, text, named, held, is)
 cause_of_text may_hold may_lack words name text (refusal.Grammar f p) named held is = (name, text, named, held, is)
+cause_of_text may_hold may_lack words name text (refusal.Kinds f p) named held is = (name, text, named, held, is)
 cause_of_text may_hold may_lack words name text refusal.Part named held is = (name, text, named, held, is)
 cause_of_text may_hold may_lack words name text refusal.Memory named held is = tt
 cause_of_text may_hold may_lack words name text refusal.Output named held is = absurd is

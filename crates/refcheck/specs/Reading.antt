@@ -1,43 +1,29 @@
 -- What the reader hands out.
-use Rattle.std.specs.Prelude.{◌≡◌, List, [], ℕ, ◌++◌, map, ⊤}
-use Rattle.std.specs.Str.{chars}
-use Rattle.std.specs.String.{string_bytes}
-use Rattle.csp_checking.specs.Part.{StandOnce}
-use Rattle.csp_text.specs.Raw.{RawScript}
-use Rattle.csp_text.specs.Reading.{OfGrammar, IsRead, IsReadingRefusal}
+use Rattle.std.specs.Prelude.{◌≡◌, ℕ, List, ⊤}
+use Rattle.std.specs.List.{All, Any}
+use Rattle.csp_syntax.specs.Process.{Script, Traces, Failures}
+use Rattle.csp_text.specs.Reading.{OfGrammar, IsReadingRefusal}
 use Rattle.csp_text.specs.Token.{IsTextRefusal}
-use Rattle.csp_term.specs.declared.script.Channel.{Channel}
-use Rattle.csp_term.specs.Script.{field_sets_of}
+use Rattle.csp_checking.specs.Checked.{IsCheckedText, IsRefusedText}
 use Rattle.csp_lex.specs.Places.{place_of}
 use Rattle.csp_lex.specs.Refusals.{fault_of}
 use Rattle.csp_parse.specs.Refusals as grammar
+use Rattle.csp_names.specs.Refusals as kinds
 use Rattle.refcheck.specs.declared.refusal.Refusal.{Refusal}
 use Rattle.refcheck.specs.declared.refusal.Refusal.TheVariants as refusal
 
--- the names of channels, in bytes
-abbrev pub names_of : {A : Type 0} → List (Channel A) → List (List ℕ)
-names_of channels = map (λ c. string_bytes c.spelling) channels
+-- each assertion of the script is of traces; one of them is of failures
+abbrev pub AsksForTraces : Script → Type 0
+AsksForTraces script = All (λ a. a.model ≡ Traces) script.assertions
 
--- none of the channels has fields
-abbrev pub AreBare : {A : Type 0} → List (Channel A) → Type 0
-AreBare channels = map field_sets_of channels ≡ map (λ n. []) (names_of channels)
+abbrev pub AsksForFailures : Script → Type 0
+AsksForFailures script = Any (λ a. a.model ≡ Failures) script.assertions
 
--- Channels without fields were declared behind others: these are their spellings, and none stands twice where none did.
-pub record Declares {A : Type 0} (old new : List (Channel A)) (spellings : List (List ℕ)) : Type 0 where
-  pub behind : map chars (names_of new) ≡ map chars (names_of old) ++ spellings
-  pub once : StandOnce (map chars (names_of old)) → StandOnce (map chars (names_of new))
-  pub bare : AreBare old → AreBare new
-
--- a script that was read is refused for what it is, or for memory
-abbrev pub IsOutside : Refusal → Type 0
-IsOutside refusal.Part = ⊤
-IsOutside refusal.Memory = ⊤
-IsOutside _ = ⊥
-
--- A text is refused by the rules of tokens, or behind them by the grammar, and only a script is refused as outside the part.
+-- The text is refused by the rules of tokens, behind them by the grammar, and behind that by those of names and kinds. Behind these, `Part` is for the text of a checked script that asks for failures.
 abbrev pub IsRefusalOf : List ℕ → Refusal → Type 0
 IsRefusalOf bytes (refusal.Text f p) = IsTextRefusal bytes (fault_of f) (place_of p)
 IsRefusalOf bytes (refusal.Grammar f p) = IsReadingRefusal bytes (OfGrammar (grammar.fault_of f)) (place_of p)
-IsRefusalOf bytes refusal.Part = (raw : RawScript) × IsRead bytes raw
+IsRefusalOf bytes (refusal.Kinds f p) = IsRefusedText bytes (kinds.fault_of f) (place_of p)
+IsRefusalOf bytes refusal.Part = (script : Script) × IsCheckedText bytes script × AsksForFailures script
 IsRefusalOf bytes refusal.Memory = ⊤
 IsRefusalOf bytes _ = ⊥

@@ -9,6 +9,10 @@ use Rattle.csp_lex.specs.Refusals as lexer
 use Rattle.csp_parse.specs.declared.refusals.Refused.TheVariants as parser_fault
 use Rattle.csp_parse.specs.declared.refusals.Refused as no_script
 use Rattle.csp_parse.specs.Refusals as parser
+use Rattle.csp_checking.specs.Checked.{kind_fault_spelling}
+use Rattle.csp_names.specs.declared.refusals.Refused.TheVariants as kind_fault
+use Rattle.csp_names.specs.declared.refusals.Refused as no_kinds
+use Rattle.csp_names.specs.Refusals as names
 use Rattle.refcheck.specs.declared.refusal.Refusal.{Refusal}
 use Rattle.refcheck.specs.declared.refusal.Refusal.TheVariants as refusal
 use Rattle.refcheck.specs.declared.files.Unread.{Unread}
@@ -22,6 +26,7 @@ abbrev pub refusal_line : Refusal → List ℕ
 refusal_line refusal.File = codes "refused file\n"
 refusal_line (refusal.Text f p) = place_line (text_fault_spelling (lexer.fault_of f)) p
 refusal_line (refusal.Grammar f p) = place_line (grammar_fault_spelling (parser.fault_of f)) p
+refusal_line (refusal.Kinds f p) = place_line (kind_fault_spelling (names.fault_of f)) p
 refusal_line refusal.Part = codes "refused part\n"
 refusal_line refusal.Memory = codes "refused memory\n"
 refusal_line refusal.Output = codes "refused output\n"
@@ -40,3 +45,8 @@ of_lexer lexer_fault.Memory = refusal.Memory
 abbrev pub of_parser : no_script.Refused → Refusal
 of_parser (parser_fault.Grammar f p) = refusal.Grammar f p
 of_parser parser_fault.Memory = refusal.Memory
+
+-- what is refused where a tree has no checked script
+abbrev pub of_kinds : no_kinds.Refused → Refusal
+of_kinds (kind_fault.Fault f p) = refusal.Kinds f p
+of_kinds kind_fault.Memory = refusal.Memory

@@ -6,8 +6,8 @@ use Rattle.csp_answers.specs.Outcome.{Bounds, Outcome, Holds, Fails, Unknown}
 use Rattle.csp_answers.specs.Printing.{report}
 use Rattle.report.specs.Sending.{Sends, Breaks}
 use Rattle.refcheck.specs.Answering.{AreRight}
-use Rattle.csp_checking.specs.Part.{IsScriptOfText}
-use Rattle.refcheck.specs.Reading.{IsRefusalOf}
+use Rattle.csp_checking.specs.Checked.{IsCheckedText}
+use Rattle.refcheck.specs.Reading.{AsksForTraces, IsRefusalOf}
 use Rattle.refcheck.specs.Refusal.{refusal_line}
 use Rattle.refcheck.specs.declared.refusal.Refusal.{Refusal}
 use Rattle.refcheck.specs.declared.refusal.Refusal.TheVariants as refusal
@@ -30,13 +30,14 @@ program_bounds = record { max_pairs = 100000; max_nodes = 10000 }
 abbrev pub texts_of : List (Bor (List ℕ)) → List (List ℕ)
 texts_of words = map (λ word. word.now) words
 
--- The one word names a file, and this is the script that its text is.
+-- The one word names a file, and its text is checked. This is its script, which asks for traces alone.
 pub record IsScriptOfFile (may_hold : List ℕ → List ℕ → Type 0) (words : List (List ℕ)) (script : Script) : Type 0 where
   pub name : List ℕ
   pub text : List ℕ
   pub named : words ≡ name ∷ []
   pub held : may_hold name text
-  pub of_text : IsScriptOfText text script
+  pub of_text : IsCheckedText text script
+  pub traces : AsksForTraces script
 
 -- The report of right outcomes for the assertions of the file's script went out, one for each, and the status is that of the outcomes.
 pub record IsReported (may_hold : List ℕ → List ℕ → Type 0) (words : List (List ℕ)) (old new : Option (List ℕ)) (failed : Bool) (status : ℕ) : Type 0 where
@@ -69,6 +70,7 @@ abbrev pub IsCause : (List ℕ → List ℕ → Type 0) → (List ℕ → Type 0
 IsCause may_hold may_lack words refusal.File = (name : List ℕ) → words ≡ name ∷ [] → may_lack name
 IsCause may_hold may_lack words (refusal.Text f p) = IsTextRefused may_hold words (refusal.Text f p)
 IsCause may_hold may_lack words (refusal.Grammar f p) = IsTextRefused may_hold words (refusal.Grammar f p)
+IsCause may_hold may_lack words (refusal.Kinds f p) = IsTextRefused may_hold words (refusal.Kinds f p)
 IsCause may_hold may_lack words refusal.Part = IsTextRefused may_hold words refusal.Part
 IsCause may_hold may_lack words refusal.Memory = ⊤
 IsCause may_hold may_lack words refusal.Output = ⊤

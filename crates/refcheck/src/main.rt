@@ -6,7 +6,6 @@
 #![tactic(auto)]
 
 mod files;
-mod part;
 mod reader;
 mod refusal;
 mod run;

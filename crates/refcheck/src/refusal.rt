@@ -5,11 +5,12 @@ ghost use Rattle.refcheck.specs.Refusal.{refusal_line, place_line};
 ghost use Rattle.refcheck.specs.Running.{IsGiven};
 
 use crate::files::Unread;
+use csp_kinds::KindFault;
 use csp_lex::{Place, TextFault};
 use csp_parse::GrammarFault;
 use itoa::Buffer;
 use report::{Failed, Sink, push_all, push_each};
-use std::alloc::{AllocError, AllocFailed};
+use std::alloc::AllocError;
 
 /// What was refused.
 #[derive(Clone, Copy, Debug, PartialEq, Eq)]
@@ -20,7 +21,9 @@ pub enum Refusal {
     Text { fault: TextFault, place: Place },
     /// The tokens are no script, by this fault at this place.
     Grammar { fault: GrammarFault, place: Place },
-    /// The script lies outside the part of the language that is checked.
+    /// The script has no kinds, or a name of it is wrong, by this fault at this place.
+    Kinds { fault: KindFault, place: Place },
+    /// An assertion of the script is of failures, which are not checked yet.
     Part,
     /// The words, the file or the script could not be read for memory.
     Memory,
@@ -37,6 +40,7 @@ pub fn push_line<E: Sink>(why: Refusal, sink: &mut E)
         Refusal::File => push_all(b"refused file\n", sink),
         Refusal::Text { fault, place } => push_place(fault.number(), place, sink),
         Refusal::Grammar { fault, place } => push_place(fault.number(), place, sink),
+        Refusal::Kinds { fault, place } => push_place(fault.number(), place, sink),
         Refusal::Part => push_all(b"refused part\n", sink),
         Refusal::Memory => push_all(b"refused memory\n", sink),
         Refusal::Output => push_all(b"refused output\n", sink),
@@ -100,13 +104,16 @@ impl From<csp_parse::Refused> for Refusal {
     }
 }
 
-impl From<csp_term::Memory> for Refusal {
-    ghost use Rattle.refcheck.specs.declared.refusal.Refusal.TheVariants.{Memory as no_memory};
+impl From<csp_kinds::Refused> for Refusal {
+    ghost use Rattle.refcheck.specs.Refusal.{of_kinds};
 
-    ghost from_gives = { λ _ why. why ≡ no_memory };
+    ghost from_gives = { λ refused why. why ≡ of_kinds refused };
 
-    fn from(_refused: csp_term::Memory) -> Refusal {
-        Refusal::Memory
+    fn from(refused: csp_kinds::Refused) -> Refusal {
+        match refused {
+            csp_kinds::Refused::Fault { fault, place } => Refusal::Kinds { fault, place },
+            csp_kinds::Refused::Memory => Refusal::Memory,
+        }
     }
 }
 
@@ -116,16 +123,6 @@ impl From<AllocError> for Refusal {
     ghost from_gives = { λ _ why. why ≡ no_memory };
 
     fn from(_refused: AllocError) -> Refusal {
-        Refusal::Memory
-    }
-}
-
-impl<T: Drop> From<AllocFailed<T>> for Refusal {
-    ghost use Rattle.refcheck.specs.declared.refusal.Refusal.TheVariants.{Memory as no_memory};
-
-    ghost from_gives = { λ _ why. why ≡ no_memory };
-
-    fn from(_refused: AllocFailed<T>) -> Refusal {
         Refusal::Memory
     }
 }

@@ -1,130 +1,22 @@
 //! Runs of the program over texts in memory. What is expected comes from the rules of the language and of the lines.
 
+mod examples;
+mod outcomes;
+mod refusals;
+mod rows;
+
 use crate::files::{Files, OneText, Unread};
 use crate::run::run;
 use csp_term::AllocHandle;
+use examples::all_examples;
 use linked_list_allocator::LocalHeap;
+use outcomes::{BEYOND_STOP, WITHIN_PREFIX, failing, holding, unknown};
+use refusals::{no_scripts, of_failures, unchecked};
 use report::{Buffer, Out};
+use rows::Row;
 use std::alloc::{AllocError, Global};
 use std::process::Abort;
 use std::test::Fail;
-
-const BEYOND_STOP: &str = "channel a, b, c\nassert STOP [T= a -> STOP\n";
-
-// A text, and the lines that it is answered with.
-type Row = (&'static str, &'static str);
-
-// Scripts whose assertions hold.
-const HOLDING: &[Row] = &[
-    ("", ""),
-    ("channel a, b, c\nassert a -> STOP [T= STOP\n", "1 holds\n"),
-    ("channel a' -- nothing to check é", ""),
-    ("assert STOP [T= STOP", "1 holds\n"),
-    (
-        "{- sides in\n   parentheses -} channel a\nassert (a -> ((STOP))) [T= (a->(STOP)) -- one side twice",
-        "1 holds\n",
-    ),
-];
-
-// Scripts with an assertion that fails.
-const FAILING: &[Row] = &[
-    (BEYOND_STOP, "1 fails trace <> event a\n"),
-    (
-        "channel α\nassert STOP [T= α -> STOP",
-        "1 fails trace <> event α\n",
-    ),
-    (
-        "channel a, b\nassert a -> b -> STOP [T= a -> a -> STOP",
-        "1 fails trace <a> event a\n",
-    ),
-    (
-        "assert a -> STOP [T= STOP\nassert STOP [T= b' -> STOP\nassert STOP [T= STOP channel a, b'",
-        "1 holds\n2 fails trace <> event b'\n3 holds\n",
-    ),
-    (
-        "channel stop, if_\r\nassert\tstop -> STOP\n[T=\nif_ -> STOP",
-        "1 fails trace <> event if_\n",
-    ),
-];
-
-// Scripts outside the part of the language that is checked.
-const OUTSIDE: &[Row] = &[
-    ("channel a\nassert STOP [T= b -> STOP", "refused part\n"),
-    ("channel a\nassert STOP [F= a -> STOP", "refused part\n"),
-    ("channel a, a", "refused part\n"),
-    ("channel a\nchannel b, a", "refused part\n"),
-    ("channel a\nassert STOP [T= a.1 -> STOP", "refused part\n"),
-    ("channel a\nassert STOP [T= a?x -> STOP", "refused part\n"),
-    ("channel a : {0..1}", "refused part\n"),
-    ("nametype N = {0..1}", "refused part\n"),
-    ("datatype D = A | B", "refused part\n"),
-    ("assert STOP [T= SKIP", "refused part\n"),
-    ("assert STOP [T= STOP [] STOP", "refused part\n"),
-    ("channel a\nassert a [T= STOP", "refused part\n"),
-    ("channel a\nassert STOP [T= STOP \\ {a}", "refused part\n"),
-    (
-        "channel a\nassert STOP [T= STOP[[a <- a]]",
-        "refused part\n",
-    ),
-    ("assert STOP [T= true & STOP", "refused part\n"),
-    (
-        "assert STOP [T= if true then STOP else STOP",
-        "refused part\n",
-    ),
-    ("assert STOP [T= STOP ; STOP", "refused part\n"),
-    ("P = STOP", "refused part\n"),
-];
-
-// Texts that are no scripts, with the number and the place of the refusal.
-const NO_SCRIPTS: &[Row] = &[
-    (
-        "channel a, b, c\nassert STOP [T= a -> STOP \\ {a}",
-        "refused S04 at 2:27\n",
-    ),
-    (
-        "channel a, b, c\nP = a -> STOP [] STOP |~| STOP",
-        "refused S04 at 2:23\n",
-    ),
-    ("{- x", "refused L02 at 1:1\n"),
-    ("P = a ->", "refused S03 at 1:9\n"),
-    ("assert STOP [T= P(2147483648)", "refused L03 at 1:19\n"),
-    (
-        "assert STOP [T= STOP [] STOP |~| STOP",
-        "refused S04 at 1:30\n",
-    ),
-    ("P = STOP }", "refused S01 at 1:10\n"),
-    ("P = STOP $", "refused L01 at 1:10\n"),
-    ("channel", "refused S03 at 1:8\n"),
-    ("-}", "refused S01 at 1:1\n"),
-    ("channel a {- no end", "refused L02 at 1:11\n"),
-    ("channel if", "refused S01 at 1:9\n"),
-    ("channel a, STOP", "refused S01 at 1:12\n"),
-    ("channel a\nassert STOP [T= a STOP", "refused S01 at 2:19\n"),
-    ("channel a\nassert STOP [T= a ->", "refused S03 at 2:21\n"),
-    (
-        "channel a\nassert STOP [T= (a) -> STOP",
-        "refused S01 at 2:21\n",
-    ),
-    (
-        "channel a\nassert STOP [T= STOP -> STOP",
-        "refused S01 at 2:22\n",
-    ),
-    ("channel a,", "refused S03 at 1:11\n"),
-    ("channel , a", "refused S01 at 1:9\n"),
-    ("channel a b", "refused S03 at 1:12\n"),
-    ("assert STOP", "refused S03 at 1:12\n"),
-    ("assert [T= STOP", "refused S01 at 1:8\n"),
-    ("assert STOP [T=", "refused S03 at 1:16\n"),
-    ("assert STOP [T= STOP [T= STOP", "refused S01 at 1:22\n"),
-    ("assert STOP [T= (STOP", "refused S03 at 1:22\n"),
-    ("assert STOP [T= STOP)", "refused S01 at 1:21\n"),
-    ("assert STOP [T= ()", "refused S01 at 1:18\n"),
-    ("$", "refused L01 at 1:1\n"),
-    ("assert a, assert", "refused S01 at 1:9\n"),
-];
-
-// Statuses, and what is answered with each.
-const TEXTS: &[(u8, &[Row])] = &[(0, HOLDING), (1, FAILING), (3, OUTSIDE), (3, NO_SCRIPTS)];
 
 // A text in pieces, each with how often it is repeated.
 type Pieces = &'static [(&'static str, usize)];
@@ -149,11 +41,7 @@ const LONG: &[(u8, Pieces, &str)] = &[
         ],
         "refused S02 at 2:519\n",
     ),
-    (
-        3,
-        &[("P = ", 1), ("(", 100), ("STOP", 1), (")", 100)],
-        "refused part\n",
-    ),
+    (0, &[("P = ", 1), ("(", 100), ("STOP", 1), (")", 100)], ""),
     (
         3,
         &[("P = ", 1), ("(", 101), ("STOP", 1), (")", 101)],
@@ -279,10 +167,26 @@ fn long_are_answered_so(rt: &impl Abort, alloc: Global) -> Result<(), Fail> {
 
 #[test]
 fn texts_are_answered_so(rt: HostRuntime) -> Result<(), Fail> {
-    for (status, rows) in TEXTS {
-        are_answered_so(&rt, rt.alloc(), *status, rows)?;
-    }
+    are_answered_so(&rt, rt.alloc(), 0, holding())?;
+    are_answered_so(&rt, rt.alloc(), 1, failing())?;
+    are_answered_so(&rt, rt.alloc(), 2, unknown())?;
+    are_answered_so(&rt, rt.alloc(), 3, no_scripts())?;
+    are_answered_so(&rt, rt.alloc(), 3, unchecked())?;
+    are_answered_so(&rt, rt.alloc(), 3, of_failures())?;
     long_are_answered_so(&rt, rt.alloc())
+}
+
+#[test]
+fn examples_are_answered_so(rt: HostRuntime) -> Result<(), Fail> {
+    for example in all_examples() {
+        let told = check(rt.alloc(), example.text.as_bytes());
+        assert!(rt;
+            told.is_answered(example.status, example.lines),
+            "at {}",
+            example.name
+        );
+    }
+    Ok(())
 }
 
 #[test]
@@ -305,7 +209,7 @@ fn an_output_that_breaks_off_is_refused(rt: HostRuntime) -> Result<(), Fail> {
         let mut taken = [0u8; 25];
         let mut files = OneText {
             name: "script",
-            text: BEYOND_STOP.as_bytes(),
+            text: BEYOND_STOP.0.as_bytes(),
             alloc: rt.alloc(),
         };
         let mut out = Out::new(&mut taken[..room]);
@@ -396,6 +300,6 @@ fn is_answered_or_refused(
 
 #[test]
 fn refused_memory_changes_no_other_answer(rt: HostRuntime) -> Result<(), Fail> {
-    is_answered_or_refused(&rt, rt.alloc(), 1, &FAILING[0])?;
-    is_answered_or_refused(&rt, rt.alloc(), 0, &HOLDING[1])
+    is_answered_or_refused(&rt, rt.alloc(), 1, &BEYOND_STOP)?;
+    is_answered_or_refused(&rt, rt.alloc(), 0, &WITHIN_PREFIX)
 }

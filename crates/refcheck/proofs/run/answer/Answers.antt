@@ -4,7 +4,7 @@ use Rattle.csp_term.specs.Script.{script_of}
 use Rattle.verdict.specs.declared.outcome.Outcome.{Outcome}
 use Rattle.verdict.specs.Outcome.{outcome_of}
 use Rattle.refcheck.specs.Answering.{AreRight}
-use Rattle.csp_checking.specs.Part.{IsScriptOfText}
+use Rattle.csp_checking.specs.Checked.{IsCheckedText}
 use Rattle.refcheck.specs.Reading.{IsRefusalOf}
 use Rattle.refcheck.specs.Running.{IsScriptOfFile, program_bounds, status_of, texts_of}
 use Rattle.refcheck.proofs.Refusing.{cause_of_text, one_word}
@@ -27,7 +27,8 @@ returns-in-Ok-clause-reported g c =
       text = c.in_ok-text.text.items;
       named = one_word words (record { ref_ptr = (0, 0); now = [] }) (omega arith);
       held = c.in_ok-text.ensures.holds;
-      of_text = subst (λ bytes. IsScriptOfText bytes script) c.deref.ensures.value c.in_ok-script.ensures.script;
+      of_text = subst (λ bytes. IsCheckedText bytes script) c.deref.ensures.value c.in_ok-script.ensures.script;
+      traces = c.in_ok-script.ensures.traces;
     } in (
       omega arith,
       record {
@@ -63,7 +64,8 @@ returns-clause-refused g c =
       text = c.in_ok-text.text.items;
       named = one_word words (record { ref_ptr = (0, 0); now = [] }) (omega arith);
       held = c.in_ok-text.ensures.holds;
-      of_text = subst (λ bytes. IsScriptOfText bytes script) c.deref.ensures.value c.in_ok-script.ensures.script;
+      of_text = subst (λ bytes. IsCheckedText bytes script) c.deref.ensures.value c.in_ok-script.ensures.script;
+      traces = c.in_ok-script.ensures.traces;
     } in
     left_behind (g.F.Files.may_hold c.args.files.now) (texts_of words) g.O.Sink.taken g.O.Sink.has_failed c.args.out.now c.write.new.sink script (map outcome_of c.deref-2.result.now) of_file (subst P (sym c.deref-2.ensures.value) c.in_ok-outcomes.ensures)
     c.write.result c.in-Err.field-0 c.in-Err.is c.write.ensures.device c.write.ensures.memory

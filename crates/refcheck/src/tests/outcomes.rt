@@ -1,0 +1,232 @@
+//! Texts of scripts, and the lines of their outcomes.
+
+use super::rows::Row;
+
+/// A script whose one assertion fails.
+pub(crate) const BEYOND_STOP: Row = (
+    "channel a, b, c\nassert STOP [T= a -> STOP\n",
+    "1 fails trace <> event a\n",
+);
+
+/// A script whose one assertion holds.
+pub(crate) const WITHIN_PREFIX: Row = ("channel a, b, c\nassert a -> STOP [T= STOP\n", "1 holds\n");
+
+static HOLDING: [Row; 28] = [
+    ("", ""),
+    WITHIN_PREFIX,
+    ("channel a' -- nothing to check é", ""),
+    ("assert STOP [T= STOP", "1 holds\n"),
+    (
+        "{- sides in\n   parentheses -} channel a\nassert (a -> ((STOP))) [T= (a->(STOP)) -- one side twice",
+        "1 holds\n",
+    ),
+    (
+        "datatype D = A | B\nnametype N = {0..1}\nnametype M = {}\nchannel c : N.D\nP = STOP",
+        "",
+    ),
+    ("channel a, b : {0..1023}.{0..1}", ""),
+    (
+        "assert STOP [T= STOP [] STOP\nassert STOP [T= STOP ; STOP",
+        "1 holds\n2 holds\n",
+    ),
+    (
+        "assert STOP [T= true & STOP\nassert STOP [T= if true then STOP else STOP",
+        "1 holds\n2 holds\n",
+    ),
+    (
+        "channel a\nassert STOP [T= STOP \\ {a}\nassert STOP [T= STOP[[a <- a]]",
+        "1 holds\n2 holds\n",
+    ),
+    (
+        "channel c : {0..1}\nassert c?x -> STOP [T= c!1 -> STOP",
+        "1 holds\n",
+    ),
+    (
+        "channel c : {0..2}\nassert c.1 -> STOP [T= c?x:{1,5} -> STOP",
+        "1 holds\n",
+    ),
+    (
+        "channel a\nP = a -> P\nassert STOP [T= P \\ {a}",
+        "1 holds\n",
+    ),
+    ("P = P\nassert STOP [T= P", "1 holds\n"),
+    ("channel a\nassert a -> STOP [] SKIP [T= SKIP", "1 holds\n"),
+    ("assert SKIP [T= SKIP ||| SKIP", "1 holds\n"),
+    (
+        "channel a\nassert a -> SKIP [T= SKIP ||| a -> SKIP",
+        "1 holds\n",
+    ),
+    (
+        "channel a, b, c\nassert (a -> STOP)[[a <- b, a <- c]] [T= b -> STOP [] c -> STOP",
+        "1 holds\n",
+    ),
+    (
+        "channel c : {0..1}\nchannel d\nassert d -> STOP [T= (c?x -> d -> STOP) \\ {| c |}",
+        "1 holds\n",
+    ),
+    (
+        "channel a, b\nassert a -> b -> STOP [T= a -> b -> STOP [| {b} |] b -> STOP",
+        "1 holds\n",
+    ),
+    (
+        "channel a, b\nassert a -> b -> STOP [T= (a -> SKIP) ; b -> STOP",
+        "1 holds\n",
+    ),
+    (
+        "channel c : {0..1}\nassert [] x:{0..1} @ c!x -> STOP [T= c?y -> STOP",
+        "1 holds\n",
+    ),
+    (
+        "channel c : {0..1}\nP(s) = #s > 0 & c!head(s) -> STOP\nassert STOP [T= P(<>)",
+        "1 holds\n",
+    ),
+    (
+        "channel c : {0..1}\nP(n) = if n == 0 then c.1 -> STOP else STOP\nassert STOP [T= P(1)",
+        "1 holds\n",
+    ),
+    (
+        "channel a\nP = a -> P\nassert P [T= P\nassert P [T= a -> STOP",
+        "1 holds\n2 holds\n",
+    ),
+    (
+        "channel a, b\nassert a -> STOP |~| b -> STOP [T= b -> STOP",
+        "1 holds\n",
+    ),
+    (
+        "channel a, b\nP = a -> b -> P\nassert P \\ {a} [T= b -> b -> STOP",
+        "1 holds\n",
+    ),
+    ("assert SKIP ||| SKIP [T= SKIP", "1 holds\n"),
+];
+
+/// Scripts whose assertions hold.
+pub(crate) fn holding() -> &'static [Row] {
+    &HOLDING
+}
+
+static FAILING: [Row; 23] = [
+    BEYOND_STOP,
+    (
+        "channel α\nassert STOP [T= α -> STOP",
+        "1 fails trace <> event α\n",
+    ),
+    (
+        "channel a, b\nassert a -> b -> STOP [T= a -> a -> STOP",
+        "1 fails trace <a> event a\n",
+    ),
+    (
+        "assert a -> STOP [T= STOP\nassert STOP [T= b' -> STOP\nassert STOP [T= STOP channel a, b'",
+        "1 holds\n2 fails trace <> event b'\n3 holds\n",
+    ),
+    (
+        "channel stop, if_\r\nassert\tstop -> STOP\n[T=\nif_ -> STOP",
+        "1 fails trace <> event if_\n",
+    ),
+    (
+        "channel é\nassert STOP [T= é -> STOP",
+        "1 fails trace <> event é\n",
+    ),
+    ("assert STOP [T= SKIP", "1 fails trace <> event tick\n"),
+    (
+        "channel a\nassert a -> STOP [T= a -> SKIP",
+        "1 fails trace <a> event tick\n",
+    ),
+    (
+        "channel a, b, c\nassert a -> STOP [T= a -> STOP /\\ b -> STOP",
+        "1 fails trace <> event b\n",
+    ),
+    (
+        "channel a, b, c\nassert a -> STOP [T= a -> STOP |~| b -> STOP",
+        "1 fails trace <> event b\n",
+    ),
+    (
+        "channel a, b, c\nassert STOP [T= (SKIP ; a -> STOP) |~| b -> STOP",
+        "1 fails trace <> event b\n",
+    ),
+    (
+        "channel a, b\nassert STOP [T= (a -> b -> STOP) \\ {a}",
+        "1 fails trace <> event b\n",
+    ),
+    (
+        "channel a, b\nassert a -> b -> STOP [T= a -> STOP [{a} || {b}] b -> STOP",
+        "1 fails trace <> event b\n",
+    ),
+    (
+        "channel c : {0..1}\nassert STOP [T= c!1 -> STOP\nassert STOP [T= STOP",
+        "1 fails trace <> event c.1\n2 holds\n",
+    ),
+    (
+        "channel c : {0..1}\nR = c?x -> R\nassert c!0 -> STOP [T= R",
+        "1 fails trace <> event c.1\n",
+    ),
+    (
+        "channel c : {0..1}\nR(n) = c!n -> R(1 - n)\nassert c!0 -> c!1 -> STOP [T= R(0)",
+        "1 fails trace <c.0,c.1> event c.0\n",
+    ),
+    (
+        "channel c : {0..1}\nassert c!0 -> STOP [T= ||| x:{0..1} @ c!x -> STOP",
+        "1 fails trace <> event c.1\n",
+    ),
+    (
+        "channel c : {0..1}\nP(n) = if n == 0 then c.1 -> STOP else STOP\nassert STOP [T= P(0)",
+        "1 fails trace <> event c.1\n",
+    ),
+    (
+        "channel c, d : {0..1}\nassert STOP [T= (c!1 -> STOP)[[c <- d]]",
+        "1 fails trace <> event d.1\n",
+    ),
+    (
+        "nametype N = {0..2}\nchannel c : N\nassert STOP [T= c?x:{2,5} -> STOP",
+        "1 fails trace <> event c.2\n",
+    ),
+    (
+        "datatype D = A | B\nchannel d : D.Bool\nchannel e : {<>,<1>}\nchannel f : {{1,2}}\nchannel g : { -1}\nassert STOP [T= d.B!false -> STOP\nassert STOP [T= e!<1> -> STOP\nassert STOP [T= f!{2,1} -> STOP\nassert STOP [T= g!-1 -> STOP",
+        "1 fails trace <> event d.B.false\n2 fails trace <> event e.<1>\n3 fails trace <> event f.{1,2}\n4 fails trace <> event g.-1\n",
+    ),
+    (
+        "channel a, b\nassert (a -> STOP [] b -> STOP)[[b <- a]] [T= b -> STOP",
+        "1 fails trace <> event b\n",
+    ),
+    (
+        "channel a, b, c\nassert (a -> b -> STOP) [] (a -> c -> STOP) [T= a -> b -> c -> STOP",
+        "1 fails trace <a,b> event c\n",
+    ),
+];
+
+/// Scripts with an assertion that fails, the others having answers.
+pub(crate) fn failing() -> &'static [Row] {
+    &FAILING
+}
+
+static UNKNOWN: [Row; 7] = [
+    (
+        "P(n) = P(n+1)\nassert STOP [T= P(2147483647)",
+        "1 unknown fault overflow\n",
+    ),
+    ("P = P ; SKIP\nassert STOP [T= P", "1 unknown term\n"),
+    (
+        "assert STOP [T= |~| x:{} @ STOP",
+        "1 unknown fault choice\n",
+    ),
+    (
+        "channel c : {0..1}\nR = c?x -> R\nP(n) = c!n -> P(n+1)\nassert R [T= P(0)",
+        "1 unknown fault range\n",
+    ),
+    (
+        "channel c : {0..1}\nP(s) = c!head(s) -> STOP\nassert STOP [T= P(<>)",
+        "1 unknown fault empty\n",
+    ),
+    (
+        "channel c : {0..1}\nassert STOP [T= c!(1 % 0) -> STOP",
+        "1 unknown fault modulus\n",
+    ),
+    (
+        "P(n) = P(n+1)\nassert P(2147483647) [T= STOP\nassert STOP [T= SKIP\nassert STOP [T= STOP",
+        "1 unknown fault overflow\n2 fails trace <> event tick\n3 holds\n",
+    ),
+];
+
+/// Scripts with an assertion that has no answer.
+pub(crate) fn unknown() -> &'static [Row] {
+    &UNKNOWN
+}
