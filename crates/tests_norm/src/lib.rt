@@ -1,0 +1,13 @@
+//! What normal forms of specifications are seen to do.
+//!
+//! Specifications are texts over the channels `a`, `b` and `c` without fields, and `d` of 0 and 1.
+#![tactic(auto)]
+
+#[cfg(test)]
+mod nodes;
+#[cfg(test)]
+mod refusals;
+#[cfg(test)]
+mod rows;
+#[cfg(test)]
+mod texts;
