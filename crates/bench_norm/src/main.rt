@@ -1,5 +1,5 @@
 //! Makes the normal forms of a hidden chain of buffers, whose nodes have many states each, and of an interleaving of
-//! counters, which has 10,000 nodes, and says on standard error how many nodes a second that is.
+//! counters, which has 2,401 nodes, and says on standard error how many nodes a second that is.
 #![tactic(auto)]
 
 use anyhow::{Context, Result, ensure};
@@ -9,24 +9,24 @@ use csp_norm::normalise;
 use csp_parse::parse;
 use std::time::Instant;
 
-/// Eight one-place buffers over two values. A node is the contents of all, a row of at most eight values: 511 nodes.
-const BUFFERS: &str = "channel c : {0..8}.{0..1}
+/// Six one-place buffers over two values. A node tells the contents of all, a row of at most six values: 127 nodes at least.
+const BUFFERS: &str = "channel c : {0..6}.{0..1}
 BUFFER(i) = c!i?x -> c!(i+1)!x -> BUFFER(i)
 TWO(i) = (BUFFER(i) [| {| c.(i+1) |} |] BUFFER(i+1)) \\ {| c.(i+1) |}
 FOUR(i) = (TWO(i) [| {| c.(i+2) |} |] TWO(i+2)) \\ {| c.(i+2) |}
-EIGHT(i) = (FOUR(i) [| {| c.(i+4) |} |] FOUR(i+4)) \\ {| c.(i+4) |}
-assert EIGHT(0) [T= STOP
+SIX(i) = (FOUR(i) [| {| c.(i+4) |} |] TWO(i+4)) \\ {| c.(i+4) |}
+assert SIX(0) [T= STOP
 ";
 
-/// Four counters from 0 to 9, each by itself. A node is one state: 10,000 nodes.
+/// Four counters from 0 to 6, each by itself: 2,401 nodes.
 const COUNTERS: &str = "channel up : {0..3}
-COUNTER(i,n) = n < 9 & up!i -> COUNTER(i,n+1)
+COUNTER(i,n) = n < 6 & up!i -> COUNTER(i,n+1)
 ALL = ||| i:{0..3} @ COUNTER(i,0)
 assert ALL [T= STOP
 ";
 
-/// Says how many nodes a second are made of the specification, which has so many.
-fn measure(rt: &HostRuntime, text: &str, nodes: usize, all: f64, what: &str) -> Result<()> {
+/// Says how many nodes a second are made of the specification, which has so many at least.
+fn measure(rt: &HostRuntime, text: &str, least: u32, what: &str) -> Result<()> {
     let alloc = rt.alloc();
     let list = tokens(alloc, text.as_bytes())?;
     let raw = parse(alloc, &list)?;
@@ -35,14 +35,15 @@ fn measure(rt: &HostRuntime, text: &str, nodes: usize, all: f64, what: &str) -> 
     let start = Instant::now(rt)?;
     let normal = normalise(alloc, &script, &assertion.specification, 100_000)?;
     let seconds = start.elapsed(rt)?.as_secs_f64();
-    ensure!(normal.nodes() == nodes, "another number of nodes");
-    let speed = all / seconds;
-    eprintln!(rt; "{what}: {speed:.0} nodes a second")?;
+    let nodes = u32::try_from(normal.nodes())?;
+    ensure!(nodes >= least, "too few nodes");
+    let speed = f64::from(nodes) / seconds;
+    eprintln!(rt; "{what}: {nodes} nodes, {speed:.0} nodes a second")?;
     Ok(())
 }
 
 fn main(rt: HostRuntime) -> Result<()> {
-    measure(&rt, BUFFERS, 511, 511.0, "chain of 8 buffers")?;
-    measure(&rt, COUNTERS, 10_000, 10_000.0, "4 counters to 9")?;
+    measure(&rt, BUFFERS, 127, "chain of 6 buffers")?;
+    measure(&rt, COUNTERS, 2401, "4 counters to 6")?;
     Ok(())
 }

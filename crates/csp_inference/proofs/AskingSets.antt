@@ -1,5 +1,5 @@
 -- Sets ask once for each number.
-use Rattle.std.proofs.Common.{◌≡◌, ℕ, ◌+◌, ◌<◌, List, length, map, get_or, refl}
+use Rattle.std.proofs.Common.{ℕ, ◌+◌, ◌<◌, List, length, map, get_or, refl}
 use Rattle.std.specs.Prelude.{Some}
 use Rattle.std.proofs.lemmas.List.{get_or_default}
 use Rattle.csp_syntax.specs.Expression.{Expression}

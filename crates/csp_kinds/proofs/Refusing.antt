@@ -1,5 +1,5 @@
 -- What refuses a tree in one of the passes is its refusal.
-use Rattle.std.proofs.Common.{◌≡◌, Err, sym, subst}
+use Rattle.std.proofs.Common.{Err, sym, subst}
 use Rattle.csp_syntax.specs.Process.{Script}
 use Rattle.csp_text.specs.Place.{Place}
 use Rattle.csp_text.specs.Raw.{RawScript}

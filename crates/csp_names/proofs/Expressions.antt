@@ -1,11 +1,11 @@
 -- Expressions are resolved part by part.
-use Rattle.std.specs.Prelude.{flat_map, map, option_map, pos, IfOk, IfErr}
+use Rattle.std.specs.Prelude.{flat_map, option_map, pos, IfOk, IfErr}
 use Rattle.std.proofs.Common.{◌≡◌, ◌≤◌, ◌<◌, ◌+◌, ℕ, Bool, get_or, length, List, [], ◌∷◌, ◌++◌, Option, Some, None, Result, Ok, Err, refl, sym, ap, ap₂, ◌∙◌, subst}
 use Rattle.std.specs.declared.vec.Vec.{Vec}
 use Rattle.csp_syntax.specs.Expression as pure
 use Rattle.csp_syntax.specs.Expression.{to_expressions}
 use Rattle.csp_syntax.specs.Value.{Integer, Truth}
-use Rattle.csp_text.specs.Raw.{RawExpression, RawNumber, RawTruth, RawBooleans, RawUse, RawApply, RawCombine, RawSequence, RawSet, RawRange, RawExpressions}
+use Rattle.csp_text.specs.Raw.{RawExpression, RawNumber, RawTruth, RawBooleans, RawApply, RawExpressions}
 use Rattle.csp_checking.specs.Names.{Environment}
 use Rattle.csp_checking.specs.Resolving as resolving
 use Rattle.csp_checking.specs.Resolving.{of_two, every}
@@ -21,7 +21,7 @@ use Rattle.csp_names.specs.declared.refusals.Refused.{Refused}
 use Rattle.csp_names.specs.declared.refusals.Refused.TheVariants as refused
 use Rattle.csp_names.specs.declared.scope.Scope.{Scope}
 use Rattle.csp_names.specs.Scopes.{StandsFor}
-use Rattle.csp_names.specs.Walks.{ResolvesExpression, ResolvesExpressions, Stops, Walked}
+use Rattle.csp_names.specs.Walks.{ResolvesExpression, ResolvesExpressions, Stops}
 use Rattle.csp_names.proofs.Walking.{all_passed, made, one_passed, Passed, passed_stops, stops_behind, stops_first, stops_for_room}
 
 -- ---- several expressions

@@ -1,6 +1,6 @@
 -- Walks that bind names, part by part.
 use Rattle.std.specs.Prelude.{cond}
-use Rattle.std.proofs.Common.{◌≡◌, ℕ, suc, ◌+◌, Bool, true, false, List, [], ◌∷◌, ◌++◌, Option, Some, None, Result, Ok, Err, refl, sym, ap, ap₂, ◌∙◌, subst, arith}
+use Rattle.std.proofs.Common.{◌≡◌, ℕ, suc, ◌+◌, Bool, true, false, List, [], ◌∷◌, ◌++◌, Option, Some, refl, sym, ap, ap₂, ◌∙◌, subst, arith}
 use Rattle.std.specs.Str.{bytes_eq}
 use Rattle.csp_checking.specs.Names.{Environment, number_in, with_spellings}
 use Rattle.csp_checking.specs.Resolving.{of_two}
@@ -12,7 +12,7 @@ use Rattle.csp_names.specs.declared.bound_names.BoundNames.{BoundNames}
 use Rattle.csp_names.specs.declared.refusals.Refused.{Refused}
 use Rattle.csp_names.specs.declared.scope.Scope.{Scope}
 use Rattle.csp_names.specs.Scopes.{Binds, bound_spellings, HaveNumbersIn, IsInOrder, KnowsScript, occurrences, Releases, StandsFor}
-use Rattle.csp_names.specs.Walks.{Done, Goes, Halts, Serves, Stops}
+use Rattle.csp_names.specs.Walks.{Done, Halts, Serves, Stops}
 use Rattle.csp_names.proofs.Walking.{stops_behind, stops_first}
 
 -- ---- spellings that are met in turn

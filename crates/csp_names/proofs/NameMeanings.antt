@@ -1,11 +1,11 @@
 -- What a name means in a scope.
-use Rattle.std.specs.Prelude.{cond, is_some, nat_lt, option_map, ⊤}
+use Rattle.std.specs.Prelude.{cond, is_some, nat_lt, option_map}
 use Rattle.std.specs.Option.{option_map_or}
 use Rattle.std.specs.Str.{bytes_eq}
-use Rattle.std.proofs.Common.{◌≡◌, ℕ, zero, suc, Bool, true, false, List, [], ◌∷◌, Option, Some, None, refl, sym, ap, ◌∙◌, arith}
+use Rattle.std.proofs.Common.{◌≡◌, ℕ, suc, Bool, true, false, List, [], ◌∷◌, Option, Some, None, refl, sym, ap, ◌∙◌, arith}
 use Rattle.std.proofs.lemmas.Bool.{lt-ltb}
 use Rattle.csp_text.specs.Raw.{RawName}
-use Rattle.csp_checking.specs.Names.{Meaning, Bound, declared_meaning, Environment, has_spelling, meaning, number_in}
+use Rattle.csp_checking.specs.Names.{Bound, declared_meaning, Environment, has_spelling, meaning, number_in}
 use Rattle.csp_names.specs.declared.bound_names.BoundName.{BoundName}
 use Rattle.csp_names.specs.declared.bound_names.BoundNames.{BoundNames}
 use Rattle.csp_names.specs.declared.scope.Scope.{Scope}

@@ -1,15 +1,14 @@
 -- Processes are resolved part by part.
-use Rattle.std.proofs.Common.{◌≡◌, ℕ, List, [], ◌∷◌, ◌++◌, append-nil, map, Option, Some, None, Result, Ok, Err, refl, sym, ap, ◌∙◌, subst}
-use Rattle.std.proofs.lemmas.List.{map-append, append_assoc}
+use Rattle.std.proofs.Common.{◌≡◌, ℕ, List, [], ◌++◌, append-nil, Option, Some, None, refl, ◌∙◌, subst}
+use Rattle.std.proofs.lemmas.List.{map-append}
 use Rattle.csp_text.specs.Raw.{RawName}
 use Rattle.csp_checking.specs.Names.{Environment, spellings}
 use Rattle.csp_checking.specs.Resolving.{of_two, of_three, of_four}
 use Rattle.csp_checking.specs.Sites.{Site}
-use Rattle.csp_checking.specs.Walks.{AllFine}
 use Rattle.csp_names.specs.declared.bound_names.BoundNames.{BoundNames}
 use Rattle.csp_names.specs.declared.refusals.Refused.{Refused}
 use Rattle.csp_names.specs.declared.scope.Scope.{Scope}
-use Rattle.csp_names.specs.Walks.{Done, Halts, Stops}
+use Rattle.csp_names.specs.Walks.{Done, Halts}
 use Rattle.csp_names.proofs.Going.{done_both, halts_behind, halts_first}
 
 -- a form of three or four parts is one of two, of which the first is one of two

@@ -1,5 +1,5 @@
 -- Rows by spelling, and the entries of maps by bytes.
-use Rattle.std.specs.Prelude.{cond, length, position, take, not, option_map}
+use Rattle.std.specs.Prelude.{cond, length, position, take, not}
 use Rattle.std.proofs.lemmas.Bool.{lt-ltb, le-ltb, ltb-true}
 use Rattle.std.specs.List.{position_or_len}
 use Rattle.std.specs.Borrow.{Bor}

@@ -4,6 +4,10 @@
 #![tactic(auto)]
 
 #[cfg(test)]
+mod answers;
+#[cfg(test)]
+mod memory;
+#[cfg(test)]
 mod nodes;
 #[cfg(test)]
 mod refusals;

@@ -140,7 +140,7 @@ fn refusals() -> &'static [Refusal] {
 
 /// Whether the specification has no normal form because of this.
 fn is_refused(alloc: Global, row: &Refusal) -> Result<bool, Fail> {
-    let script = script(alloc, row.definitions, row.specification)?;
+    let script = script(alloc, row.definitions, row.specification, "STOP")?;
     let Some(assertion) = script.assertions.first() else {
         return Ok(false);
     };

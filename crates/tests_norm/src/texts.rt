@@ -11,14 +11,15 @@ use std::test::Fail;
 /// The actions that nodes are asked for, each by its letter.
 pub(crate) const ACTIONS: &[&str] = &["tick", "a", "b", "c"];
 
-/// The script with these definitions, and one assertion, of which this is the specification.
+/// The script with these definitions, and one assertion of traces between these two processes.
 pub(crate) fn script(
     alloc: Global,
     definitions: &str,
     specification: &str,
+    implementation: &str,
 ) -> Result<Script<Global>, Fail> {
     let text = format!(in alloc;
-        "channel a, b, c\nchannel d : {{0..1}}\n{definitions}\nassert {specification} [T= STOP\n"
+        "channel a, b, c\nchannel d : {{0..1}}\n{definitions}\nassert {specification} [T= {implementation}\n"
     )?;
     let list = tokens(alloc, text.as_bytes())?;
     let raw = parse(alloc, &list)?;

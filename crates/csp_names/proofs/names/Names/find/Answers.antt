@@ -1,4 +1,4 @@
-use Rattle.std.proofs.Common.{◌≡◌, ◌∙◌, ℕ, List, None, Some, ap, option_map, sym, take}
+use Rattle.std.proofs.Common.{◌∙◌, ap, option_map, sym, take}
 use Rattle.std.specs.Str.{chars}
 use Rattle.csp_names.specs.Meanings.{declared_of}
 use Rattle.csp_names.specs.Rows.{row_at, spelled}

@@ -1,15 +1,13 @@
 -- Each form is resolved by its parts, in order.
-use Rattle.std.proofs.Common.{◌+◌, ◌*◌, ◌<◌, ap, arith, refl, rules, List, Result, Ok, Err, ◌∙◌}
+use Rattle.std.proofs.Common.{◌+◌, ◌*◌, ◌<◌, ap, arith, refl, rules}
 use Rattle.csp_parse.specs.Expressions.{expression_of, expressions_of}
 use Rattle.csp_parse.specs.Names.{name_of}
 use Rattle.csp_syntax.specs.Expression as pure
 use Rattle.csp_syntax.specs.Operators.{binary_of, unary_of}
-use Rattle.csp_text.specs.Raw.{RawApply, RawCombine, RawRange, RawSequence, RawSet, RawUse}
-use Rattle.csp_expression.specs.declared.expr.Expr.{Expr}
+use Rattle.csp_text.specs.Raw.{RawCombine, RawRange, RawSequence, RawSet, RawUse}
 use Rattle.csp_expression.proofs.ExpressionForms as forms
-use Rattle.csp_names.specs.declared.refusals.Refused.{Refused}
 use Rattle.csp_names.specs.Walks.{ResolvesExpression, ResolvesExpressions}
-use Rattle.csp_names.proofs.Expressions.{all_resolved, apply_resolved, apply_stops, booleans_resolved, items_resolved, items_stop, left_stops, number_resolved, one_resolved, one_stops, right_stops, room_stops, truth_resolved, two_resolved, whole}
+use Rattle.csp_names.proofs.Expressions.{all_resolved, apply_resolved, apply_stops, booleans_resolved, items_resolved, items_stop, left_stops, number_resolved, one_resolved, one_stops, right_stops, truth_resolved, two_resolved, whole}
 use Rattle.csp_names.proofs.Sizes.{part_size, raw_size, raw_sizes}
 use Rattle.csp_names.proofs.Walking.{handed_on}
 use Rattle.csp_names.proofs.Written as written
