@@ -6,12 +6,16 @@
 #[cfg(test)]
 mod answers;
 #[cfg(test)]
+mod composed_rows;
+#[cfg(test)]
 mod memory;
 #[cfg(test)]
 mod nodes;
 #[cfg(test)]
 mod refusals;
 #[cfg(test)]
-mod rows;
+mod row;
+#[cfg(test)]
+mod sequential_rows;
 #[cfg(test)]
 mod texts;
