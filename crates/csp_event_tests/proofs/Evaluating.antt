@@ -16,9 +16,9 @@ use Rattle.csp_semantics.specs.Meaning.Events.{begins_with, beginning_of, each, 
 use Rattle.csp_semantics.specs.Meaning.Events as events
 use Rattle.csp_value.specs.declared.action.Event.{Event}
 use Rattle.csp_value.specs.Action.{event_of}
-use Rattle.csp_expression.specs.Fault.{cause_of}
-use Rattle.csp_expression.specs.declared.eval_fault.EvalFault.{EvalFault}
-use Rattle.csp_expression.specs.declared.eval_fault.EvalFault.TheVariants as eval
+use Rattle.csp_expression.specs.Cause.{cause_of}
+use Rattle.csp_expression.specs.declared.no_value.NoValue.{NoValue}
+use Rattle.csp_expression.specs.declared.no_value.NoValue.TheVariants as eval
 use Rattle.csp_event_tests.specs.declared.event_test.EventTest.{EventTest}
 use Rattle.csp_event_tests.specs.declared.event_test.EventTest.TheVariants as views
 use Rattle.csp_event_tests.specs.Testing.{AreSorted, IsBoxedTestOf, IsEventOf, IsTestOf, combined_test, listed_in, test_of}
@@ -42,8 +42,8 @@ module _ (A : Type 0) (s : process.Script) (es : List process.EventExpression) w
   )
 
 -- an event without a value is the cause
-pub test_stopped : (A : Type 0) (one : Result pure.Event Cause) (all : Result (pure.Event → Bool) Cause) (why : EvalFault) → IsEventOf {A = A} (Err why) one → ((c : Cause) → one ≡ Err c → all ≡ Err c) → IsTestOf {A = A} (Err why) all
-test_stopped A one all (eval.Fault c) is goes = goes (cause_of c) is
+pub test_stopped : (A : Type 0) (one : Result pure.Event Cause) (all : Result (pure.Event → Bool) Cause) (why : NoValue) → IsEventOf {A = A} (Err why) one → ((c : Cause) → one ≡ Err c → all ≡ Err c) → IsTestOf {A = A} (Err why) all
+test_stopped A one all (eval.Cause c) is goes = goes (cause_of c) is
 test_stopped A one all eval.Memory is goes = tt
 
 -- ---- two sets under an operator
@@ -59,8 +59,8 @@ module _ (s : process.Script) (op : EventSetOperator) (a b : process.EventSet) w
 
   module _ (A : Type 0) where
     -- the first has no test
-    pub first_stuck : (why : EvalFault) → IsBoxedTestOf {A = A} (Err why) (event_test s a) → IsTestOf {A = A} (Err why) (event_test s (combined op a b))
-    first_stuck (eval.Fault c) none = combined_is ∙ ap (λ r. r and_then λ f. event_test s b and_then λ g. Ok (combined_test op f g)) none
+    pub first_stuck : (why : NoValue) → IsBoxedTestOf {A = A} (Err why) (event_test s a) → IsTestOf {A = A} (Err why) (event_test s (combined op a b))
+    first_stuck (eval.Cause c) none = combined_is ∙ ap (λ r. r and_then λ f. event_test s b and_then λ g. Ok (combined_test op f g)) none
     first_stuck eval.Memory none = tt
 
     module _ (l : Box (EventTest A) A) (left : IsBoxedTestOf (Ok l) (event_test s a)) where
@@ -68,8 +68,8 @@ module _ (s : process.Script) (op : EventSetOperator) (a b : process.EventSet) w
       behind_first = combined_is ∙ ap (λ r. r and_then λ f. event_test s b and_then λ g. Ok (combined_test op f g)) left.0
 
       -- the second has none
-      pub second_stuck : (why : EvalFault) → IsBoxedTestOf {A = A} (Err why) (event_test s b) → IsTestOf {A = A} (Err why) (event_test s (combined op a b))
-      second_stuck (eval.Fault c) none = behind_first ∙ ap (λ r. r and_then λ g. Ok (combined_test op (test_of l.value) g)) none
+      pub second_stuck : (why : NoValue) → IsBoxedTestOf {A = A} (Err why) (event_test s b) → IsTestOf {A = A} (Err why) (event_test s (combined op a b))
+      second_stuck (eval.Cause c) none = behind_first ∙ ap (λ r. r and_then λ g. Ok (combined_test op (test_of l.value) g)) none
       second_stuck eval.Memory none = tt
 
       -- both have one

@@ -16,10 +16,10 @@ use Rattle.csp_value.specs.Value.{value_of, values_of}
 use Rattle.csp_expression.specs.declared.expr.Expr.{Expr}
 use Rattle.csp_expression.specs.Expression.{expression_of, expressions_of}
 use Rattle.csp_expression.proofs.Forming.{get_none}
-use Rattle.csp_expression.specs.Fault.{cause_of}
+use Rattle.csp_expression.specs.Cause.{cause_of}
 use Rattle.csp_term.specs.Script.{field_values}
-use Rattle.csp_expression.specs.declared.eval_fault.EvalFault.{EvalFault}
-use Rattle.csp_expression.specs.declared.eval_fault.EvalFault.TheVariants as eval
+use Rattle.csp_expression.specs.declared.no_value.NoValue.{NoValue}
+use Rattle.csp_expression.specs.declared.no_value.NoValue.TheVariants as eval
 use Rattle.csp_event_tests.specs.Testing.{AreGivenBy, AreSetsOf, IsEventOf, IsGivenBy, given, sets_of}
 
 -- ---- what is left of a list
@@ -131,8 +131,8 @@ module _ (types : Types) where
         ∙ ap Ok (sym (map-append value_of all (v ∷ [])) ∙ ap values_of (sym pushed))
 
     -- it has no value
-    pub given_stops : (set : FieldSet A) (why : EvalFault) → slice_get sets i ≡ Some set → IsGivenBy {A = A} (Err why) (given types (expression_of item) (field_values set)) → AreGivenBy {A = A} (Err why) (given_values types (to_expressions (expressions_of items)) (sets_of sets))
-    given_stops set (eval.Fault c) at none =
+    pub given_stops : (set : FieldSet A) (why : NoValue) → slice_get sets i ≡ Some set → IsGivenBy {A = A} (Err why) (given types (expression_of item) (field_values set)) → AreGivenBy {A = A} (Err why) (given_values types (to_expressions (expressions_of items)) (sets_of sets))
+    given_stops set (eval.Cause c) at none =
         ap (λ es. given_values types (to_expressions es) (sets_of sets)) split
         ∙ one_stops (expressions_of (take i items)) (values_of all) (sets_of sets) so_far (expression_of item) (expressions_of (drop (i + 1) items)) (field_values set) (cause_of c) (set_at set at) none
     given_stops set eval.Memory at none = tt
@@ -211,16 +211,16 @@ module _ (s : Script) (e : EventExpression) (c : Cause) where
 
 module _ (A : Type 0) (s : Script) (e : EventExpression) where
   -- without sets there is no beginning
-  pub sets_stuck : (why : EvalFault) → AreSetsOf {A = A} (Err why) (field_sets s e.channel) → IsEventOf {A = A} (Err why) (beginning_of s e)
-  sets_stuck (eval.Fault c) none = no_sets s e (cause_of c) none
+  pub sets_stuck : (why : NoValue) → AreSetsOf {A = A} (Err why) (field_sets s e.channel) → IsEventOf {A = A} (Err why) (beginning_of s e)
+  sets_stuck (eval.Cause c) none = no_sets s e (cause_of c) none
   sets_stuck eval.Memory none = tt
 
   -- nor without values
-  pub values_stuck : (sets : List (List Value)) → field_sets s e.channel ≡ Ok sets → (why : EvalFault) → AreGivenBy {A = A} (Err why) (given_values s.types e.fields sets) → IsEventOf {A = A} (Err why) (beginning_of s e)
-  values_stuck sets has (eval.Fault c) none = not_begun s e sets has (cause_of c) none
+  pub values_stuck : (sets : List (List Value)) → field_sets s e.channel ≡ Ok sets → (why : NoValue) → AreGivenBy {A = A} (Err why) (given_values s.types e.fields sets) → IsEventOf {A = A} (Err why) (beginning_of s e)
+  values_stuck sets has (eval.Cause c) none = not_begun s e sets has (cause_of c) none
   values_stuck sets has eval.Memory none = tt
 
   -- without a beginning there is no event
-  pub beginning_stuck : (why : EvalFault) → IsEventOf {A = A} (Err why) (beginning_of s e) → IsEventOf {A = A} (Err why) (event_of s e)
-  beginning_stuck (eval.Fault c) none = not_whole s e (cause_of c) none
+  pub beginning_stuck : (why : NoValue) → IsEventOf {A = A} (Err why) (beginning_of s e) → IsEventOf {A = A} (Err why) (event_of s e)
+  beginning_stuck (eval.Cause c) none = not_whole s e (cause_of c) none
   beginning_stuck eval.Memory none = tt

@@ -24,13 +24,13 @@ use Rattle.csp_value.specs.Action.{event_of}
 use Rattle.csp_syntax.specs.Expression.{to_expressions}
 use Rattle.csp_expression.specs.declared.expr.Expr.{Expr}
 use Rattle.csp_expression.specs.Expression.{expressions_of}
-use Rattle.csp_expression.specs.Fault.{cause_of}
+use Rattle.csp_expression.specs.Cause.{cause_of}
 use Rattle.csp_event_sets.specs.declared.renaming_pair.RenamingPair.{RenamingPair}
 use Rattle.csp_event_sets.specs.declared.event_expression.EventExpression.{EventExpression}
 use Rattle.csp_event_sets.specs.Events.{event_expression_of, renaming_pair_of, renaming_pairs_of}
 use Rattle.csp_event_tests.specs.declared.images.Images.{Images}
-use Rattle.csp_expression.specs.declared.eval_fault.EvalFault.{EvalFault}
-use Rattle.csp_expression.specs.declared.eval_fault.EvalFault.TheVariants as eval
+use Rattle.csp_expression.specs.declared.no_value.NoValue.{NoValue}
+use Rattle.csp_expression.specs.declared.no_value.NoValue.TheVariants as eval
 use Rattle.csp_event_tests.specs.Imaging.{AreMade, IsImagesOf, Makes, MakesMore, channel_image, event_image, found_images}
 use Rattle.csp_event_tests.specs.Testing.{AreSetsOf, IsEventOf}
 use Rattle.csp_event_tests.proofs.Alike.{alike_both, alike_by, alike_moved, alike_then, alike_turned}
@@ -101,8 +101,8 @@ module _ (s : process.Script) where
               (alike_both (f e) (found_images images e) (g e ++ []) (g e) (so_far.2 e) (alike_by (g e ++ []) (g e) (append-nil (g e)))) (one.2 e),
         )
 
-    pub stops_at_pair : (why : EvalFault) → MakesMore images (pair_images s (renaming_pair_of item)) (Err why) more → IsImagesOf {A = A} (Err why) (renaming s (renaming_pairs_of items))
-    stops_at_pair (eval.Fault c) is =
+    pub stops_at_pair : (why : NoValue) → MakesMore images (pair_images s (renaming_pair_of item)) (Err why) more → IsImagesOf {A = A} (Err why) (renaming s (renaming_pairs_of items))
+    stops_at_pair (eval.Cause c) is =
         ap (renaming s) whole ∙ renaming_stops (renaming_pairs_of (take i items)) (renaming_pairs_of (drop (i + 1) items)) (renaming_pair_of item) so_far.0 (cause_of c) so_far.1 is
     stops_at_pair eval.Memory is = tt
 
@@ -128,12 +128,12 @@ module _ (s : process.Script) (r : process.RenamingPair) where
 
 -- what has no event or no field sets has no images
 module _ (A : Type 0) (before after : Images A) (all : Result Image Cause) where
-  pub stopped_at_event : (one : Result pure.Event Cause) (why : EvalFault) → IsEventOf {A = A} (Err why) one → ((c : Cause) → one ≡ Err c → all ≡ Err c) → MakesMore before all (Err why) after
-  stopped_at_event one (eval.Fault c) is goes = goes (cause_of c) is
+  pub stopped_at_event : (one : Result pure.Event Cause) (why : NoValue) → IsEventOf {A = A} (Err why) one → ((c : Cause) → one ≡ Err c → all ≡ Err c) → MakesMore before all (Err why) after
+  stopped_at_event one (eval.Cause c) is goes = goes (cause_of c) is
   stopped_at_event one eval.Memory is goes = tt
 
-  pub stopped_at_sets : (one : Result (List (List pure.Value)) Cause) (why : EvalFault) → AreSetsOf {A = A} (Err why) one → ((c : Cause) → one ≡ Err c → all ≡ Err c) → MakesMore before all (Err why) after
-  stopped_at_sets one (eval.Fault c) is goes = goes (cause_of c) is
+  pub stopped_at_sets : (one : Result (List (List pure.Value)) Cause) (why : NoValue) → AreSetsOf {A = A} (Err why) one → ((c : Cause) → one ≡ Err c → all ≡ Err c) → MakesMore before all (Err why) after
+  stopped_at_sets one (eval.Cause c) is goes = goes (cause_of c) is
   stopped_at_sets one eval.Memory is goes = tt
 
 -- no pairs

@@ -12,7 +12,7 @@ use Rattle.csp_value.specs.declared.name.ChannelId.{ChannelId}
 use Rattle.csp_value.specs.Action.{event_of}
 use Rattle.csp_expression.specs.Agreement.{AgreesBy}
 use Rattle.csp_event_tests.specs.declared.images.Images.{Images}
-use Rattle.csp_expression.specs.declared.eval_fault.EvalFault.{EvalFault}
+use Rattle.csp_expression.specs.declared.no_value.NoValue.{NoValue}
 
 -- the event on the other channel, where it is on the first
 abbrev pub channel_image : pure.Event → ChannelId × ChannelId → List pure.Event
@@ -45,9 +45,9 @@ abbrev pub AreMade : {A : Type 0} → Images A → Result (pure.Event → List p
 AreMade images r = (f : pure.Event → List pure.Event) × (r ≡ Ok f) × Makes images f
 
 -- the pairs of a renaming, or the first cause
-abbrev pub IsImagesOf : {A : Type 0} → Result (Images A) EvalFault → Result (pure.Event → List pure.Event) Cause → Type 0
+abbrev pub IsImagesOf : {A : Type 0} → Result (Images A) NoValue → Result (pure.Event → List pure.Event) Cause → Type 0
 IsImagesOf = AgreesBy (λ images r. AreMade images r × PairsRise images)
 
 -- one more pair, or its cause
-abbrev pub MakesMore : {A : Type 0} → Images A → Result (pure.Event → List pure.Event) Cause → Result Unit EvalFault → Images A → Type 0
+abbrev pub MakesMore : {A : Type 0} → Images A → Result (pure.Event → List pure.Event) Cause → Result Unit NoValue → Images A → Type 0
 MakesMore before r x after = AgreesBy (λ u r. (f : pure.Event → List pure.Event) × (r ≡ Ok f) × Makes after (λ e. found_images before e ++ f e)) x r

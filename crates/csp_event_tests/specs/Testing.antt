@@ -22,7 +22,7 @@ use Rattle.csp_value.specs.Action.{event_of}
 use Rattle.csp_value.specs.Value.{value_of, values_of}
 use Rattle.csp_expression.specs.Agreement.{AgreesBy, AgreesWith}
 use Rattle.csp_term.specs.Script.{field_values}
-use Rattle.csp_expression.specs.declared.eval_fault.EvalFault.{EvalFault}
+use Rattle.csp_expression.specs.declared.no_value.NoValue.{NoValue}
 use Rattle.csp_event_tests.specs.declared.event_test.EventTest.{EventTest}
 use Rattle.csp_event_tests.specs.declared.event_test.EventTest.TheOpen as layer
 use Rattle.csp_event_tests.specs.declared.event_test.EventTest.TheFolds.{fold-EventTest}
@@ -62,18 +62,18 @@ abbrev pub sets_of : {A : Type 0} → List (FieldSet A) → List (List pure.Valu
 sets_of ss = map field_values ss
 
 -- the field sets of a channel, or the cause where it has none
-abbrev pub AreSetsOf : {A : Type 0} → Result (Bor (List (FieldSet A))) EvalFault → Result (List (List pure.Value)) Cause → Type 0
+abbrev pub AreSetsOf : {A : Type 0} → Result (Bor (List (FieldSet A))) NoValue → Result (List (List pure.Value)) Cause → Type 0
 AreSetsOf = AgreesWith (λ sets. sets_of sets.now)
 
 -- the value of a given field, which has to lie in its field set
 abbrev pub given : Types → Expression → List pure.Value → Result pure.Value Cause
 given types e set = value types e and_then λ v. in_field_set set v
 
-abbrev pub IsGivenBy : {A : Type 0} → Result (Value A) EvalFault → Result pure.Value Cause → Type 0
+abbrev pub IsGivenBy : {A : Type 0} → Result (Value A) NoValue → Result pure.Value Cause → Type 0
 IsGivenBy = AgreesWith value_of
 
 -- the same of several fields
-abbrev pub AreGivenBy : {A : Type 0} → Result (SmallVec (Value A)) EvalFault → Result (List pure.Value) Cause → Type 0
+abbrev pub AreGivenBy : {A : Type 0} → Result (SmallVec (Value A)) NoValue → Result (List pure.Value) Cause → Type 0
 AreGivenBy = AgreesWith (λ vs. values_of vs.items)
 
 -- the channel with these fields
@@ -81,13 +81,13 @@ abbrev pub event_with : {A : Type 0} → ChannelId → List (Value A) → pure.E
 event_with c vs = record { channel = c.0; fields = values_of vs }
 
 -- the event that is written, or the first cause
-abbrev pub IsEventOf : {A : Type 0} → Result (Event A) EvalFault → Result pure.Event Cause → Type 0
+abbrev pub IsEventOf : {A : Type 0} → Result (Event A) NoValue → Result pure.Event Cause → Type 0
 IsEventOf = AgreesWith event_of
 
 -- the test that a set is, in whose lists events are found by halving, or the first cause
-abbrev pub IsTestOf : {A : Type 0} → Result (EventTest A) EvalFault → Result (pure.Event → Bool) Cause → Type 0
+abbrev pub IsTestOf : {A : Type 0} → Result (EventTest A) NoValue → Result (pure.Event → Bool) Cause → Type 0
 IsTestOf = AgreesBy (λ t r. (r ≡ Ok (test_of t)) × AreSorted (listed_in t))
 
 -- the same behind a pointer
-abbrev pub IsBoxedTestOf : {A : Type 0} → Result (Box (EventTest A) A) EvalFault → Result (pure.Event → Bool) Cause → Type 0
+abbrev pub IsBoxedTestOf : {A : Type 0} → Result (Box (EventTest A) A) NoValue → Result (pure.Event → Bool) Cause → Type 0
 IsBoxedTestOf = AgreesBy (λ t r. (r ≡ Ok (test_of (box_value t))) × AreSorted (listed_in (box_value t)))

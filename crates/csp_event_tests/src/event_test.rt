@@ -12,12 +12,12 @@ ghost use Rattle.csp_value.specs.Action.{event_of};
 ghost use Rattle.csp_expression.specs.Evaluation.{table_of};
 ghost use Rattle.csp_expression.specs.Expression.{expression_of, expressions_of};
 ghost use Rattle.csp_event_sets.specs.Events.{event_expression_of, event_expressions_of, event_set_of};
-ghost use Rattle.csp_term.specs.Script.{field_values, script_of};
+ghost use Rattle.csp_term.specs.Script.{field_values, script_of_parts};
 ghost use Rattle.csp_event_tests.specs.Testing.{AreGivenBy, AreSetsOf, AreSorted, IsBoxedTestOf, IsEventOf, IsGivenBy, IsTestOf, event_with, given, listed_in, sets_of, test_of};
 
 use csp_event_sets::{EventExpression, EventSet, EventSetOperator};
-use csp_expression::{EvalFault, Expr, TypeTable};
-use csp_term::{AllocHandle, Channel, ChannelId, Event, Fault, Memory, Script};
+use csp_expression::{Expr, NoValue, TypeTable};
+use csp_term::{AllocHandle, Cause, Channel, ChannelId, Event, Memory, ScriptParts};
 use csp_value::{FieldSet, Value};
 use smallvec::SmallVec;
 use std::cmp::Ordering;
@@ -34,14 +34,14 @@ pub enum EventTest<A: AllocHandle> {
 
 /// The field sets of the channel, or the cause where the script has none such.
 pub(crate) fn field_sets<A: AllocHandle>(
-    script: &Script<A>,
+    script: &ScriptParts<A>,
     channel: ChannelId,
-) -> Result<&[FieldSet<A>], EvalFault>
-    ensures { AreSetsOf result (field_sets (script_of script.now) channel.0) }
+) -> Result<&[FieldSet<A>], NoValue>
+    ensures { AreSetsOf result (field_sets (script_of_parts script.now) channel.0) }
 {
     match script.channels.get(channel.0 as usize) {
         Some(declared) => Ok(&declared.fields),
-        None => Err(EvalFault::Fault(Fault::Kind)),
+        None => Err(NoValue::Cause(Cause::Kind)),
     }
 }
 
@@ -51,14 +51,14 @@ fn given_value<A: AllocHandle>(
     types: &TypeTable<A>,
     field: &Expr<A>,
     set: &FieldSet<A>,
-) -> Result<Value<A>, EvalFault>
+) -> Result<Value<A>, NoValue>
     ensures { IsGivenBy result (given (table_of types.now) (expression_of field.now) (field_values set.now)) }
 {
-    let value = field.eval(alloc, types)?;
+    let value = field.find_value(alloc, types)?;
     if set.contains(&value) {
         Ok(value)
     } else {
-        Err(EvalFault::Fault(Fault::Range))
+        Err(NoValue::Cause(Cause::Range))
     }
 }
 
@@ -68,13 +68,13 @@ fn given_values<A: AllocHandle>(
     types: &TypeTable<A>,
     fields: &[Expr<A>],
     sets: &[FieldSet<A>],
-) -> Result<SmallVec<Value<A>, 2, A>, EvalFault>
+) -> Result<SmallVec<Value<A>, 2, A>, NoValue>
     ensures { AreGivenBy result (given_values (table_of types.now) (to_expressions (expressions_of fields.now)) (sets_of sets.now)) }
 {
     let mut values = SmallVec::new(alloc);
     for (place, field) in fields.iter().enumerate() {
         let Some(set) = sets.get(place) else {
-            return Err(EvalFault::Fault(Fault::Kind));
+            return Err(NoValue::Cause(Cause::Kind));
         };
         values.push(given_value(alloc, types, field, set)?)?;
     }
@@ -84,10 +84,10 @@ fn given_values<A: AllocHandle>(
 /// The channel with the values of its first fields.
 fn beginning<A: AllocHandle>(
     alloc: A,
-    script: &Script<A>,
+    script: &ScriptParts<A>,
     written: &EventExpression<A>,
-) -> Result<Event<A>, EvalFault>
-    ensures { IsEventOf result (beginning_of (script_of script.now) (event_expression_of written.now)) }
+) -> Result<Event<A>, NoValue>
+    ensures { IsEventOf result (beginning_of (script_of_parts script.now) (event_expression_of written.now)) }
 {
     let channel = written.channel;
     let sets = field_sets(script, channel)?;
@@ -98,26 +98,26 @@ fn beginning<A: AllocHandle>(
 /// The event that is written, with all its fields.
 pub(crate) fn whole_event<A: AllocHandle>(
     alloc: A,
-    script: &Script<A>,
+    script: &ScriptParts<A>,
     written: &EventExpression<A>,
-) -> Result<Event<A>, EvalFault>
-    ensures { IsEventOf result (written_event (script_of script.now) (event_expression_of written.now)) }
+) -> Result<Event<A>, NoValue>
+    ensures { IsEventOf result (written_event (script_of_parts script.now) (event_expression_of written.now)) }
 {
     let event = beginning(alloc, script, written)?;
     let sets = field_sets(script, written.channel)?;
     if event.fields.len() == sets.len() {
         Ok(event)
     } else {
-        Err(EvalFault::Fault(Fault::Kind))
+        Err(NoValue::Cause(Cause::Kind))
     }
 }
 
 fn events<A: AllocHandle>(
     alloc: A,
-    script: &Script<A>,
+    script: &ScriptParts<A>,
     written: &[EventExpression<A>],
-) -> Result<EventTest<A>, EvalFault>
-    ensures { IsTestOf result (event_test (script_of script.now) (Enumeration (event_expressions_of written.now))) }
+) -> Result<EventTest<A>, NoValue>
+    ensures { IsTestOf result (event_test (script_of_parts script.now) (Enumeration (event_expressions_of written.now))) }
 {
     let mut events = Vec::new(alloc);
     for event in written {
@@ -129,10 +129,10 @@ fn events<A: AllocHandle>(
 
 fn beginnings<A: AllocHandle>(
     alloc: A,
-    script: &Script<A>,
+    script: &ScriptParts<A>,
     written: &[EventExpression<A>],
-) -> Result<EventTest<A>, EvalFault>
-    ensures { IsTestOf result (event_test (script_of script.now) (Productions (event_expressions_of written.now))) }
+) -> Result<EventTest<A>, NoValue>
+    ensures { IsTestOf result (event_test (script_of_parts script.now) (Productions (event_expressions_of written.now))) }
 {
     let mut events = Vec::new(alloc);
     for event in written {
@@ -145,10 +145,10 @@ fn beginnings<A: AllocHandle>(
 #[cycle(event_test)]
 fn boxed<A: AllocHandle>(
     alloc: A,
-    script: &Script<A>,
+    script: &ScriptParts<A>,
     set: &EventSet<A>,
-) -> Result<Box<EventTest<A>, A>, EvalFault>
-    ensures { IsBoxedTestOf result (event_test (script_of script.now) (event_set_of set.now)) }
+) -> Result<Box<EventTest<A>, A>, NoValue>
+    ensures { IsBoxedTestOf result (event_test (script_of_parts script.now) (event_set_of set.now)) }
 {
     Ok(Box::new(alloc, EventTest::of(alloc, script, set)?)?)
 }
@@ -208,11 +208,11 @@ fn is_begun<A: AllocHandle>(beginnings: &[Event<A>], event: &Event<A>) -> bool
 }
 
 impl<A: AllocHandle> EventTest<A> {
-    /// The test that the set is: `Fault` has the first cause for which it is none, and `Memory` says that
+    /// The test that the set is: `Cause` has the first cause for which it is none, and `Memory` says that
     /// there is no room for it.
     #[cycle(event_test)]
-    pub fn of(alloc: A, script: &Script<A>, set: &EventSet<A>) -> Result<EventTest<A>, EvalFault>
-        ensures { IsTestOf result (event_test (script_of script.now) (event_set_of set.now)) }
+    pub fn of(alloc: A, script: &ScriptParts<A>, set: &EventSet<A>) -> Result<EventTest<A>, NoValue>
+        ensures { IsTestOf result (event_test (script_of_parts script.now) (event_set_of set.now)) }
     {
         match set {
             EventSet::Enumeration(written) => events(alloc, script, written),

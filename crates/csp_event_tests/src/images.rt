@@ -7,14 +7,14 @@ ghost use Rattle.csp_syntax.specs.Value.{event_cmp, event_eq};
 ghost use Rattle.csp_semantics.specs.Meaning.Events.{channel_images, event_images, is_bare, or_itself, pair_images, renaming, same_sets};
 ghost use Rattle.csp_value.specs.Action.{event_of};
 ghost use Rattle.csp_event_sets.specs.Events.{event_expression_of, renaming_pair_of, renaming_pairs_of};
-ghost use Rattle.csp_term.specs.Script.{script_of};
+ghost use Rattle.csp_term.specs.Script.{script_of_parts};
 ghost use Rattle.csp_event_tests.specs.Testing.{sets_of};
 ghost use Rattle.csp_event_tests.specs.Imaging.{ChannelsRise, EventsRise, MakesMore, IsImagesOf, PairsRise, channel_image, event_image, found_images};
 
 use crate::event_test::{field_sets, whole_event};
 use csp_event_sets::{EventExpression, RenamingPair};
-use csp_expression::EvalFault;
-use csp_term::{AllocHandle, ChannelId, Event, Fault, Memory, Script};
+use csp_expression::NoValue;
+use csp_term::{AllocHandle, Cause, ChannelId, Event, Memory, ScriptParts};
 use csp_value::FieldSet;
 
 /// What a renaming makes of events. Both lists rise by what they name, so that it is found by halving.
@@ -90,10 +90,10 @@ impl<A: AllocHandle> Images<A> {
     fn add_events(
         &mut self,
         alloc: A,
-        script: &Script<A>,
+        script: &ScriptParts<A>,
         pair: &RenamingPair<A>,
-    ) -> Result<(), EvalFault>
-        ensures { MakesMore self.old (event_images (script_of script.now) (event_expression_of pair.now.from) (event_expression_of pair.now.to)) result self.new }
+    ) -> Result<(), NoValue>
+        ensures { MakesMore self.old (event_images (script_of_parts script.now) (event_expression_of pair.now.from) (event_expression_of pair.now.to)) result self.new }
     {
         let from = whole_event(alloc, script, &pair.from)?;
         let to = whole_event(alloc, script, &pair.to)?;
@@ -103,16 +103,16 @@ impl<A: AllocHandle> Images<A> {
 
     fn add_channels(
         &mut self,
-        script: &Script<A>,
+        script: &ScriptParts<A>,
         from: ChannelId,
         to: ChannelId,
-    ) -> Result<(), EvalFault>
-        ensures { MakesMore self.old (channel_images (script_of script.now) from.0 to.0) result self.new }
+    ) -> Result<(), NoValue>
+        ensures { MakesMore self.old (channel_images (script_of_parts script.now) from.0 to.0) result self.new }
     {
         let sets = field_sets(script, from)?;
         let others = field_sets(script, to)?;
         if !same_sets(sets, others) {
-            return Err(EvalFault::Fault(Fault::Kind));
+            return Err(NoValue::Cause(Cause::Kind));
         }
         self.channels.push((from, to))?;
         Ok(())
@@ -122,10 +122,10 @@ impl<A: AllocHandle> Images<A> {
     fn add_pair(
         &mut self,
         alloc: A,
-        script: &Script<A>,
+        script: &ScriptParts<A>,
         pair: &RenamingPair<A>,
-    ) -> Result<(), EvalFault>
-        ensures { MakesMore self.old (pair_images (script_of script.now) (renaming_pair_of pair.now)) result self.new }
+    ) -> Result<(), NoValue>
+        ensures { MakesMore self.old (pair_images (script_of_parts script.now) (renaming_pair_of pair.now)) result self.new }
     {
         if are_channels(pair) {
             self.add_channels(script, pair.from.channel, pair.to.channel)
@@ -134,14 +134,14 @@ impl<A: AllocHandle> Images<A> {
         }
     }
 
-    /// What the pairs make of events: `Fault` has the first cause for which that is nothing, and `Memory`
+    /// What the pairs make of events: `Cause` has the first cause for which that is nothing, and `Memory`
     /// says that there is no room for it.
     pub fn of(
         alloc: A,
-        script: &Script<A>,
+        script: &ScriptParts<A>,
         pairs: &[RenamingPair<A>],
-    ) -> Result<Images<A>, EvalFault>
-        ensures { IsImagesOf result (renaming (script_of script.now) (renaming_pairs_of pairs.now)) }
+    ) -> Result<Images<A>, NoValue>
+        ensures { IsImagesOf result (renaming (script_of_parts script.now) (renaming_pairs_of pairs.now)) }
     {
         let mut images = Images {
             channels: Vec::new(alloc),

@@ -10,13 +10,13 @@ use Rattle.csp_value.specs.declared.value.Value.{Value}
 use Rattle.csp_value.specs.Value.{value_of, values_of}
 use Rattle.csp_expression.specs.declared.expr.Expr.{Expr}
 use Rattle.csp_expression.specs.declared.expr.Expr.TheVariants as views
-use Rattle.csp_expression.specs.declared.eval_fault.EvalFault.{EvalFault}
-use Rattle.csp_expression.specs.declared.eval_fault.EvalFault.TheVariants as variant
-use Rattle.csp_expression.specs.Evaluation.{AnswersAll, Sees}
+use Rattle.csp_expression.specs.declared.no_value.NoValue.{NoValue}
+use Rattle.csp_expression.specs.declared.no_value.NoValue.TheVariants as variant
+use Rattle.csp_expression.specs.Evaluation.{GivesAll, Sees}
 use Rattle.csp_semantics.specs.Meaning.Substitution.{Bindings, put_expression}
 use Rattle.csp_expression.specs.Bindings.{puts}
 use Rattle.csp_expression.specs.Expression.{expression_of}
-use Rattle.csp_expression.specs.Fault.{cause_of}
+use Rattle.csp_expression.specs.Cause.{cause_of}
 use Rattle.csp_expression.proofs.ExpressionForms.{of_sequence, of_set}
 use Rattle.csp_expression.proofs.ExpressionPutting.{put_list}
 
@@ -68,9 +68,9 @@ module _ {A : Type 0} (types : Types) (bs : Bindings) (items : List (Expr A)) (i
       ∙ value_more types (puts bs (take i items)) (put_expression bs (expression_of item)) (values_of all) (value_of x) so_far one ∙ ap Ok (sym (map-append value_of all (x ∷ [])) ∙ ap values_of (sym pushed))
 
   -- the item has no value
-  pub found_none : (fault : EvalFault) → Found → i < length items → item ≡ get_or items i item → Sees {A = A} (Err fault) (value types (put_expression bs (expression_of item))) → AnswersAll {A = A} (Err fault) (values types (to_expressions (puts bs items)))
+  pub found_none : (fault : NoValue) → Found → i < length items → item ≡ get_or items i item → Sees {A = A} (Err fault) (value types (put_expression bs (expression_of item))) → GivesAll {A = A} (Err fault) (values types (to_expressions (puts bs items)))
   found_none variant.Memory so_far within read none = tt
-  found_none (variant.Fault c) so_far within read none =
+  found_none (variant.Cause c) so_far within read none =
       let rest = drop_more items i item within ∙ ap (λ z. z ∷ drop (i + 1) items) (sym read) in
       let whole = sym (take-append-drop i items) ∙ ap (λ zs. take i items ++ zs) rest in
       ap (λ es. values types (to_expressions (puts bs es))) whole ∙ ap (λ es. values types (to_expressions es)) (map-append (λ e. put_expression bs (expression_of e)) (take i items) (item ∷ drop (i + 1) items))

@@ -12,3 +12,4 @@ pub mod Named
 pub mod Looking
 pub mod Forming
 pub mod Measures
+pub mod ClosedExpressions

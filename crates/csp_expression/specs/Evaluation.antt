@@ -1,5 +1,5 @@
 -- What an answer of an evaluation says, and what the types of the code stand for.
-use Rattle.std.specs.Prelude.{◌≡◌, Bool, true, false, ℕ, zero, suc, List, [], ◌∷◌, map, Result, Ok, Err}
+use Rattle.std.specs.Prelude.{◌≡◌, ⊤, Bool, true, false, ℕ, zero, suc, List, [], ◌∷◌, map, Result, Ok, Err}
 use Rattle.std.specs.declared.vec.Vec.{Vec}
 use Rattle.csp_syntax.specs.Value as pure
 use Rattle.csp_syntax.specs.Expression as expression
@@ -8,23 +8,32 @@ use Rattle.csp_semantics.specs.Meaning.Evaluation.{Cause}
 use Rattle.csp_value.specs.declared.set.SetOf.{SetOf}
 use Rattle.csp_value.specs.declared.value.Value.{Value}
 use Rattle.csp_value.specs.Value.{value_of, values_of, members_of}
-use Rattle.csp_expression.specs.declared.fault.Fault.{Fault}
+use Rattle.csp_expression.specs.declared.cause.Cause as code
+use Rattle.csp_expression.specs.declared.no_value.NoValue.{NoValue}
 use Rattle.csp_expression.specs.declared.eval_fault.EvalFault.{EvalFault}
+use Rattle.csp_expression.specs.declared.eval_fault.EvalFault.TheVariants as eval
 use Rattle.csp_expression.specs.declared.seen.Seen.{Seen}
 use Rattle.csp_expression.specs.declared.seen.Seen.TheVariants as seen
 use Rattle.csp_expression.specs.declared.types.Constructors.{Constructors}
 use Rattle.csp_expression.specs.declared.types.TypeTable.{TypeTable}
-use Rattle.csp_expression.specs.Fault.{cause_of}
+use Rattle.csp_expression.specs.Cause.{cause_of}
+use Rattle.csp_expression.specs.Fault as fault
 use Rattle.csp_expression.specs.Agreement.{AgreesWith}
 
 -- the answer is this value, or this cause
-abbrev pub IsAnswer : {A : Type 0} → Result (Value A) Fault → Result pure.Value Cause → Type 0
+abbrev pub IsAnswer : {A : Type 0} → Result (Value A) code.Cause → Result pure.Value Cause → Type 0
 IsAnswer (Ok v) r = r ≡ Ok (value_of v)
 IsAnswer (Err c) r = r ≡ Err (cause_of c)
 
 -- the same where memory is needed
+abbrev pub Gives : {A : Type 0} → Result (Value A) NoValue → Result pure.Value Cause → Type 0
+Gives = AgreesWith value_of
+
+-- the answer is this value or fault, where nothing is of a wrong kind. Refused memory says nothing.
 abbrev pub Answers : {A : Type 0} → Result (Value A) EvalFault → Result pure.Value Cause → Type 0
-Answers = AgreesWith value_of
+Answers (Ok v) r = r ≡ Ok (value_of v)
+Answers (Err (eval.Fault f)) r = r ≡ Err (fault.cause_of f)
+Answers (Err eval.Memory) r = ⊤
 
 -- the value that is seen
 abbrev pub seen_value : {A : Type 0} → Seen A → pure.Value
@@ -32,16 +41,16 @@ seen_value (seen.Lent v) = value_of v.now
 seen_value (seen.Made v) = value_of v
 
 -- the same of a value that is seen
-abbrev pub IsSeen : {A : Type 0} → Result (Seen A) Fault → Result pure.Value Cause → Type 0
+abbrev pub IsSeen : {A : Type 0} → Result (Seen A) code.Cause → Result pure.Value Cause → Type 0
 IsSeen (Ok v) r = r ≡ Ok (seen_value v)
 IsSeen (Err c) r = r ≡ Err (cause_of c)
 
-abbrev pub Sees : {A : Type 0} → Result (Seen A) EvalFault → Result pure.Value Cause → Type 0
+abbrev pub Sees : {A : Type 0} → Result (Seen A) NoValue → Result pure.Value Cause → Type 0
 Sees = AgreesWith seen_value
 
 -- and of several values
-abbrev pub AnswersAll : {A : Type 0} → Result (Vec (Value A) A) EvalFault → Result (List pure.Value) Cause → Type 0
-AnswersAll = AgreesWith (λ vs. values_of vs.items)
+abbrev pub GivesAll : {A : Type 0} → Result (Vec (Value A) A) NoValue → Result (List pure.Value) Cause → Type 0
+GivesAll = AgreesWith (λ vs. values_of vs.items)
 
 -- the operator makes its value of its operands without a part of them
 abbrev pub only_reads : expression.Binary → Bool

@@ -7,18 +7,18 @@ ghost use Rattle.csp_semantics.specs.Meaning.Evaluation.{apply, combine, decides
 ghost use Rattle.csp_value.specs.Value.{value_of};
 ghost use Rattle.csp_expression.specs.Evaluation.{IsAnswer};
 
-use crate::fault::Fault;
+use crate::cause::Cause;
 use csp_syntax::BinaryOperator;
 use csp_value::Value;
 use std::alloc::Allocator;
 
 /// `not e`
-pub(crate) fn negation<A: Allocator>(operand: &Value<A>) -> Result<Value<A>, Fault>
+pub(crate) fn negation<A: Allocator>(operand: &Value<A>) -> Result<Value<A>, Cause>
     ensures { IsAnswer result (apply pure.Not (value_of operand.now)) }
 {
     match operand {
         Value::Bool(truth) => Ok(Value::Bool(!truth)),
-        _ => Err(Fault::Kind),
+        _ => Err(Cause::Kind),
     }
 }
 
@@ -37,12 +37,12 @@ pub(crate) fn decides<A: Allocator>(operator: BinaryOperator, left: &Value<A>) -
 pub(crate) fn conjunction<A: Allocator>(
     left: &Value<A>,
     right: &Value<A>,
-) -> Result<Value<A>, Fault>
+) -> Result<Value<A>, Cause>
     ensures { IsAnswer result (combine pure.And (value_of left.now) (value_of right.now)) }
 {
     match (left, right) {
         (Value::Bool(left), Value::Bool(right)) => Ok(Value::Bool(*left && *right)),
-        _ => Err(Fault::Kind),
+        _ => Err(Cause::Kind),
     }
 }
 
@@ -50,11 +50,11 @@ pub(crate) fn conjunction<A: Allocator>(
 pub(crate) fn disjunction<A: Allocator>(
     left: &Value<A>,
     right: &Value<A>,
-) -> Result<Value<A>, Fault>
+) -> Result<Value<A>, Cause>
     ensures { IsAnswer result (combine pure.Or (value_of left.now) (value_of right.now)) }
 {
     match (left, right) {
         (Value::Bool(left), Value::Bool(right)) => Ok(Value::Bool(*left || *right)),
-        _ => Err(Fault::Kind),
+        _ => Err(Cause::Kind),
     }
 }

@@ -5,15 +5,17 @@ ghost use Rattle.csp_syntax.specs.Expression.{to_expressions};
 ghost use Rattle.csp_syntax.specs.Operators.{binary_of, unary_of};
 ghost use Rattle.csp_semantics.specs.Meaning.Evaluation.{apply, combine, range_of, value, values};
 ghost use Rattle.csp_semantics.specs.Meaning.Substitution.{put_expression};
+ghost use Rattle.csp_expression.specs.Closed.{IsClosedExpression};
 ghost use Rattle.csp_expression.specs.Bindings.{bindings_of, puts};
 ghost use Rattle.std.specs.Prelude.{◌≡◌, true};
 ghost use Rattle.csp_value.specs.Value.{value_of};
-ghost use Rattle.csp_expression.specs.Evaluation.{Answers, AnswersAll, IsAnswer, Sees, only_reads, only_reads_operand, seen_value, table_of};
+ghost use Rattle.csp_expression.specs.Evaluation.{Answers, Gives, GivesAll, IsAnswer, Sees, only_reads, only_reads_operand, seen_value, table_of};
 ghost use Rattle.csp_expression.specs.Expression.{expression_of};
 
+use crate::cause::Cause;
 use crate::eval_fault::EvalFault;
 use crate::expr::Expr;
-use crate::fault::Fault;
+use crate::no_value::NoValue;
 use crate::seen::Seen;
 use crate::substitution::{Binding, bound};
 use crate::types::TypeTable;
@@ -23,12 +25,27 @@ use csp_value::Value;
 use std::alloc::Allocator;
 
 impl<A: Allocator + Copy> Expr<A> {
-    /// The value of the expression in the given allocator, or the first cause from left to right for which it has none.
-    /// `and` and `or` look at their right side only where the left one does not decide. A name that no value was put in
-    /// for, and an operand of the wrong kind, are `Kind`. `Memory` says nothing of the value.
-    #[tactic(auto, using(csp_semantics::proofs::Putting::put_nothing_in_expression))]
+    /// The value of the closed, well-kinded expression in the given allocator, or the first fault from left to right for
+    /// which it has none. `and` and `or` look at their right side only where the left one does not decide. `Memory` says
+    /// nothing of the value.
     pub fn eval(&self, alloc: A, types: &TypeTable<A>) -> Result<Value<A>, EvalFault>
+        requires closed { IsClosedExpression (table_of types.now) (expression_of self.now) }
         ensures { Answers result (value (table_of types.now) (expression_of self.now)) }
+    {
+        match self.find_value(alloc, types) {
+            Ok(value) => Ok(value),
+            Err(NoValue::Memory) => Err(EvalFault::Memory),
+            Err(NoValue::Cause(cause)) => match cause.fault() {
+                Some(fault) => Err(EvalFault::Fault(fault)),
+                None => unreachable!(),
+            },
+        }
+    }
+
+    /// The same for any expression: a name that no value was put in for, and an operand of the wrong kind, are `Kind`.
+    #[tactic(auto, using(csp_semantics::proofs::Putting::put_nothing_in_expression))]
+    pub fn find_value(&self, alloc: A, types: &TypeTable<A>) -> Result<Value<A>, NoValue>
+        ensures { Gives result (value (table_of types.now) (expression_of self.now)) }
     {
         Ok(self.look(alloc, types, &[])?.into_value(alloc)?)
     }
@@ -41,14 +58,14 @@ impl<A: Allocator + Copy> Expr<A> {
         alloc: A,
         types: &TypeTable<A>,
         bindings: &[Binding<'e, A>],
-    ) -> Result<Seen<'e, A>, EvalFault>
+    ) -> Result<Seen<'e, A>, NoValue>
         ensures { Sees result (value (table_of types.now) (put_expression (bindings_of bindings.now) (expression_of self.now))) }
     {
         match self {
             Expr::Literal(value) => Ok(Seen::Lent(value)),
             Expr::Name(name) => match bound(*name, bindings) {
                 Some(value) => Ok(Seen::Lent(value)),
-                None => Err(EvalFault::Fault(Fault::Kind)),
+                None => Err(NoValue::Cause(Cause::Kind)),
             },
             Expr::Apply(operator, operand) => {
                 let operand = operand.look(alloc, types, bindings)?;
@@ -89,8 +106,8 @@ fn look_at_all<'e, A: Allocator + Copy>(
     expressions: &'e [Expr<A>],
     types: &TypeTable<A>,
     bindings: &[Binding<'e, A>],
-) -> Result<Vec<Value<A>, A>, EvalFault>
-    ensures { AnswersAll result (values (table_of types.now) (to_expressions (puts (bindings_of bindings.now) expressions.now))) }
+) -> Result<Vec<Value<A>, A>, NoValue>
+    ensures { GivesAll result (values (table_of types.now) (to_expressions (puts (bindings_of bindings.now) expressions.now))) }
 {
     let mut all = Vec::new(alloc);
     for expression in expressions {
@@ -105,8 +122,8 @@ fn range<'e, A: Allocator + Copy>(
     alloc: A,
     from: Seen<'e, A>,
     to: Seen<'e, A>,
-) -> Result<Value<A>, EvalFault>
-    ensures { Answers result (range_of (seen_value from.entry) (seen_value to.entry)) }
+) -> Result<Value<A>, NoValue>
+    ensures { Gives result (range_of (seen_value from.entry) (seen_value to.entry)) }
 {
     ranges::range(alloc, from.value(), to.value())
 }
@@ -116,7 +133,7 @@ fn apply<'e, A: Allocator + Copy>(
     alloc: A,
     operator: UnaryOperator,
     operand: Seen<'e, A>,
-) -> Result<Seen<'e, A>, EvalFault>
+) -> Result<Seen<'e, A>, NoValue>
     ensures { Sees result (apply (unary_of operator) (seen_value operand.entry)) }
 {
     match operator {
@@ -127,7 +144,7 @@ fn apply<'e, A: Allocator + Copy>(
 }
 
 /// `tail(e)`
-fn tail<'e, A: Allocator + Copy>(alloc: A, operand: Seen<'e, A>) -> Result<Seen<'e, A>, EvalFault>
+fn tail<'e, A: Allocator + Copy>(alloc: A, operand: Seen<'e, A>) -> Result<Seen<'e, A>, NoValue>
     ensures { Sees result (apply pure.Tail (seen_value operand.entry)) }
 {
     let operand = operand.into_value(alloc)?;
@@ -138,9 +155,9 @@ fn tail<'e, A: Allocator + Copy>(alloc: A, operand: Seen<'e, A>) -> Result<Seen<
 fn read_operand<A: Allocator + Copy>(
     operator: UnaryOperator,
     operand: &Value<A>,
-) -> Result<Value<A>, EvalFault>
+) -> Result<Value<A>, NoValue>
     requires { only_reads_operand (unary_of operator) ≡ true }
-    ensures { Answers result (apply (unary_of operator) (value_of operand.now)) }
+    ensures { Gives result (apply (unary_of operator) (value_of operand.now)) }
 {
     match operator {
         UnaryOperator::Negate => Ok(arithmetic::negate(operand)?),
@@ -158,8 +175,8 @@ fn combine<'e, A: Allocator + Copy>(
     operator: BinaryOperator,
     left: Seen<'e, A>,
     right: Seen<'e, A>,
-) -> Result<Value<A>, EvalFault>
-    ensures { Answers result (combine (binary_of operator) (seen_value left.entry) (seen_value right.entry)) }
+) -> Result<Value<A>, NoValue>
+    ensures { Gives result (combine (binary_of operator) (seen_value left.entry) (seen_value right.entry)) }
 {
     match operator {
         BinaryOperator::Concatenate => concatenation(alloc, left, right),
@@ -175,8 +192,8 @@ fn concatenation<'e, A: Allocator + Copy>(
     alloc: A,
     left: Seen<'e, A>,
     right: Seen<'e, A>,
-) -> Result<Value<A>, EvalFault>
-    ensures { Answers result (combine pure.Concatenate (seen_value left.entry) (seen_value right.entry)) }
+) -> Result<Value<A>, NoValue>
+    ensures { Gives result (combine pure.Concatenate (seen_value left.entry) (seen_value right.entry)) }
 {
     let left = left.into_value(alloc)?;
     let right = right.into_value(alloc)?;
@@ -188,8 +205,8 @@ fn union<'e, A: Allocator + Copy>(
     alloc: A,
     left: Seen<'e, A>,
     right: Seen<'e, A>,
-) -> Result<Value<A>, EvalFault>
-    ensures { Answers result (combine pure.Union (seen_value left.entry) (seen_value right.entry)) }
+) -> Result<Value<A>, NoValue>
+    ensures { Gives result (combine pure.Union (seen_value left.entry) (seen_value right.entry)) }
 {
     let left = left.into_value(alloc)?;
     let right = right.into_value(alloc)?;
@@ -201,8 +218,8 @@ fn intersection<'e, A: Allocator + Copy>(
     alloc: A,
     left: Seen<'e, A>,
     right: Seen<'e, A>,
-) -> Result<Value<A>, EvalFault>
-    ensures { Answers result (combine pure.Intersection (seen_value left.entry) (seen_value right.entry)) }
+) -> Result<Value<A>, NoValue>
+    ensures { Gives result (combine pure.Intersection (seen_value left.entry) (seen_value right.entry)) }
 {
     let left = left.into_value(alloc)?;
     Ok(sets::intersection(left, right.value())?)
@@ -213,8 +230,8 @@ fn difference<'e, A: Allocator + Copy>(
     alloc: A,
     left: Seen<'e, A>,
     right: Seen<'e, A>,
-) -> Result<Value<A>, EvalFault>
-    ensures { Answers result (combine pure.Difference (seen_value left.entry) (seen_value right.entry)) }
+) -> Result<Value<A>, NoValue>
+    ensures { Gives result (combine pure.Difference (seen_value left.entry) (seen_value right.entry)) }
 {
     let left = left.into_value(alloc)?;
     Ok(sets::difference(left, right.value())?)
@@ -225,7 +242,7 @@ fn read<A: Allocator + Copy>(
     operator: BinaryOperator,
     left: &Value<A>,
     right: &Value<A>,
-) -> Result<Value<A>, Fault>
+) -> Result<Value<A>, Cause>
     requires { only_reads (binary_of operator) ≡ true }
     ensures { IsAnswer result (combine (binary_of operator) (value_of left.now) (value_of right.now)) }
 {

@@ -1,13 +1,12 @@
-//! Why nothing is answered.
+//! Why the value of an expression is not answered.
 
 ghost use Rattle.std.specs.Prelude.{◌≡◌};
 
 use crate::fault::Fault;
 use csp_value::Memory;
-use std::alloc::AllocFailed;
 use thiserror::Error;
 
-/// Why the value of an expression, a set of events, a renaming or the steps of a term are not answered.
+/// Why the value of a closed, well-kinded expression is not answered.
 #[derive(Clone, Copy, Debug, PartialEq, Eq, Error)]
 pub enum EvalFault {
     /// There is no room for the answer.
@@ -24,26 +23,6 @@ impl From<Memory> for EvalFault {
     ghost from_gives = { λ _ e. e ≡ no_memory };
 
     fn from(_refused: Memory) -> EvalFault {
-        EvalFault::Memory
-    }
-}
-
-impl From<Fault> for EvalFault {
-    ghost use Rattle.csp_expression.specs.declared.eval_fault.EvalFault.TheVariants.{Fault as faulty};
-
-    ghost from_gives = { λ cause e. e ≡ faulty cause };
-
-    fn from(cause: Fault) -> EvalFault {
-        EvalFault::Fault(cause)
-    }
-}
-
-impl<T: Drop> From<AllocFailed<T>> for EvalFault {
-    ghost use Rattle.csp_expression.specs.declared.eval_fault.EvalFault.TheVariants.{Memory as no_memory};
-
-    ghost from_gives = { λ _ e. e ≡ no_memory };
-
-    fn from(_refused: AllocFailed<T>) -> EvalFault {
         EvalFault::Memory
     }
 }

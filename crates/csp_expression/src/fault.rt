@@ -1,10 +1,10 @@
-//! Why a rule has no value.
+//! Why a rule of a checked script has no value.
 
 ghost use Rattle.std.specs.Prelude.{◌≡◌};
 ghost use Rattle.csp_semantics.specs.Meaning.Causes.{cause_number, cause_word};
 ghost use Rattle.csp_expression.specs.Fault.{cause_of};
 
-/// A cause for which a rule of a term needs a value that does not exist (this profile).
+/// A cause for which a rule of a closed, well-kinded term needs a value that does not exist (this profile).
 #[derive(Clone, Copy, Debug, PartialEq, Eq)]
 pub enum Fault {
     /// A given value lies outside its field set.
@@ -17,12 +17,10 @@ pub enum Fault {
     Modulus,
     /// Replicated `|~|` over the empty set.
     Choice,
-    /// An operand of the wrong kind or a name that stands for nothing; a script whose kinds are checked never meets it.
-    Kind,
 }
 
 impl Fault {
-    /// The cause's number, from 1 to 6.
+    /// The fault's number, from 1 to 5.
     pub fn number(self) -> u32
         ensures { result ≡ cause_number (cause_of self) }
     {
@@ -32,11 +30,10 @@ impl Fault {
             Fault::Empty => 3,
             Fault::Modulus => 4,
             Fault::Choice => 5,
-            Fault::Kind => 6,
         }
     }
 
-    /// The word that is printed for the cause.
+    /// The word that is printed for the fault.
     pub fn word(self) -> &'static str
         ensures { result.now ≡ cause_word (cause_of self) }
     {
@@ -46,7 +43,6 @@ impl Fault {
             Fault::Empty => "empty",
             Fault::Modulus => "modulus",
             Fault::Choice => "choice",
-            Fault::Kind => "kind",
         }
     }
 }

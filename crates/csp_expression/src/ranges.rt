@@ -4,11 +4,11 @@ ghost use Rattle.std.specs.Prelude.{◌≡◌, ◌≤◌, ◌∷◌, [], true, f
 ghost use Rattle.csp_syntax.specs.Value.{Truth};
 ghost use Rattle.csp_semantics.specs.Meaning.Evaluation.{constructors, count_between, datatype_set, numbers_from, range, range_of, set_at, set_of};
 ghost use Rattle.csp_value.specs.Value.{value_of};
-ghost use Rattle.csp_expression.specs.Evaluation.{Answers, constructors_of, members_listed, table_of};
+ghost use Rattle.csp_expression.specs.Evaluation.{Gives, constructors_of, members_listed, table_of};
 
-use crate::eval_fault::EvalFault;
-use crate::fault::Fault;
+use crate::cause::Cause;
 use crate::name::{DatatypeId, NametypeId};
+use crate::no_value::NoValue;
 use crate::sequences::MAX_MEMBERS;
 use crate::sets::set;
 use crate::types::{Constructors, TypeTable};
@@ -20,29 +20,29 @@ pub(crate) fn range<A: Allocator + Copy>(
     alloc: A,
     from: &Value<A>,
     to: &Value<A>,
-) -> Result<Value<A>, EvalFault>
-    ensures { Answers result (range_of (value_of from.now) (value_of to.now)) }
+) -> Result<Value<A>, NoValue>
+    ensures { Gives result (range_of (value_of from.now) (value_of to.now)) }
 {
     match (from, to) {
         (Value::Int(from), Value::Int(to)) => numbers(alloc, *from, *to),
-        _ => Err(EvalFault::Fault(Fault::Kind)),
+        _ => Err(NoValue::Cause(Cause::Kind)),
     }
 }
 
 /// The set of the numbers from one to another, both with them.
-fn numbers<A: Allocator + Copy>(alloc: A, from: i32, to: i32) -> Result<Value<A>, EvalFault>
-    ensures { Answers result (range from to) }
+fn numbers<A: Allocator + Copy>(alloc: A, from: i32, to: i32) -> Result<Value<A>, NoValue>
+    ensures { Gives result (range from to) }
 {
     let count = count_between(from, to);
     if count > MAX_MEMBERS as u64 {
-        return Err(EvalFault::Fault(Fault::Overflow));
+        return Err(NoValue::Cause(Cause::Overflow));
     }
     let mut members = Vec::new(alloc);
     for offset in 0..count {
         // A number between two of 32 bits has 32 bits, so the last arm is never taken.
         match from.checked_add(offset as i32) {
             Some(number) => members.push(Value::Int(number))?,
-            None => return Err(EvalFault::Memory),
+            None => return Err(NoValue::Memory),
         }
     }
     Ok(Value::Set(SetOf::from_values(members)))
@@ -59,8 +59,8 @@ fn count_between(from: i32, to: i32) -> u64
 }
 
 /// `Bool`
-pub(crate) fn booleans<A: Allocator + Copy>(alloc: A) -> Result<Value<A>, EvalFault>
-    ensures { Answers result (set_of (Truth false ∷ Truth true ∷ [])) }
+pub(crate) fn booleans<A: Allocator + Copy>(alloc: A) -> Result<Value<A>, NoValue>
+    ensures { Gives result (set_of (Truth false ∷ Truth true ∷ [])) }
 {
     let mut members = Vec::new(alloc);
     members.push(Value::Bool(false))?;
@@ -73,28 +73,28 @@ pub(crate) fn datatype<A: Allocator + Copy>(
     alloc: A,
     types: &TypeTable<A>,
     datatype: DatatypeId,
-) -> Result<Value<A>, EvalFault>
-    ensures { Answers result (datatype_set (slice_get (table_of types.now).datatypes datatype.0)) }
+) -> Result<Value<A>, NoValue>
+    ensures { Gives result (datatype_set (slice_get (table_of types.now).datatypes datatype.0)) }
 {
     match types.datatypes.get(datatype.0 as usize) {
         Some(range) => all_of(alloc, *range),
-        None => Err(EvalFault::Fault(Fault::Kind)),
+        None => Err(NoValue::Cause(Cause::Kind)),
     }
 }
 
 /// The set of the constructors.
-fn all_of<A: Allocator + Copy>(alloc: A, range: Constructors) -> Result<Value<A>, EvalFault>
-    ensures { Answers result (set_of (constructors (constructors_of range))) }
+fn all_of<A: Allocator + Copy>(alloc: A, range: Constructors) -> Result<Value<A>, NoValue>
+    ensures { Gives result (set_of (constructors (constructors_of range))) }
 {
     if range.following as usize >= MAX_MEMBERS {
-        return Err(EvalFault::Fault(Fault::Overflow));
+        return Err(NoValue::Cause(Cause::Overflow));
     }
     let mut members = Vec::new(alloc);
     for offset in 0..range.following + 1 {
         // No memory holds the names of more constructors than have a number, so the last arm is never taken.
         match range.first.0.checked_add(offset) {
             Some(constructor) => members.push(Value::Con(ConId(constructor)))?,
-            None => return Err(EvalFault::Memory),
+            None => return Err(NoValue::Memory),
         }
     }
     Ok(Value::Set(SetOf::from_values(members)))
@@ -105,18 +105,18 @@ pub(crate) fn nametype<A: Allocator + Copy>(
     alloc: A,
     types: &TypeTable<A>,
     nametype: NametypeId,
-) -> Result<Value<A>, EvalFault>
-    ensures { Answers result (set_at (slice_get (table_of types.now).nametypes nametype.0)) }
+) -> Result<Value<A>, NoValue>
+    ensures { Gives result (set_at (slice_get (table_of types.now).nametypes nametype.0)) }
 {
     match types.nametypes.get(nametype.0 as usize) {
         Some(set) => copy_of(alloc, set),
-        None => Err(EvalFault::Fault(Fault::Kind)),
+        None => Err(NoValue::Cause(Cause::Kind)),
     }
 }
 
 /// A copy of the set as a value, or `Overflow` where it has more than 1,024 members.
-fn copy_of<A: Allocator + Copy>(alloc: A, original: &SetOf<A>) -> Result<Value<A>, EvalFault>
-    ensures { Answers result (set_of (members_listed original.now)) }
+fn copy_of<A: Allocator + Copy>(alloc: A, original: &SetOf<A>) -> Result<Value<A>, NoValue>
+    ensures { Gives result (set_of (members_listed original.now)) }
 {
     let copy = original.try_copy(alloc)?;
     Ok(set(copy)?)

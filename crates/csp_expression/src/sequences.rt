@@ -5,10 +5,10 @@ ghost use Rattle.csp_syntax.specs.Expression as pure;
 ghost use Rattle.csp_syntax.specs.Value.{Integer};
 ghost use Rattle.csp_semantics.specs.Meaning.Evaluation.{apply, combine, sequence};
 ghost use Rattle.csp_value.specs.Value.{value_of, values_of};
-ghost use Rattle.csp_expression.specs.Evaluation.{Answers, IsAnswer, IsSeen, seen_value};
+ghost use Rattle.csp_expression.specs.Evaluation.{Gives, IsAnswer, IsSeen, seen_value};
 
-use crate::eval_fault::EvalFault;
-use crate::fault::Fault;
+use crate::cause::Cause;
+use crate::no_value::NoValue;
 use crate::seen::Seen;
 use csp_value::{Memory, Value};
 use std::alloc::Allocator;
@@ -17,75 +17,75 @@ use std::alloc::Allocator;
 pub(crate) const MAX_MEMBERS: usize = 1024;
 
 /// The sequence of the values, or `Overflow` where they are more than 1,024.
-pub(crate) fn sequence<A: Allocator>(items: Vec<Value<A>, A>) -> Result<Value<A>, Fault>
+pub(crate) fn sequence<A: Allocator>(items: Vec<Value<A>, A>) -> Result<Value<A>, Cause>
     ensures { IsAnswer result (sequence (values_of items.items)) }
 {
     if items.len() > MAX_MEMBERS {
-        return Err(Fault::Overflow);
+        return Err(Cause::Overflow);
     }
     Ok(Value::Seq(items))
 }
 
 /// The number of things. More than a number of 32 bits says are more than any evaluation makes, and count as `Memory`.
-pub(crate) fn count<A: Allocator>(things: usize) -> Result<Value<A>, EvalFault>
-    ensures { Answers result (Ok (Integer (pos things))) }
+pub(crate) fn count<A: Allocator>(things: usize) -> Result<Value<A>, NoValue>
+    ensures { Gives result (Ok (Integer (pos things))) }
 {
     match i32::try_from(things) {
         Ok(number) => Ok(Value::Int(number)),
-        Err(_) => Err(EvalFault::Memory),
+        Err(_) => Err(NoValue::Memory),
     }
 }
 
 /// `#e`
-pub(crate) fn length<A: Allocator>(operand: &Value<A>) -> Result<Value<A>, EvalFault>
-    ensures { Answers result (apply pure.Length (value_of operand.now)) }
+pub(crate) fn length<A: Allocator>(operand: &Value<A>) -> Result<Value<A>, NoValue>
+    ensures { Gives result (apply pure.Length (value_of operand.now)) }
 {
     match operand {
         Value::Seq(items) => count(items.len()),
-        _ => Err(EvalFault::Fault(Fault::Kind)),
+        _ => Err(NoValue::Cause(Cause::Kind)),
     }
 }
 
 /// `null(e)`
-pub(crate) fn is_null<A: Allocator>(operand: &Value<A>) -> Result<Value<A>, Fault>
+pub(crate) fn is_null<A: Allocator>(operand: &Value<A>) -> Result<Value<A>, Cause>
     ensures { IsAnswer result (apply pure.IsNull (value_of operand.now)) }
 {
     match operand {
         Value::Seq(items) => Ok(Value::Bool(items.is_empty())),
-        _ => Err(Fault::Kind),
+        _ => Err(Cause::Kind),
     }
 }
 
 /// `head(e)`, or `Empty`. Of a sequence that is lent the item is lent too.
-pub(crate) fn head<'e, A: Allocator>(operand: Seen<'e, A>) -> Result<Seen<'e, A>, Fault>
+pub(crate) fn head<'e, A: Allocator>(operand: Seen<'e, A>) -> Result<Seen<'e, A>, Cause>
     ensures { IsSeen result (apply pure.Head (seen_value operand.entry)) }
 {
     match operand {
         Seen::Lent(Value::Seq(items)) => match items.first() {
             Some(item) => Ok(Seen::Lent(item)),
-            None => Err(Fault::Empty),
+            None => Err(Cause::Empty),
         },
         Seen::Made(Value::Seq(items)) => match items.into_iter().next() {
             Some(item) => Ok(Seen::Made(item)),
-            None => Err(Fault::Empty),
+            None => Err(Cause::Empty),
         },
-        _ => Err(Fault::Kind),
+        _ => Err(Cause::Kind),
     }
 }
 
 /// `tail(e)`, or `Empty`.
-pub(crate) fn tail<A: Allocator>(operand: Value<A>) -> Result<Value<A>, Fault>
+pub(crate) fn tail<A: Allocator>(operand: Value<A>) -> Result<Value<A>, Cause>
     ensures { IsAnswer result (apply pure.Tail (value_of operand)) }
 {
     match operand {
         Value::Seq(mut items) => {
             if items.is_empty() {
-                return Err(Fault::Empty);
+                return Err(Cause::Empty);
             }
             let _head = items.remove(0);
             Ok(Value::Seq(items))
         }
-        _ => Err(Fault::Kind),
+        _ => Err(Cause::Kind),
     }
 }
 
@@ -93,12 +93,12 @@ pub(crate) fn tail<A: Allocator>(operand: Value<A>) -> Result<Value<A>, Fault>
 pub(crate) fn concatenate<A: Allocator>(
     left: Value<A>,
     right: Value<A>,
-) -> Result<Value<A>, EvalFault>
-    ensures { Answers result (combine pure.Concatenate (value_of left) (value_of right)) }
+) -> Result<Value<A>, NoValue>
+    ensures { Gives result (combine pure.Concatenate (value_of left) (value_of right)) }
 {
     match (left, right) {
         (Value::Seq(left), Value::Seq(right)) => Ok(sequence(joined(left, right)?)?),
-        _ => Err(EvalFault::Fault(Fault::Kind)),
+        _ => Err(NoValue::Cause(Cause::Kind)),
     }
 }
 
@@ -119,11 +119,11 @@ fn joined<A: Allocator>(
 pub(crate) fn is_element<A: Allocator>(
     value: &Value<A>,
     sequence: &Value<A>,
-) -> Result<Value<A>, Fault>
+) -> Result<Value<A>, Cause>
     ensures { IsAnswer result (combine pure.IsElement (value_of value.now) (value_of sequence.now)) }
 {
     match sequence {
         Value::Seq(items) => Ok(Value::Bool(items.contains(value))),
-        _ => Err(Fault::Kind),
+        _ => Err(Cause::Kind),
     }
 }

@@ -5,3 +5,4 @@ pub mod Scanning
 pub mod Adding
 pub mod Offered
 pub mod Keeping
+mod Leading

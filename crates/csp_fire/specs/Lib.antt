@@ -1,3 +1,4 @@
 pub mod Form
 pub mod Offering
 pub mod Expansion
+pub mod Targets

@@ -1,50 +1,60 @@
 //! Firing a term.
 
 ghost use Rattle.std.specs.Prelude.{◌≡◌, IfOk, map};
+ghost use Rattle.csp_semantics.specs.Kinds.Scripts.{IsTermOf};
 ghost use Rattle.csp_semantics.specs.Meaning.Expansions.{IsFormOf, IsExpansion};
 ghost use Rattle.csp_term.specs.Term.{process_of};
-ghost use Rattle.csp_term.specs.Script.{script_of};
+ghost use Rattle.csp_term.specs.Script.{script_of, script_of_parts};
 ghost use Rattle.csp_fire.specs.Form.{form_of, step_of};
 ghost use Rattle.std.specs.Option.{option_map};
 ghost use Rattle.csp_operators.specs.Answering.{all_within, answered_of};
+ghost use Rattle.csp_fire.specs.Targets.{LeadsToTermsOf};
 ghost use Rattle.csp_fire.specs.Offering.{IsFormByAnswer, IsFormBySteps};
 
 use crate::expansion::Expansion;
 use crate::form::{Form, Step};
 use crate::offers::offers;
-use csp_rules::{EvalFault, RuleStep, Target, steps};
-use csp_term::{AllocHandle, Memory, Script, Term};
+use csp_rules::{NoValue, RuleStep, Target, steps};
+use csp_term::{AllocHandle, Memory, Script, ScriptParts, Term};
 
-/// Fires a closed term of the script. The expansion names the script and the term that were handed in.
+/// Fires a term of the script, which is closed and well-kinded. The expansion names the script and the term that were
+/// handed in, and its steps lead to terms of the script.
 pub fn fire<'s, A: AllocHandle>(
     alloc: A,
     script: &'s Script<A>,
     term: &Term<A>,
 ) -> Result<Expansion<'s, A>, Memory>
+    requires closed { IsTermOf (script_of script.now) (process_of term.now) }
     ensures script { IfOk result (λ e. e.script ≡ script_of script.now) }
     ensures term { IfOk result (λ e. e.term ≡ process_of term.now) }
     ensures exact { IfOk result IsExpansion }
+    ensures targets { IfOk result (λ e. LeadsToTermsOf e.script e.form) }
 {
-    let form = form_of_term(alloc, script, term)?;
+    let form = form_of_term(alloc, script.parts(), term)?;
     let term = term.try_copy(alloc)?;
     Ok(Expansion { script, term, form })
 }
 
+/// The form of a term of the script that has these parts. No operand in it is of the wrong kind.
 #[tactic(auto, using(csp_semantics::proofs::Putting::put_nothing))]
 fn form_of_term<A: AllocHandle>(
     alloc: A,
-    script: &Script<A>,
+    script: &ScriptParts<A>,
     term: &Term<A>,
 ) -> Result<Form<A>, Memory>
-    ensures { IfOk result (λ f. IsFormOf (script_of script.now) (process_of term.now) (form_of f)) }
+    requires closed { IsTermOf (script_of_parts script.now) (process_of term.now) }
+    ensures { IfOk result (λ f. IsFormOf (script_of_parts script.now) (process_of term.now) (form_of f)) }
 {
     if !term.fits() {
         return Ok(Form::Large);
     }
     match steps(alloc, script, &[], term) {
         Ok(answered) => form_by_answer(alloc, answered),
-        Err(EvalFault::Memory) => Err(Memory),
-        Err(EvalFault::Fault(cause)) => Ok(Form::Faulty(cause)),
+        Err(NoValue::Memory) => Err(Memory),
+        Err(NoValue::Cause(cause)) => match cause.fault() {
+            Some(fault) => Ok(Form::Faulty(fault)),
+            None => unreachable!(),
+        },
     }
 }
 

@@ -8,8 +8,8 @@ use Rattle.csp_semantics.specs.Meaning.Events.{event_test, has_event, images, pa
 use Rattle.csp_semantics.specs.Meaning.Faults.{cause_in}
 use Rattle.csp_semantics.specs.Meaning.Stepping.{each_step, hide, image_steps, rename, rule_steps}
 use Rattle.csp_semantics.proofs.Stepping.{exact}
-use Rattle.csp_expression.specs.declared.eval_fault.EvalFault.{EvalFault}
-use Rattle.csp_expression.specs.declared.eval_fault.EvalFault.TheVariants as eval
+use Rattle.csp_expression.specs.declared.no_value.NoValue.{NoValue}
+use Rattle.csp_expression.specs.declared.no_value.NoValue.TheVariants as eval
 use Rattle.csp_operators.specs.Answering.{Answered, Answers, IsAnswered, within_limits}
 use Rattle.csp_operators.proofs.Answered.{AreAnswered, by_its_steps, its_steps}
 use Rattle.csp_operators.specs.Composing.{each_answer, hide_answer, image_answers, rename_answer, under_limits}
@@ -75,6 +75,6 @@ hidden_is true x e t u is same = ap₂ (λ y o. (y, o) ∷ []) is same
 hidden_is false x e t u is same = ap₂ (λ y o. (y, o) ∷ []) is same
 
 -- a set without a test is the cause
-pub hiding_stuck : (A : Type 0) (s : Script) (p : Process) (a : EventSet) (why : EvalFault) → IsTestOf {A = A} (Err why) (event_test s a) → Answers {A = A} s (Hiding p a) (Err why)
-hiding_stuck A s p a (eval.Fault c) is = ap (λ r. option_or (result_err r) (cause_in s p)) is
+pub hiding_stuck : (A : Type 0) (s : Script) (p : Process) (a : EventSet) (why : NoValue) → IsTestOf {A = A} (Err why) (event_test s a) → Answers {A = A} s (Hiding p a) (Err why)
+hiding_stuck A s p a (eval.Cause c) is = ap (λ r. option_or (result_err r) (cause_in s p)) is
 hiding_stuck A s p a eval.Memory is = tt

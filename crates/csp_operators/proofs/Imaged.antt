@@ -14,8 +14,8 @@ use Rattle.csp_value.specs.Action.{event_of}
 use Rattle.csp_event_tests.specs.declared.images.Images.{Images}
 use Rattle.csp_operators.specs.declared.rule_step.RuleStep.{RuleStep}
 use Rattle.csp_operators.specs.declared.rule_step.Target.{Target}
-use Rattle.csp_expression.specs.declared.eval_fault.EvalFault.{EvalFault}
-use Rattle.csp_expression.specs.declared.eval_fault.EvalFault.TheVariants as eval
+use Rattle.csp_expression.specs.declared.no_value.NoValue.{NoValue}
+use Rattle.csp_expression.specs.declared.no_value.NoValue.TheVariants as eval
 use Rattle.csp_operators.specs.Answering.{Answered, Answers, IsAnswered, answered_of, target_of}
 use Rattle.csp_operators.specs.Composing.{HaveSameSteps, each_answer, image_answers, rename_answer, under_limits}
 use Rattle.csp_event_tests.specs.Imaging.{AreMade, IsImagesOf, found_images}
@@ -92,6 +92,6 @@ renaming_by s p bs only rs found made =
     (same_renamed g f (λ e. itself_alike e (found_images found e) (made.0 e) (λ h. ((made.2 e h).1, (made.2 e h).0))) under bs) by_pairs
 
 -- pairs without images are the cause
-pub renaming_stuck : (A : Type 0) (s : Script) (p : Process) (rs : List RenamingPair) (why : EvalFault) → IsImagesOf {A = A} (Err why) (renaming s rs) → Answers {A = A} s (Renaming p rs) (Err why)
-renaming_stuck A s p rs (eval.Fault c) is = ap (λ r. option_or (result_err r) (cause_in s p)) is
+pub renaming_stuck : (A : Type 0) (s : Script) (p : Process) (rs : List RenamingPair) (why : NoValue) → IsImagesOf {A = A} (Err why) (renaming s rs) → Answers {A = A} s (Renaming p rs) (Err why)
+renaming_stuck A s p rs (eval.Cause c) is = ap (λ r. option_or (result_err r) (cause_in s p)) is
 renaming_stuck A s p rs eval.Memory is = tt

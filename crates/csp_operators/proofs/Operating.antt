@@ -7,8 +7,8 @@ use Rattle.csp_semantics.specs.Meaning.Faults.{cause_in, height}
 use Rattle.csp_semantics.specs.Meaning.Stepping.{Steps, always, each_step, external_steps, leave, rule_steps, stay, steps_within}
 use Rattle.csp_semantics.proofs.Causes.{external_cause, interrupt_cause, sequential_cause}
 use Rattle.csp_semantics.proofs.Stepping.{exact, exact_within, external_exact}
-use Rattle.csp_expression.specs.declared.eval_fault.EvalFault.{EvalFault}
-use Rattle.csp_expression.specs.declared.eval_fault.EvalFault.TheVariants as eval
+use Rattle.csp_expression.specs.declared.no_value.NoValue.{NoValue}
+use Rattle.csp_expression.specs.declared.no_value.NoValue.TheVariants as eval
 use Rattle.csp_operators.specs.Answering.{Answered, Answers, IsAnswered, within_limits}
 use Rattle.csp_operators.proofs.Answered.{answered_by, by_its_steps, its_steps, kept_answers}
 use Rattle.csp_operators.specs.Composing.{each_answer, external_answers, interrupt_answers, leave_answer, sequential_answers, stay_answer, under_both}
@@ -22,18 +22,18 @@ module _ (s : Script) (p q whole : Process) (is : cause_in s whole ≡ option_or
   pub clear_of_both : cause_in s p ≡ None → cause_in s q ≡ None → cause_in s whole ≡ None
   clear_of_both first second = is ∙ ap₂ option_or first second
 
-  pub stuck_by_first : (A : Type 0) (why : EvalFault) → Answers {A = A} s p (Err why) → Answers {A = A} s whole (Err why)
-  stuck_by_first A (eval.Fault c) first = is ∙ ap (λ o. option_or o (cause_in s q)) first
+  pub stuck_by_first : (A : Type 0) (why : NoValue) → Answers {A = A} s p (Err why) → Answers {A = A} s whole (Err why)
+  stuck_by_first A (eval.Cause c) first = is ∙ ap (λ o. option_or o (cause_in s q)) first
   stuck_by_first A eval.Memory first = tt
 
-  pub stuck_by_second : cause_in s p ≡ None → (A : Type 0) (why : EvalFault) → Answers {A = A} s q (Err why) → Answers {A = A} s whole (Err why)
-  stuck_by_second first A (eval.Fault c) second = is ∙ ap₂ option_or first second
+  pub stuck_by_second : cause_in s p ≡ None → (A : Type 0) (why : NoValue) → Answers {A = A} s q (Err why) → Answers {A = A} s whole (Err why)
+  stuck_by_second first A (eval.Cause c) second = is ∙ ap₂ option_or first second
   stuck_by_second first A eval.Memory second = tt
 
 -- or those of one
 module _ (s : Script) (p whole : Process) (is : cause_in s whole ≡ cause_in s p) where
-  pub stuck_by_only : (A : Type 0) (why : EvalFault) → Answers {A = A} s p (Err why) → Answers {A = A} s whole (Err why)
-  stuck_by_only A (eval.Fault c) only = is ∙ only
+  pub stuck_by_only : (A : Type 0) (why : NoValue) → Answers {A = A} s p (Err why) → Answers {A = A} s whole (Err why)
+  stuck_by_only A (eval.Cause c) only = is ∙ only
   stuck_by_only A eval.Memory only = tt
 
 -- ---- choices

@@ -14,7 +14,7 @@ use Rattle.csp_term.specs.Term.{process_of}
 use Rattle.csp_operators.specs.declared.rule_step.RuleStep.{RuleStep}
 use Rattle.csp_operators.specs.declared.rule_step.Target.{Target}
 use Rattle.csp_operators.specs.declared.rule_step.Target.TheVariants as target
-use Rattle.csp_expression.specs.declared.eval_fault.EvalFault.{EvalFault}
+use Rattle.csp_expression.specs.declared.no_value.NoValue.{NoValue}
 
 -- ---- steps that may lead past the limits
 
@@ -44,7 +44,7 @@ pub record IsAnswered (s : Script) (p : Process) (steps : List Answered) : Type 
   pub complete : (x : pure.Action) (u : Process) → rule.RuleStep s p x u → Contains steps (x, within_limits u)
 
 -- The rule steps of the term, or the first cause.
-abbrev pub Answers : {A : Type 0} → Script → Process → Result (Vec (RuleStep A) A) EvalFault → Type 0
+abbrev pub Answers : {A : Type 0} → Script → Process → Result (Vec (RuleStep A) A) NoValue → Type 0
 Answers s p x = Agrees (λ steps q. IsAnswered s q (map answered_of steps.items)) (λ c q. cause_in s q ≡ Some c) x p
 
 -- the steps, where none leads past the limits

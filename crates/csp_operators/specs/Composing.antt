@@ -16,7 +16,7 @@ use Rattle.csp_operators.specs.declared.context.Context.{Context}
 use Rattle.csp_operators.specs.declared.context.Hand.{Hand}
 use Rattle.csp_operators.specs.declared.context.Hand.TheVariants as hand
 use Rattle.csp_operators.specs.declared.side.Side.{Side}
-use Rattle.csp_expression.specs.declared.eval_fault.EvalFault.{EvalFault}
+use Rattle.csp_expression.specs.declared.no_value.NoValue.{NoValue}
 use Rattle.csp_operators.specs.Answering.{Answered, IsAnswered, answered_of, target_of, within_limits}
 
 -- ---- operators
@@ -78,11 +78,11 @@ abbrev pub side_answers : {A : Type 0} → Side A → List Answered
 side_answers side = map answered_of side.steps.items
 
 -- A process with its rule steps, or the first cause.
-abbrev pub IsSideOf : {A : Type 0} → Script → Process → Result (Side A) EvalFault → Type 0
+abbrev pub IsSideOf : {A : Type 0} → Script → Process → Result (Side A) NoValue → Type 0
 IsSideOf s p x = Agrees (λ side q. (target_of side.process ≡ within_limits q) × IsAnswered s q (side_answers side)) (λ c q. cause_in s q ≡ Some c) x p
 
 -- Two processes with their rule steps, or the first cause of both, the first one's before the second's.
-abbrev pub AreSidesOf : {A : Type 0} → Script → Process → Process → Result (Side A × Side A) EvalFault → Type 0
+abbrev pub AreSidesOf : {A : Type 0} → Script → Process → Process → Result (Side A × Side A) NoValue → Type 0
 AreSidesOf s p q x = Agrees {M = Process × Process} (λ sides m. IsSideOf s m.0 (Ok sides.0) × IsSideOf s m.1 (Ok sides.1)) (λ c m. option_or (cause_in s m.0) (cause_in s m.1) ≡ Some c) x (p, q)
 
 -- ---- operators of two processes, by what is answered of each of them and of its steps

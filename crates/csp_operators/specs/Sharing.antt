@@ -7,7 +7,7 @@ use Rattle.csp_syntax.specs.Process.{Process, Omega}
 use Rattle.csp_semantics.specs.Meaning.Evaluation.{Cause}
 use Rattle.csp_expression.specs.Agreement.{Agrees}
 use Rattle.csp_event_tests.specs.declared.event_test.EventTest.{EventTest}
-use Rattle.csp_expression.specs.declared.eval_fault.EvalFault.{EvalFault}
+use Rattle.csp_expression.specs.declared.no_value.NoValue.{NoValue}
 use Rattle.csp_operators.specs.declared.context.Context.{Context}
 use Rattle.csp_operators.specs.declared.context.Hand.{Hand}
 use Rattle.csp_operators.specs.declared.context.Hand.TheVariants as hand
@@ -49,5 +49,5 @@ ended_by after.All c = (Tick, Some Omega) ∷ []
 ended_by after.Beside c = (Tau, around_of c (Some Omega)) ∷ []
 
 -- the tests of two sets, or the first cause of both, the first one's before the second's
-abbrev pub AreTestsOf : {A : Type 0} → Result (EventTest A × EventTest A) EvalFault → Result (Event → Bool) Cause → Result (Event → Bool) Cause → Type 0
+abbrev pub AreTestsOf : {A : Type 0} → Result (EventTest A × EventTest A) NoValue → Result (Event → Bool) Cause → Result (Event → Bool) Cause → Type 0
 AreTestsOf x r q = Agrees {M = Result (Event → Bool) Cause × Result (Event → Bool) Cause} (λ tests m. IsTestOf (Ok tests.0) m.0 × IsTestOf (Ok tests.1) m.1) (λ c m. option_or (result_err m.0) (result_err m.1) ≡ Some c) x (r, q)

@@ -16,14 +16,14 @@ use crate::context::{Context, Hand};
 use crate::leave;
 use crate::rule_step::{RuleStep, Target, add_step, one_step};
 use crate::side::Side;
-use csp_expression::{Binding, EvalFault};
+use csp_expression::{Binding, NoValue};
 use csp_term::{Action, AllocHandle, Memory, ProcessOperator, Term};
 
 /// The steps of `P [] Q` by those of its sides, or the first cause of both. `Memory` says that there is no room.
 pub fn by_sides<A: AllocHandle>(
     alloc: A,
-    sides: Result<(Side<A>, Side<A>), EvalFault>,
-) -> Result<Vec<RuleStep<A>, A>, EvalFault>
+    sides: Result<(Side<A>, Side<A>), NoValue>,
+) -> Result<Vec<RuleStep<A>, A>, NoValue>
     ensures { (s : pure.Script) (p q : pure.Process) → AreSidesOf s p q sides → Answers s (ExternalChoice p q) result }
 {
     let (left, right) = sides?;
@@ -75,7 +75,7 @@ pub fn internal<A: AllocHandle>(
     bindings: &[Binding<'_, A>],
     left: &Term<A>,
     right: &Term<A>,
-) -> Result<Vec<RuleStep<A>, A>, EvalFault>
+) -> Result<Vec<RuleStep<A>, A>, NoValue>
     ensures { (s : pure.Script) → Answers s (put (bindings_of bindings.now) (InternalChoice (process_of left.now) (process_of right.now))) result }
 {
     let left = Target::put_in(alloc, left, bindings)?;

@@ -6,7 +6,7 @@ ghost use Rattle.csp_syntax.specs.Process.{Hiding};
 ghost use Rattle.csp_syntax.specs.Value.{Ev, Tau};
 ghost use Rattle.csp_value.specs.Action.{action_of, event_of};
 ghost use Rattle.csp_event_sets.specs.Events.{event_set_of};
-ghost use Rattle.csp_term.specs.Script.{script_of};
+ghost use Rattle.csp_term.specs.Script.{script_of_parts};
 ghost use Rattle.csp_operators.specs.Answering.{Answers, answered_of, target_of};
 ghost use Rattle.csp_operators.specs.Composing.{each_answer, frame_of, hide_answer, under_limits};
 ghost use Rattle.csp_event_tests.specs.Testing.{AreSorted, listed_in, test_of};
@@ -15,8 +15,8 @@ use crate::composition::Frame;
 use crate::rule_step::{RuleStep, Target};
 use csp_event_sets::EventSet;
 use csp_event_tests::EventTest;
-use csp_expression::EvalFault;
-use csp_term::{Action, AllocHandle, Event, Memory, Script};
+use csp_expression::NoValue;
+use csp_term::{Action, AllocHandle, Event, Memory, ScriptParts};
 
 /// What is seen of the event.
 fn hidden_event<A: AllocHandle>(test: &EventTest<A>, event: Event<A>) -> Action<A>
@@ -68,11 +68,11 @@ fn step<A: AllocHandle>(
 /// `Memory` says that there is no room.
 pub fn by_body<A: AllocHandle>(
     alloc: A,
-    script: &Script<A>,
+    script: &ScriptParts<A>,
     hidden: EventSet<A>,
-    body: Result<Vec<RuleStep<A>, A>, EvalFault>,
-) -> Result<Vec<RuleStep<A>, A>, EvalFault>
-    ensures { (p : pure.Process) → Answers (script_of script.now) p body → Answers (script_of script.now) (Hiding p (event_set_of hidden)) result }
+    body: Result<Vec<RuleStep<A>, A>, NoValue>,
+) -> Result<Vec<RuleStep<A>, A>, NoValue>
+    ensures { (p : pure.Process) → Answers (script_of_parts script.now) p body → Answers (script_of_parts script.now) (Hiding p (event_set_of hidden)) result }
 {
     let test = EventTest::of(alloc, script, &hidden)?;
     let body = body?;

@@ -15,14 +15,14 @@ use crate::rule_step::RuleStep;
 use crate::sharing::Sharing;
 use crate::side::Side;
 use crate::stay::{self, AfterTick};
-use csp_expression::EvalFault;
+use csp_expression::NoValue;
 use csp_term::{AllocHandle, Memory, ProcessOperator};
 
 /// The steps of `P /\ Q` by those of its sides, or the first cause of both. `Memory` says that there is no room.
 pub fn by_sides<A: AllocHandle>(
     alloc: A,
-    sides: Result<(Side<A>, Side<A>), EvalFault>,
-) -> Result<Vec<RuleStep<A>, A>, EvalFault>
+    sides: Result<(Side<A>, Side<A>), NoValue>,
+) -> Result<Vec<RuleStep<A>, A>, NoValue>
     ensures { (s : pure.Script) (p q : pure.Process) → AreSidesOf s p q sides → Answers s (Interrupt p q) result }
 {
     let (left, right) = sides?;

@@ -6,7 +6,7 @@ ghost use Rattle.csp_syntax.specs.Process.{Renaming};
 ghost use Rattle.csp_semantics.specs.Meaning.Events.{or_itself};
 ghost use Rattle.csp_value.specs.Action.{action_of, event_of};
 ghost use Rattle.csp_event_sets.specs.Events.{renaming_pairs_of};
-ghost use Rattle.csp_term.specs.Script.{script_of};
+ghost use Rattle.csp_term.specs.Script.{script_of_parts};
 ghost use Rattle.csp_operators.specs.Answering.{Answers, answered_of, target_of};
 ghost use Rattle.csp_operators.specs.Composing.{each_answer, frame_of, image_answers, rename_answer, under_limits};
 ghost use Rattle.csp_event_tests.specs.Imaging.{PairsRise, found_images};
@@ -15,8 +15,8 @@ use crate::composition::Frame;
 use crate::rule_step::{RuleStep, Target, add_step};
 use csp_event_sets::RenamingPair;
 use csp_event_tests::Images;
-use csp_expression::EvalFault;
-use csp_term::{Action, AllocHandle, Event, Memory, Script};
+use csp_expression::NoValue;
+use csp_term::{Action, AllocHandle, Event, Memory, ScriptParts};
 
 /// Adds a step by each image of the event.
 fn add_images<A: AllocHandle>(
@@ -74,11 +74,11 @@ fn add_one<A: AllocHandle>(
 /// `Memory` says that there is no room.
 pub fn by_body<A: AllocHandle>(
     alloc: A,
-    script: &Script<A>,
+    script: &ScriptParts<A>,
     pairs: Vec<RenamingPair<A>, A>,
-    body: Result<Vec<RuleStep<A>, A>, EvalFault>,
-) -> Result<Vec<RuleStep<A>, A>, EvalFault>
-    ensures { (p : pure.Process) → Answers (script_of script.now) p body → Answers (script_of script.now) (Renaming p (renaming_pairs_of pairs.items)) result }
+    body: Result<Vec<RuleStep<A>, A>, NoValue>,
+) -> Result<Vec<RuleStep<A>, A>, NoValue>
+    ensures { (p : pure.Process) → Answers (script_of_parts script.now) p body → Answers (script_of_parts script.now) (Renaming p (renaming_pairs_of pairs.items)) result }
 {
     let images = Images::of(alloc, script, &pairs)?;
     let body = body?;

@@ -14,16 +14,16 @@ use crate::context::{Context, Hand};
 use crate::rule_step::{RuleStep, Target};
 use crate::sharing::Sharing;
 use crate::stay::{self, AfterTick};
-use csp_expression::{Binding, EvalFault};
+use csp_expression::{Binding, NoValue};
 use csp_term::{AllocHandle, Memory, ProcessOperator, Term};
 
 /// The steps of `P ; Q` by those of its left side, or the first cause of that one. `Memory` says that there is no room.
 pub fn by_left<A: AllocHandle>(
     alloc: A,
     bindings: &[Binding<'_, A>],
-    left: Result<Vec<RuleStep<A>, A>, EvalFault>,
+    left: Result<Vec<RuleStep<A>, A>, NoValue>,
     right: &Term<A>,
-) -> Result<Vec<RuleStep<A>, A>, EvalFault>
+) -> Result<Vec<RuleStep<A>, A>, NoValue>
     ensures { (s : pure.Script) (p : pure.Process) → Answers s p left → Answers s (Sequential p (put (bindings_of bindings.now) (process_of right.now))) result }
 {
     let left = left?;

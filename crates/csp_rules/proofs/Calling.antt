@@ -11,8 +11,8 @@ use Rattle.csp_semantics.specs.Meaning.Substitution.{Bindings, put}
 use Rattle.csp_semantics.specs.Meaning.Transitions.{RuleStep}
 use Rattle.csp_semantics.specs.Laws.Statements.{IsOneOf}
 use Rattle.csp_semantics.proofs.Stepping.{exact}
-use Rattle.csp_expression.specs.declared.eval_fault.EvalFault.{EvalFault}
-use Rattle.csp_expression.specs.declared.eval_fault.EvalFault.TheVariants as eval
+use Rattle.csp_expression.specs.declared.no_value.NoValue.{NoValue}
+use Rattle.csp_expression.specs.declared.no_value.NoValue.TheVariants as eval
 use Rattle.csp_operators.specs.Answering.{Answers, IsAnswered, within_limits}
 use Rattle.csp_rules.specs.Arguments.{Binds, SeesAll}
 use Rattle.csp_operators.proofs.Answered.{answered_by}
@@ -20,8 +20,8 @@ use Rattle.csp_operators.proofs.Answered.{answered_by}
 module _ (s : Script) (n : ℕ) (es : Expressions) where
   module _ (A : Type 0) where
     -- an argument without a value
-    pub values_stuck : (why : EvalFault) → SeesAll {A = A} (Err why) (values s.types es) → Answers {A = A} s (Call n es) (Err why)
-    values_stuck (eval.Fault c) none =
+    pub values_stuck : (why : NoValue) → SeesAll {A = A} (Err why) (values s.types es) → Answers {A = A} s (Call n es) (Err why)
+    values_stuck (eval.Cause c) none =
         ap (λ r. result_err (r and_then λ vs. ok_or (slice_get s.equations n) IllKinded and_then λ equation. parameter_bindings equation.parameters vs and_then λ bs. Ok (put bs equation.body))) none
     values_stuck eval.Memory none = tt
 
@@ -38,8 +38,8 @@ module _ (s : Script) (n : ℕ) (es : Expressions) where
       bound_of = seen_of ∙ ap (λ o. ok_or o IllKinded and_then λ q. parameter_bindings q.parameters vs and_then λ bs. Ok (put bs q.body)) at
 
       -- not as many arguments as parameters
-      pub bindings_stuck : (A : Type 0) (why : EvalFault) → Binds {A = A} (Err why) (parameter_bindings equation.parameters vs) → Answers {A = A} s (Call n es) (Err why)
-      bindings_stuck A (eval.Fault c) none = ap result_err (bound_of ∙ ap (λ r. r and_then λ bs. Ok (put bs equation.body)) none)
+      pub bindings_stuck : (A : Type 0) (why : NoValue) → Binds {A = A} (Err why) (parameter_bindings equation.parameters vs) → Answers {A = A} s (Call n es) (Err why)
+      bindings_stuck A (eval.Cause c) none = ap result_err (bound_of ∙ ap (λ r. r and_then λ bs. Ok (put bs equation.body)) none)
       bindings_stuck A eval.Memory none = tt
 
       pub goes_to : (bs : Bindings) → parameter_bindings equation.parameters vs ≡ Ok bs → called s n es ≡ Ok (put bs equation.body)

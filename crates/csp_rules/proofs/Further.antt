@@ -9,8 +9,8 @@ use Rattle.csp_semantics.specs.Meaning.Events.{Communication, each_list, with_va
 use Rattle.csp_semantics.specs.Meaning.Stepping.{communication_steps}
 use Rattle.csp_semantics.specs.Meaning.Substitution.{put}
 use Rattle.csp_operators.specs.declared.rule_step.RuleStep.{RuleStep}
-use Rattle.csp_expression.specs.declared.eval_fault.EvalFault.{EvalFault}
-use Rattle.csp_expression.specs.declared.eval_fault.EvalFault.TheVariants as eval
+use Rattle.csp_expression.specs.declared.no_value.NoValue.{NoValue}
+use Rattle.csp_expression.specs.declared.no_value.NoValue.TheVariants as eval
 use Rattle.csp_operators.specs.Answering.{answered_of, kept}
 use Rattle.csp_rules.specs.Communicating.{Finds, IsFurther, behind_values}
 
@@ -39,11 +39,11 @@ module _ {A : Type 0} (c : ℕ) (p : Process) where
 
   module _ (vs : List pure.Value) (v : pure.Value) (r : Result (List Communication) Cause) (before : Vec (RuleStep A) A) where
     -- with one more value before the later ones
-    pub with_one : (result : Result (Vec (RuleStep A) A) EvalFault) → Finds c p (vs ++ v ∷ []) before r result → Finds c p vs before (r and_then λ ms. Ok (with_value v ms)) result
+    pub with_one : (result : Result (Vec (RuleStep A) A) NoValue) → Finds c p (vs ++ v ∷ []) before r result → Finds c p vs before (r and_then λ ms. Ok (with_value v ms)) result
     with_one (Ok after) (ms, is, further) =
         let P : List Communication → Type 0 = λ ls. IsFurther c p before after ls in
         (with_value v ms, ap (λ q. q and_then λ ls. Ok (with_value v ls)) is, subst P (behind_one vs v ms) further)
-    with_one (Err (eval.Fault e)) is = ap (λ q. q and_then λ ls. Ok (with_value v ls)) is
+    with_one (Err (eval.Cause e)) is = ap (λ q. q and_then λ ls. Ok (with_value v ls)) is
     with_one (Err eval.Memory) is = tt
 
 -- ---- a list of values in turn
@@ -92,8 +92,8 @@ module _ (f : pure.Value → Result (List Communication) Cause) where
           )
 
       -- or the first cause
-      pub stopped_at : (ys : List pure.Value) (why : EvalFault) → Finds c p vs mid (f v) (Err why) → Finds c p vs before (each_list f (xs ++ v ∷ ys)) (Err why)
-      stopped_at ys (eval.Fault e) is =
+      pub stopped_at : (ys : List pure.Value) (why : NoValue) → Finds c p vs mid (f v) (Err why) → Finds c p vs before (each_list f (xs ++ v ∷ ys)) (Err why)
+      stopped_at ys (eval.Cause e) is =
           over_both xs (v ∷ ys) ∙ ap (λ r. r and_then λ ls. each_list f (v ∷ ys) and_then λ ks. Ok (ls ++ ks)) so_far.1
           ∙ ap (λ r. (r and_then λ ls. each_list f ys and_then λ ks. Ok (ls ++ ks)) and_then λ ks. Ok (so_far.0 ++ ks)) is
       stopped_at ys eval.Memory is = tt

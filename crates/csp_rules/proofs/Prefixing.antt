@@ -9,12 +9,12 @@ use Rattle.csp_semantics.specs.Meaning.Events.{Communication, communications, pr
 use Rattle.csp_semantics.specs.Meaning.Stepping.{communication_steps, prefix_steps}
 use Rattle.csp_semantics.specs.Meaning.Substitution.{Bindings, behind, put, put_fields}
 use Rattle.csp_semantics.specs.Meaning.Transitions as rule
-use Rattle.csp_expression.specs.Fault.{cause_of}
+use Rattle.csp_expression.specs.Cause.{cause_of}
 use Rattle.csp_semantics.specs.Laws.Statements.{IsOneOf}
 use Rattle.csp_semantics.proofs.Stepping.{exact}
 use Rattle.csp_operators.specs.declared.rule_step.RuleStep.{RuleStep}
-use Rattle.csp_expression.specs.declared.eval_fault.EvalFault.{EvalFault}
-use Rattle.csp_expression.specs.declared.eval_fault.EvalFault.TheVariants as eval
+use Rattle.csp_expression.specs.declared.no_value.NoValue.{NoValue}
+use Rattle.csp_expression.specs.declared.no_value.NoValue.TheVariants as eval
 use Rattle.csp_operators.specs.Answering.{Answered, Answers, IsAnswered, answered_of, kept}
 use Rattle.csp_rules.specs.Communicating.{Finds, behind_values}
 use Rattle.csp_operators.proofs.Answered.{answered_by}
@@ -54,7 +54,7 @@ module _ (s : Script) (c : ℕ) (fs : List Field) (p : Process) (bs : Bindings) 
       let P : List Answered → Type 0 = λ ss. IsAnswered s (Prefix c gs q) ss in
       subst P (sym are) (answered_by s (Prefix c gs q) (communication_steps c q m.0) (ap result_err allowed) (λ x u. subst (Q x u) allowed (exact s (Prefix c gs q) x u)))
 
-  pub answered_fields : nothing.items ≡ [] → (r : Result (Vec (RuleStep A) A) EvalFault) → Finds c p [] nothing (communications s.types bs fs sets) r → Answers s (Prefix c gs q) r
+  pub answered_fields : nothing.items ≡ [] → (r : Result (Vec (RuleStep A) A) NoValue) → Finds c p [] nothing (communications s.types bs fs sets) r → Answers s (Prefix c gs q) r
   answered_fields empty (Ok after) found = steps_found empty after found
-  answered_fields empty (Err (eval.Fault e)) is = ap result_err (over_sets ∙ same_cause c q p (communications s.types [] gs sets) (cause_of e) (same_reached ∙ ap (reaching p) is))
+  answered_fields empty (Err (eval.Cause e)) is = ap result_err (over_sets ∙ same_cause c q p (communications s.types [] gs sets) (cause_of e) (same_reached ∙ ap (reaching p) is))
   answered_fields empty (Err eval.Memory) is = tt

@@ -25,9 +25,9 @@ use Rattle.csp_value.specs.declared.value.Value.TheVariants as views
 use Rattle.csp_value.specs.declared.set.SetOf.{SetOf}
 use Rattle.csp_expression.proofs.Forming.{set_is}
 use Rattle.csp_expression.specs.Evaluation.{Sees}
-use Rattle.csp_expression.specs.Fault.{cause_of}
-use Rattle.csp_expression.specs.declared.eval_fault.EvalFault.{EvalFault}
-use Rattle.csp_expression.specs.declared.eval_fault.EvalFault.TheVariants as eval
+use Rattle.csp_expression.specs.Cause.{cause_of}
+use Rattle.csp_expression.specs.declared.no_value.NoValue.{NoValue}
+use Rattle.csp_expression.specs.declared.no_value.NoValue.TheVariants as eval
 use Rattle.csp_operators.specs.declared.rule_step.RuleStep.{RuleStep}
 use Rattle.csp_rules.specs.declared.rules.replicated.Looking.{Looking}
 use Rattle.csp_rules.specs.declared.rules.replicated.Looking.TheVariants as looking
@@ -79,13 +79,13 @@ module _ (s : Script) where
 
   module _ (k : Looking) (A : Type 0) (p : Process) (qs : List Process) where
     -- the first instance is stuck
-    pub stuck_at_first : (why : EvalFault) → IsSideOf {A = A} s p (Err why) → Answers {A = A} s (left_grouped (looking_process k) p qs) (Err why)
-    stuck_at_first (eval.Fault c) is = grouped_cause k p qs ∙ ap (λ o. option_or o (first_cause (cause_in s) qs)) is
+    pub stuck_at_first : (why : NoValue) → IsSideOf {A = A} s p (Err why) → Answers {A = A} s (left_grouped (looking_process k) p qs) (Err why)
+    stuck_at_first (eval.Cause c) is = grouped_cause k p qs ∙ ap (λ o. option_or o (first_cause (cause_in s) qs)) is
     stuck_at_first eval.Memory is = tt
 
     -- an instance is stuck behind others that are not
-    pub stuck_behind : (q : Process) (rs : List Process) → cause_in s (left_grouped (looking_process k) p qs) ≡ None → (why : EvalFault) → IsSideOf {A = A} s q (Err why) → Answers {A = A} s (left_grouped (looking_process k) p (qs ++ q ∷ rs)) (Err why)
-    stuck_behind q rs clear (eval.Fault c) is =
+    pub stuck_behind : (q : Process) (rs : List Process) → cause_in s (left_grouped (looking_process k) p qs) ≡ None → (why : NoValue) → IsSideOf {A = A} s q (Err why) → Answers {A = A} s (left_grouped (looking_process k) p (qs ++ q ∷ rs)) (Err why)
+    stuck_behind q rs clear (eval.Cause c) is =
         grouped_cause k p (qs ++ q ∷ rs) ∙ first_of_both (cause_in s) (p ∷ qs) (q ∷ rs)
         ∙ ap₂ option_or (sym (grouped_cause k p qs) ∙ clear) (ap (λ o. option_or o (first_cause (cause_in s) rs)) is)
     stuck_behind q rs clear eval.Memory is = tt
@@ -131,8 +131,8 @@ module _ (s : Script) (n : ℕ) (e : Expression) (p : Process) where
   no_elements operator.InternalChoice c is = replicated_internal_cause s n e p ∙ ap (λ r. in_instances r (λ vs. in_internal_chain (cause_in s) (instances n p vs))) is
   no_elements operator.Interleaving c is = replicated_interleaving_cause s n e p ∙ ap (λ r. in_instances r (λ vs. first_cause (cause_in s) (instances n p vs))) is
 
-  pub set_stuck : (A : Type 0) (op : ReplicatedOperator) (why : EvalFault) → Sees {A = A} (Err why) (value s.types e) → Answers {A = A} s (replicated_process op n e p) (Err why)
-  set_stuck A op (eval.Fault c) none = no_elements op (cause_of c) (ap (λ r. r and_then λ v. members_of v) none)
+  pub set_stuck : (A : Type 0) (op : ReplicatedOperator) (why : NoValue) → Sees {A = A} (Err why) (value s.types e) → Answers {A = A} s (replicated_process op n e p) (Err why)
+  set_stuck A op (eval.Cause c) none = no_elements op (cause_of c) (ap (λ r. r and_then λ v. members_of v) none)
   set_stuck A op eval.Memory none = tt
 
   pub no_set : (op : ReplicatedOperator) (v : pure.Value) → value s.types e ≡ Ok v → members_of v ≡ Err IllKinded → cause_in s (replicated_process op n e p) ≡ Some IllKinded
@@ -146,7 +146,7 @@ module _ (s : Script) (n : ℕ) (e : Expression) (p : Process) where
     external_in x t (rule.replicated_external ws is step) =
         let P : List pure.Value → Type 0 = λ us. rule.RuleStep s (chain ExternalChoice Stop (instances n p us)) x t in subst P (same_elements ws is) step
 
-    pub external_by_chain : {A : Type 0} (r : Result (Vec (RuleStep A) A) EvalFault) → Answers s (chain ExternalChoice Stop (instances n p vs)) r → Answers s (ReplicatedExternalChoice n e p) r
+    pub external_by_chain : {A : Type 0} (r : Result (Vec (RuleStep A) A) NoValue) → Answers s (chain ExternalChoice Stop (instances n p vs)) r → Answers s (ReplicatedExternalChoice n e p) r
     external_by_chain r h =
         answered s (chain ExternalChoice Stop (instances n p vs)) (ReplicatedExternalChoice n e p) (λ x t. (external_in x t, λ step. rule.replicated_external vs are step))
         (replicated_external_cause s n e p ∙ ap (λ r. in_instances r (λ us. first_cause (cause_in s) (instances n p us))) are ∙ sym (external_chain_cause s (instances n p vs))) r h
@@ -155,7 +155,7 @@ module _ (s : Script) (n : ℕ) (e : Expression) (p : Process) where
     interleaving_in x t (rule.replicated_interleaving ws is step) =
         let P : List pure.Value → Type 0 = λ us. rule.RuleStep s (chain Interleaving Skip (instances n p us)) x t in subst P (same_elements ws is) step
 
-    pub interleaving_by_chain : {A : Type 0} (r : Result (Vec (RuleStep A) A) EvalFault) → Answers s (chain Interleaving Skip (instances n p vs)) r → Answers s (ReplicatedInterleaving n e p) r
+    pub interleaving_by_chain : {A : Type 0} (r : Result (Vec (RuleStep A) A) NoValue) → Answers s (chain Interleaving Skip (instances n p vs)) r → Answers s (ReplicatedInterleaving n e p) r
     interleaving_by_chain r h =
         answered s (chain Interleaving Skip (instances n p vs)) (ReplicatedInterleaving n e p) (λ x t. (interleaving_in x t, λ step. rule.replicated_interleaving vs are step))
         (replicated_interleaving_cause s n e p ∙ ap (λ r. in_instances r (λ us. first_cause (cause_in s) (instances n p us))) are ∙ sym (interleaving_chain_cause s (instances n p vs))) r h
@@ -164,9 +164,9 @@ module _ (s : Script) (n : ℕ) (e : Expression) (p : Process) where
     internal_in x t (rule.replicated_internal w ws is step) =
         let P : List pure.Value → Type 0 = λ us. rule.RuleStep s (chain InternalChoice Stop (instances n p us)) x t in subst P (same_elements (w ∷ ws) is) step
 
-  pub internal_by_chain : {A : Type 0} (vs : List pure.Value) → elements s.types e ≡ Ok vs → (r : Result (Vec (RuleStep A) A) EvalFault) → AnswersChoices s (instances n p vs) r → Answers s (ReplicatedInternalChoice n e p) r
+  pub internal_by_chain : {A : Type 0} (vs : List pure.Value) → elements s.types e ≡ Ok vs → (r : Result (Vec (RuleStep A) A) NoValue) → AnswersChoices s (instances n p vs) r → Answers s (ReplicatedInternalChoice n e p) r
   internal_by_chain {A} [] are r h =
-      let P : Result (Vec (RuleStep A) A) EvalFault → Type 0 = λ r. Answers s (ReplicatedInternalChoice n e p) r in
+      let P : Result (Vec (RuleStep A) A) NoValue → Type 0 = λ r. Answers s (ReplicatedInternalChoice n e p) r in
       subst P (sym h) (replicated_internal_cause s n e p ∙ ap (λ r. in_instances r (λ us. in_internal_chain (cause_in s) (instances n p us))) are)
   internal_by_chain (v ∷ vs) are r h =
       answered s (chain InternalChoice Stop (instances n p (v ∷ vs))) (ReplicatedInternalChoice n e p) (λ x t. (internal_in (v ∷ vs) are x t, λ step. rule.replicated_internal v vs are step))

@@ -9,21 +9,21 @@ use Rattle.csp_semantics.specs.Meaning.Faults.{cause_in, in_branch}
 use Rattle.csp_semantics.specs.Meaning.Transitions as rule
 use Rattle.csp_semantics.proofs.Causes.{if_cause}
 use Rattle.csp_operators.specs.declared.rule_step.RuleStep.{RuleStep}
-use Rattle.csp_expression.specs.declared.eval_fault.EvalFault.{EvalFault}
-use Rattle.csp_expression.specs.declared.eval_fault.EvalFault.TheVariants as eval
+use Rattle.csp_expression.specs.declared.no_value.NoValue.{NoValue}
+use Rattle.csp_expression.specs.declared.no_value.NoValue.TheVariants as eval
 use Rattle.csp_operators.specs.Answering.{Answers, IsAnswered}
 use Rattle.csp_rules.specs.Arguments.{Decides}
 use Rattle.csp_operators.proofs.Answered.{answered_by}
 
 module _ (s : Script) (p q : Process) (same : (x : Action) (u : Process) → (rule.RuleStep s q x u → rule.RuleStep s p x u) × (rule.RuleStep s p x u → rule.RuleStep s q x u)) (cause : cause_in s q ≡ cause_in s p) where
   -- a term with the causes and the steps of another one is answered as that
-  pub answered : {A : Type 0} (r : Result (Vec (RuleStep A) A) EvalFault) → Answers s p r → Answers s q r
+  pub answered : {A : Type 0} (r : Result (Vec (RuleStep A) A) NoValue) → Answers s p r → Answers s q r
   answered (Ok steps) h = record {
     no_cause = cause ∙ h.no_cause;
     sound = λ x t among. let r = h.sound x t among in (r.0, (same x r.0).1 r.1, r.2);
     complete = λ x u step. h.complete x u ((same x u).0 step);
   }
-  answered (Err (eval.Fault c)) h = cause ∙ h
+  answered (Err (eval.Cause c)) h = cause ∙ h
   answered (Err eval.Memory) h = tt
 
 -- ---- guards
@@ -31,7 +31,7 @@ module _ (s : Script) (p q : Process) (same : (x : Action) (u : Process) → (ru
 guard_in : (s : Script) (e : Expression) (p : Process) (x : Action) (u : Process) → rule.RuleStep s (Guard e p) x u → (condition s.types e ≡ Ok true) × rule.RuleStep s p x u
 guard_in s e p x u (rule.guard holds step) = (holds, step)
 
-pub guarded : {A : Type 0} (s : Script) (e : Expression) (p : Process) (r : Result (Vec (RuleStep A) A) EvalFault) → condition s.types e ≡ Ok true → Answers s p r → Answers s (Guard e p) r
+pub guarded : {A : Type 0} (s : Script) (e : Expression) (p : Process) (r : Result (Vec (RuleStep A) A) NoValue) → condition s.types e ≡ Ok true → Answers s p r → Answers s (Guard e p) r
 guarded s e p r holds h = answered s p (Guard e p) (λ x u. (λ step. (guard_in s e p x u step).1, λ step. rule.guard holds step)) (ap (λ b. in_branch b (cause_in s p) None) holds) r h
 
 pub closed : (s : Script) (e : Expression) (p : Process) → condition s.types e ≡ Ok false → IsAnswered s (Guard e p) []
@@ -51,24 +51,24 @@ from_second : (s : Script) (e : Expression) (p q : Process) (x : Action) (u : Pr
 from_second s e p q x u fails (inl k) = let f = k.0 in absurd (cc (f, fails))
 from_second s e p q x u fails (inr k) = k.1
 
-pub first_branch : {A : Type 0} (s : Script) (e : Expression) (p q : Process) (r : Result (Vec (RuleStep A) A) EvalFault) → condition s.types e ≡ Ok true → Answers s p r → Answers s (If e p q) r
+pub first_branch : {A : Type 0} (s : Script) (e : Expression) (p q : Process) (r : Result (Vec (RuleStep A) A) NoValue) → condition s.types e ≡ Ok true → Answers s p r → Answers s (If e p q) r
 first_branch s e p q r holds h =
     answered s p (If e p q) (λ x u. (λ step. from_first s e p q x u holds (if_in s e p q x u step), λ step. rule.if_true holds step))
     (if_cause s e p q ∙ ap (λ b. in_branch b (cause_in s p) (cause_in s q)) holds) r h
 
-pub second_branch : {A : Type 0} (s : Script) (e : Expression) (p q : Process) (r : Result (Vec (RuleStep A) A) EvalFault) → condition s.types e ≡ Ok false → Answers s q r → Answers s (If e p q) r
+pub second_branch : {A : Type 0} (s : Script) (e : Expression) (p q : Process) (r : Result (Vec (RuleStep A) A) NoValue) → condition s.types e ≡ Ok false → Answers s q r → Answers s (If e p q) r
 second_branch s e p q r fails h =
     answered s q (If e p q) (λ x u. (λ step. from_second s e p q x u fails (if_in s e p q x u step), λ step. rule.if_false fails step))
     (if_cause s e p q ∙ ap (λ b. in_branch b (cause_in s p) (cause_in s q)) fails) r h
 
 -- ---- conditions without a value
 
-pub guard_stuck : (A : Type 0) (s : Script) (e : Expression) (p : Process) (why : EvalFault) → Decides (Err why) (condition s.types e) → Answers {A = A} s (Guard e p) (Err why)
-guard_stuck A s e p (eval.Fault c) h = ap (λ b. in_branch b (cause_in s p) None) h
+pub guard_stuck : (A : Type 0) (s : Script) (e : Expression) (p : Process) (why : NoValue) → Decides (Err why) (condition s.types e) → Answers {A = A} s (Guard e p) (Err why)
+guard_stuck A s e p (eval.Cause c) h = ap (λ b. in_branch b (cause_in s p) None) h
 guard_stuck A s e p eval.Memory h = tt
 
-pub if_stuck : (A : Type 0) (s : Script) (e : Expression) (p q : Process) (why : EvalFault) → Decides (Err why) (condition s.types e) → Answers {A = A} s (If e p q) (Err why)
-if_stuck A s e p q (eval.Fault c) h = if_cause s e p q ∙ ap (λ b. in_branch b (cause_in s p) (cause_in s q)) h
+pub if_stuck : (A : Type 0) (s : Script) (e : Expression) (p q : Process) (why : NoValue) → Decides (Err why) (condition s.types e) → Answers {A = A} s (If e p q) (Err why)
+if_stuck A s e p q (eval.Cause c) h = if_cause s e p q ∙ ap (λ b. in_branch b (cause_in s p) (cause_in s q)) h
 if_stuck A s e p q eval.Memory h = tt
 
 -- ---- ends

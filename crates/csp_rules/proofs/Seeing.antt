@@ -5,12 +5,12 @@ use Rattle.csp_syntax.specs.Expression.{to_expressions}
 use Rattle.csp_syntax.specs.Types.{Types}
 use Rattle.csp_semantics.specs.Meaning.Evaluation.{value, values}
 use Rattle.csp_expression.specs.declared.expr.Expr.{Expr}
-use Rattle.csp_expression.specs.declared.eval_fault.EvalFault.{EvalFault}
-use Rattle.csp_expression.specs.declared.eval_fault.EvalFault.TheVariants as eval
+use Rattle.csp_expression.specs.declared.no_value.NoValue.{NoValue}
+use Rattle.csp_expression.specs.declared.no_value.NoValue.TheVariants as eval
 use Rattle.csp_expression.specs.declared.seen.Seen.{Seen}
 use Rattle.csp_expression.specs.Evaluation.{Sees, seen_value}
 use Rattle.csp_expression.specs.Expression.{expression_of, expressions_of}
-use Rattle.csp_expression.specs.Fault.{cause_of}
+use Rattle.csp_expression.specs.Cause.{cause_of}
 use Rattle.csp_semantics.specs.Meaning.Substitution.{Bindings, put_expression, put_expressions}
 use Rattle.csp_expression.specs.Bindings.{puts}
 use Rattle.csp_expression.proofs.ExpressionPutting.{put_list}
@@ -30,9 +30,9 @@ module _ {A : Type 0} (types : Types) (bs : Bindings) (items : List (Expr A)) (i
       ∙ value_more types (puts bs (take i items)) (put_expression bs (expression_of item)) (seen_values all) (seen_value x) so_far one ∙ ap Ok (sym (map-append seen_value all (x ∷ [])) ∙ ap seen_values (sym pushed))
 
   -- it has no value
-  pub seen_none : (fault : EvalFault) → Sees {A = A} (Err fault) (value types (put_expression bs (expression_of item))) → SeesAll {A = A} (Err fault) (values types (put_expressions bs (to_expressions (expressions_of items))))
+  pub seen_none : (fault : NoValue) → Sees {A = A} (Err fault) (value types (put_expression bs (expression_of item))) → SeesAll {A = A} (Err fault) (values types (put_expressions bs (to_expressions (expressions_of items))))
   seen_none eval.Memory none = tt
-  seen_none (eval.Fault c) none =
+  seen_none (eval.Cause c) none =
       let rest = drop_more items i item within ∙ ap (λ z. z ∷ drop (i + 1) items) (sym read) in
       let whole = sym (take-append-drop i items) ∙ ap (λ zs. take i items ++ zs) rest in
       ap (values types) (sym (put_list bs items)) ∙ ap (λ es. values types (to_expressions (puts bs es))) whole ∙ ap (λ es. values types (to_expressions es)) (map-append (λ e. put_expression bs (expression_of e)) (take i items) (item ∷ drop (i + 1) items))

@@ -11,8 +11,8 @@ use Rattle.csp_semantics.specs.Meaning.Events.{Communication, communications, ea
 use Rattle.csp_semantics.specs.Meaning.Substitution.{Bindings, bind, put_expression}
 use Rattle.csp_value.specs.declared.value.Value.{Value}
 use Rattle.csp_value.specs.Value.{value_of, values_of}
-use Rattle.csp_expression.specs.declared.eval_fault.EvalFault.{EvalFault}
-use Rattle.csp_expression.specs.declared.eval_fault.EvalFault.TheVariants as eval
+use Rattle.csp_expression.specs.declared.no_value.NoValue.{NoValue}
+use Rattle.csp_expression.specs.declared.no_value.NoValue.TheVariants as eval
 use Rattle.csp_expression.specs.Evaluation.{Sees}
 use Rattle.csp_operators.specs.declared.rule_step.RuleStep.{RuleStep}
 use Rattle.std.specs.declared.vec.Vec.{Vec}
@@ -23,22 +23,22 @@ module _ (types : Types) (bs : Bindings) (fs : List Field) (set : List pure.Valu
   abbrev pub behind_input : ℕ → pure.Value → Result (List Communication) Cause
   behind_input n v = communications types (bind n v bs) fs sets and_then λ ms. Ok (with_value v ms)
 
-  module _ (A : Type 0) (c : ℕ) (p : Process) (vs : List pure.Value) (before : Vec (RuleStep A) A) (e : Expression) (why : EvalFault) (none : Sees {A = A} (Err why) (value types (put_expression bs e))) where
+  module _ (A : Type 0) (c : ℕ) (p : Process) (vs : List pure.Value) (before : Vec (RuleStep A) A) (e : Expression) (why : NoValue) (none : Sees {A = A} (Err why) (value types (put_expression bs e))) where
     -- a given value that does not exist
     pub given_stuck : Finds c p vs before (communications types bs (Given e ∷ fs) (set ∷ sets)) (Err why)
     given_stuck = by_fault why none
       where
-        by_fault : (f : EvalFault) → Sees {A = A} (Err f) (value types (put_expression bs e)) → Finds c p vs before (communications types bs (Given e ∷ fs) (set ∷ sets)) (Err f)
+        by_fault : (f : NoValue) → Sees {A = A} (Err f) (value types (put_expression bs e)) → Finds c p vs before (communications types bs (Given e ∷ fs) (set ∷ sets)) (Err f)
         by_fault eval.Memory is = tt
-        by_fault (eval.Fault d) is = ap (λ r. r and_then λ v. in_field_set set v and_then λ w. communications types bs fs sets and_then λ ms. Ok (with_value v ms)) is
+        by_fault (eval.Cause d) is = ap (λ r. r and_then λ v. in_field_set set v and_then λ w. communications types bs fs sets and_then λ ms. Ok (with_value v ms)) is
 
     -- a set to choose from that does not exist
     pub chosen_stuck : (n : ℕ) → Finds c p vs before (communications types bs (InputFrom n e ∷ fs) (set ∷ sets)) (Err why)
     chosen_stuck n = by_fault why none
       where
-        by_fault : (f : EvalFault) → Sees {A = A} (Err f) (value types (put_expression bs e)) → Finds c p vs before (communications types bs (InputFrom n e ∷ fs) (set ∷ sets)) (Err f)
+        by_fault : (f : NoValue) → Sees {A = A} (Err f) (value types (put_expression bs e)) → Finds c p vs before (communications types bs (InputFrom n e ∷ fs) (set ∷ sets)) (Err f)
         by_fault eval.Memory is = tt
-        by_fault (eval.Fault d) is = ap (λ r. (r and_then λ v. members_of v) and_then λ us. each_list (behind_input n) (filter (λ v. pure.has_value set v) us)) is
+        by_fault (eval.Cause d) is = ap (λ r. (r and_then λ v. members_of v) and_then λ us. each_list (behind_input n) (filter (λ v. pure.has_value set v) us)) is
 
   module _ (e : Expression) (v : pure.Value) (is : value types (put_expression bs e) ≡ Ok v) where
     -- a given value in its field set

@@ -9,17 +9,17 @@ use Rattle.csp_expression.specs.declared.substitution.Binding.{Binding}
 use Rattle.csp_expression.specs.Bindings.{bindings_of}
 use Rattle.csp_expression.specs.Evaluation.{seen_value}
 use Rattle.csp_expression.specs.Agreement.{AgreesWith}
-use Rattle.csp_expression.specs.declared.eval_fault.EvalFault.{EvalFault}
+use Rattle.csp_expression.specs.declared.no_value.NoValue.{NoValue}
 
 -- the values that are seen
 abbrev pub seen_values : {A : Type 0} → List (Seen A) → List pure.Value
 seen_values xs = map seen_value xs
 
-abbrev pub SeesAll : {A : Type 0} → Result (Vec (Seen A) A) EvalFault → Result (List pure.Value) Cause → Type 0
+abbrev pub SeesAll : {A : Type 0} → Result (Vec (Seen A) A) NoValue → Result (List pure.Value) Cause → Type 0
 SeesAll = AgreesWith (λ xs. seen_values xs.items)
 
-abbrev pub Binds : {A : Type 0} → Result (Vec (Binding A) A) EvalFault → Result Bindings Cause → Type 0
+abbrev pub Binds : {A : Type 0} → Result (Vec (Binding A) A) NoValue → Result Bindings Cause → Type 0
 Binds = AgreesWith (λ bs. bindings_of bs.items)
 
-abbrev pub Decides : Result Bool EvalFault → Result Bool Cause → Type 0
+abbrev pub Decides : Result Bool NoValue → Result Bool Cause → Type 0
 Decides = AgreesWith (λ b. b)

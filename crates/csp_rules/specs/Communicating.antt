@@ -12,7 +12,7 @@ use Rattle.csp_value.specs.Value.{value_of}
 use Rattle.csp_expression.specs.Agreement.{AgreesBy}
 use Rattle.csp_operators.specs.declared.rule_step.RuleStep.{RuleStep}
 use Rattle.csp_operators.specs.Answering.{answered_of, kept}
-use Rattle.csp_expression.specs.declared.eval_fault.EvalFault.{EvalFault}
+use Rattle.csp_expression.specs.declared.no_value.NoValue.{NoValue}
 
 -- the values that are lent
 abbrev pub lent_values : {A : Type 0} → List (Bor (Value A)) → List pure.Value
@@ -28,5 +28,5 @@ abbrev pub IsFurther : {A : Type 0} → ℕ → Process → Vec (RuleStep A) A �
 IsFurther c p before after ms = map answered_of after.items ≡ map answered_of before.items ++ map kept (communication_steps c p ms)
 
 -- so for the communications that are answered; or the first cause
-abbrev pub Finds : {A : Type 0} → ℕ → Process → List pure.Value → Vec (RuleStep A) A → Result (List Communication) Cause → Result (Vec (RuleStep A) A) EvalFault → Type 0
+abbrev pub Finds : {A : Type 0} → ℕ → Process → List pure.Value → Vec (RuleStep A) A → Result (List Communication) Cause → Result (Vec (RuleStep A) A) NoValue → Type 0
 Finds c p vs before r x = AgreesBy (λ after r. (ms : List Communication) × (r ≡ Ok ms) × IsFurther c p before after (behind_values vs ms)) x r

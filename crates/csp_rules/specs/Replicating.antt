@@ -8,14 +8,14 @@ use Rattle.csp_semantics.specs.Meaning.Transitions.{chain}
 use Rattle.csp_value.specs.declared.value.Value.{Value}
 use Rattle.csp_value.specs.Value.{value_of}
 use Rattle.csp_expression.specs.Bindings.{bindings_of}
-use Rattle.csp_expression.specs.declared.fault.Fault.TheVariants as fault
+use Rattle.csp_expression.specs.declared.cause.Cause.TheVariants as fault
 use Rattle.csp_term.specs.Term.{process_of}
 use Rattle.csp_operators.specs.declared.rule_step.RuleStep.{RuleStep}
 use Rattle.csp_rules.specs.declared.rules.replicated.Instances.{Instances}
 use Rattle.csp_rules.specs.declared.rules.replicated.Looking.{Looking}
 use Rattle.csp_rules.specs.declared.rules.replicated.Looking.TheVariants as looking
-use Rattle.csp_expression.specs.declared.eval_fault.EvalFault.{EvalFault}
-use Rattle.csp_expression.specs.declared.eval_fault.EvalFault.TheVariants as eval
+use Rattle.csp_expression.specs.declared.no_value.NoValue.{NoValue}
+use Rattle.csp_expression.specs.declared.no_value.NoValue.TheVariants as eval
 use Rattle.csp_operators.specs.Answering.{Answered, Answers}
 use Rattle.csp_operators.specs.Composing.{external_answers, parallel_answers}
 
@@ -36,6 +36,6 @@ looking_answers looking.ExternalChoice o bs r cs = external_answers o bs r cs
 looking_answers looking.Interleaving o bs r cs = parallel_answers always always never Interleaving o bs r cs
 
 -- What is answered of the chain of internal choices. Of none there is no chain to answer.
-abbrev pub AnswersChoices : {A : Type 0} → Script → List Process → Result (Vec (RuleStep A) A) EvalFault → Type 0
-AnswersChoices s [] r = r ≡ Err (eval.Fault fault.Choice)
+abbrev pub AnswersChoices : {A : Type 0} → Script → List Process → Result (Vec (RuleStep A) A) NoValue → Type 0
+AnswersChoices s [] r = r ≡ Err (eval.Cause fault.Choice)
 AnswersChoices s (p ∷ ps) r = Answers s (chain InternalChoice Stop (p ∷ ps)) r

@@ -8,6 +8,6 @@
 
 mod rules;
 
-pub use csp_expression::EvalFault;
+pub use csp_expression::NoValue;
 pub use csp_operators::{RuleStep, Target};
 pub use rules::steps;

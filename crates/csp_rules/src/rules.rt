@@ -7,7 +7,7 @@ ghost use Rattle.csp_syntax.specs.Operators.{binary_process};
 ghost use Rattle.csp_semantics.specs.Meaning.Substitution.{put};
 ghost use Rattle.csp_expression.specs.Bindings.{bindings_of};
 ghost use Rattle.csp_term.specs.Term.{process_of};
-ghost use Rattle.csp_term.specs.Script.{script_of};
+ghost use Rattle.csp_term.specs.Script.{script_of_parts};
 ghost use Rattle.csp_operators.specs.Answering.{Answers};
 
 mod call;
@@ -26,21 +26,21 @@ mod sequential;
 mod side;
 mod skip;
 
-use csp_expression::{Binding, EvalFault};
+use csp_expression::{Binding, NoValue};
 use csp_operators::RuleStep;
-use csp_term::{AllocHandle, ProcessOperator, Script, Term, TermForm};
+use csp_term::{AllocHandle, ProcessOperator, ScriptParts, Term, TermForm};
 
 /// The rule steps of the term with the values put in, in no order, of which one may be there more than once: one that
-/// leads past the limits is answered without its term. `Fault` has the first cause where a rule needs a value that
+/// leads past the limits is answered without its term. `Cause` has the first cause where a rule needs a value that
 /// does not exist, and `Memory` says that there is no room for the answer.
 #[cycle(steps)]
 pub fn steps<'v, A: AllocHandle>(
     alloc: A,
-    script: &'v Script<A>,
+    script: &'v ScriptParts<A>,
     bindings: &[Binding<'v, A>],
     term: &'v Term<A>,
-) -> Result<Vec<RuleStep<A>, A>, EvalFault>
-    ensures { Answers (script_of script.now) (put (bindings_of bindings.now) (process_of term.now)) result }
+) -> Result<Vec<RuleStep<A>, A>, NoValue>
+    ensures { Answers (script_of_parts script.now) (put (bindings_of bindings.now) (process_of term.now)) result }
 {
     match term.form() {
         TermForm::Stop => Ok(Vec::new(alloc)),
@@ -77,13 +77,13 @@ pub fn steps<'v, A: AllocHandle>(
 #[cycle(steps)]
 fn binary<'v, A: AllocHandle>(
     alloc: A,
-    script: &'v Script<A>,
+    script: &'v ScriptParts<A>,
     bindings: &[Binding<'v, A>],
     operator: ProcessOperator,
     left: &'v Term<A>,
     right: &'v Term<A>,
-) -> Result<Vec<RuleStep<A>, A>, EvalFault>
-    ensures { Answers (script_of script.now) (put (bindings_of bindings.now) (binary_process operator (process_of left.now) (process_of right.now))) result }
+) -> Result<Vec<RuleStep<A>, A>, NoValue>
+    ensures { Answers (script_of_parts script.now) (put (bindings_of bindings.now) (binary_process operator (process_of left.now) (process_of right.now))) result }
 {
     match operator {
         ProcessOperator::ExternalChoice => choice::external(alloc, script, bindings, left, right),

@@ -28,7 +28,7 @@ use Rattle.csp_term.specs.declared.script.Channel.{Channel}
 use Rattle.csp_term.specs.declared.script.Equation.{Equation}
 use Rattle.csp_value.specs.declared.field_set.FieldSet.{FieldSet}
 use Rattle.csp_value.specs.contracts.field_set.FieldSetPartialEq.TheImpl as field_impl
-use Rattle.csp_term.specs.declared.script.Script.{Script}
+use Rattle.csp_term.specs.declared.script.ScriptParts.{ScriptParts}
 use Rattle.csp_term.specs.declared.term.Term.{Term}
 use Rattle.csp_term.specs.contracts.assertion.AssertionPartialEq.TheImpl as assertion_impl
 use Rattle.csp_expression.specs.contracts.types.ConstructorsPartialEq.TheImpl as constructors_impl
@@ -36,12 +36,12 @@ use Rattle.csp_expression.specs.contracts.types.TypeTablePartialEq.TheImpl as ta
 use Rattle.csp_term.specs.contracts.script.ChannelPartialEq.TheImpl as channel_impl
 use Rattle.csp_term.specs.contracts.script.ConstructorPartialEq.TheImpl as constructor_impl
 use Rattle.csp_term.specs.contracts.script.EquationPartialEq.TheImpl as equation_impl
-use Rattle.csp_term.specs.contracts.script.ScriptPartialEq.TheImpl as script_impl
+use Rattle.csp_term.specs.contracts.script.ScriptPartsPartialEq.TheImpl as script_impl
 use Rattle.csp_term.specs.contracts.term.TermPartialEq.TheImpl as term_impl
 use Rattle.csp_term.specs.contracts.term.TermOrd.TheImpl.Laws as term_laws
 use Rattle.csp_term.specs.Term.{process_of}
 use Rattle.csp_expression.specs.Evaluation.{constructors_of, members_listed, numbers_up, table_of}
-use Rattle.csp_term.specs.Script.{assertion_of, channel_of, equation_of, field_values, script_of}
+use Rattle.csp_term.specs.Script.{assertion_of, channel_of, equation_of, field_values, script_of_parts}
 use Rattle.csp_term.proofs.Channels.{same_channels, same_names, same_sets}
 use Rattle.csp_term.proofs.TermOrder.{cmp, ordered}
 use Rattle.csp_value.proofs.Sameness.{Tells, nat_tells, text_tells, lists_tell}
@@ -223,10 +223,10 @@ module _ (R : RattleType.RattleType) (A : allocator.Ghosts R.Denot) (ad dd : Syn
   pub equation_tells : Tells equation_eq (equation_of {A = R.Denot})
   equation_tells = record { sound = equation_sound; complete = equation_complete }
 
-  abbrev pub script_eq : Script R.Denot → Script R.Denot → Bool
+  abbrev pub script_eq : ScriptParts R.Denot → ScriptParts R.Denot → Bool
   script_eq = (script_impl.ghosts R A ad dd).eq
 
-  script_sound : (x y : Script R.Denot) → script_eq x y ≡ true → script_of x ≡ script_of y
+  script_sound : (x y : ScriptParts R.Denot) → script_eq x y ≡ true → script_of_parts x ≡ script_of_parts y
   script_sound x y e =
       let ts = table_eq x.types y.types in
       let ks = pointwise constructor_eq x.constructors.items y.constructors.items in
@@ -245,7 +245,7 @@ module _ (R : RattleType.RattleType) (A : allocator.Ghosts R.Denot) (ad dd : Syn
       let names = same_names x.channels.items y.channels.items channels in
       λ k. record { types = types k; channels = sets k; equations = equations k; assertions = assertions k; channel_names = names k; constructor_names = constructors k }
 
-  script_complete : (x y : Script R.Denot) → script_of x ≡ script_of y → script_eq x y ≡ true
+  script_complete : (x y : ScriptParts R.Denot) → script_of_parts x ≡ script_of_parts y → script_eq x y ≡ true
   script_complete x y e =
       let ks = pointwise constructor_eq x.constructors.items y.constructors.items in
       let cs = pointwise channel_eq x.channels.items y.channels.items in
@@ -258,5 +258,5 @@ module _ (R : RattleType.RattleType) (A : allocator.Ghosts R.Denot) (ad dd : Syn
       (and_from es asserted ((lists_tell equation_eq equation_of equation_tells).complete x.equations.items y.equations.items (ap (λ s. s.equations) e))
       ((lists_tell assertion_eq assertion_of assertion_tells).complete x.assertions.items y.assertions.items (ap (λ s. s.assertions) e)))))
 
-  pub script_tells : Tells script_eq (script_of {A = R.Denot})
+  pub script_tells : Tells script_eq (script_of_parts {A = R.Denot})
   script_tells = record { sound = script_sound; complete = script_complete }

@@ -10,3 +10,4 @@ pub mod TermMeasures
 pub mod Fitting
 pub mod Without
 pub mod Growing
+mod Sides

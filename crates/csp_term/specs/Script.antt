@@ -4,12 +4,13 @@ use Rattle.std.specs.String.{string_bytes}
 use Rattle.csp_syntax.specs.Value.{Value, values_list}
 use Rattle.csp_syntax.specs.Process as pure
 use Rattle.csp_syntax.specs.Models.{model_of}
+use Rattle.csp_semantics.specs.Kinds.Scripts.{IsTermOf}
 use Rattle.csp_value.specs.declared.field_set.FieldSet.{FieldSet}
 use Rattle.csp_value.specs.Value.{members_of}
 use Rattle.csp_term.specs.declared.assertion.Assertion.{Assertion}
 use Rattle.csp_term.specs.declared.script.Channel.{Channel}
 use Rattle.csp_term.specs.declared.script.Equation.{Equation}
-use Rattle.csp_term.specs.declared.script.Script.{Script}
+use Rattle.csp_term.specs.declared.script.ScriptParts.{ScriptParts}
 use Rattle.csp_expression.specs.Evaluation.{table_of}
 use Rattle.csp_term.specs.Term.{process_of}
 
@@ -31,8 +32,9 @@ field_sets_of c = map field_values c.fields.items
 abbrev pub channel_of : {A : Type 0} → Channel A → List ℕ × List (List Value)
 channel_of c = (string_bytes c.spelling, field_sets_of c)
 
-abbrev pub script_of : {A : Type 0} → Script A → pure.Script
-script_of s = record {
+-- the script that has these parts
+abbrev pub script_of_parts : {A : Type 0} → ScriptParts A → pure.Script
+script_of_parts s = record {
   types = table_of s.types;
   channels = map field_sets_of s.channels.items;
   equations = map equation_of s.equations.items;
@@ -40,3 +42,11 @@ script_of s = record {
   channel_names = map (λ c. string_bytes c.spelling) s.channels.items;
   constructor_names = map (λ c. string_bytes c.spelling) s.constructors.items;
 }
+
+-- a clause sees a script of the code as the one that it stands for
+abbrev pub script_of : pure.Script → pure.Script
+script_of s = s
+
+-- both sides of the assertion are terms of the script
+abbrev pub HasSidesOf : {A : Type 0} → pure.Script → Assertion A → Type 0
+HasSidesOf s a = IsTermOf s (process_of a.specification) × IsTermOf s (process_of a.implementation)

@@ -6,10 +6,11 @@ ghost use Rattle.std.specs.Prelude.{◌≡◌, ◌↔◌, IsTrue};
 ghost use Rattle.std.specs.List.{fold};
 ghost use Rattle.csp_syntax.specs.Order.{process_cmp};
 ghost use Rattle.csp_term.specs.Term.{process_of};
-ghost use Rattle.csp_term.specs.Script.{assertion_of, script_of};
+ghost use Rattle.csp_term.specs.Script.{assertion_of, script_of, script_of_parts};
 
 use crate::assertion::Assertion;
-use crate::script::Script;
+use crate::checked_script::Script;
+use crate::script::ScriptParts;
 use crate::term::Term;
 use std::alloc::Allocator;
 use std::cmp::Ordering;
@@ -32,6 +33,13 @@ pub fn equal_assertions<A: Allocator>(left: &Assertion<A>, right: &Assertion<A>)
 /// Whether two scripts are the same in all their parts.
 pub fn equal_scripts<A: Allocator>(left: &Script<A>, right: &Script<A>) -> bool
     ensures { IsTrue result ↔ (script_of left.now ≡ script_of right.now) }
+{
+    equal_parts(left.parts(), right.parts())
+}
+
+/// Whether two scripts have the same parts.
+pub fn equal_parts<A: Allocator>(left: &ScriptParts<A>, right: &ScriptParts<A>) -> bool
+    ensures { IsTrue result ↔ (script_of_parts left.now ≡ script_of_parts right.now) }
 {
     left == right
 }

@@ -2,10 +2,12 @@
 //!
 //! A term stands for a process of the definitions, by `process_of`, and every call here is stated over that process:
 //! a copy stands for the same process, values are put in as the definitions say, the limits are decided exactly, and
-//! `==`, the order and the hash of two terms are those of their processes, whichever allocator holds them.
+//! `==`, the order and the hash of two terms are those of their processes, whichever allocator holds them. The type of a
+//! script keeps that some kinds fit it.
 #![tactic(auto)]
 
 mod assertion;
+mod checked_script;
 mod field;
 mod hiding;
 pub mod laws;
@@ -18,11 +20,12 @@ mod substitution;
 mod term;
 
 pub use assertion::Assertion;
-pub use csp_expression::{DatatypeId, Fault, Name, NametypeId};
+pub use checked_script::Script;
+pub use csp_expression::{Cause, DatatypeId, Fault, Name, NametypeId};
 pub use csp_syntax::{Model, ProcessOperator, ReplicatedOperator};
 pub use csp_value::{Action, AllocHandle, ChannelId, Event, Memory, TryCopy, copy_all};
 pub use field::Field;
 pub use name::EquationId;
-pub use script::{Channel, Constructor, Equation, Script};
+pub use script::{Channel, Constructor, Equation, ScriptParts};
 pub use substitution::{TermFault, bind};
 pub use term::{Term, TermForm};

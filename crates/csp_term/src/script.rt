@@ -1,4 +1,4 @@
-//! Scripts, with their types, channels and equations.
+//! The parts of scripts: their types, channels, equations and assertions.
 
 ghost use Rattle.std.specs.Prelude.{◌≡◌};
 ghost use Rattle.std.specs.String.{string_bytes};
@@ -32,10 +32,10 @@ pub struct Equation<A: Allocator> {
     pub body: Term<A>,
 }
 
-/// A script, each part in the order of the text.
+/// The parts of a script, each in the order of the text. Nothing is said of their kinds.
 #[derive(Drop)]
 #[derive_where(PartialEq, Eq)]
-pub struct Script<A: Allocator> {
+pub struct ScriptParts<A: Allocator> {
     pub types: TypeTable<A>,
     /// The constructors of all datatypes, by their numbers.
     pub constructors: Vec<Constructor<A>, A>,
@@ -79,13 +79,13 @@ impl<A: Allocator + Copy> TryCopy<A> for Equation<A> {
     }
 }
 
-impl<A: Allocator + Copy> TryCopy<A> for Script<A> {
-    ghost use Rattle.csp_term.specs.Script.{script_of};
+impl<A: Allocator + Copy> TryCopy<A> for ScriptParts<A> {
+    ghost use Rattle.csp_term.specs.Script.{script_of_parts};
 
-    ghost is_copy = { λ s copy. script_of copy ≡ script_of s };
+    ghost is_copy = { λ s copy. script_of_parts copy ≡ script_of_parts s };
 
-    fn try_copy(&self, alloc: A) -> Result<Script<A>, Memory> {
-        Ok(Script {
+    fn try_copy(&self, alloc: A) -> Result<ScriptParts<A>, Memory> {
+        Ok(ScriptParts {
             types: self.types.try_copy(alloc)?,
             constructors: copy_all(alloc, self.constructors.as_slice())?,
             channels: copy_all(alloc, self.channels.as_slice())?,

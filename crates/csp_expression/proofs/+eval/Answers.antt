@@ -8,8 +8,8 @@ use Rattle.csp_syntax.specs.Expression.{to_expressions}
 use Rattle.csp_semantics.specs.Meaning.Evaluation.{Cause, ◌and_then◌, sequence, set_of, value, values}
 use Rattle.csp_value.specs.declared.value.Value.{Value}
 use Rattle.csp_value.specs.Value.{value_of}
-use Rattle.csp_expression.specs.declared.eval_fault.EvalFault.{EvalFault}
-use Rattle.csp_expression.specs.Evaluation.{AnswersAll, Sees, table_of}
+use Rattle.csp_expression.specs.declared.no_value.NoValue.{NoValue}
+use Rattle.csp_expression.specs.Evaluation.{GivesAll, Sees, table_of}
 use Rattle.csp_semantics.specs.Meaning.Substitution.{put_expression}
 use Rattle.csp_expression.specs.Bindings.{bindings_of, puts}
 use Rattle.csp_expression.specs.Expression.{expression_of}
@@ -19,9 +19,9 @@ use Rattle.csp_expression.proofs.+eval.Goals as goal
 pub eval::look_at_all-returns-in_err-seen : goal.eval::look_at_all-returns-in_err-seen
 eval::look_at_all-returns-in_err-seen g t c =
     let types = table_of c.args.types.now in
-    let stop : AnswersAll {A = g.row.A.Denot} (Err c.in_err-seen.field-0.0) (values types (to_expressions (puts (bindings_of c.args.bindings.now) c.args.expressions.now))) = found_none types (bindings_of c.args.bindings.now) c.args.expressions.now c.loop-expression.expression-index c.loop-expression.all.items c.expression-item.result c.in_err-seen.field-0.0 c.loop-expression.invariant c.loop-expression-test.true c.expression-item.is c.in_err-seen.ensures in
+    let stop : GivesAll {A = g.row.A.Denot} (Err c.in_err-seen.field-0.0) (values types (to_expressions (puts (bindings_of c.args.bindings.now) c.args.expressions.now))) = found_none types (bindings_of c.args.bindings.now) c.args.expressions.now c.loop-expression.expression-index c.loop-expression.all.items c.expression-item.result c.in_err-seen.field-0.0 c.loop-expression.invariant c.loop-expression-test.true c.expression-item.is c.in_err-seen.ensures in
     let p = err_from_is_err_and c.from_residual.result c.from_residual.ensures.1 in
-    let P : Result (Vec (Value g.row.A.Denot) g.row.A.Denot) EvalFault → Type 0 = λ r. AnswersAll r (values types (to_expressions (puts (bindings_of c.args.bindings.now) c.args.expressions.now))) in
+    let P : Result (Vec (Value g.row.A.Denot) g.row.A.Denot) NoValue → Type 0 = λ r. GivesAll r (values types (to_expressions (puts (bindings_of c.args.bindings.now) c.args.expressions.now))) in
     subst P (sym (p.1 ∙ ap Err p.2)) stop
 
 pub eval::look_at_all-loop-expression-preserved : goal.eval::look_at_all-loop-expression-preserved

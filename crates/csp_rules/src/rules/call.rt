@@ -9,26 +9,26 @@ ghost use Rattle.csp_semantics.specs.Meaning.Substitution.{put, put_expressions}
 ghost use Rattle.csp_expression.specs.Bindings.{bindings_of};
 ghost use Rattle.csp_expression.specs.Evaluation.{table_of};
 ghost use Rattle.csp_expression.specs.Expression.{expressions_of};
-ghost use Rattle.csp_term.specs.Script.{script_of};
+ghost use Rattle.csp_term.specs.Script.{script_of_parts};
 ghost use Rattle.csp_operators.specs.Answering.{Answers};
 ghost use Rattle.csp_rules.specs.Arguments.{Binds, SeesAll, seen_values};
 
-use csp_expression::{Binding, EvalFault, Expr, Seen, TypeTable};
+use csp_expression::{Binding, Expr, NoValue, Seen, TypeTable};
 use csp_operators::{RuleStep, Target, one_step};
-use csp_term::{Action, AllocHandle, EquationId, Fault, Name, Script};
+use csp_term::{Action, AllocHandle, Cause, EquationId, Name, ScriptParts};
 
 pub(crate) fn steps<A: AllocHandle>(
     alloc: A,
-    script: &Script<A>,
+    script: &ScriptParts<A>,
     bindings: &[Binding<'_, A>],
     equation: EquationId,
     arguments: &[Expr<A>],
-) -> Result<Vec<RuleStep<A>, A>, EvalFault>
-    ensures { Answers (script_of script.now) (put (bindings_of bindings.now) (Call equation.0 (to_expressions (expressions_of arguments.now)))) result }
+) -> Result<Vec<RuleStep<A>, A>, NoValue>
+    ensures { Answers (script_of_parts script.now) (put (bindings_of bindings.now) (Call equation.0 (to_expressions (expressions_of arguments.now)))) result }
 {
     let values = argument_values(alloc, &script.types, bindings, arguments)?;
     let Some(called) = script.equations.get(equation.0 as usize) else {
-        return Err(EvalFault::Fault(Fault::Kind));
+        return Err(NoValue::Cause(Cause::Kind));
     };
     let parameters = parameter_bindings(alloc, &called.parameters, &values)?;
     let target = Target::put_in(alloc, &called.body, &parameters)?;
@@ -41,7 +41,7 @@ fn argument_values<'e, A: AllocHandle>(
     types: &TypeTable<A>,
     bindings: &[Binding<'e, A>],
     arguments: &'e [Expr<A>],
-) -> Result<Vec<Seen<'e, A>, A>, EvalFault>
+) -> Result<Vec<Seen<'e, A>, A>, NoValue>
     ensures { SeesAll result (values (table_of types.now) (put_expressions (bindings_of bindings.now) (to_expressions (expressions_of arguments.now)))) }
 {
     let mut values = Vec::new(alloc);
@@ -56,11 +56,11 @@ fn parameter_bindings<'v, A: AllocHandle>(
     alloc: A,
     parameters: &[Name],
     values: &'v [Seen<'v, A>],
-) -> Result<Vec<Binding<'v, A>, A>, EvalFault>
+) -> Result<Vec<Binding<'v, A>, A>, NoValue>
     ensures { Binds result (parameter_bindings (map (λ n. n.0) parameters.now) (seen_values values.now)) }
 {
     if parameters.len() != values.len() {
-        return Err(EvalFault::Fault(Fault::Kind));
+        return Err(NoValue::Cause(Cause::Kind));
     }
     let mut bindings = Vec::new(alloc);
     for (place, name) in parameters.iter().enumerate() {

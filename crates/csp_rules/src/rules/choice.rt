@@ -3,25 +3,25 @@
 ghost use Rattle.csp_syntax.specs.Process.{ExternalChoice};
 ghost use Rattle.csp_semantics.specs.Meaning.Substitution.{put};
 ghost use Rattle.csp_expression.specs.Bindings.{bindings_of};
-ghost use Rattle.csp_term.specs.Script.{script_of};
+ghost use Rattle.csp_term.specs.Script.{script_of_parts};
 ghost use Rattle.csp_term.specs.Term.{process_of};
 ghost use Rattle.csp_operators.specs.Answering.{Answers};
 
 use crate::rules::side;
-use csp_expression::{Binding, EvalFault};
+use csp_expression::{Binding, NoValue};
 use csp_operators::{RuleStep, choice};
-use csp_term::{AllocHandle, Script, Term};
+use csp_term::{AllocHandle, ScriptParts, Term};
 
 /// The steps of `P [] Q`.
 #[cycle(steps)]
 pub(crate) fn external<'v, A: AllocHandle>(
     alloc: A,
-    script: &'v Script<A>,
+    script: &'v ScriptParts<A>,
     bindings: &[Binding<'v, A>],
     left: &'v Term<A>,
     right: &'v Term<A>,
-) -> Result<Vec<RuleStep<A>, A>, EvalFault>
-    ensures { Answers (script_of script.now) (put (bindings_of bindings.now) (ExternalChoice (process_of left.now) (process_of right.now))) result }
+) -> Result<Vec<RuleStep<A>, A>, NoValue>
+    ensures { Answers (script_of_parts script.now) (put (bindings_of bindings.now) (ExternalChoice (process_of left.now) (process_of right.now))) result }
 {
     let sides = side::both(alloc, script, bindings, left, right);
     choice::by_sides(alloc, sides)

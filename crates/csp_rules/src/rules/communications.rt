@@ -17,9 +17,9 @@ ghost use Rattle.csp_term.specs.Term.{process_of};
 ghost use Rattle.csp_rules.specs.Communicating.{Finds, lent_values};
 ghost use Rattle.csp_event_tests.specs.Testing.{sets_of};
 
-use csp_expression::{Binding, EvalFault, Expr, TypeTable};
+use csp_expression::{Binding, Expr, NoValue, TypeTable};
 use csp_operators::{RuleStep, Target};
-use csp_term::{Action, AllocHandle, ChannelId, Event, Fault, Field, Memory, Name, Term, bind};
+use csp_term::{Action, AllocHandle, Cause, ChannelId, Event, Field, Memory, Name, Term, bind};
 use csp_value::{FieldSet, Value};
 use smallvec::SmallVec;
 
@@ -86,7 +86,7 @@ pub(crate) fn look_for<'v, A: AllocHandle>(
     fields: &'v [Field<A>],
     sets: &'v [FieldSet<A>],
     found: Vec<RuleStep<A>, A>,
-) -> Result<Vec<RuleStep<A>, A>, EvalFault>
+) -> Result<Vec<RuleStep<A>, A>, NoValue>
     ensures { Finds walk.now.channel.0 (process_of walk.now.body.now) (lent_values front.now.values.items) found (communications (table_of walk.now.types.now) (bindings_of front.now.bindings.items) (fields_of fields.now) (sets_of sets.now)) result }
 {
     match (fields.split_first(), sets.split_first()) {
@@ -98,7 +98,7 @@ pub(crate) fn look_for<'v, A: AllocHandle>(
                 inputs_from(walk, front, *name, from, set, fields, sets, found)
             }
         },
-        _ => Err(EvalFault::Fault(Fault::Kind)),
+        _ => Err(NoValue::Cause(Cause::Kind)),
     }
 }
 
@@ -114,12 +114,12 @@ fn given<'v, A: AllocHandle>(
     fields: &'v [Field<A>],
     sets: &'v [FieldSet<A>],
     found: Vec<RuleStep<A>, A>,
-) -> Result<Vec<RuleStep<A>, A>, EvalFault>
+) -> Result<Vec<RuleStep<A>, A>, NoValue>
     ensures { Finds walk.now.channel.0 (process_of walk.now.body.now) (lent_values front.now.values.items) found (communications (table_of walk.now.types.now) (bindings_of front.now.bindings.items) (Given (expression_of value.now) ∷ fields_of fields.now) (field_values set.now ∷ sets_of sets.now)) result }
 {
     let seen = (&*value).look(walk.alloc, walk.types, &front.bindings)?;
     if !set.contains(seen.value()) {
-        return Err(EvalFault::Fault(Fault::Range));
+        return Err(NoValue::Cause(Cause::Range));
     }
     let front = (&*front).with_given(walk.alloc, seen.value())?;
     look_for(&*walk, &front, &*fields, &*sets, found)
@@ -135,7 +135,7 @@ fn inputs<'v, A: AllocHandle>(
     fields: &'v [Field<A>],
     sets: &'v [FieldSet<A>],
     found: Vec<RuleStep<A>, A>,
-) -> Result<Vec<RuleStep<A>, A>, EvalFault>
+) -> Result<Vec<RuleStep<A>, A>, NoValue>
     ensures { Finds walk.now.channel.0 (process_of walk.now.body.now) (lent_values front.now.values.items) found (communications (table_of walk.now.types.now) (bindings_of front.now.bindings.items) (Input name.0 ∷ fields_of fields.now) (field_values set.now ∷ sets_of sets.now)) result }
 {
     let mut found = found;
@@ -157,13 +157,13 @@ fn inputs_from<'v, A: AllocHandle>(
     fields: &'v [Field<A>],
     sets: &'v [FieldSet<A>],
     found: Vec<RuleStep<A>, A>,
-) -> Result<Vec<RuleStep<A>, A>, EvalFault>
+) -> Result<Vec<RuleStep<A>, A>, NoValue>
     ensures { Finds walk.now.channel.0 (process_of walk.now.body.now) (lent_values front.now.values.items) found (communications (table_of walk.now.types.now) (bindings_of front.now.bindings.items) (InputFrom name.0 (expression_of from.now) ∷ fields_of fields.now) (field_values set.now ∷ sets_of sets.now)) result }
 {
     let mut found = found;
     let seen = (&*from).look(walk.alloc, walk.types, &front.bindings)?;
     let Value::Set(chosen) = seen.value() else {
-        return Err(EvalFault::Fault(Fault::Kind));
+        return Err(NoValue::Cause(Cause::Kind));
     };
     for value in chosen.members() {
         if set.contains(value) {
@@ -179,7 +179,7 @@ fn reach<A: AllocHandle>(
     walk: &Walk<'_, A>,
     front: &Front<'_, A>,
     found: Vec<RuleStep<A>, A>,
-) -> Result<Vec<RuleStep<A>, A>, EvalFault>
+) -> Result<Vec<RuleStep<A>, A>, NoValue>
     ensures { Finds walk.now.channel.0 (process_of walk.now.body.now) (lent_values front.now.values.items) found (communications (table_of walk.now.types.now) (bindings_of front.now.bindings.items) [] []) result }
 {
     let mut found = found;

@@ -8,8 +8,8 @@ ghost use Rattle.csp_expression.specs.Bindings.{bindings_of};
 ghost use Rattle.csp_expression.specs.Expression.{expression_of};
 ghost use Rattle.csp_rules.specs.Arguments.{Decides};
 
-use csp_expression::{Binding, EvalFault, Expr, TypeTable};
-use csp_term::{AllocHandle, Fault};
+use csp_expression::{Binding, Expr, NoValue, TypeTable};
+use csp_term::{AllocHandle, Cause};
 use csp_value::Value;
 
 /// Whether the condition with the values put in is true, or the first cause.
@@ -18,7 +18,7 @@ pub(crate) fn condition<'e, A: AllocHandle>(
     types: &TypeTable<A>,
     bindings: &[Binding<'e, A>],
     test: &'e Expr<A>,
-) -> Result<bool, EvalFault>
+) -> Result<bool, NoValue>
     ensures { Decides result (condition (table_of types.now) (put_expression (bindings_of bindings.now) (expression_of test.now))) }
 {
     let seen = test.look(alloc, types, bindings)?;
@@ -26,11 +26,11 @@ pub(crate) fn condition<'e, A: AllocHandle>(
 }
 
 /// The truth value, if it is one.
-fn truth_of<A: AllocHandle>(value: &Value<A>) -> Result<bool, EvalFault>
+fn truth_of<A: AllocHandle>(value: &Value<A>) -> Result<bool, NoValue>
     ensures { Decides result (truth_of (value_of value.now)) }
 {
     match value {
         Value::Bool(truth) => Ok(*truth),
-        _ => Err(EvalFault::Fault(Fault::Kind)),
+        _ => Err(NoValue::Cause(Cause::Kind)),
     }
 }

@@ -4,25 +4,25 @@ ghost use Rattle.csp_syntax.specs.Process.{Guard};
 ghost use Rattle.csp_semantics.specs.Meaning.Substitution.{put};
 ghost use Rattle.csp_expression.specs.Bindings.{bindings_of};
 ghost use Rattle.csp_expression.specs.Expression.{expression_of};
-ghost use Rattle.csp_term.specs.Script.{script_of};
+ghost use Rattle.csp_term.specs.Script.{script_of_parts};
 ghost use Rattle.csp_term.specs.Term.{process_of};
 ghost use Rattle.csp_operators.specs.Answering.{Answers};
 
 use crate::rules;
 use crate::rules::condition::condition;
-use csp_expression::{Binding, EvalFault, Expr};
+use csp_expression::{Binding, Expr, NoValue};
 use csp_operators::RuleStep;
-use csp_term::{AllocHandle, Script, Term};
+use csp_term::{AllocHandle, ScriptParts, Term};
 
 #[cycle(steps)]
 pub(crate) fn steps<'v, A: AllocHandle>(
     alloc: A,
-    script: &'v Script<A>,
+    script: &'v ScriptParts<A>,
     bindings: &[Binding<'v, A>],
     test: &'v Expr<A>,
     body: &'v Term<A>,
-) -> Result<Vec<RuleStep<A>, A>, EvalFault>
-    ensures { Answers (script_of script.now) (put (bindings_of bindings.now) (Guard (expression_of test.now) (process_of body.now))) result }
+) -> Result<Vec<RuleStep<A>, A>, NoValue>
+    ensures { Answers (script_of_parts script.now) (put (bindings_of bindings.now) (Guard (expression_of test.now) (process_of body.now))) result }
 {
     if condition(alloc, &script.types, bindings, test)? {
         rules::steps(alloc, script, bindings, body)

@@ -3,24 +3,24 @@
 ghost use Rattle.csp_syntax.specs.Process.{Interrupt};
 ghost use Rattle.csp_semantics.specs.Meaning.Substitution.{put};
 ghost use Rattle.csp_expression.specs.Bindings.{bindings_of};
-ghost use Rattle.csp_term.specs.Script.{script_of};
+ghost use Rattle.csp_term.specs.Script.{script_of_parts};
 ghost use Rattle.csp_term.specs.Term.{process_of};
 ghost use Rattle.csp_operators.specs.Answering.{Answers};
 
 use crate::rules::side;
-use csp_expression::{Binding, EvalFault};
+use csp_expression::{Binding, NoValue};
 use csp_operators::{RuleStep, interrupt};
-use csp_term::{AllocHandle, Script, Term};
+use csp_term::{AllocHandle, ScriptParts, Term};
 
 #[cycle(steps)]
 pub(crate) fn steps<'v, A: AllocHandle>(
     alloc: A,
-    script: &'v Script<A>,
+    script: &'v ScriptParts<A>,
     bindings: &[Binding<'v, A>],
     left: &'v Term<A>,
     right: &'v Term<A>,
-) -> Result<Vec<RuleStep<A>, A>, EvalFault>
-    ensures { Answers (script_of script.now) (put (bindings_of bindings.now) (Interrupt (process_of left.now) (process_of right.now))) result }
+) -> Result<Vec<RuleStep<A>, A>, NoValue>
+    ensures { Answers (script_of_parts script.now) (put (bindings_of bindings.now) (Interrupt (process_of left.now) (process_of right.now))) result }
 {
     let sides = side::both(alloc, script, bindings, left, right);
     interrupt::by_sides(alloc, sides)

@@ -5,27 +5,27 @@ ghost use Rattle.csp_syntax.specs.Process.{Prefix};
 ghost use Rattle.csp_semantics.specs.Meaning.Substitution.{put};
 ghost use Rattle.csp_expression.specs.Bindings.{bindings_of};
 ghost use Rattle.csp_term.specs.Field.{fields_of};
-ghost use Rattle.csp_term.specs.Script.{script_of};
+ghost use Rattle.csp_term.specs.Script.{script_of_parts};
 ghost use Rattle.csp_term.specs.Term.{process_of};
 ghost use Rattle.csp_operators.specs.Answering.{Answers};
 
 use crate::rules::communications::{Front, Walk, look_for};
-use csp_expression::{Binding, EvalFault};
+use csp_expression::{Binding, NoValue};
 use csp_operators::RuleStep;
-use csp_term::{AllocHandle, ChannelId, Fault, Field, Script, Term};
+use csp_term::{AllocHandle, Cause, ChannelId, Field, ScriptParts, Term};
 
 pub(crate) fn steps<'v, A: AllocHandle>(
     alloc: A,
-    script: &'v Script<A>,
+    script: &'v ScriptParts<A>,
     bindings: &[Binding<'v, A>],
     channel: ChannelId,
     fields: &'v [Field<A>],
     body: &'v Term<A>,
-) -> Result<Vec<RuleStep<A>, A>, EvalFault>
-    ensures { Answers (script_of script.now) (put (bindings_of bindings.now) (Prefix channel.0 (fields_of fields.now) (process_of body.now))) result }
+) -> Result<Vec<RuleStep<A>, A>, NoValue>
+    ensures { Answers (script_of_parts script.now) (put (bindings_of bindings.now) (Prefix channel.0 (fields_of fields.now) (process_of body.now))) result }
 {
     let Some(declared) = script.channels.get(channel.0 as usize) else {
-        return Err(EvalFault::Fault(Fault::Kind));
+        return Err(NoValue::Cause(Cause::Kind));
     };
     let walk = Walk {
         alloc,

@@ -10,16 +10,16 @@ ghost use Rattle.csp_semantics.specs.Meaning.Substitution.{put};
 ghost use Rattle.csp_semantics.specs.Meaning.Transitions.{chain, left_grouped};
 ghost use Rattle.csp_expression.specs.Bindings.{bindings_of};
 ghost use Rattle.csp_expression.specs.Expression.{expression_of};
-ghost use Rattle.csp_term.specs.Script.{script_of};
+ghost use Rattle.csp_term.specs.Script.{script_of_parts};
 ghost use Rattle.csp_term.specs.Term.{process_of};
 ghost use Rattle.csp_operators.specs.Answering.{Answers, answered_of, target_of, within_limits};
 ghost use Rattle.csp_operators.specs.Composing.{HaveSameSteps, IsSideOf, side_answers, under_both};
 ghost use Rattle.csp_rules.specs.Replicating.{AnswersChoices, instance_of, instances_of, looking_answers, looking_process};
 
 use crate::rules::{side, skip};
-use csp_expression::{Binding, EvalFault, Expr};
+use csp_expression::{Binding, Expr, NoValue};
 use csp_operators::{RuleStep, Side, Target, choice, parallel};
-use csp_term::{AllocHandle, Fault, Memory, Name, ReplicatedOperator, Script, Term, bind};
+use csp_term::{AllocHandle, Cause, Memory, Name, ReplicatedOperator, ScriptParts, Term, bind};
 use csp_value::Value;
 
 // Where a value is made on the way, what is lent for longer is lent again (`&*`), for as long as that value lives.
@@ -27,18 +27,18 @@ use csp_value::Value;
 #[cycle(steps)]
 pub(crate) fn steps<'v, A: AllocHandle>(
     alloc: A,
-    script: &'v Script<A>,
+    script: &'v ScriptParts<A>,
     bindings: &[Binding<'v, A>],
     operator: ReplicatedOperator,
     name: Name,
     set: &'v Expr<A>,
     body: &'v Term<A>,
-) -> Result<Vec<RuleStep<A>, A>, EvalFault>
-    ensures { Answers (script_of script.now) (put (bindings_of bindings.now) (replicated_process operator name.0 (expression_of set.now) (process_of body.now))) result }
+) -> Result<Vec<RuleStep<A>, A>, NoValue>
+    ensures { Answers (script_of_parts script.now) (put (bindings_of bindings.now) (replicated_process operator name.0 (expression_of set.now) (process_of body.now))) result }
 {
     let seen = (&*set).look(alloc, &script.types, bindings)?;
     let Value::Set(members) = seen.value() else {
-        return Err(EvalFault::Fault(Fault::Kind));
+        return Err(NoValue::Cause(Cause::Kind));
     };
     let instances = Instances {
         alloc,
@@ -84,7 +84,7 @@ impl Looking {
 #[derive(Drop)]
 struct Instances<'v, 'b, A: AllocHandle> {
     alloc: A,
-    script: &'v Script<A>,
+    script: &'v ScriptParts<A>,
     bindings: &'b [Binding<'v, A>],
     name: Name,
     body: &'v Term<A>,
@@ -93,8 +93,8 @@ struct Instances<'v, 'b, A: AllocHandle> {
 impl<'v, 'b, A: AllocHandle> Instances<'v, 'b, A> {
     /// The instance of the value, with its steps.
     #[cycle(steps)]
-    fn side(&self, value: &'v Value<A>) -> Result<Side<A>, EvalFault>
-        ensures { IsSideOf (script_of self.now.script.now) (instance_of self.now value.now) result }
+    fn side(&self, value: &'v Value<A>) -> Result<Side<A>, NoValue>
+        ensures { IsSideOf (script_of_parts self.now.script.now) (instance_of self.now value.now) result }
     {
         let bindings = bind(self.alloc, self.name, value, self.bindings)?;
         side::under(self.alloc, self.script, &bindings, self.body)
@@ -115,8 +115,8 @@ impl<'v, 'b, A: AllocHandle> Instances<'v, 'b, A> {
         operator: Looking,
         first: &'v Value<A>,
         others: &'v [Value<A>],
-    ) -> Result<Vec<RuleStep<A>, A>, EvalFault>
-        ensures { Answers (script_of self.now.script.now) (left_grouped (looking_process operator) (instance_of self.now first.now) (instances_of self.now others.now)) result }
+    ) -> Result<Vec<RuleStep<A>, A>, NoValue>
+        ensures { Answers (script_of_parts self.now.script.now) (left_grouped (looking_process operator) (instance_of self.now first.now) (instances_of self.now others.now)) result }
     {
         let mut chain = self.side(first)?;
         for value in others {
@@ -154,8 +154,8 @@ impl<'v, 'b, A: AllocHandle> Instances<'v, 'b, A> {
 
     /// The steps of `[]` over the values. Of none it is `STOP`.
     #[cycle(steps)]
-    fn external(&self, values: &'v [Value<A>]) -> Result<Vec<RuleStep<A>, A>, EvalFault>
-        ensures { Answers (script_of self.now.script.now) (chain ExternalChoice Stop (instances_of self.now values.now)) result }
+    fn external(&self, values: &'v [Value<A>]) -> Result<Vec<RuleStep<A>, A>, NoValue>
+        ensures { Answers (script_of_parts self.now.script.now) (chain ExternalChoice Stop (instances_of self.now values.now)) result }
     {
         match values.split_first() {
             None => Ok(Vec::new(self.alloc)),
@@ -165,8 +165,8 @@ impl<'v, 'b, A: AllocHandle> Instances<'v, 'b, A> {
 
     /// The steps of `|||` over the values. Of none it is `SKIP`.
     #[cycle(steps)]
-    fn interleaving(&self, values: &'v [Value<A>]) -> Result<Vec<RuleStep<A>, A>, EvalFault>
-        ensures { Answers (script_of self.now.script.now) (chain Interleaving Skip (instances_of self.now values.now)) result }
+    fn interleaving(&self, values: &'v [Value<A>]) -> Result<Vec<RuleStep<A>, A>, NoValue>
+        ensures { Answers (script_of_parts self.now.script.now) (chain Interleaving Skip (instances_of self.now values.now)) result }
     {
         match values.split_first() {
             None => skip::steps(self.alloc, self.script),
@@ -176,11 +176,11 @@ impl<'v, 'b, A: AllocHandle> Instances<'v, 'b, A> {
 
     /// The steps of `|~|` over the values. It looks at an instance only where there is no other.
     #[cycle(steps)]
-    fn internal(&self, values: &'v [Value<A>]) -> Result<Vec<RuleStep<A>, A>, EvalFault>
-        ensures { AnswersChoices (script_of self.now.script.now) (instances_of self.now values.now) result }
+    fn internal(&self, values: &'v [Value<A>]) -> Result<Vec<RuleStep<A>, A>, NoValue>
+        ensures { AnswersChoices (script_of_parts self.now.script.now) (instances_of self.now values.now) result }
     {
         let Some((last, before)) = values.split_last() else {
-            return Err(EvalFault::Fault(Fault::Choice));
+            return Err(NoValue::Cause(Cause::Choice));
         };
         match before.split_first() {
             None => Ok(self.side(last)?.steps),

@@ -2,24 +2,24 @@
 
 ghost use Rattle.csp_semantics.specs.Meaning.Substitution.{put};
 ghost use Rattle.csp_expression.specs.Bindings.{bindings_of};
-ghost use Rattle.csp_term.specs.Script.{script_of};
+ghost use Rattle.csp_term.specs.Script.{script_of_parts};
 ghost use Rattle.csp_term.specs.Term.{process_of};
 ghost use Rattle.csp_operators.specs.Composing.{AreSidesOf, IsSideOf};
 
 use crate::rules;
-use csp_expression::{Binding, EvalFault};
+use csp_expression::{Binding, NoValue};
 use csp_operators::{Side, Target};
-use csp_term::{AllocHandle, Script, Term};
+use csp_term::{AllocHandle, ScriptParts, Term};
 
 /// The term with the values put in.
 #[cycle(steps)]
 pub(crate) fn under<'v, A: AllocHandle>(
     alloc: A,
-    script: &'v Script<A>,
+    script: &'v ScriptParts<A>,
     bindings: &[Binding<'v, A>],
     term: &'v Term<A>,
-) -> Result<Side<A>, EvalFault>
-    ensures { IsSideOf (script_of script.now) (put (bindings_of bindings.now) (process_of term.now)) result }
+) -> Result<Side<A>, NoValue>
+    ensures { IsSideOf (script_of_parts script.now) (put (bindings_of bindings.now) (process_of term.now)) result }
 {
     let steps = rules::steps(alloc, script, bindings, term)?;
     let process = Target::put_in(alloc, term, bindings)?;
@@ -30,12 +30,12 @@ pub(crate) fn under<'v, A: AllocHandle>(
 #[cycle(steps)]
 pub(crate) fn both<'v, A: AllocHandle>(
     alloc: A,
-    script: &'v Script<A>,
+    script: &'v ScriptParts<A>,
     bindings: &[Binding<'v, A>],
     left: &'v Term<A>,
     right: &'v Term<A>,
-) -> Result<(Side<A>, Side<A>), EvalFault>
-    ensures { AreSidesOf (script_of script.now) (put (bindings_of bindings.now) (process_of left.now)) (put (bindings_of bindings.now) (process_of right.now)) result }
+) -> Result<(Side<A>, Side<A>), NoValue>
+    ensures { AreSidesOf (script_of_parts script.now) (put (bindings_of bindings.now) (process_of left.now)) (put (bindings_of bindings.now) (process_of right.now)) result }
 {
     let left = under(alloc, script, bindings, left)?;
     let right = under(alloc, script, bindings, right)?;

@@ -5,7 +5,7 @@ use Rattle.csp_semantics.specs.Meaning.Events.{event_test}
 use Rattle.csp_event_sets.specs.declared.event_set.EventSet.{EventSet}
 use Rattle.csp_event_sets.specs.Events.{event_set_of}
 use Rattle.csp_event_sets.proofs.EventForms.{of_combined}
-use Rattle.csp_term.specs.Script.{script_of}
+use Rattle.csp_term.specs.Script.{script_of_parts}
 use Rattle.csp_event_tests.specs.declared.event_test.EventTest.TheVariants as views
 use Rattle.csp_event_tests.specs.Testing.{IsBoxedTestOf, IsTestOf}
 use Rattle.csp_event_tests.proofs.Evaluating.{both_tested}
@@ -13,7 +13,7 @@ use Rattle.csp_event_tests.proofs.event_test.+event_test.Goals as goal
 
 pub EventTest::of-returns-in_ok-right-in-Combine : goal.EventTest::of-returns-in_ok-right-in-Combine
 EventTest::of-returns-in_ok-right-in-Combine g t c =
-    let script = script_of c.args.script.now in
+    let script = script_of_parts c.args.script.now in
     let op = c.in-Combine.operator in
     let l = c.in_ok-left-in-Combine.left in
     let r = c.in_ok-right-in-Combine.right in

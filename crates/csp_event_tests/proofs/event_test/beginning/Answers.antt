@@ -10,34 +10,34 @@ use Rattle.csp_value.specs.Value.{values_of}
 use Rattle.csp_expression.specs.Evaluation.{table_of}
 use Rattle.csp_expression.specs.Expression.{expressions_of}
 use Rattle.csp_event_sets.specs.Events.{event_expression_of}
-use Rattle.csp_term.specs.Script.{script_of}
-use Rattle.csp_expression.specs.declared.eval_fault.EvalFault.{EvalFault}
+use Rattle.csp_term.specs.Script.{script_of_parts}
+use Rattle.csp_expression.specs.declared.no_value.NoValue.{NoValue}
 use Rattle.csp_event_tests.specs.Testing.{AreGivenBy, IsEventOf, sets_of}
 use Rattle.csp_event_tests.proofs.Giving.{begun, sets_stuck, values_stuck}
 use Rattle.csp_event_tests.proofs.event_test.beginning.Goals as goal
 
 pub returns-in_err-sets : goal.returns-in_err-sets
 returns-in_err-sets g c =
-    let script = script_of c.args.script.now in
+    let script = script_of_parts c.args.script.now in
     let e = event_expression_of c.args.written.now in
     let p = err_from_is_err_and c.from_residual.result c.from_residual.ensures.1 in
-    let P : Result (Event g.row.A.Denot) EvalFault → Type 0 = λ r. IsEventOf r (beginning_of script e) in
+    let P : Result (Event g.row.A.Denot) NoValue → Type 0 = λ r. IsEventOf r (beginning_of script e) in
     subst P (sym (p.1 ∙ ap Err p.2)) (sets_stuck g.row.A.Denot script e c.in_err-sets.field-0.0 c.in_err-sets.ensures)
 
 pub returns-in_err-fields : goal.returns-in_err-fields
 returns-in_err-fields g c =
-    let script = script_of c.args.script.now in
+    let script = script_of_parts c.args.script.now in
     let e = event_expression_of c.args.written.now in
     let sets = sets_of c.in_ok-sets.sets.now in
     let same = ap (λ es. given_values (table_of c.args.script.now.types) (to_expressions (expressions_of es)) sets) c.deref.ensures.value in
     let G : Result (List pure.Value) Cause → Type 0 = λ r. AreGivenBy {A = g.row.A.Denot} (Err c.in_err-fields.field-0.0) r in
     let p = err_from_is_err_and c.from_residual-in_err-fields.result c.from_residual-in_err-fields.ensures.1 in
-    let P : Result (Event g.row.A.Denot) EvalFault → Type 0 = λ r. IsEventOf r (beginning_of script e) in
+    let P : Result (Event g.row.A.Denot) NoValue → Type 0 = λ r. IsEventOf r (beginning_of script e) in
     subst P (sym (p.1 ∙ ap Err p.2)) (values_stuck g.row.A.Denot script e sets c.in_ok-sets.ensures c.in_err-fields.field-0.0 (subst G same c.in_err-fields.ensures))
 
 pub returns : goal.returns
 returns g c =
-    let script = script_of c.args.script.now in
+    let script = script_of_parts c.args.script.now in
     let e = event_expression_of c.args.written.now in
     let sets = sets_of c.in_ok-sets.sets.now in
     let same = ap (λ es. given_values (table_of c.args.script.now.types) (to_expressions (expressions_of es)) sets) c.deref.ensures.value in

@@ -13,9 +13,9 @@ use Rattle.csp_value.specs.Action.{event_of}
 use Rattle.csp_value.specs.declared.action.Event.{Event}
 use Rattle.csp_value.proofs.ActionOrder.{event_order, event_ordered}
 use Rattle.csp_event_sets.specs.Events.{event_expression_of, event_expressions_of}
-use Rattle.csp_term.specs.Script.{script_of}
+use Rattle.csp_term.specs.Script.{script_of_parts}
 use Rattle.csp_event_tests.specs.declared.event_test.EventTest.{EventTest}
-use Rattle.csp_expression.specs.declared.eval_fault.EvalFault.{EvalFault}
+use Rattle.csp_expression.specs.declared.no_value.NoValue.{NoValue}
 use Rattle.csp_event_tests.specs.Testing.{IsTestOf}
 use Rattle.csp_event_tests.proofs.Enumerating.{one_further, stopped_at}
 use Rattle.csp_event_tests.proofs.Evaluating.{begun_by, test_stopped}
@@ -23,25 +23,25 @@ use Rattle.csp_event_tests.proofs.event_test.beginnings.Goals as goal
 
 pub loop-event-preserved : goal.loop-event-preserved
 loop-event-preserved g c =
-    one_further (events.beginning_of (script_of c.args.script.now)) event_expression_of event_of c.args.written.now c.loop-event.event-index c.event-item.result c.loop-event.events.items c.loop-event.invariant c.loop-event-test.true c.event-item.is
+    one_further (events.beginning_of (script_of_parts c.args.script.now)) event_expression_of event_of c.args.written.now c.loop-event.event-index c.event-item.result c.loop-event.events.items c.loop-event.invariant c.loop-event-test.true c.event-item.is
     c.push.new.self.items c.in_ok-beginning.field-0 c.in_ok-beginning.ensures c.in_ok-push.ensures.items
 
 pub returns-in_err-beginning : goal.returns-in_err-beginning
 returns-in_err-beginning g c =
-    let script = script_of c.args.script.now in
+    let script = script_of_parts c.args.script.now in
     let f = events.beginning_of script in
     let items = c.args.written.now in
     let item = c.event-item.result in
     let all = events.event_test script (process.Productions (event_expressions_of items)) in
     let p = err_from_is_err_and c.from_residual.result c.from_residual.ensures.1 in
-    let P : Result (EventTest g.row.A.Denot) EvalFault → Type 0 = λ r. IsTestOf r all in
+    let P : Result (EventTest g.row.A.Denot) NoValue → Type 0 = λ r. IsTestOf r all in
     subst P (sym (p.1 ∙ ap Err p.2))
     (test_stopped g.row.A.Denot (f (event_expression_of item)) all c.in_err-beginning.field-0.0 c.in_err-beginning.ensures
     (λ cause none. ap (λ r. r and_then λ xs. Ok (λ e. list_any (events.begins_with e) xs)) (stopped_at f event_expression_of event_of items c.loop-event.event-index item c.loop-event.events.items c.loop-event.invariant c.loop-event-test.true c.event-item.is cause none)))
 
 pub returns : goal.returns
 returns g c =
-    let script = script_of c.args.script.now in
+    let script = script_of_parts c.args.script.now in
     let all = take_all c.loop-event.event-index c.args.written.now (omega arith) in
     let order = event_order g.row.A g.A.AllocHandle g.A.AllocHandle-dict g.A.Allocator g.A.Allocator-dict g.A.Clone g.A.Clone-dict in
     let as_events : order ≡ (λ e f. pure.event_cmp (event_of e) (event_of f)) = λ i e f. event_ordered g.row.A g.A.AllocHandle g.A.AllocHandle-dict g.A.Allocator g.A.Allocator-dict g.A.Clone g.A.Clone-dict e f i in

@@ -8,7 +8,7 @@ use Rattle.csp_semantics.specs.Meaning.Events.{given_values}
 use Rattle.csp_value.specs.declared.value.Value.{Value}
 use Rattle.csp_expression.specs.Evaluation.{table_of}
 use Rattle.csp_expression.specs.Expression.{expressions_of}
-use Rattle.csp_expression.specs.declared.eval_fault.EvalFault.{EvalFault}
+use Rattle.csp_expression.specs.declared.no_value.NoValue.{NoValue}
 use Rattle.csp_event_tests.specs.Testing.{AreGivenBy, sets_of}
 use Rattle.csp_event_tests.proofs.Giving.{given_stops, next_given, too_many}
 use Rattle.csp_event_tests.proofs.event_test.given_values.Goals as goal
@@ -26,7 +26,7 @@ returns-in_err-given_value g c =
     let look = c.in-Some.ensures.lookup in
     let at = slice_get_read sets (length sets) c.loop-place.place set refl look.3.0 look.1 in
     let p = err_from_is_err_and c.from_residual.result c.from_residual.ensures.1 in
-    let P : Result (SmallVec (Value g.row.A.Denot)) EvalFault → Type 0 = λ r. AreGivenBy r (given_values types (to_expressions (expressions_of c.args.fields.now)) (sets_of sets)) in
+    let P : Result (SmallVec (Value g.row.A.Denot)) NoValue → Type 0 = λ r. AreGivenBy r (given_values types (to_expressions (expressions_of c.args.fields.now)) (sets_of sets)) in
     subst P (sym (p.1 ∙ ap Err p.2))
     (given_stops types c.args.fields.now sets c.loop-place.place c.index-fields-place.result c.loop-place.values.items c.loop-place.invariant c.loop-place-test.true c.index-fields-place.is set c.in_err-given_value.field-0.0 at c.in_err-given_value.ensures)
 

@@ -6,8 +6,8 @@ use Rattle.csp_value.specs.declared.action.Event.{Event}
 use Rattle.csp_value.specs.Action.{event_of}
 use Rattle.csp_value.specs.Value.{value_of}
 use Rattle.csp_event_sets.specs.Events.{event_expression_of}
-use Rattle.csp_term.specs.Script.{field_values, script_of}
-use Rattle.csp_expression.specs.declared.eval_fault.EvalFault.{EvalFault}
+use Rattle.csp_term.specs.Script.{field_values, script_of_parts}
+use Rattle.csp_expression.specs.declared.no_value.NoValue.{NoValue}
 use Rattle.csp_event_tests.specs.Testing.{IsEventOf, sets_of}
 use Rattle.csp_event_tests.proofs.Giving.{beginning_stuck, not_all, sets_stuck, whole}
 use Rattle.std.proofs.lemmas.List.{length-map}
@@ -15,11 +15,11 @@ use Rattle.csp_event_tests.proofs.event_test.whole_event.Goals as goal
 
 pub returns-in_err-sets : goal.returns-in_err-sets
 returns-in_err-sets g c =
-    let script = script_of c.args.script.now in
+    let script = script_of_parts c.args.script.now in
     let e = event_expression_of c.args.written.now in
     let why = c.in_err-sets.field-0.0 in
     let p = err_from_is_err_and c.from_residual-in_err-sets.result c.from_residual-in_err-sets.ensures.1 in
-    let P : Result (Event g.row.A.Denot) EvalFault → Type 0 = λ r. IsEventOf r (events.event_of script e) in
+    let P : Result (Event g.row.A.Denot) NoValue → Type 0 = λ r. IsEventOf r (events.event_of script e) in
     subst P (sym (p.1 ∙ ap Err p.2)) (beginning_stuck g.row.A.Denot script e why (sets_stuck g.row.A.Denot script e why c.in_err-sets.ensures))
 
 pub returns-then-len-sets : goal.returns-then-len-sets
@@ -28,7 +28,7 @@ returns-then-len-sets g c =
     let sets = c.in_ok-sets.sets.now in
     let fields = length-map event.fields.items value_of in
     let wanted = length-map sets field_values in
-    whole (script_of c.args.script.now) (event_expression_of c.args.written.now) (sets_of sets) c.in_ok-sets.ensures (event_of event) c.in_ok-event.ensures (omega (arith, c.if-len-sets.true, c.len.ensures.value, fields, wanted))
+    whole (script_of_parts c.args.script.now) (event_expression_of c.args.written.now) (sets_of sets) c.in_ok-sets.ensures (event_of event) c.in_ok-event.ensures (omega (arith, c.if-len-sets.true, c.len.ensures.value, fields, wanted))
 
 pub returns-else-len-sets : goal.returns-else-len-sets
 returns-else-len-sets g c =
@@ -36,4 +36,4 @@ returns-else-len-sets g c =
     let sets = c.in_ok-sets.sets.now in
     let fields = length-map event.fields.items value_of in
     let wanted = length-map sets field_values in
-    not_all (script_of c.args.script.now) (event_expression_of c.args.written.now) (sets_of sets) c.in_ok-sets.ensures (event_of event) c.in_ok-event.ensures (λ e. c.if-len-sets.false (omega (arith, e, c.len.ensures.value, fields, wanted)))
+    not_all (script_of_parts c.args.script.now) (event_expression_of c.args.written.now) (sets_of sets) c.in_ok-sets.ensures (event_of event) c.in_ok-event.ensures (λ e. c.if-len-sets.false (omega (arith, e, c.len.ensures.value, fields, wanted)))

@@ -3,14 +3,14 @@ use Rattle.csp_syntax.specs.Value as pure
 use Rattle.csp_syntax.specs.Expression as operator
 use Rattle.csp_semantics.specs.Meaning.Evaluation.{Cause}
 use Rattle.csp_value.specs.Value.{members_of}
-use Rattle.csp_expression.specs.Evaluation.{Answers}
+use Rattle.csp_expression.specs.Evaluation.{Gives}
 use Rattle.csp_expression.proofs.Forming.{set_listed, sets_are}
 use Rattle.csp_expression.proofs.sets.union.Goals as goal
 
 pub returns-in_err-set-in-Set-Set : goal.returns-in_err-set-in-Set-Set
 returns-in_err-set-in-Set-Set g c =
     let made : members_of c.in_ok-union-in-Set-Set.field-0 ≡ pure.to_values (pure.insert_values (pure.values_list (members_of c.in-Set-Set.left)) (pure.values_list (members_of c.in-Set-Set.right))) = search rules in
-    let P : Result pure.Value Cause → Type 0 = λ r. Answers c.from_residual-in_err-set-in-Set-Set.result r in
+    let P : Result pure.Value Cause → Type 0 = λ r. Gives c.from_residual-in_err-set-in-Set-Set.result r in
     let is = set_listed (members_of c.in_ok-union-in-Set-Set.field-0) (pure.insert_values (pure.values_list (members_of c.in-Set-Set.left)) (pure.values_list (members_of c.in-Set-Set.right))) made in
     subst P (is ∙ sym (sets_are operator.Union c.args.left c.args.right c.in-Set-Set.left c.in-Set-Set.right c.in-Set-Set.is-0 c.in-Set-Set.is-1)) (search rules)
 

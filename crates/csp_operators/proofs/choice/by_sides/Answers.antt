@@ -6,7 +6,7 @@ use Rattle.csp_syntax.specs.Process.{ExternalChoice}
 use Rattle.csp_semantics.proofs.Causes.{external_cause}
 use Rattle.csp_operators.specs.declared.rule_step.RuleStep.{RuleStep}
 use Rattle.csp_operators.specs.declared.side.Side.{Side}
-use Rattle.csp_expression.specs.declared.eval_fault.EvalFault.{EvalFault}
+use Rattle.csp_expression.specs.declared.no_value.NoValue.{NoValue}
 use Rattle.csp_operators.specs.Answering.{Answered, Answers, IsAnswered, target_of}
 use Rattle.csp_operators.specs.Composing.{AreSidesOf, side_answers}
 use Rattle.csp_operators.proofs.Operating.{external_answered}
@@ -16,19 +16,19 @@ use Rattle.csp_operators.proofs.choice.by_sides.Goals as goal
 pub returns-in_err-left : goal.returns-in_err-left
 returns-in_err-left g c s p q are =
     let e = err_from_is_err_and c.from_residual.result c.from_residual.ensures.1 in
-    let S : Result (Side g.row.A.Denot × Side g.row.A.Denot) EvalFault → Type 0 = λ x. AreSidesOf s p q x in
-    let Q : Result (Vec (RuleStep g.row.A.Denot) g.row.A.Denot) EvalFault → Type 0 = λ x. Answers s (ExternalChoice p q) x in
+    let S : Result (Side g.row.A.Denot × Side g.row.A.Denot) NoValue → Type 0 = λ x. AreSidesOf s p q x in
+    let Q : Result (Vec (RuleStep g.row.A.Denot) g.row.A.Denot) NoValue → Type 0 = λ x. Answers s (ExternalChoice p q) x in
     subst Q (sym (e.1 ∙ ap Err e.2)) (stuck_by_sides g.row.A.Denot s p q (ExternalChoice p q) (external_cause s p q) c.in_err-left.field-0.0 (subst S c.in_err-left.was are))
 
 pub returns-in_err-between : goal.returns-in_err-between
 returns-in_err-between g c s p q are =
     let e = err_from_is_err_and c.from_residual-in_err-between.result c.from_residual-in_err-between.ensures.1 in
-    let Q : Result (Vec (RuleStep g.row.A.Denot) g.row.A.Denot) EvalFault → Type 0 = λ x. Answers s (ExternalChoice p q) x in
+    let Q : Result (Vec (RuleStep g.row.A.Denot) g.row.A.Denot) NoValue → Type 0 = λ x. Answers s (ExternalChoice p q) x in
     subst Q (sym (e.1 ∙ ap Err e.2)) tt
 
 pub returns : goal.returns
 returns g c s p q are =
-    let S : Result (Side g.row.A.Denot × Side g.row.A.Denot) EvalFault → Type 0 = λ x. AreSidesOf s p q x in
+    let S : Result (Side g.row.A.Denot × Side g.row.A.Denot) NoValue → Type 0 = λ x. AreSidesOf s p q x in
     let both = subst S c.in_ok-left.was are in
     let first = c.in_ok-left.left in
     let second = c.in_ok-left.right in

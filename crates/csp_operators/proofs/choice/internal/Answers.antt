@@ -7,7 +7,7 @@ use Rattle.csp_syntax.specs.Process.{Process, InternalChoice}
 use Rattle.csp_semantics.specs.Meaning.Substitution.{put}
 use Rattle.csp_expression.specs.Bindings.{bindings_of}
 use Rattle.csp_term.specs.Term.{process_of}
-use Rattle.csp_expression.specs.declared.eval_fault.EvalFault.{EvalFault}
+use Rattle.csp_expression.specs.declared.no_value.NoValue.{NoValue}
 use Rattle.csp_operators.specs.declared.rule_step.RuleStep.{RuleStep}
 use Rattle.csp_operators.specs.Answering.{Answered, Answers, IsAnswered}
 use Rattle.csp_operators.proofs.Operating.{internal_answered}
@@ -18,7 +18,7 @@ returns-in_err-left g c s =
     let left = put (bindings_of c.args.bindings.now) (process_of c.args.left.now) in
     let right = put (bindings_of c.args.bindings.now) (process_of c.args.right.now) in
     let e = err_from_is_err_and c.from_residual.result c.from_residual.ensures.1 in
-    let Q : Result (Vec (RuleStep g.row.A.Denot) g.row.A.Denot) EvalFault → Type 0 = λ x. Answers s (InternalChoice left right) x in
+    let Q : Result (Vec (RuleStep g.row.A.Denot) g.row.A.Denot) NoValue → Type 0 = λ x. Answers s (InternalChoice left right) x in
     subst Q (sym (e.1 ∙ ap Err e.2)) tt
 
 pub returns-in_err-right : goal.returns-in_err-right
@@ -26,7 +26,7 @@ returns-in_err-right g c s =
     let left = put (bindings_of c.args.bindings.now) (process_of c.args.left.now) in
     let right = put (bindings_of c.args.bindings.now) (process_of c.args.right.now) in
     let e = err_from_is_err_and c.from_residual-in_err-right.result c.from_residual-in_err-right.ensures.1 in
-    let Q : Result (Vec (RuleStep g.row.A.Denot) g.row.A.Denot) EvalFault → Type 0 = λ x. Answers s (InternalChoice left right) x in
+    let Q : Result (Vec (RuleStep g.row.A.Denot) g.row.A.Denot) NoValue → Type 0 = λ x. Answers s (InternalChoice left right) x in
     subst Q (sym (e.1 ∙ ap Err e.2)) tt
 
 pub returns-in_err-taus : goal.returns-in_err-taus
@@ -34,7 +34,7 @@ returns-in_err-taus g c s =
     let left = put (bindings_of c.args.bindings.now) (process_of c.args.left.now) in
     let right = put (bindings_of c.args.bindings.now) (process_of c.args.right.now) in
     let e = err_from_is_err_and c.from_residual-in_err-taus.result c.from_residual-in_err-taus.ensures.1 in
-    let Q : Result (Vec (RuleStep g.row.A.Denot) g.row.A.Denot) EvalFault → Type 0 = λ x. Answers s (InternalChoice left right) x in
+    let Q : Result (Vec (RuleStep g.row.A.Denot) g.row.A.Denot) NoValue → Type 0 = λ x. Answers s (InternalChoice left right) x in
     subst Q (sym (e.1 ∙ ap Err e.2)) tt
 
 pub returns : goal.returns

@@ -8,7 +8,7 @@ use Rattle.csp_semantics.proofs.Causes.{sequential_cause}
 use Rattle.csp_expression.specs.Bindings.{bindings_of}
 use Rattle.csp_term.specs.Term.{process_of}
 use Rattle.csp_operators.specs.declared.rule_step.RuleStep.{RuleStep}
-use Rattle.csp_expression.specs.declared.eval_fault.EvalFault.{EvalFault}
+use Rattle.csp_expression.specs.declared.no_value.NoValue.{NoValue}
 use Rattle.csp_operators.specs.Answering.{Answered, Answers, IsAnswered, answered_of, target_of}
 use Rattle.csp_operators.proofs.Operating.{sequential_answered, stuck_by_only}
 use Rattle.csp_operators.proofs.sequential.by_left.Goals as goal
@@ -17,25 +17,25 @@ pub returns-in_err-left : goal.returns-in_err-left
 returns-in_err-left g c s p is =
     let right = put (bindings_of c.args.bindings.now) (process_of c.args.right.now) in
     let e = err_from_is_err_and c.from_residual.result c.from_residual.ensures.1 in
-    let S : Result (Vec (RuleStep g.row.A.Denot) g.row.A.Denot) EvalFault → Type 0 = λ x. Answers s p x in
-    let Q : Result (Vec (RuleStep g.row.A.Denot) g.row.A.Denot) EvalFault → Type 0 = λ x. Answers s (Sequential p right) x in
+    let S : Result (Vec (RuleStep g.row.A.Denot) g.row.A.Denot) NoValue → Type 0 = λ x. Answers s p x in
+    let Q : Result (Vec (RuleStep g.row.A.Denot) g.row.A.Denot) NoValue → Type 0 = λ x. Answers s (Sequential p right) x in
     subst Q (sym (e.1 ∙ ap Err e.2)) (stuck_by_only s p (Sequential p right) (sequential_cause s p right) g.row.A.Denot c.in_err-left.field-0.0 (subst S c.in_err-left.was is))
 
 pub returns-in_err-right : goal.returns-in_err-right
 returns-in_err-right g c s p is =
     let e = err_from_is_err_and c.from_residual-in_err-right.result c.from_residual-in_err-right.ensures.1 in
-    let Q : Result (Vec (RuleStep g.row.A.Denot) g.row.A.Denot) EvalFault → Type 0 = λ x. Answers s (Sequential p (put (bindings_of c.args.bindings.now) (process_of c.args.right.now))) x in
+    let Q : Result (Vec (RuleStep g.row.A.Denot) g.row.A.Denot) NoValue → Type 0 = λ x. Answers s (Sequential p (put (bindings_of c.args.bindings.now) (process_of c.args.right.now))) x in
     subst Q (sym (e.1 ∙ ap Err e.2)) tt
 
 pub returns-in_err-before : goal.returns-in_err-before
 returns-in_err-before g c s p is =
     let e = err_from_is_err_and c.from_residual-in_err-before.result c.from_residual-in_err-before.ensures.1 in
-    let Q : Result (Vec (RuleStep g.row.A.Denot) g.row.A.Denot) EvalFault → Type 0 = λ x. Answers s (Sequential p (put (bindings_of c.args.bindings.now) (process_of c.args.right.now))) x in
+    let Q : Result (Vec (RuleStep g.row.A.Denot) g.row.A.Denot) NoValue → Type 0 = λ x. Answers s (Sequential p (put (bindings_of c.args.bindings.now) (process_of c.args.right.now))) x in
     subst Q (sym (e.1 ∙ ap Err e.2)) tt
 
 pub returns : goal.returns
 returns g c s p is =
     let right = put (bindings_of c.args.bindings.now) (process_of c.args.right.now) in
-    let S : Result (Vec (RuleStep g.row.A.Denot) g.row.A.Denot) EvalFault → Type 0 = λ x. Answers s p x in
+    let S : Result (Vec (RuleStep g.row.A.Denot) g.row.A.Denot) NoValue → Type 0 = λ x. Answers s p x in
     let P : List Answered → Type 0 = λ ss. IsAnswered s (Sequential p right) ss in
     subst P (sym c.in_ok-before.ensures) (sequential_answered s p (map answered_of c.in_ok-left.left.items) right (target_of c.in_ok-right.right) c.in_ok-right.ensures (subst S c.in_ok-left.was is))

@@ -2,8 +2,8 @@
 use Rattle.std.proofs.Common.{◌≡◌, Result, Ok, Err, sym, ◌∙◌, ap, subst}
 use Rattle.std.proofs.lemmas.Result.{err_from_is_err_and}
 use Rattle.csp_semantics.specs.Meaning.Events.{channel_images, field_sets}
-use Rattle.csp_term.specs.Script.{script_of}
-use Rattle.csp_expression.specs.declared.eval_fault.EvalFault.{EvalFault}
+use Rattle.csp_term.specs.Script.{script_of_parts}
+use Rattle.csp_expression.specs.declared.no_value.NoValue.{NoValue}
 use Rattle.csp_event_tests.specs.Testing.{sets_of}
 use Rattle.csp_event_tests.specs.Imaging.{MakesMore}
 use Rattle.csp_event_tests.proofs.Naming.{channels_differ, channels_named, no_first_sets, no_second_sets, stopped_at_sets}
@@ -11,29 +11,29 @@ use Rattle.csp_event_tests.proofs.images.Images.add_channels.Goals as goal
 
 pub returns-in_err-sets : goal.returns-in_err-sets
 returns-in_err-sets g c =
-    let s = script_of c.args.script.now in
+    let s = script_of_parts c.args.script.now in
     let from = c.args.from.0 in
     let to = c.args.to.0 in
     let p = err_from_is_err_and c.from_residual.result c.from_residual.ensures.1 in
-    let P : Result Unit EvalFault → Type 0 = λ r. MakesMore c.args.self.now (channel_images s from to) r c.args.self.now in
+    let P : Result Unit NoValue → Type 0 = λ r. MakesMore c.args.self.now (channel_images s from to) r c.args.self.now in
     subst P (sym (p.1 ∙ ap Err p.2))
     (stopped_at_sets g.row.A.Denot c.args.self.now c.args.self.now (channel_images s from to) (field_sets s from) c.in_err-sets.field-0.0 c.in_err-sets.ensures (λ cause none. no_first_sets s from to cause none))
 
 pub returns-in_err-others : goal.returns-in_err-others
 returns-in_err-others g c =
-    let s = script_of c.args.script.now in
+    let s = script_of_parts c.args.script.now in
     let from = c.args.from.0 in
     let to = c.args.to.0 in
     let p = err_from_is_err_and c.from_residual-in_err-others.result c.from_residual-in_err-others.ensures.1 in
-    let P : Result Unit EvalFault → Type 0 = λ r. MakesMore c.args.self.now (channel_images s from to) r c.args.self.now in
+    let P : Result Unit NoValue → Type 0 = λ r. MakesMore c.args.self.now (channel_images s from to) r c.args.self.now in
     subst P (sym (p.1 ∙ ap Err p.2))
     (stopped_at_sets g.row.A.Denot c.args.self.now c.args.self.now (channel_images s from to) (field_sets s to) c.in_err-others.field-0.0 c.in_err-others.ensures (λ cause none. no_second_sets s from to cause (sets_of c.in_ok-sets.sets.now) c.in_ok-sets.ensures none))
 
 pub returns-then-not-same_sets : goal.returns-then-not-same_sets
 returns-then-not-same_sets g c =
-    channels_differ (script_of c.args.script.now) c.args.from.0 c.args.to.0 (sets_of c.in_ok-sets.sets.now) (sets_of c.in_ok-others.others.now) c.in_ok-sets.ensures c.in_ok-others.ensures (sym c.same_sets.ensures ∙ c.if-not-same_sets.true)
+    channels_differ (script_of_parts c.args.script.now) c.args.from.0 c.args.to.0 (sets_of c.in_ok-sets.sets.now) (sets_of c.in_ok-others.others.now) c.in_ok-sets.ensures c.in_ok-others.ensures (sym c.same_sets.ensures ∙ c.if-not-same_sets.true)
 
 pub returns : goal.returns
 returns g c =
-    channels_named g.row.A.Denot (script_of c.args.script.now) c.args.self.now c.args.from c.args.to (sets_of c.in_ok-sets.sets.now) (sets_of c.in_ok-others.others.now) c.push.new.self c.in_ok-sets.ensures c.in_ok-others.ensures
+    channels_named g.row.A.Denot (script_of_parts c.args.script.now) c.args.self.now c.args.from c.args.to (sets_of c.in_ok-sets.sets.now) (sets_of c.in_ok-others.others.now) c.push.new.self c.in_ok-sets.ensures c.in_ok-others.ensures
     (sym c.same_sets.ensures ∙ c.if-not-same_sets.false) c.in_ok-push.ensures.items

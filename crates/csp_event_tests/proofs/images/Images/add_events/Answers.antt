@@ -3,9 +3,9 @@ use Rattle.std.proofs.Common.{◌≡◌, inl, inr, lit<, Result, Ok, Err, sym, �
 use Rattle.std.proofs.lemmas.Result.{err_from_is_err_and}
 use Rattle.csp_semantics.specs.Meaning.Events as events
 use Rattle.csp_value.specs.Action.{event_of}
-use Rattle.csp_term.specs.Script.{script_of}
+use Rattle.csp_term.specs.Script.{script_of_parts}
 use Rattle.csp_event_sets.specs.Events.{event_expression_of}
-use Rattle.csp_expression.specs.declared.eval_fault.EvalFault.{EvalFault}
+use Rattle.csp_expression.specs.declared.no_value.NoValue.{NoValue}
 use Rattle.csp_event_tests.specs.Imaging.{MakesMore}
 use Rattle.csp_event_tests.proofs.Naming.{events_named, no_first_event, no_second_event, stopped_at_event}
 use Rattle.csp_event_tests.proofs.images.Images.add_events.Goals as goal
@@ -24,26 +24,26 @@ from_residual-requires-in_err-push-room-F-From-2 g c κs within = elim g.met.A.A
 
 pub returns-in_err-from : goal.returns-in_err-from
 returns-in_err-from g c =
-    let s = script_of c.args.script.now in
+    let s = script_of_parts c.args.script.now in
     let from = event_expression_of c.args.pair.now.from in
     let to = event_expression_of c.args.pair.now.to in
     let all = events.event_images s from to in
     let p = err_from_is_err_and c.from_residual.result c.from_residual.ensures.1 in
-    let P : Result Unit EvalFault → Type 0 = λ r. MakesMore c.args.self.now all r c.args.self.now in
+    let P : Result Unit NoValue → Type 0 = λ r. MakesMore c.args.self.now all r c.args.self.now in
     subst P (sym (p.1 ∙ ap Err p.2))
     (stopped_at_event g.row.A.Denot c.args.self.now c.args.self.now all (events.event_of s from) c.in_err-from.field-0.0 c.in_err-from.ensures (λ cause none. no_first_event s from to cause none))
 
 pub returns-in_err-to : goal.returns-in_err-to
 returns-in_err-to g c =
-    let s = script_of c.args.script.now in
+    let s = script_of_parts c.args.script.now in
     let from = event_expression_of c.args.pair.now.from in
     let to = event_expression_of c.args.pair.now.to in
     let all = events.event_images s from to in
     let p = err_from_is_err_and c.from_residual-in_err-to.result c.from_residual-in_err-to.ensures.1 in
-    let P : Result Unit EvalFault → Type 0 = λ r. MakesMore c.args.self.now all r c.args.self.now in
+    let P : Result Unit NoValue → Type 0 = λ r. MakesMore c.args.self.now all r c.args.self.now in
     subst P (sym (p.1 ∙ ap Err p.2))
     (stopped_at_event g.row.A.Denot c.args.self.now c.args.self.now all (events.event_of s to) c.in_err-to.field-0.0 c.in_err-to.ensures (λ cause none. no_second_event s from to cause (event_of c.in_ok-from.from) c.in_ok-from.ensures none))
 
 pub returns : goal.returns
 returns g c =
-    events_named g.row.A.Denot (script_of c.args.script.now) c.args.self.now (event_expression_of c.args.pair.now.from) (event_expression_of c.args.pair.now.to) c.in_ok-from.from c.in_ok-to.to c.push.new.self c.in_ok-from.ensures c.in_ok-to.ensures c.in_ok-push.ensures.items
+    events_named g.row.A.Denot (script_of_parts c.args.script.now) c.args.self.now (event_expression_of c.args.pair.now.from) (event_expression_of c.args.pair.now.to) c.in_ok-from.from c.in_ok-to.to c.push.new.self c.in_ok-from.ensures c.in_ok-to.ensures c.in_ok-push.ensures.items

@@ -11,9 +11,9 @@ use Rattle.csp_value.specs.declared.action.Event.{Event}
 use Rattle.csp_value.specs.Action.{event_of}
 use Rattle.csp_value.proofs.ActionOrder.{event_order, event_ordered}
 use Rattle.csp_event_sets.specs.Events.{renaming_pairs_of}
-use Rattle.csp_term.specs.Script.{script_of}
+use Rattle.csp_term.specs.Script.{script_of_parts}
 use Rattle.csp_event_tests.specs.declared.images.Images.{Images}
-use Rattle.csp_expression.specs.declared.eval_fault.EvalFault.{EvalFault}
+use Rattle.csp_expression.specs.declared.no_value.NoValue.{NoValue}
 use Rattle.csp_event_tests.specs.Imaging.{AreMade, IsImagesOf}
 use Rattle.csp_event_tests.proofs.Naming.{firsts_rise, found_moved, none_named, one_pair_more, stops_at_pair}
 use Rattle.csp_event_tests.proofs.images.Images.of.Goals as goal
@@ -79,17 +79,17 @@ pub sort_unstable-requires-2-room-T-PartialOrd-4 : goal.sort_unstable-requires-2
 sort_unstable-requires-2-room-T-PartialOrd-4 g c κs within = elim g.met.A.AllocHandle.small [ inl e ↦ rw (e.0, e.1) (lit< tt) | inr e ↦ rw (e.0, e.1) (lit< tt) ]
 
 pub loop-pair-init : goal.loop-pair-init
-loop-pair-init g c = none_named (script_of c.args.script.now) (record { channels = c.new.result; events = c.new-2.result }) c.new.ensures.items c.new-2.ensures.items
+loop-pair-init g c = none_named (script_of_parts c.args.script.now) (record { channels = c.new.result; events = c.new-2.result }) c.new.ensures.items c.new-2.ensures.items
 
 pub loop-pair-preserved : goal.loop-pair-preserved
 loop-pair-preserved g c =
-    one_pair_more (script_of c.args.script.now) c.args.pairs.now c.loop-pair.pair-index c.pair-item.result c.loop-pair-test.true c.pair-item.is c.loop-pair.images c.add_pair.new.self c.loop-pair.invariant c.in_ok-add_pair.ensures
+    one_pair_more (script_of_parts c.args.script.now) c.args.pairs.now c.loop-pair.pair-index c.pair-item.result c.loop-pair-test.true c.pair-item.is c.loop-pair.images c.add_pair.new.self c.loop-pair.invariant c.in_ok-add_pair.ensures
 
 pub returns-in_err-add_pair : goal.returns-in_err-add_pair
 returns-in_err-add_pair g c =
-    let script = script_of c.args.script.now in
+    let script = script_of_parts c.args.script.now in
     let p = err_from_is_err_and c.from_residual.result c.from_residual.ensures.1 in
-    let P : Result (Images g.row.A.Denot) EvalFault → Type 0 = λ r. IsImagesOf r (renaming script (renaming_pairs_of c.args.pairs.now)) in
+    let P : Result (Images g.row.A.Denot) NoValue → Type 0 = λ r. IsImagesOf r (renaming script (renaming_pairs_of c.args.pairs.now)) in
     subst P (sym (p.1 ∙ ap Err p.2))
     (stops_at_pair script c.args.pairs.now c.loop-pair.pair-index c.pair-item.result c.loop-pair-test.true c.pair-item.is c.loop-pair.images c.add_pair.new.self c.loop-pair.invariant c.in_err-add_pair.field-0.0 c.in_err-add_pair.ensures)
 
@@ -99,8 +99,8 @@ returns g c =
     let as_events : order ≡ (λ e f. pure.event_cmp (event_of e) (event_of f)) = λ i e f. event_ordered g.row.A g.A.AllocHandle g.A.AllocHandle-dict g.A.Allocator g.A.Allocator-dict g.A.Clone g.A.Clone-dict e f i in
     let P : (Event g.row.A.Denot → Event g.row.A.Denot → Ordering) → Type 0 = λ r. IsSortedBy (λ p q. is_lt (r p.0 q.0)) c.sort_unstable-2.new.self.items in
     let all = take_all c.loop-pair.pair-index c.args.pairs.now (omega arith) in
-    let made = subst (λ ps. AreMade c.loop-pair.images (renaming (script_of c.args.script.now) (renaming_pairs_of ps))) all c.loop-pair.invariant in (
-      found_moved c.loop-pair.images (record { channels = c.sort_unstable.new.self; events = c.sort_unstable-2.new.self }) (renaming (script_of c.args.script.now) (renaming_pairs_of c.args.pairs.now)) made c.sort_unstable.ensures.permutation c.sort_unstable-2.ensures.permutation,
+    let made = subst (λ ps. AreMade c.loop-pair.images (renaming (script_of_parts c.args.script.now) (renaming_pairs_of ps))) all c.loop-pair.invariant in (
+      found_moved c.loop-pair.images (record { channels = c.sort_unstable.new.self; events = c.sort_unstable-2.new.self }) (renaming (script_of_parts c.args.script.now) (renaming_pairs_of c.args.pairs.now)) made c.sort_unstable.ensures.permutation c.sort_unstable-2.ensures.permutation,
       (
         firsts_rise (λ p q. nat_cmp p.0.0 q.0.0) (λ p q. nat_cmp p.1.0 q.1.0) c.sort_unstable.new.self.items c.sort_unstable.ensures.sorted,
         subst P as_events (firsts_rise (λ p q. order p.0 q.0) (λ p q. order p.1 q.1) c.sort_unstable-2.new.self.items c.sort_unstable-2.ensures.sorted),

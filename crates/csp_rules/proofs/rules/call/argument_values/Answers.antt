@@ -11,7 +11,7 @@ use Rattle.csp_expression.specs.Bindings.{bindings_of, puts}
 use Rattle.csp_expression.specs.Evaluation.{table_of}
 use Rattle.csp_expression.specs.Expression.{expressions_of}
 use Rattle.csp_expression.proofs.ExpressionPutting.{put_list}
-use Rattle.csp_expression.specs.declared.eval_fault.EvalFault.{EvalFault}
+use Rattle.csp_expression.specs.declared.no_value.NoValue.{NoValue}
 use Rattle.csp_rules.specs.Arguments.{SeesAll}
 use Rattle.csp_rules.proofs.Seeing.{seen_more, seen_none}
 use Rattle.csp_rules.proofs.rules.call.argument_values.Goals as goal
@@ -29,7 +29,7 @@ returns-in_err-look g c =
     c.in_err-look.field-0.0 c.in_err-look.ensures
     in
     let p = err_from_is_err_and c.from_residual.result c.from_residual.ensures.1 in
-    let P : Result (Vec (Seen g.row.A.Denot) g.row.A.Denot) EvalFault → Type 0 = λ r. SeesAll r (values types (put_expressions bs (to_expressions (expressions_of c.args.arguments.now)))) in
+    let P : Result (Vec (Seen g.row.A.Denot) g.row.A.Denot) NoValue → Type 0 = λ r. SeesAll r (values types (put_expressions bs (to_expressions (expressions_of c.args.arguments.now)))) in
     subst P (sym (p.1 ∙ ap Err p.2)) stop
 
 pub returns : goal.returns

@@ -17,7 +17,7 @@ use Rattle.csp_term.specs.Term.{process_of}
 use Rattle.csp_expression.proofs.Forming.{set_is}
 use Rattle.csp_operators.specs.declared.rule_step.RuleStep.{RuleStep}
 use Rattle.std.specs.declared.vec.Vec.{Vec}
-use Rattle.csp_expression.specs.declared.eval_fault.EvalFault.{EvalFault}
+use Rattle.csp_expression.specs.declared.no_value.NoValue.{NoValue}
 use Rattle.csp_rules.specs.Communicating.{Finds, lent_values}
 use Rattle.csp_event_tests.specs.Testing.{sets_of}
 use Rattle.csp_rules.proofs.Further.{FoundSoFar, none_so_far, one_further, stopped_at, with_one}
@@ -76,7 +76,7 @@ given-returns-in_err-seen g t c =
     let e = expression_of c.args.value.now in
     let Q : Result pure.Value Cause → Type 0 = λ r. Sees {A = g.row.A.Denot} (Err c.in_err-seen.field-0.0) r in
     let none = subst Q (ap (λ ds. value types (put_expression (bindings_of ds) e)) c.deref.ensures.value) c.in_err-seen.ensures in
-    let P : Result (Vec (RuleStep g.row.A.Denot) g.row.A.Denot) EvalFault → Type 0 = λ r. Finds k body vs c.args.found (communications types bs (Given e ∷ fs) (set ∷ sets)) r in
+    let P : Result (Vec (RuleStep g.row.A.Denot) g.row.A.Denot) NoValue → Type 0 = λ r. Finds k body vs c.args.found (communications types bs (Given e ∷ fs) (set ∷ sets)) r in
     let p = err_from_is_err_and c.from_residual.result c.from_residual.ensures.1 in
     subst P (sym (p.1 ∙ ap Err p.2)) (given_stuck types bs fs set sets g.row.A.Denot k body vs c.args.found e c.in_err-seen.field-0.0 none)
 
@@ -138,7 +138,7 @@ inputs-returns-in_err-found g t c =
     let stop = stopped_at f k body vs c.args.found (values_of (take i items)) mid c.loop-value.invariant v (values_of (drop (i + 1) items)) why
     (with_one k body vs v (communications types (bind n v bs) fs sets) mid (Err why) found) in
     let p = err_from_is_err_and c.from_residual-in_err-found.result c.from_residual-in_err-found.ensures.1 in
-    let P : Result (Vec (RuleStep g.row.A.Denot) g.row.A.Denot) EvalFault → Type 0 = λ r. Finds k body vs c.args.found (each_list f set) r in
+    let P : Result (Vec (RuleStep g.row.A.Denot) g.row.A.Denot) NoValue → Type 0 = λ r. Finds k body vs c.args.found (each_list f set) r in
     let Q : List pure.Value → Type 0 = λ ws. Finds k body vs c.args.found (each_list f ws) (Err why) in
     subst P (sym (p.1 ∙ ap Err p.2)) (subst Q (sym (values_split items i item c.loop-value-test.true c.value-item.is) ∙ c.members-value-items.ensures) stop)
 
@@ -199,7 +199,7 @@ inputs_from-returns-in_err-seen g t c =
     let e = expression_of c.args.from.now in
     let Q : Result pure.Value Cause → Type 0 = λ r. Sees {A = g.row.A.Denot} (Err c.in_err-seen.field-0.0) r in
     let none = subst Q (ap (λ ds. value types (put_expression (bindings_of ds) e)) c.deref.ensures.value) c.in_err-seen.ensures in
-    let P : Result (Vec (RuleStep g.row.A.Denot) g.row.A.Denot) EvalFault → Type 0 = λ r. Finds k body vs c.args.found (communications types bs (InputFrom c.args.name.0 e ∷ fs) (set ∷ sets)) r in
+    let P : Result (Vec (RuleStep g.row.A.Denot) g.row.A.Denot) NoValue → Type 0 = λ r. Finds k body vs c.args.found (communications types bs (InputFrom c.args.name.0 e ∷ fs) (set ∷ sets)) r in
     let p = err_from_is_err_and c.from_residual.result c.from_residual.ensures.1 in
     subst P (sym (p.1 ∙ ap Err p.2)) (chosen_stuck types bs fs set sets g.row.A.Denot k body vs c.args.found e c.in_err-seen.field-0.0 none c.args.name.0)
 
@@ -267,7 +267,7 @@ inputs_from-returns-in_err-found g t c =
     let stop = stopped_at f k body vs c.args.found (filter test (values_of (take i items))) mid c.loop-value.invariant w (filter test (values_of (drop (i + 1) items))) why
     (with_one k body vs w (communications types (bind n w bs) fs sets) mid (Err why) found) in
     let p = err_from_is_err_and c.from_residual-in_err-found.result c.from_residual-in_err-found.ensures.1 in
-    let P : Result (Vec (RuleStep g.row.A.Denot) g.row.A.Denot) EvalFault → Type 0 = λ r. Finds k body vs c.args.found (communications types bs (InputFrom n e ∷ fs) (set ∷ sets)) r in
+    let P : Result (Vec (RuleStep g.row.A.Denot) g.row.A.Denot) NoValue → Type 0 = λ r. Finds k body vs c.args.found (communications types bs (InputFrom n e ∷ fs) (set ∷ sets)) r in
     let Q : Result (List Communication) Cause → Type 0 = λ r. Finds k body vs c.args.found r (Err why) in
     subst P (sym (p.1 ∙ ap Err p.2)) (subst Q (ap (each_list f) (sym (chosen_split items i item c.loop-value-test.true c.value-item.is test passes)) ∙ sym whole) stop)
 

@@ -7,7 +7,7 @@ use Rattle.csp_semantics.specs.Meaning.Events.{communications}
 use Rattle.csp_semantics.specs.Meaning.Substitution.{Bindings, behind, put, put_fields}
 use Rattle.csp_expression.specs.Bindings.{bindings_of}
 use Rattle.csp_term.specs.Field.{fields_of}
-use Rattle.csp_term.specs.Script.{field_sets_of, script_of}
+use Rattle.csp_term.specs.Script.{field_sets_of, script_of_parts}
 use Rattle.csp_term.specs.Term.{process_of}
 use Rattle.csp_expression.proofs.Forming.{get_none}
 use Rattle.csp_rules.specs.Communicating.{Finds}
@@ -17,7 +17,7 @@ use Rattle.csp_rules.proofs.rules.prefix.steps.Goals as goal
 
 pub returns-in_default : goal.returns-in_default
 returns-in_default g c =
-    let script = script_of c.args.script.now in
+    let script = script_of_parts c.args.script.now in
     let fs = fields_of c.args.fields.now in
     let body = process_of c.args.body.now in
     let n = c.args.channel.0 in
@@ -28,7 +28,7 @@ returns-in_default g c =
 
 pub returns : goal.returns
 returns g c =
-    let script = script_of c.args.script.now in
+    let script = script_of_parts c.args.script.now in
     let fs = fields_of c.args.fields.now in
     let body = process_of c.args.body.now in
     let n = c.args.channel.0 in

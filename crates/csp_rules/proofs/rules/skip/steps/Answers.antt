@@ -2,7 +2,7 @@
 use Rattle.std.proofs.Common.{List, [], ◌∷◌, Some, sym, ◌∙◌, ap, subst, inl, inr, lit<}
 use Rattle.csp_syntax.specs.Process.{Skip}
 use Rattle.csp_syntax.specs.Value.{Tick}
-use Rattle.csp_term.specs.Script.{script_of}
+use Rattle.csp_term.specs.Script.{script_of_parts}
 use Rattle.csp_term.proofs.Forms.{of_omega_term}
 use Rattle.csp_operators.specs.Answering.{Answered, IsAnswered}
 use Rattle.csp_rules.proofs.Ruling.{skipped}
@@ -10,7 +10,7 @@ use Rattle.csp_rules.proofs.rules.skip.steps.Goals as goal
 
 pub returns : goal.returns
 returns g c =
-    let script = script_of c.args.script.now in
+    let script = script_of_parts c.args.script.now in
     let ended = c.in_ok-new.ensures ∙ of_omega_term g.row.A.Denot in
     let is = c.in_ok-one_step.ensures ∙ ap (λ p. (Tick, Some p) ∷ []) ended in
     let P : List Answered → Type 0 = λ ss. IsAnswered script Skip ss in

@@ -9,7 +9,7 @@ use Rattle.csp_value.specs.Copies.{AreCopies}
 use Rattle.csp_term.specs.Script.{assertion_of, channel_of, equation_of}
 use Rattle.csp_term.proofs.Channels.{same_names, same_sets}
 use Rattle.csp_value.proofs.Copying.{copies_same}
-use Rattle.csp_term.proofs.script.ScriptTryCopy.try_copy.Goals as goal
+use Rattle.csp_term.proofs.script.ScriptPartsTryCopy.try_copy.Goals as goal
 
 pub returns : goal.returns
 returns g c =

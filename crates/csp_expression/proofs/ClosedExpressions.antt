@@ -1,0 +1,12 @@
+-- The value of a closed, well-kinded expression, if there is none, is missing by no misfit of kinds.
+use Rattle.std.proofs.Common.{◌≢◌, Err}
+use Rattle.csp_syntax.specs.Expression.{Expression}
+use Rattle.csp_syntax.specs.Types.{Types}
+use Rattle.csp_semantics.specs.Meaning.Evaluation.{IllKinded, value}
+use Rattle.csp_semantics.specs.Kinds.Values.{IsValueOf}
+use Rattle.csp_semantics.proofs.Misfits.{gives_no_misfit}
+use Rattle.csp_semantics.proofs.KindedValues.{value_kind}
+use Rattle.csp_expression.specs.Closed.{IsClosedExpression}
+
+pub no_misfit : (types : Types) (e : Expression) → IsClosedExpression types e → value types e ≢ Err IllKinded
+no_misfit types e h = gives_no_misfit (λ v. IsValueOf types v h.1) (value types e) (value_kind types h.0 h.2 e h.1 h.3)
