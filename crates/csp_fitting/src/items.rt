@@ -3,7 +3,7 @@
 ghost use Rattle.csp_checking.specs.Scripts.{IsScriptOf};
 ghost use Rattle.csp_inference.specs.Numbering.{numbering_of};
 ghost use Rattle.csp_parse.specs.Declarations as tree;
-ghost use Rattle.csp_term.specs.Script.{script_of};
+ghost use Rattle.csp_term.specs.Script.{script_of_parts};
 ghost use Rattle.csp_fitting.specs.Items.{AsksForItem, FitsItemAt, FitsItems, SolvedForItem, item_of};
 ghost use Rattle.csp_fitting.specs.KnownKinds.{HasResolvedKinds, KnowsKinds};
 
@@ -12,7 +12,7 @@ use crate::item_list::{Item, ItemList};
 use crate::known_kinds::KnownKinds;
 use csp_inference::{Equations, Misfit, Numbering};
 use csp_parse::Raw;
-use csp_term::Script;
+use csp_term::ScriptParts;
 use std::alloc::Allocator;
 
 impl<A: Allocator + Copy> KnownKinds<A> {
@@ -22,11 +22,11 @@ impl<A: Allocator + Copy> KnownKinds<A> {
         &mut self,
         alloc: A,
         raw: &Raw<'_, A>,
-        script: &Script<A>,
+        script: &ScriptParts<A>,
     ) -> Result<(), FitFault>
         requires known { KnowsKinds (tree.script_of raw.now) (tree.script_of raw.now) self.old }
-        requires script { IsScriptOf (tree.script_of raw.now) (script_of script.now) }
-        ensures { FitsItems (tree.script_of raw.now) (script_of script.now) result }
+        requires script { IsScriptOf (tree.script_of raw.now) (script_of_parts script.now) }
+        ensures { FitsItems (tree.script_of raw.now) (script_of_parts script.now) result }
     {
         let list = ItemList::of(alloc, &raw.declarations)?;
         for item in &list.items {
@@ -35,9 +35,9 @@ impl<A: Allocator + Copy> KnownKinds<A> {
         Ok(())
     }
 
-    fn fit_item(&mut self, alloc: A, script: &Script<A>, item: Item) -> Result<(), FitFault>
+    fn fit_item(&mut self, alloc: A, script: &ScriptParts<A>, item: Item) -> Result<(), FitFault>
         requires { HasResolvedKinds self.old }
-        ensures { FitsItemAt (script_of script.now) (item_of item) self.old self.new result }
+        ensures { FitsItemAt (script_of_parts script.now) (item_of item) self.old self.new result }
     {
         match self.solve_item(alloc, script, item) {
             Ok(()) => Ok(()),
@@ -49,9 +49,9 @@ impl<A: Allocator + Copy> KnownKinds<A> {
     }
 
     /// Solves the equations for an item.
-    fn solve_item(&mut self, alloc: A, script: &Script<A>, item: Item) -> Result<(), Misfit>
+    fn solve_item(&mut self, alloc: A, script: &ScriptParts<A>, item: Item) -> Result<(), Misfit>
         requires { HasResolvedKinds self.old }
-        ensures { SolvedForItem (script_of script.now) (item_of item) self.old self.new result }
+        ensures { SolvedForItem (script_of_parts script.now) (item_of item) self.old self.new result }
     {
         self.equations.forget();
         ask_item(&mut self.equations, alloc, script, &self.numbering, item)?;
@@ -63,11 +63,11 @@ impl<A: Allocator + Copy> KnownKinds<A> {
 fn ask_item<A: Allocator + Copy>(
     equations: &mut Equations<A>,
     alloc: A,
-    script: &Script<A>,
+    script: &ScriptParts<A>,
     numbering: &Numbering<A>,
     item: Item,
 ) -> Result<(), Misfit>
-    ensures { AsksForItem (script_of script.now) (numbering_of numbering.now) (item_of item) equations.old equations.new result }
+    ensures { AsksForItem (script_of_parts script.now) (numbering_of numbering.now) (item_of item) equations.old equations.new result }
 {
     match item {
         Item::Equation { number, .. } => {

@@ -3,7 +3,7 @@
 ghost use Rattle.std.specs.Prelude.{◌≡◌, IfOk, length, map};
 ghost use Rattle.csp_checking.specs.Inference.Items.{numbered, of_assertion, of_equation};
 ghost use Rattle.csp_checking.specs.Inference.Processes.{behind_process};
-ghost use Rattle.csp_term.specs.Script.{assertion_of, equation_of, script_of};
+ghost use Rattle.csp_term.specs.Script.{assertion_of, equation_of, script_of_parts};
 ghost use Rattle.csp_term.specs.Term.{process_of};
 ghost use Rattle.csp_inference.specs.Equations.{Asks};
 ghost use Rattle.csp_inference.specs.Numbering.{names_of, numbering_of};
@@ -12,7 +12,7 @@ use crate::chain::KindNumber;
 use crate::equations::Equations;
 use crate::numbering::{NumberedName, Numbering};
 use csp_expression::Name;
-use csp_term::{Assertion, Equation, Script};
+use csp_term::{Assertion, Equation, ScriptParts};
 use csp_value::Memory;
 use std::alloc::Allocator;
 
@@ -40,12 +40,12 @@ impl<A: Allocator + Copy> Equations<A> {
     pub fn ask_equation(
         &mut self,
         alloc: A,
-        script: &Script<A>,
+        script: &ScriptParts<A>,
         numbering: &Numbering<A>,
         equation: &Equation<A>,
         numbers: &[KindNumber],
     ) -> Result<(), Memory>
-        ensures { IfOk result (λ _. Asks self.old self.new (of_equation (script_of script.now) (numbering_of numbering.now) self.old.next (equation_of equation.now) (map (λ n. n.0) numbers.now)) (behind_process self.old.next (process_of equation.now.body))) }
+        ensures { IfOk result (λ _. Asks self.old self.new (of_equation (script_of_parts script.now) (numbering_of numbering.now) self.old.next (equation_of equation.now) (map (λ n. n.0) numbers.now)) (behind_process self.old.next (process_of equation.now.body))) }
     {
         if equation.parameters.len() != numbers.len() {
             self.push_never()?;
@@ -60,11 +60,11 @@ impl<A: Allocator + Copy> Equations<A> {
     pub fn ask_assertion(
         &mut self,
         alloc: A,
-        script: &Script<A>,
+        script: &ScriptParts<A>,
         numbering: &Numbering<A>,
         assertion: &Assertion<A>,
     ) -> Result<(), Memory>
-        ensures { IfOk result (λ _. Asks self.old self.new (of_assertion (script_of script.now) (numbering_of numbering.now) self.old.next (assertion_of assertion.now)) (behind_process (behind_process self.old.next (process_of assertion.now.specification)) (process_of assertion.now.implementation))) }
+        ensures { IfOk result (λ _. Asks self.old self.new (of_assertion (script_of_parts script.now) (numbering_of numbering.now) self.old.next (assertion_of assertion.now)) (behind_process (behind_process self.old.next (process_of assertion.now.specification)) (process_of assertion.now.implementation))) }
     {
         self.ask_process(alloc, script, numbering, &[], &assertion.specification)?;
         self.ask_process(alloc, script, numbering, &[], &assertion.implementation)?;

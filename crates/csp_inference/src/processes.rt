@@ -2,7 +2,7 @@
 
 ghost use Rattle.std.specs.Prelude.{IfOk};
 ghost use Rattle.csp_checking.specs.Inference.Processes.{behind_process, of_process};
-ghost use Rattle.csp_term.specs.Script.{script_of};
+ghost use Rattle.csp_term.specs.Script.{script_of_parts};
 ghost use Rattle.csp_term.specs.Term.{process_of};
 ghost use Rattle.csp_inference.specs.Equations.{Asks};
 ghost use Rattle.csp_inference.specs.Numbering.{names_of, numbering_of};
@@ -11,7 +11,7 @@ use crate::chain::{Demand, End};
 use crate::equations::Equations;
 use crate::fields::bind_name;
 use crate::numbering::{NumberedName, Numbering};
-use csp_term::{Script, Term, TermForm};
+use csp_term::{ScriptParts, Term, TermForm};
 use csp_value::Memory;
 use std::alloc::Allocator;
 
@@ -21,12 +21,12 @@ impl<A: Allocator + Copy> Equations<A> {
     pub fn ask_process(
         &mut self,
         alloc: A,
-        script: &Script<A>,
+        script: &ScriptParts<A>,
         numbering: &Numbering<A>,
         names: &[NumberedName],
         process: &Term<A>,
     ) -> Result<(), Memory>
-        ensures { IfOk result (λ _. Asks self.old self.new (of_process (script_of script.now) (numbering_of numbering.now) self.old.next (names_of names.now) (process_of process.now)) (behind_process self.old.next (process_of process.now))) }
+        ensures { IfOk result (λ _. Asks self.old self.new (of_process (script_of_parts script.now) (numbering_of numbering.now) self.old.next (names_of names.now) (process_of process.now)) (behind_process self.old.next (process_of process.now))) }
     {
         let types = &script.types;
         match process.form() {

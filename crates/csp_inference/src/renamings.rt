@@ -4,14 +4,14 @@ ghost use Rattle.std.specs.Prelude.{◌≡◌, ◌&&◌, IfOk, map, slice_get};
 ghost use Rattle.csp_semantics.specs.Meaning.Events.{is_bare, same_sets};
 ghost use Rattle.csp_checking.specs.Inference.Processes.{are_bare_alike, are_same_sets, behind_event, behind_pairs, of_pair, of_pairs};
 ghost use Rattle.csp_event_sets.specs.Events.{event_expression_of, renaming_pair_of, renaming_pairs_of};
-ghost use Rattle.csp_term.specs.Script.{field_sets_of, field_values, script_of};
+ghost use Rattle.csp_term.specs.Script.{field_sets_of, field_values, script_of_parts};
 ghost use Rattle.csp_inference.specs.Equations.{Asks};
 ghost use Rattle.csp_inference.specs.Numbering.{names_of, numbering_of};
 
 use crate::equations::Equations;
 use crate::numbering::{NumberedName, Numbering};
 use csp_event_sets::{EventExpression, RenamingPair};
-use csp_term::{ChannelId, Script};
+use csp_term::{ChannelId, ScriptParts};
 use csp_value::{FieldSet, Memory};
 use std::alloc::Allocator;
 
@@ -28,8 +28,12 @@ fn same_sets<A: Allocator + Copy>(sets: &[FieldSet<A>], others: &[FieldSet<A>]) 
 }
 
 /// Whether the script has both channels, with the same sets for their fields.
-fn have_same_sets<A: Allocator + Copy>(script: &Script<A>, from: ChannelId, to: ChannelId) -> bool
-    ensures { result ≡ are_same_sets (slice_get (script_of script.now).channels from.0) (slice_get (script_of script.now).channels to.0) }
+fn have_same_sets<A: Allocator + Copy>(
+    script: &ScriptParts<A>,
+    from: ChannelId,
+    to: ChannelId,
+) -> bool
+    ensures { result ≡ are_same_sets (slice_get (script_of_parts script.now).channels from.0) (slice_get (script_of_parts script.now).channels to.0) }
 {
     let Some(from) = script.channels.get(from.0 as usize) else {
         return false;
@@ -41,8 +45,8 @@ fn have_same_sets<A: Allocator + Copy>(script: &Script<A>, from: ChannelId, to: 
 }
 
 /// Whether the pair names two channels with the same sets for their fields.
-fn are_bare_alike<A: Allocator + Copy>(script: &Script<A>, pair: &RenamingPair<A>) -> bool
-    ensures { result ≡ are_bare_alike (script_of script.now) (renaming_pair_of pair.now) }
+fn are_bare_alike<A: Allocator + Copy>(script: &ScriptParts<A>, pair: &RenamingPair<A>) -> bool
+    ensures { result ≡ are_bare_alike (script_of_parts script.now) (renaming_pair_of pair.now) }
 {
     is_bare(&pair.from)
         && is_bare(&pair.to)
@@ -53,12 +57,12 @@ impl<A: Allocator + Copy> Equations<A> {
     /// Adds the equations for each pair, or is `Memory` where there is no room for them.
     pub(crate) fn ask_pairs(
         &mut self,
-        script: &Script<A>,
+        script: &ScriptParts<A>,
         numbering: &Numbering<A>,
         names: &[NumberedName],
         pairs: &[RenamingPair<A>],
     ) -> Result<(), Memory>
-        ensures { IfOk result (λ _. Asks self.old self.new (of_pairs (script_of script.now) (numbering_of numbering.now) self.old.next (names_of names.now) (renaming_pairs_of pairs.now)) (behind_pairs self.old.next (renaming_pairs_of pairs.now))) }
+        ensures { IfOk result (λ _. Asks self.old self.new (of_pairs (script_of_parts script.now) (numbering_of numbering.now) self.old.next (names_of names.now) (renaming_pairs_of pairs.now)) (behind_pairs self.old.next (renaming_pairs_of pairs.now))) }
     {
         for pair in pairs {
             self.ask_pair(script, numbering, names, pair)?;
@@ -69,12 +73,12 @@ impl<A: Allocator + Copy> Equations<A> {
     /// Adds the equations for a pair. Two channels with the same sets for their fields ask nothing.
     fn ask_pair(
         &mut self,
-        script: &Script<A>,
+        script: &ScriptParts<A>,
         numbering: &Numbering<A>,
         names: &[NumberedName],
         pair: &RenamingPair<A>,
     ) -> Result<(), Memory>
-        ensures { IfOk result (λ _. Asks self.old self.new (of_pair (script_of script.now) (numbering_of numbering.now) self.old.next (names_of names.now) (renaming_pair_of pair.now)) (behind_event (behind_event self.old.next (event_expression_of pair.now.from)) (event_expression_of pair.now.to))) }
+        ensures { IfOk result (λ _. Asks self.old self.new (of_pair (script_of_parts script.now) (numbering_of numbering.now) self.old.next (names_of names.now) (renaming_pair_of pair.now)) (behind_event (behind_event self.old.next (event_expression_of pair.now.from)) (event_expression_of pair.now.to))) }
     {
         if are_bare_alike(script, pair) {
             return Ok(());

@@ -18,7 +18,7 @@ use Rattle.csp_parse.specs.declared.names.Name.{Name}
 use Rattle.csp_parse.specs.Names.{name_of}
 use Rattle.csp_term.specs.declared.script.Channel.{Channel}
 use Rattle.csp_term.specs.declared.script.Constructor.{Constructor}
-use Rattle.csp_term.specs.Script.{script_of}
+use Rattle.csp_term.specs.Script.{script_of_parts}
 use Rattle.csp_names.specs.Scopes.{known_sets}
 use Rattle.csp_sets.specs.declared.sets.Sets.{Sets}
 use Rattle.csp_sets.specs.Sets.{AreSetsOf, AreUnrefused}
@@ -42,7 +42,7 @@ encoded_names raw names all f is are = are ∙ ap (λ ns. map encode_utf8_all (s
 
 pub script_made : {A : Type 0} (raw : RawScript) (types : TypeTable A) (sets : List (Option (Vec (FieldSet A) A))) (items : Items A) (constructors : Vec (Constructor A) A) (channels : Vec (Channel A) A) (ks cs : List Name) → AreTypesOf raw types → AreFieldSetsOf raw sets → AreItemsOf raw raw items →
     map name_of ks ≡ flat_map (declared_as ConstructorName) raw → constructor_spellings constructors.items ≡ encoded ks → map name_of cs ≡ flat_map (declared_as ChannelName) raw → channel_spellings channels.items ≡ encoded cs → sets_listed channels.items ≡ map known_sets sets →
-    IsScriptOf raw (script_of (record { types = types; constructors = constructors; channels = channels; equations = items.equations; assertions = items.assertions }))
+    IsScriptOf raw (script_of_parts (record { types = types; constructors = constructors; channels = channels; equations = items.equations; assertions = items.assertions }))
 script_made raw types sets items constructors channels ks cs of_types of_sets of_items named_ks spelled_ks named_cs spelled_cs same = record {
   datatypes = of_types.datatypes;
   nametypes = of_types.nametypes;

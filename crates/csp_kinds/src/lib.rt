@@ -7,8 +7,8 @@
 
 mod items;
 mod names_in_order;
+mod parts;
 mod passes;
-mod script;
 mod set_refusals;
 mod spellings;
 

@@ -7,7 +7,7 @@ ghost use Rattle.csp_term.specs.Script.{script_of};
 ghost use Rattle.csp_kinds.specs.Refusals.{IsRefusalOf, item_refusal_of};
 
 use crate::items::resolve_items;
-use crate::script::make_script;
+use crate::parts::make_parts;
 use csp_fitting::FitFault;
 use csp_names::{KindFault, Refused, names_of};
 use csp_parse::Raw;
@@ -33,9 +33,9 @@ pub fn check<A: Allocator + Copy>(alloc: A, raw: &Raw<'_, A>) -> Result<Script<A
         mut known,
         refused: _,
     } = sets;
-    let script = make_script(alloc, raw, types, channels, items)?;
-    match known.fit_items(alloc, raw, &script) {
-        Ok(()) => Ok(script),
+    let parts = make_parts(alloc, raw, types, channels, items)?;
+    match known.fit_items(alloc, raw, &parts) {
+        Ok(()) => Ok(Script::new(parts)),
         Err(fault) => Err(item_refusal(fault)),
     }
 }

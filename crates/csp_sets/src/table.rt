@@ -8,7 +8,7 @@ ghost use Rattle.csp_expression.specs.Expression.{expression_of};
 ghost use Rattle.csp_sets.specs.Looking.{AddsMembers, HasMembers, listed_members};
 
 use crate::uses::uses_valued;
-use csp_expression::{EvalFault, Expr, TypeTable};
+use csp_expression::{Expr, NoValue, TypeTable};
 use csp_value::{Memory, SetOf, Value};
 use std::alloc::Allocator;
 
@@ -56,9 +56,9 @@ fn members_of<A: Allocator + Copy>(
 ) -> Result<Option<SetOf<A>>, Memory>
     ensures { IfOk result (λ found. listed_members found ≡ result_ok (elements (table_of types.now) (expression_of set.now))) }
 {
-    match set.eval(alloc, types) {
+    match set.find_value(alloc, types) {
         Ok(Value::Set(members)) => Ok(Some(members)),
-        Err(EvalFault::Memory) => Err(Memory),
-        Ok(_) | Err(EvalFault::Fault(_)) => Ok(None),
+        Err(NoValue::Memory) => Err(Memory),
+        Ok(_) | Err(NoValue::Cause(_)) => Ok(None),
     }
 }

@@ -5,6 +5,7 @@ use csp_kinds::{Refused, check};
 use csp_lex::{TokenList, tokens};
 use csp_parse::{Raw, parse};
 use csp_term::Script;
+use csp_term::laws::equal_scripts;
 use linked_list_allocator::LocalHeap;
 use std::alloc::Global;
 use std::process::Abort;
@@ -59,7 +60,7 @@ fn is_so<'h>(
     expected: &str,
 ) -> Result<bool, Fail> {
     match (answer, whole) {
-        (Ok(script), Ok(other)) => Ok(expected == "fine" && script == other),
+        (Ok(script), Ok(other)) => Ok(expected == "fine" && equal_scripts(script, other)),
         (Err(refused), Err(_)) => is_told(alloc, *refused, expected),
         _ => Ok(false),
     }

@@ -127,14 +127,14 @@ fn channel(
 }
 
 fn types(shown: &mut String, script: &Script<Global>) -> Result<(), AllocError> {
-    for datatype in &script.types.datatypes {
+    for datatype in &script.types().datatypes {
         let first = datatype.first.0;
-        constructor(shown, &script.constructors, first)?;
+        constructor(shown, script.constructors(), first)?;
         write!(shown, " and {} more; ", datatype.following)?;
     }
-    for nametype in &script.types.nametypes {
+    for nametype in &script.types().nametypes {
         shown.push_str("{")?;
-        values(shown, &script.constructors, nametype.members())?;
+        values(shown, script.constructors(), nametype.members())?;
         shown.push_str("}; ")?;
     }
     Ok(())
@@ -143,14 +143,14 @@ fn types(shown: &mut String, script: &Script<Global>) -> Result<(), AllocError> 
 pub(crate) fn script(alloc: Global, script: &Script<Global>) -> Result<String, AllocError> {
     let mut shown = String::new(alloc);
     types(&mut shown, script)?;
-    for item in &script.channels {
-        channel(&mut shown, &script.constructors, item)?;
+    for item in script.channels() {
+        channel(&mut shown, script.constructors(), item)?;
     }
-    for equation in &script.equations {
+    for equation in script.equations() {
         let parameters = equation.parameters.len();
         write!(shown, "of {parameters}; ")?;
     }
-    for assertion in &script.assertions {
+    for assertion in script.assertions() {
         shown.push_str(match assertion.model {
             Model::Traces => "traces; ",
             Model::Failures => "failures; ",

@@ -5,7 +5,7 @@ use Rattle.csp_syntax.specs.Process.{Call, Prefix, Renaming}
 use Rattle.csp_expression.specs.Expression.{expression_of, expressions_of}
 use Rattle.csp_event_sets.specs.Events.{event_set_of, renaming_pairs_of}
 use Rattle.csp_term.specs.Field.{fields_of}
-use Rattle.csp_term.specs.Script.{script_of}
+use Rattle.csp_term.specs.Script.{script_of_parts}
 use Rattle.csp_term.specs.Term.{process_of, process_of_form}
 use Rattle.csp_term.proofs.Forms as forms
 use Rattle.csp_inference.specs.Equations.{HasNames, names_behind_prefix}
@@ -16,7 +16,7 @@ use Rattle.csp_inference.proofs.equations.Equations.+ask_process.Goals as goal
 
 pub returns-in-Call : goal.returns-in-Call
 returns-in-Call g t c =
-    let script = script_of c.args.script.now in
+    let script = script_of_parts c.args.script.now in
     let o = numbering_of c.args.numbering.now in
     let names = names_of c.args.names.now in
     let s = c.args.self.now in
@@ -28,7 +28,7 @@ returns-in-Call g t c =
 
 pub returns-in_ok-inner-in-Prefix : goal.returns-in_ok-inner-in-Prefix
 returns-in_ok-inner-in-Prefix g t c =
-    let script = script_of c.args.script.now in
+    let script = script_of_parts c.args.script.now in
     let o = numbering_of c.args.numbering.now in
     let names = names_of c.args.names.now in
     let s = c.args.self.now in
@@ -41,7 +41,7 @@ returns-in_ok-inner-in-Prefix g t c =
 
 pub returns-in_ok-ask_expression-in-Guard : goal.returns-in_ok-ask_expression-in-Guard
 returns-in_ok-ask_expression-in-Guard g t c =
-    let script = script_of c.args.script.now in
+    let script = script_of_parts c.args.script.now in
     let o = numbering_of c.args.numbering.now in
     let names = names_of c.args.names.now in
     let s = c.args.self.now in
@@ -53,7 +53,7 @@ returns-in_ok-ask_expression-in-Guard g t c =
 
 pub returns-in_ok-ask_process-in-If : goal.returns-in_ok-ask_process-in-If
 returns-in_ok-ask_process-in-If g t c =
-    let script = script_of c.args.script.now in
+    let script = script_of_parts c.args.script.now in
     let o = numbering_of c.args.numbering.now in
     let names = names_of c.args.names.now in
     let s = c.args.self.now in
@@ -65,7 +65,7 @@ returns-in_ok-ask_process-in-If g t c =
 
 pub returns-in_ok-ask_process-in-Binary : goal.returns-in_ok-ask_process-in-Binary
 returns-in_ok-ask_process-in-Binary g t c =
-    let script = script_of c.args.script.now in
+    let script = script_of_parts c.args.script.now in
     let o = numbering_of c.args.numbering.now in
     let names = names_of c.args.names.now in
     let s = c.args.self.now in
@@ -77,7 +77,7 @@ returns-in_ok-ask_process-in-Binary g t c =
 
 pub returns-in_ok-ask_event_set-in-GeneralisedParallel : goal.returns-in_ok-ask_event_set-in-GeneralisedParallel
 returns-in_ok-ask_event_set-in-GeneralisedParallel g t c =
-    let script = script_of c.args.script.now in
+    let script = script_of_parts c.args.script.now in
     let o = numbering_of c.args.numbering.now in
     let names = names_of c.args.names.now in
     let s = c.args.self.now in
@@ -89,7 +89,7 @@ returns-in_ok-ask_event_set-in-GeneralisedParallel g t c =
 
 pub returns-in_ok-ask_event_set-in-AlphabetisedParallel-2 : goal.returns-in_ok-ask_event_set-in-AlphabetisedParallel-2
 returns-in_ok-ask_event_set-in-AlphabetisedParallel-2 g t c =
-    let script = script_of c.args.script.now in
+    let script = script_of_parts c.args.script.now in
     let o = numbering_of c.args.numbering.now in
     let names = names_of c.args.names.now in
     let s = c.args.self.now in
@@ -101,7 +101,7 @@ returns-in_ok-ask_event_set-in-AlphabetisedParallel-2 g t c =
 
 pub returns-in_ok-ask_process-in-Hiding : goal.returns-in_ok-ask_process-in-Hiding
 returns-in_ok-ask_process-in-Hiding g t c =
-    let script = script_of c.args.script.now in
+    let script = script_of_parts c.args.script.now in
     let o = numbering_of c.args.numbering.now in
     let names = names_of c.args.names.now in
     let s = c.args.self.now in
@@ -113,7 +113,7 @@ returns-in_ok-ask_process-in-Hiding g t c =
 
 pub returns-in_ok-ask_process-in-Renaming : goal.returns-in_ok-ask_process-in-Renaming
 returns-in_ok-ask_process-in-Renaming g t c =
-    let script = script_of c.args.script.now in
+    let script = script_of_parts c.args.script.now in
     let o = numbering_of c.args.numbering.now in
     let names = names_of c.args.names.now in
     let s = c.args.self.now in
@@ -125,7 +125,7 @@ returns-in_ok-ask_process-in-Renaming g t c =
 
 pub returns-in_ok-bind_name-in-Replicated : goal.returns-in_ok-bind_name-in-Replicated
 returns-in_ok-bind_name-in-Replicated g t c =
-    let script = script_of c.args.script.now in
+    let script = script_of_parts c.args.script.now in
     let o = numbering_of c.args.numbering.now in
     let names = names_of c.args.names.now in
     let s = c.args.self.now in

@@ -1,7 +1,7 @@
 use Rattle.std.proofs.Common.{refl}
 use Rattle.csp_checking.specs.Inference.Processes.{behind_event, of_pair}
 use Rattle.csp_event_sets.specs.Events.{event_expression_of, renaming_pair_of}
-use Rattle.csp_term.specs.Script.{script_of}
+use Rattle.csp_term.specs.Script.{script_of_parts}
 use Rattle.csp_inference.specs.Numbering.{names_of, numbering_of}
 use Rattle.csp_inference.proofs.Asking.{left_more, left_none}
 use Rattle.csp_inference.proofs.AskingRenamings.{asked_pairs, behind_asked_pairs}
@@ -9,7 +9,7 @@ use Rattle.csp_inference.proofs.equations.Equations.ask_pairs.Goals as goal
 
 pub loop-pair-preserved : goal.loop-pair-preserved
 loop-pair-preserved g c =
-    let script = script_of c.args.script.now in
+    let script = script_of_parts c.args.script.now in
     let o = numbering_of c.args.numbering.now in
     let names = names_of c.args.names.now in
     left_more (asked_pairs script o names) behind_asked_pairs c.args.self.now c.loop-pair.self c.args.pairs.now c.loop-pair.pair-index (λ n r. of_pair script o n names (renaming_pair_of r)) (λ n r. behind_event (behind_event n (event_expression_of r.from)) (event_expression_of r.to)) c.ask_pair.new.self c.pair-item.result (λ n rs. refl) (λ n rs. refl)
@@ -17,4 +17,4 @@ loop-pair-preserved g c =
 
 pub returns : goal.returns
 returns g c =
-    left_none (asked_pairs (script_of c.args.script.now) (numbering_of c.args.numbering.now) (names_of c.args.names.now)) behind_asked_pairs c.args.self.now c.loop-pair.self c.args.pairs.now c.loop-pair.pair-index (λ n. refl) (λ n. refl) c.loop-pair-test.false c.loop-pair.invariant
+    left_none (asked_pairs (script_of_parts c.args.script.now) (numbering_of c.args.numbering.now) (names_of c.args.names.now)) behind_asked_pairs c.args.self.now c.loop-pair.self c.args.pairs.now c.loop-pair.pair-index (λ n. refl) (λ n. refl) c.loop-pair-test.false c.loop-pair.invariant

@@ -4,7 +4,7 @@ use Rattle.std.proofs.Common.{sym, ap, ◌∙◌}
 use Rattle.csp_parse.specs.Declarations as tree
 use Rattle.csp_kinds.specs.Spellings.{encoded}
 use Rattle.csp_kinds.proofs.Making.{script_made, sets_as_many}
-use Rattle.csp_kinds.proofs.script.make_script.Goals as goal
+use Rattle.csp_kinds.proofs.parts.make_parts.Goals as goal
 
 pub channels-requires : goal.channels-requires
 channels-requires g c = record {
