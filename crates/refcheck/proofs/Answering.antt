@@ -1,28 +1,39 @@
 -- Right outcomes, one by one.
-use Rattle.std.proofs.Common.{◌≡◌, ℕ, ◌+◌, ◌<◌, List, [], ◌∷◌, ◌++◌, length, get_or, take, map, refl, sym, ◌∙◌, ap}
+use Rattle.std.proofs.Common.{◌≡◌, ℕ, ◌+◌, ◌<◌, List, [], ◌∷◌, ◌++◌, length, get_or, take, map, refl, sym, ◌∙◌, ap, subst}
 use Rattle.std.proofs.lemmas.List.{map-append, take_more}
-use Rattle.std.specs.List.{AllZip}
+use Rattle.std.specs.List.{All, AllZip}
+use Rattle.csp_answers.specs.Terms.{IsAssertionOf}
 use Rattle.csp_syntax.specs.Process.{Assertion, Script}
 use Rattle.csp_semantics.specs.Meaning.Evaluation.{Cause}
 use Rattle.csp_semantics.specs.Meaning.Refinement.{IsRefinement}
 use Rattle.csp_semantics.specs.Meaning.Violations.{Violation, IsViolation}
 use Rattle.csp_answers.specs.Outcome.{Bounds, TooManyPairs, TooManyNodes, LargeTerm, Fault, NoMemory, Outcome, Holds, Fails, Unknown}
 use Rattle.csp_semantics.specs.Meaning.Runs.{NoneStuck}
-use Rattle.explore.specs.Answering.{IsReason, IsRight}
+use Rattle.explore.specs.Answering.{IsAnswerOrNoMemory, IsReason, IsRight, IsTrueOf}
 use Rattle.refcheck.specs.Answering.{AreRight}
 
--- An outcome is right where each answer that it may be says what it should.
+-- An outcome is right where it is the one answer, and each answer that it may be says what it should.
 module _ (script : Script) (a : Assertion) (bounds : Bounds) where
-  pub is_right : (o : Outcome) → (o ≡ Holds → IsRefinement script a) → (o ≡ Holds → NoneStuck script a.specification × NoneStuck script a.implementation) →
+  is_true : (o : Outcome) → (o ≡ Holds → IsRefinement script a) → (o ≡ Holds → NoneStuck script a.specification × NoneStuck script a.implementation) →
+      ((v : Violation) → o ≡ Fails v → IsViolation script a v) → (o ≡ Unknown TooManyPairs → IsReason script a bounds TooManyPairs) → (o ≡ Unknown TooManyNodes → IsReason script a bounds TooManyNodes) →
+      (o ≡ Unknown LargeTerm → IsReason script a bounds LargeTerm) → ((cause : Cause) → o ≡ Unknown (Fault cause) → IsReason script a bounds (Fault cause)) → IsTrueOf script a bounds o
+  is_true Holds refines unstuck fails pairs nodes term fault = (refines refl, (unstuck refl).0, (unstuck refl).1)
+  is_true (Fails v) refines unstuck fails pairs nodes term fault = fails v refl
+  is_true (Unknown TooManyPairs) refines unstuck fails pairs nodes term fault = pairs refl
+  is_true (Unknown TooManyNodes) refines unstuck fails pairs nodes term fault = nodes refl
+  is_true (Unknown LargeTerm) refines unstuck fails pairs nodes term fault = term refl
+  is_true (Unknown (Fault cause)) refines unstuck fails pairs nodes term fault = fault cause refl
+  is_true (Unknown NoMemory) refines unstuck fails pairs nodes term fault = tt
+
+  pub is_right : (o : Outcome) → IsAnswerOrNoMemory script a bounds o → (o ≡ Holds → IsRefinement script a) → (o ≡ Holds → NoneStuck script a.specification × NoneStuck script a.implementation) →
       ((v : Violation) → o ≡ Fails v → IsViolation script a v) → (o ≡ Unknown TooManyPairs → IsReason script a bounds TooManyPairs) → (o ≡ Unknown TooManyNodes → IsReason script a bounds TooManyNodes) →
       (o ≡ Unknown LargeTerm → IsReason script a bounds LargeTerm) → ((cause : Cause) → o ≡ Unknown (Fault cause) → IsReason script a bounds (Fault cause)) → IsRight script a bounds o
-  is_right Holds refines unstuck fails pairs nodes term fault = (refines refl, (unstuck refl).0, (unstuck refl).1)
-  is_right (Fails v) refines unstuck fails pairs nodes term fault = fails v refl
-  is_right (Unknown TooManyPairs) refines unstuck fails pairs nodes term fault = pairs refl
-  is_right (Unknown TooManyNodes) refines unstuck fails pairs nodes term fault = nodes refl
-  is_right (Unknown LargeTerm) refines unstuck fails pairs nodes term fault = term refl
-  is_right (Unknown (Fault cause)) refines unstuck fails pairs nodes term fault = fault cause refl
-  is_right (Unknown NoMemory) refines unstuck fails pairs nodes term fault = tt
+  is_right o answer refines unstuck fails pairs nodes term fault = record { answer = answer; true_of = is_true o refines unstuck fails pairs nodes term fault }
+
+-- both sides of the assertion at a place are terms of the script
+pub sides_at : {S : Type 0} (assertion_of : S → Assertion) (HasSides : S → Type 0) (script : Script) (assertions : List S) (i : ℕ) (a : S) → All HasSides assertions → i < length assertions → a ≡ get_or assertions i a →
+    ((b : S) → HasSides b → IsAssertionOf script (assertion_of b)) → IsAssertionOf script (assertion_of a)
+sides_at assertion_of HasSides script assertions i a all within read is = is a (subst HasSides (sym read) (all i a within))
 
 -- one pair more at the end
 pub zip_end : {X Y : Type 0} (R : X → Y → Type 0) (xs : List X) (ys : List Y) (x : X) (y : Y) → AllZip R xs ys → R x y → AllZip R (xs ++ x ∷ []) (ys ++ y ∷ [])

@@ -1,5 +1,5 @@
 pub mod Answering
 pub mod Reporting
 pub mod Giving
-pub mod Reading
 pub mod Refusing
+pub mod Serving

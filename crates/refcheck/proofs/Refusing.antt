@@ -1,4 +1,4 @@
--- The one word of a command line, and the refusal of the text that it names.
+-- The refusal of the text of a file.
 use Rattle.std.proofs.Common.{◌≡◌, Result, IfErr, ℕ, List, [], ◌∷◌, length, get_or, refl, arith}
 use Rattle.std.specs.Result.{IsErr, IsErrAnd}
 use Rattle.std.proofs.lemmas.Result.{err_from_is_err_and}
@@ -17,7 +17,7 @@ use Rattle.refcheck.specs.declared.refusal.Refusal.{Refusal}
 use Rattle.refcheck.specs.declared.refusal.Refusal.TheVariants as refusal
 use Rattle.refcheck.specs.Reading.{IsRefusalOf}
 use Rattle.refcheck.specs.Refusal.{of_kinds, of_parser}
-use Rattle.refcheck.specs.Running.{IsCause, texts_of}
+use Rattle.refcheck.specs.Running.{IsCause}
 
 -- what the parser refuses of a text's tokens is refused of the text
 pub of_tokens : (bytes : List ℕ) (tokens : List PlacedToken) (end : Place) (refused : parser.Refused) → AreTokens bytes tokens end → parsing.IsRefusalOf tokens end refused → IsRefusalOf bytes (of_parser refused)
@@ -33,18 +33,11 @@ of_tree bytes tree checker_fault.Memory is_read is = tt
 pub handed : {T : Type 0} (r : Result T Refusal) {why : Refusal} (P : Refusal → Type 0) → IsErr r × IsErrAnd r (λ e. e ≡ why) → P why → IfErr r P
 handed r P same said = let p = err_from_is_err_and r same.1 in rw (p.1, p.2) said
 
-pub one_word : (words : List (Bor (List ℕ))) (other : Bor (List ℕ)) → length words ≡ 1 → texts_of words ≡ (get_or words 0 other).now ∷ []
-one_word [] other one = absurd (omega arith)
-one_word (w ∷ []) other one = refl
-one_word (w ∷ v ∷ ws) other one = absurd (omega arith)
-
 -- a text is refused for what it is
-pub cause_of_text : (may_hold : List ℕ → List ℕ → Type 0) (may_lack : List ℕ → Type 0) (words : List (List ℕ)) (name text : List ℕ) (why : Refusal) → words ≡ name ∷ [] → may_hold name text → IsRefusalOf text why →
-    IsCause may_hold may_lack words why
-cause_of_text may_hold may_lack words name text refusal.File named held is = absurd is
-cause_of_text may_hold may_lack words name text (refusal.Text f p) named held is = (name, text, named, held, is)
-cause_of_text may_hold may_lack words name text (refusal.Grammar f p) named held is = (name, text, named, held, is)
-cause_of_text may_hold may_lack words name text (refusal.Kinds f p) named held is = (name, text, named, held, is)
-cause_of_text may_hold may_lack words name text refusal.Part named held is = (name, text, named, held, is)
-cause_of_text may_hold may_lack words name text refusal.Memory named held is = tt
-cause_of_text may_hold may_lack words name text refusal.Output named held is = absurd is
+pub cause_of_text : (may_hold : List ℕ → List ℕ → Type 0) (may_lack : List ℕ → Type 0) (name text : List ℕ) (why : Refusal) → may_hold name text → IsRefusalOf text why → IsCause may_hold may_lack name why
+cause_of_text may_hold may_lack name text refusal.File held is = absurd is
+cause_of_text may_hold may_lack name text (refusal.Text f p) held is = (text, held, is)
+cause_of_text may_hold may_lack name text (refusal.Grammar f p) held is = (text, held, is)
+cause_of_text may_hold may_lack name text (refusal.Kinds f p) held is = (text, held, is)
+cause_of_text may_hold may_lack name text refusal.Memory held is = tt
+cause_of_text may_hold may_lack name text refusal.Output held is = absurd is

@@ -1,8 +1,9 @@
-//! `refcheck FILE` checks the assertions of a script and prints a line for each.
+//! `refcheck FILE` checks the assertions of a script and prints a line for each, within limits that options choose.
 //!
 //! `run` is the whole program over words, files and streams that are handed in. Its contract says that either the report
 //! of right outcomes went out, one for each assertion of a script, and the status is that of the outcomes, or the status
-//! is 3 and the line of a refusal went to the error stream. `holds` means refinement, and `fails` shows a violation.
+//! is 3 and the line of a refusal went to the error stream. `holds` means refinement, and `fails` shows a violation. Words
+//! that ask for the help or the version are answered with it.
 #![tactic(auto)]
 
 mod files;
@@ -29,6 +30,7 @@ fn main(rt: HostRuntime) -> ExitCode {
                 let mut out = Out::new(rt.stdout());
                 run(
                     rt.alloc(),
+                    rt.alloc(),
                     &words,
                     &mut MachineFiles::new(&rt),
                     &mut out,
@@ -42,7 +44,7 @@ fn main(rt: HostRuntime) -> ExitCode {
     ExitCode::from(status)
 }
 
-// The words of the command line after the program's name. A word that is not text names no file.
+// The words of the command line after the program's name. A word that is not text names no file and no option.
 fn arguments(rt: &HostRuntime) -> Result<Vec<String>, Refusal> {
     match env::args(rt) {
         Ok(arguments) => Ok(arguments.skip(1).collect(rt.alloc())?),

@@ -15,7 +15,7 @@ use std::alloc::AllocError;
 /// What was refused.
 #[derive(Clone, Copy, Debug, PartialEq, Eq)]
 pub enum Refusal {
-    /// The file cannot be read, or there is not one word.
+    /// The file cannot be read.
     File,
     /// The text has no tokens, by this fault at this place.
     Text { fault: TextFault, place: Place },
@@ -23,8 +23,6 @@ pub enum Refusal {
     Grammar { fault: GrammarFault, place: Place },
     /// The script has no kinds, or a name of it is wrong, by this fault at this place.
     Kinds { fault: KindFault, place: Place },
-    /// An assertion of the script is of failures, which are not checked yet.
-    Part,
     /// The words, the file or the script could not be read for memory.
     Memory,
     /// The report could not be written.
@@ -41,7 +39,6 @@ pub fn push_line<E: Sink>(why: Refusal, sink: &mut E)
         Refusal::Text { fault, place } => push_place(fault.number(), place, sink),
         Refusal::Grammar { fault, place } => push_place(fault.number(), place, sink),
         Refusal::Kinds { fault, place } => push_place(fault.number(), place, sink),
-        Refusal::Part => push_all(b"refused part\n", sink),
         Refusal::Memory => push_all(b"refused memory\n", sink),
         Refusal::Output => push_all(b"refused output\n", sink),
     };

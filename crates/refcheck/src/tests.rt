@@ -1,22 +1,29 @@
 //! Runs of the program over texts in memory. What is expected comes from the rules of the language and of the lines.
 
+mod command_lines;
 mod examples;
+mod full;
 mod outcomes;
 mod refusals;
 mod rows;
+mod tour;
 
 use crate::files::{Files, OneText, Unread};
 use crate::run::run;
+use command_lines::{checked, wrong_words};
 use csp_term::AllocHandle;
-use examples::all_examples;
+use examples::{all_examples, examples_with_options};
+use full::Full;
 use linked_list_allocator::LocalHeap;
 use outcomes::{BEYOND_STOP, WITHIN_PREFIX, failing, holding, unknown};
-use refusals::{no_scripts, of_failures, unchecked};
+use refusals::{no_scripts, unchecked};
 use report::{Buffer, Out};
 use rows::Row;
 use std::alloc::{AllocError, Global};
+use std::io::Write;
 use std::process::Abort;
 use std::test::Fail;
+use tour::stops_of_the_tour;
 
 // A text in pieces, each with how often it is repeated.
 type Pieces = &'static [(&'static str, usize)];
@@ -49,14 +56,6 @@ const LONG: &[(u8, Pieces, &str)] = &[
     ),
     (0, &[(" ", 65_536)], ""),
     (3, &[(" ", 65_537)], "refused L05 at 1:1\n"),
-];
-
-// Words of the command line that name no file.
-const NO_FILES: &[&[&str]] = &[
-    &[],
-    &["script", "script"],
-    &["other"],
-    &["script", "other", "script"],
 ];
 
 // What a run answered and gave to its two outputs.
@@ -102,15 +101,15 @@ impl Files<Global> for NoMemory {
 }
 
 // A run whose memory is the allocator's, and whose outputs have room.
-fn run_in<A: AllocHandle, F: Files<A>>(
+fn run_in<'w, A: AllocHandle, F: Files<A>>(
     room: Global,
     alloc: A,
-    words: &[&str],
+    words: &'w [&'w str],
     files: &mut F,
 ) -> Told {
     let mut out = Buffer::new(room);
     let mut err = Buffer::new(room);
-    let status = run(alloc, words, files, &mut out, &mut err);
+    let status = run(room, alloc, words, files, &mut out, &mut err);
     Told {
         status,
         out: out.bytes,
@@ -118,14 +117,15 @@ fn run_in<A: AllocHandle, F: Files<A>>(
     }
 }
 
-// A run on the words, where the file `script` holds the text.
-fn run_on(alloc: Global, words: &[&str], text: &[u8]) -> Told {
-    let mut files = OneText {
-        name: "script",
-        text,
-        alloc,
-    };
+// A run on the words, where the file of that name holds the text.
+fn run_over<'w>(alloc: Global, name: &str, words: &'w [&'w str], text: &[u8]) -> Told {
+    let mut files = OneText { name, text, alloc };
     run_in(alloc, alloc, words, &mut files)
+}
+
+// A run on the words, where the file `script` holds the text.
+fn run_on<'w>(alloc: Global, words: &'w [&'w str], text: &[u8]) -> Told {
+    run_over(alloc, "script", words, text)
 }
 
 fn check(alloc: Global, text: &[u8]) -> Told {
@@ -172,7 +172,6 @@ fn texts_are_answered_so(rt: HostRuntime) -> Result<(), Fail> {
     are_answered_so(&rt, rt.alloc(), 2, unknown())?;
     are_answered_so(&rt, rt.alloc(), 3, no_scripts())?;
     are_answered_so(&rt, rt.alloc(), 3, unchecked())?;
-    are_answered_so(&rt, rt.alloc(), 3, of_failures())?;
     long_are_answered_so(&rt, rt.alloc())
 }
 
@@ -189,12 +188,70 @@ fn examples_are_answered_so(rt: HostRuntime) -> Result<(), Fail> {
     Ok(())
 }
 
+// The text of the example of that name.
+fn example_named(name: &str) -> Option<&'static str> {
+    let examples = all_examples();
+    let place = examples.iter().position(|example| example.name == name)?;
+    Some(examples.get(place)?.text)
+}
+
 #[test]
-fn what_is_no_text_is_refused(rt: HostRuntime) -> Result<(), Fail> {
-    for words in NO_FILES {
-        let told = run_on(rt.alloc(), words, b"");
-        assert!(rt; told.is_refused("refused file\n"), "at {words:?}");
+fn examples_are_answered_so_with_options(rt: HostRuntime) -> Result<(), Fail> {
+    for (name, words, status, lines) in examples_with_options() {
+        let text = example_named(name).ok_or("an example")?;
+        let told = run_on(rt.alloc(), words, text.as_bytes());
+        assert!(rt; told.is_answered(*status, lines), "at {name}");
     }
+    Ok(())
+}
+
+#[test]
+fn command_lines_are_answered_so(rt: HostRuntime) -> Result<(), Fail> {
+    for (words, status, (text, lines)) in checked() {
+        let told = run_on(rt.alloc(), words, text.as_bytes());
+        assert!(rt; told.is_answered(*status, lines), "at {words:?}");
+    }
+    Ok(())
+}
+
+#[test]
+fn the_tour_is_answered_so(rt: HostRuntime) -> Result<(), Fail> {
+    for (words, status, (beginning, rest), lines) in stops_of_the_tour() {
+        let text = format!(in rt.alloc(); "{beginning}{rest}")?;
+        let told = run_over(rt.alloc(), "protocol.csp", words, text.as_bytes());
+        assert!(rt; told.is_answered(*status, lines), "at {lines}");
+    }
+    Ok(())
+}
+
+#[test]
+fn wrong_command_lines_are_refused(rt: HostRuntime) -> Result<(), Fail> {
+    for (words, said) in wrong_words() {
+        let told = run_on(rt.alloc(), words, BEYOND_STOP.0.as_bytes());
+        let is_said = told.err.as_slice().starts_with(said.as_bytes());
+        assert!(rt;
+            told.status == 3 && told.out.is_empty() && is_said,
+            "at {words:?}"
+        );
+    }
+    Ok(())
+}
+
+#[test]
+fn help_and_version_are_shown(rt: HostRuntime) -> Result<(), Fail> {
+    let version = run_on(rt.alloc(), &["--version"], b"");
+    assert!(rt; version.is(0, "refcheck 0.1.0\n", ""));
+    let help = run_on(rt.alloc(), &["--help"], b"");
+    let said = b"Checks the refinement assertions of a CSP script";
+    assert!(rt; help.status == 0 && help.err.is_empty());
+    assert!(rt; help.out.as_slice().starts_with(said));
+    let other = run_on(rt.alloc(), &["-h", "script"], b"");
+    assert_eq!(rt; other.out.as_slice(), help.out.as_slice());
+    Ok(())
+}
+
+#[test]
+fn what_cannot_be_read_is_refused(rt: HostRuntime) -> Result<(), Fail> {
     let told = run_in(rt.alloc(), rt.alloc(), &["script"], &mut NoMemory);
     assert!(rt; told.is_refused("refused memory\n"));
     let told = check(rt.alloc(), &[0x50, 0xff]);
@@ -202,23 +259,33 @@ fn what_is_no_text_is_refused(rt: HostRuntime) -> Result<(), Fail> {
     Ok(())
 }
 
+// Whether the run is refused since the output fails, as the error output says.
+fn is_cut_off<'w, W: Write + Drop>(alloc: Global, words: &'w [&'w str], writer: W) -> bool {
+    let mut files = OneText {
+        name: "script",
+        text: BEYOND_STOP.0.as_bytes(),
+        alloc,
+    };
+    let mut out = Out::new(writer);
+    let mut err = Buffer::new(alloc);
+    let status = run(alloc, alloc, words, &mut files, &mut out, &mut err);
+    status == 3 && err.bytes.as_slice() == "refused output\n".as_bytes()
+}
+
+// One output takes nothing of what goes past its room, and one fails there.
 #[test]
 fn an_output_that_breaks_off_is_refused(rt: HostRuntime) -> Result<(), Fail> {
-    let report = b"1 fails trace <> event a\n";
+    let report = BEYOND_STOP.1.as_bytes();
     for room in 0..report.len() {
         let mut taken = [0u8; 25];
-        let mut files = OneText {
-            name: "script",
-            text: BEYOND_STOP.0.as_bytes(),
-            alloc: rt.alloc(),
-        };
-        let mut out = Out::new(&mut taken[..room]);
-        let mut err = Buffer::new(rt.alloc());
-        let status = run(rt.alloc(), &["script"], &mut files, &mut out, &mut err);
-        assert_eq!(rt; status, 3, "at {room}");
-        assert_eq!(rt;
-            err.bytes.as_slice(),
-            "refused output\n".as_bytes(),
+        assert!(rt;
+            is_cut_off(rt.alloc(), &["script"], &mut taken[..room]),
+            "at {room}"
+        );
+        assert_eq!(rt; &taken[..room], &report[..room], "at {room}");
+        let mut taken = [0u8; 25];
+        assert!(rt;
+            is_cut_off(rt.alloc(), &["script"], Full::new(&mut taken[..room])),
             "at {room}"
         );
         assert_eq!(rt; &taken[..room], &report[..room], "at {room}");
@@ -227,13 +294,35 @@ fn an_output_that_breaks_off_is_refused(rt: HostRuntime) -> Result<(), Fail> {
 }
 
 #[test]
-fn an_error_output_that_fails_changes_no_status(rt: HostRuntime) -> Result<(), Fail> {
-    let mut out = Buffer::new(rt.alloc());
+fn a_text_that_breaks_off_is_refused(rt: HostRuntime) -> Result<(), Fail> {
+    let mut taken = [0u8; 8];
+    assert!(rt; is_cut_off(rt.alloc(), &["--version"], &mut taken[..]));
+    assert_eq!(rt; &taken, b"refcheck");
+    assert!(rt; is_cut_off(rt.alloc(), &["--help"], Full::new(&mut taken[..])));
+    assert_eq!(rt; &taken, b"Checks t");
+    Ok(())
+}
+
+// What an error output with room for seven bytes has, where a run on these words has status 3.
+fn said_in_seven_bytes<'w>(alloc: Global, words: &'w [&'w str]) -> Option<[u8; 7]> {
+    let mut out = Buffer::new(alloc);
     let mut room = [0u8; 7];
-    let mut err = Out::new(&mut room[..]);
-    let status = run(rt.alloc(), &[], &mut NoMemory, &mut out, &mut err);
-    assert_eq!(rt; status, 3);
-    assert_eq!(rt; &room, b"refused");
+    let mut err = Out::new(Full::new(&mut room[..]));
+    let status = run(alloc, alloc, words, &mut NoMemory, &mut out, &mut err);
+    if status == 3 && out.bytes.is_empty() {
+        Some(room)
+    } else {
+        None
+    }
+}
+
+#[test]
+fn an_error_output_that_fails_changes_no_status(rt: HostRuntime) -> Result<(), Fail> {
+    assert_eq!(rt;
+        said_in_seven_bytes(rt.alloc(), &["script"]),
+        Some(*b"refused")
+    );
+    assert_eq!(rt; said_in_seven_bytes(rt.alloc(), &[]), Some(*b"error: "));
     Ok(())
 }
 

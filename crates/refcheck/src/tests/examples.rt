@@ -1,6 +1,4 @@
 //! The scripts of `examples/`, word for word, and what they are answered with.
-//!
-//! Where the comment of an example says more, that is not built yet: failures are `refused part`.
 
 /// A script, its status, and its lines.
 pub(crate) struct Example {
@@ -20,12 +18,16 @@ static EXAMPLES: [Example; 13] = [
 -- for a loss together with the sender's clock that runs out. The watcher does `wrong` where items are given out twice,
 -- or not at all.
 --
--- Shows parameters, expressions in calls, and a guard by `if`.
+-- Shows parameters, expressions in calls, a choice by `if`, and what failures see that traces do not: a protocol that
+-- stops.
 --
 -- refcheck prints
 --   1 holds
 --   2 fails trace <> event wrong
 --   3 holds
+--   4 holds
+--   5 holds
+--   6 fails trace <put> offers {}
 -- and ends with status 1.
 
 channel put, get, lost, wrong
@@ -57,9 +59,21 @@ assert STOP [T= (WITHOUT_BIT [| {put, get} |] WATCH) \ {put, get}
 
 BUFFER = put -> get -> BUFFER
 assert BUFFER [T= PROTOCOL
+
+-- Where frames are lost for ever it has no stable state, so failures say nothing of that.
+assert BUFFER [F= PROTOCOL
+
+-- A sender that never sends again. Nothing bad happens, and after a loss nothing happens any more.
+HOPEFUL(b) = put -> WAITING(b)
+WAITING(b) = send!b -> (confirm.b -> HOPEFUL(1-b) [] confirm.(1-b) -> WAITING(b))
+WITHOUT_CLOCK = ((HOPEFUL(0) ||| RECEIVER(0)) [| {| send, receive, reply, confirm |} |] LINES)
+  \ {| send, receive, reply, confirm, lost |}
+
+assert BUFFER [T= WITHOUT_CLOCK
+assert BUFFER [F= WITHOUT_CLOCK
 ",
         status: 1,
-        lines: "1 holds\n2 fails trace <> event wrong\n3 holds\n",
+        lines: "1 holds\n2 fails trace <> event wrong\n3 holds\n4 holds\n5 holds\n6 fails trace <put> offers {}\n",
     },
     Example {
         name: "beyond_stop",
@@ -118,8 +132,7 @@ assert COUNT(0) [T= CELL ||| CELLS
 -- refcheck prints
 --   1 fails trace <> offers {}
 --   2 holds
--- and ends with status 1. Failures are not asked for yet: for now refcheck prints `refused part` for the whole script,
--- and ends with status 3.
+-- and ends with status 1.
 
 nametype Seat = {0..1}
 channel take, drop : Seat.Seat
@@ -143,8 +156,8 @@ LIVELY = |~| i:Seat @ eat.i -> LIVELY
 assert LIVELY [F= ALIKE
 assert LIVELY [F= IN_ORDER
 ",
-        status: 3,
-        lines: "refused part\n",
+        status: 1,
+        lines: "1 fails trace <> offers {}\n2 holds\n",
     },
     Example {
         name: "empty",
@@ -203,6 +216,7 @@ assert at.0 -> at.1 -> at.2 -> STOP [T= BOLD(0)
 -- refcheck prints
 --   1 holds
 --   2 fails trace <> event clash
+--   3 holds
 -- and ends with status 1.
 
 nametype Who = {0..2}
@@ -220,9 +234,12 @@ INSIDE = (leave?i -> WATCH) [] (enter?j -> clash -> STOP)
 
 assert STOP [T= (LOCKED [| {| enter, leave |} |] WATCH) \ {| enter, leave |}
 assert STOP [T= (ALL [| {| enter, leave |} |] WATCH) \ {| enter, leave |}
+
+-- The processes are as good as the lock: each can always enter when nobody is inside.
+assert LOCK [F= LOCKED
 ",
         status: 1,
-        lines: "1 holds\n2 fails trace <> event clash\n",
+        lines: "1 holds\n2 fails trace <> event clash\n3 holds\n",
     },
     Example {
         name: "one_place_buffer",
@@ -235,6 +252,7 @@ assert STOP [T= (ALL [| {| enter, leave |} |] WATCH) \ {| enter, leave |}
 --   2 fails trace <in.0> event out.1
 --   3 fails trace <> event in.1
 --   4 holds
+--   5 fails trace <in.0,out.0> offers {}
 -- and ends with status 1.
 
 channel in, out : {0..1}
@@ -248,9 +266,12 @@ assert in?x -> out!x -> STOP [T= in.1 -> out.1 -> STOP
 assert in?x -> out!x -> STOP [T= INVERTER(0)
 assert in.0 -> out.0 -> STOP [T= BUFFER
 assert BUFFER [T= in?x -> out!x -> in!(1-x) -> STOP
+
+-- Traces allow that it stops, and failures do not.
+assert BUFFER [F= in?x -> out!x -> STOP
 ",
         status: 1,
-        lines: "1 holds\n2 fails trace <in.0> event out.1\n3 fails trace <> event in.1\n4 holds\n",
+        lines: "1 holds\n2 fails trace <in.0> event out.1\n3 fails trace <> event in.1\n4 holds\n5 fails trace <in.0,out.0> offers {}\n",
     },
     Example {
         name: "token_ring",
@@ -299,12 +320,15 @@ assert pass.0 -> pass.1 -> pass.2 -> pass.0 -> STOP
         name: "two_phase_commit",
         text: r"-- Two-phase commit with two participants: each votes, and both are told to commit where both voted for it.
 --
--- Shows truth values in fields and arguments, internal choice, and a specification with all that can happen.
+-- Shows truth values in fields and arguments, internal choice, and specifications that leave a choice to others or to
+-- the system itself.
 --
 -- refcheck prints
 --   1 holds
 --   2 fails trace <vote.0.false,vote.1.true> event decide.0.true
 --   3 fails trace <> event undecided
+--   4 fails trace <> offers {vote.0.false}
+--   5 holds
 -- and ends with status 1.
 
 nametype Participant = {0..1}
@@ -329,9 +353,16 @@ assert vote.0?a -> vote.1?b -> decide.0!(a and b) -> decide.1!(a and b) -> STOP
 -- A participant whose vote is for it waits for the decision: the coordinator may fail in between.
 FAILING = COORDINATOR /\ undecided -> STOP
 assert STOP [T= (FAILING [| {| vote, decide |} |] PARTICIPANTS) \ {| vote, decide |}
+
+-- A specification that takes any vote asks too much, since a participant votes as it likes. One that leaves the votes
+-- to them asks that all is decided.
+ANY = vote.0?a -> vote.1?b -> decide.0!(a and b) -> decide.1!(a and b) -> STOP
+OWN = |~| a:Bool @ vote.0!a -> (|~| b:Bool @ vote.1!b -> decide.0!(a and b) -> decide.1!(a and b) -> STOP)
+assert ANY [F= SYSTEM
+assert OWN [F= SYSTEM
 ",
         status: 1,
-        lines: "1 holds\n2 fails trace <vote.0.false,vote.1.true> event decide.0.true\n3 fails trace <> event undecided\n",
+        lines: "1 holds\n2 fails trace <vote.0.false,vote.1.true> event decide.0.true\n3 fails trace <> event undecided\n4 fails trace <> offers {vote.0.false}\n5 holds\n",
     },
     Example {
         name: "two_place_buffer",
@@ -342,8 +373,7 @@ assert STOP [T= (FAILING [| {| vote, decide |} |] PARTICIPANTS) \ {| vote, decid
 -- refcheck prints
 --   1 holds
 --   2 fails trace <in.0> event in.0
--- and ends with status 1. Failures are not asked for yet: for now refcheck prints `refused part` for the whole script,
--- and ends with status 3.
+-- and ends with status 1.
 
 channel in, mid, out : {0..1}
 
@@ -356,8 +386,8 @@ BUF(n,s) = (#s < n & in?x -> BUF(n,s^<x>)) [] (#s > 0 & out!head(s) -> BUF(n,tai
 assert BUF(2,<>) [F= CHAIN
 assert BUF(1,<>) [F= CHAIN
 ",
-        status: 3,
-        lines: "refused part\n",
+        status: 1,
+        lines: "1 holds\n2 fails trace <in.0> event in.0\n",
     },
     Example {
         name: "vending_machine",
@@ -365,13 +395,15 @@ assert BUF(1,<>) [F= CHAIN
 --
 -- Shows a channel with a field over a datatype, an input, and a watcher: a process that goes along and does a bad
 -- event of its own, `unpaid`, where a drink comes without a coin. All else is hidden, so that the whole refines STOP
--- exactly where nothing bad can happen.
+-- exactly where nothing bad can happen. And that a choice of the machine's own is none of the customer's.
 --
 -- refcheck prints
 --   1 holds
 --   2 holds
 --   3 fails trace <> event unpaid
 --   4 fails trace <coin> event serve.Tea
+--   5 holds
+--   6 fails trace <coin> offers {serve.Tea}
 -- and ends with status 1.
 
 datatype Drink = Tea | Coffee
@@ -391,9 +423,14 @@ assert STOP [T= (GENEROUS [| {| coin, serve |} |] WATCH) \ {| coin, serve |}
 
 -- A machine with coffee alone cannot do all that one with both can.
 assert coin -> serve.Coffee -> STOP [T= MACHINE
+
+-- It picks the drink itself. All that it does is right, and it can refuse what the customer asks for.
+CHOOSY = coin -> (serve.Tea -> CHOOSY |~| serve.Coffee -> CHOOSY)
+assert MACHINE [T= CHOOSY
+assert MACHINE [F= CHOOSY
 ",
         status: 1,
-        lines: "1 holds\n2 holds\n3 fails trace <> event unpaid\n4 fails trace <coin> event serve.Tea\n",
+        lines: "1 holds\n2 holds\n3 fails trace <> event unpaid\n4 fails trace <coin> event serve.Tea\n5 holds\n6 fails trace <coin> offers {serve.Tea}\n",
     },
     Example {
         name: "within_prefix",
@@ -408,4 +445,33 @@ assert a -> STOP [T= STOP
 /// All of them.
 pub(crate) fn all_examples() -> &'static [Example] {
     &EXAMPLES
+}
+
+/// The name of an example, words, the status, and the lines.
+pub(crate) type WithOptions = (&'static str, &'static [&'static str], u8, &'static str);
+
+static WITH_OPTIONS: [WithOptions; 3] = [
+    (
+        "dining_philosophers",
+        &["--workers", "8", "script"],
+        1,
+        "1 fails trace <> offers {}\n2 holds\n",
+    ),
+    (
+        "alternating_bit",
+        &["--max-pairs", "300", "script"],
+        2,
+        "1 unknown pairs\n2 fails trace <> event wrong\n3 holds\n4 holds\n5 holds\n6 fails trace <put> offers {}\n",
+    ),
+    (
+        "two_place_buffer",
+        &["--max-nodes", "5", "script"],
+        2,
+        "1 unknown nodes\n2 fails trace <in.0> event in.0\n",
+    ),
+];
+
+/// Examples that are run with options.
+pub(crate) fn examples_with_options() -> &'static [WithOptions] {
+    &WITH_OPTIONS
 }

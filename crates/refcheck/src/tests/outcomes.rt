@@ -11,7 +11,7 @@ pub(crate) const BEYOND_STOP: Row = (
 /// A script whose one assertion holds.
 pub(crate) const WITHIN_PREFIX: Row = ("channel a, b, c\nassert a -> STOP [T= STOP\n", "1 holds\n");
 
-static HOLDING: [Row; 28] = [
+static HOLDING: [Row; 34] = [
     ("", ""),
     WITHIN_PREFIX,
     ("channel a' -- nothing to check é", ""),
@@ -97,6 +97,30 @@ static HOLDING: [Row; 28] = [
         "1 holds\n",
     ),
     ("assert SKIP ||| SKIP [T= SKIP", "1 holds\n"),
+    (
+        "channel a, b, c\nassert a -> STOP |~| b -> STOP [F= a -> STOP [] b -> STOP",
+        "1 holds\n",
+    ),
+    (
+        "channel a, b, c\nassert a -> STOP [] SKIP [F= SKIP",
+        "1 holds\n",
+    ),
+    (
+        "channel a, b, c\nP = a -> P\nassert STOP [F= P \\ {a}",
+        "1 holds\n",
+    ),
+    (
+        "assert SKIP [F= SKIP ||| SKIP\nassert SKIP ||| SKIP [F= SKIP",
+        "1 holds\n2 holds\n",
+    ),
+    (
+        "channel a, b, c\nP = (a -> STOP)[[a <- b, a <- c]]\nQ = b -> STOP [] c -> STOP\nassert P [F= Q\nassert Q [F= P",
+        "1 holds\n2 holds\n",
+    ),
+    (
+        "channel a, b, c\nassert a -> SKIP [F= SKIP ||| a -> SKIP",
+        "1 holds\n",
+    ),
 ];
 
 /// Scripts whose assertions hold.
@@ -104,7 +128,20 @@ pub(crate) fn holding() -> &'static [Row] {
     &HOLDING
 }
 
-static FAILING: [Row; 23] = [
+/// Two copiers in a chain are a buffer with two places, and none with one.
+pub(crate) const CHAIN: Row = (
+    r"channel in, mid, out : {0..1}
+COPY1 = in?x -> mid!x -> COPY1
+COPY2 = mid?x -> out!x -> COPY2
+CHAIN = (COPY1 [| {| mid |} |] COPY2) \ {| mid |}
+BUF(n,s) = (#s < n & in?x -> BUF(n,s^<x>)) [] (#s > 0 & out!head(s) -> BUF(n,tail(s)))
+assert BUF(2,<>) [F= CHAIN
+assert BUF(1,<>) [F= CHAIN
+",
+    "1 holds\n2 fails trace <in.0> event in.0\n",
+);
+
+static FAILING: [Row; 28] = [
     BEYOND_STOP,
     (
         "channel α\nassert STOP [T= α -> STOP",
@@ -191,6 +228,23 @@ static FAILING: [Row; 23] = [
         "channel a, b, c\nassert (a -> b -> STOP) [] (a -> c -> STOP) [T= a -> b -> c -> STOP",
         "1 fails trace <a,b> event c\n",
     ),
+    CHAIN,
+    (
+        "channel a, b, c\nassert a -> STOP [F= STOP",
+        "1 fails trace <> offers {}\n",
+    ),
+    (
+        "channel a, b, c\nassert a -> STOP [] b -> STOP [F= a -> STOP |~| b -> STOP",
+        "1 fails trace <> offers {a}\n",
+    ),
+    (
+        "channel a, b, c\nP = P\nassert STOP [F= P\nassert P [F= STOP",
+        "1 holds\n2 fails trace <> offers {}\n",
+    ),
+    (
+        "channel c : {0..1}\nassert c?x -> SKIP [F= c!1 -> SKIP",
+        "1 fails trace <> offers {c.1}\n",
+    ),
 ];
 
 /// Scripts with an assertion that fails, the others having answers.
@@ -198,7 +252,7 @@ pub(crate) fn failing() -> &'static [Row] {
     &FAILING
 }
 
-static UNKNOWN: [Row; 7] = [
+static UNKNOWN: [Row; 8] = [
     (
         "P(n) = P(n+1)\nassert STOP [T= P(2147483647)",
         "1 unknown fault overflow\n",
@@ -223,6 +277,10 @@ static UNKNOWN: [Row; 7] = [
     (
         "P(n) = P(n+1)\nassert P(2147483647) [T= STOP\nassert STOP [T= SKIP\nassert STOP [T= STOP",
         "1 unknown fault overflow\n2 fails trace <> event tick\n3 holds\n",
+    ),
+    (
+        "channel c : {0..1}\nR = c?x -> R\nP(n) = c!n -> P(n+1)\nassert R [T= P(0)\nassert STOP [T= c!1 -> STOP\nassert STOP [T= STOP",
+        "1 unknown fault range\n2 fails trace <> event c.1\n3 holds\n",
     ),
 ];
 

@@ -161,16 +161,3 @@ static UNCHECKED: [Row; 42] = [
 pub(crate) fn unchecked() -> &'static [Row] {
     &UNCHECKED
 }
-
-static OF_FAILURES: [Row; 2] = [
-    ("channel a\nassert STOP [F= a -> STOP", "refused part\n"),
-    (
-        "assert STOP [T= SKIP\nassert STOP [F= STOP",
-        "refused part\n",
-    ),
-];
-
-/// Checked scripts with an assertion of failures.
-pub(crate) fn of_failures() -> &'static [Row] {
-    &OF_FAILURES
-}

@@ -14,14 +14,6 @@ returns-in-File g c =
     let P : Refusal → Type 0 = λ why. IsGiven old new failed (refusal_line why) in
     subst P (sym c.in-File.is) (given old new failed (codes "refused file\n") c.push_all.result c.push_all.ensures.whole c.push_all.ensures.beginning)
 
-pub returns-in-Part : goal.returns-in-Part
-returns-in-Part g c =
-    let old = g.E.Sink.taken c.args.sink.now in
-    let new = g.E.Sink.taken c.push_all-in-Part.new.sink in
-    let failed = g.E.Sink.has_failed c.push_all-in-Part.new.sink in
-    let P : Refusal → Type 0 = λ why. IsGiven old new failed (refusal_line why) in
-    subst P (sym c.in-Part.is) (given old new failed (codes "refused part\n") c.push_all-in-Part.result c.push_all-in-Part.ensures.whole c.push_all-in-Part.ensures.beginning)
-
 pub returns-in-Memory : goal.returns-in-Memory
 returns-in-Memory g c =
     let old = g.E.Sink.taken c.args.sink.now in

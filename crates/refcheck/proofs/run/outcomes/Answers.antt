@@ -1,32 +1,41 @@
-use Rattle.std.proofs.Common.{◌≡◌, ℕ, List, ap₂, map, subst, ◌∙◌}
+use Rattle.std.proofs.Common.{List, map, subst, inl, inr, lit<}
 use Rattle.std.proofs.lemmas.List.{take_all}
-use Rattle.csp_answers.specs.Outcome.{Bounds}
+use Rattle.csp_syntax.specs.Process as pure
 use Rattle.csp_term.specs.declared.assertion.Assertion.{Assertion}
-use Rattle.csp_term.specs.Script.{assertion_of, script_of}
+use Rattle.csp_term.specs.Script.{HasSidesOf, assertion_of, script_of}
 use Rattle.pair_store.specs.Bounds.{bounds_of}
 use Rattle.verdict.specs.Outcome.{outcome_of}
-use Rattle.explore.specs.Answering.{IsRight}
 use Rattle.refcheck.specs.Answering.{AreRight}
-use Rattle.refcheck.specs.Running.{program_bounds}
-use Rattle.refcheck.proofs.Answering.{is_right, one_more_right}
+use Rattle.refcheck.proofs.Answering.{is_right, one_more_right, sides_at}
 use Rattle.refcheck.proofs.run.outcomes.Goals as goal
+
+pub explore-requires : goal.explore-requires
+explore-requires g c =
+    let script = script_of c.args.script.now in
+    let sides = sides_at assertion_of (HasSidesOf script) script c.assertions-assertion-items.result.now c.loop-assertion.assertion-index c.assertion-item.result c.assertions-assertion-items.ensures.sides c.loop-assertion-test.true c.assertion-item.is
+    (λ b sides. record { specification = sides.0; implementation = sides.1 }) in (
+      elim g.met.A.AllocHandle.small [
+        | inl e ↦ rw (e.0, e.1) (lit< tt)
+        | inr e ↦ rw (e.0, e.1) (lit< tt)
+      ],
+      sides,
+    )
 
 pub loop-assertion-preserved : goal.loop-assertion-preserved
 loop-assertion-preserved g c =
     let script = script_of c.args.script.now in
     let a = assertion_of c.assertion-item.result in
-    let o = outcome_of c.explore.result in
+    let bounds = bounds_of c.args.limits in
     let says = c.explore.ensures in
-    let same : bounds_of c.new-limits.result ≡ program_bounds = ap₂ (λ (p n : ℕ). record { max_pairs = p; max_nodes = n }) c.new-limits.ensures.pairs c.new-limits.ensures.nodes in
-    let P : Bounds → Type 0 = λ bounds. IsRight script a bounds o in
-    let right = subst P same (is_right script a (bounds_of c.new-limits.result) o says.holds says.none_stuck says.fails says.pairs says.nodes says.term says.fault) in
-    one_more_right assertion_of outcome_of script program_bounds c.deref-assertion-items.result.now c.loop-assertion.outcomes.items c.push.new.self.items c.loop-assertion.assertion-index
+    let right = is_right script a bounds (outcome_of c.explore.result) says.answer says.holds says.none_stuck says.fails says.pairs says.nodes says.term says.fault in
+    one_more_right assertion_of outcome_of script bounds c.assertions-assertion-items.result.now c.loop-assertion.outcomes.items c.push.new.self.items c.loop-assertion.assertion-index
     c.assertion-item.result c.explore.result c.loop-assertion.invariant c.loop-assertion-test.true c.assertion-item.is c.in_ok-push.ensures.items right
 
 pub returns : goal.returns
 returns g c =
     let script = script_of c.args.script.now in
-    let items = c.deref-assertion-items.result.now in
-    let all = take_all c.loop-assertion.assertion-index items c.loop-assertion-test.false ∙ c.deref-assertion-items.ensures.value in
-    let P : List (Assertion g.row.A.Denot) → Type 0 = λ xs. AreRight script program_bounds (map assertion_of xs) (map outcome_of c.loop-assertion.outcomes.items) in
-    subst P all c.loop-assertion.invariant
+    let items = c.assertions-assertion-items.result.now in
+    let says = map outcome_of c.loop-assertion.outcomes.items in
+    let P : List (Assertion g.row.A.Denot) → Type 0 = λ xs. AreRight script (bounds_of c.args.limits) (map assertion_of xs) says in
+    let Q : List pure.Assertion → Type 0 = λ xs. AreRight script (bounds_of c.args.limits) xs says in
+    subst Q c.assertions-assertion-items.ensures.value (subst P (take_all c.loop-assertion.assertion-index items c.loop-assertion-test.false) c.loop-assertion.invariant)

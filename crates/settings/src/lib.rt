@@ -1,0 +1,16 @@
+//! The command line of `refcheck`: a file to check, and three options, each a number in a range.
+//!
+//! `read` makes the settings of the words after the program's name. Which value a word gives to which option is said in
+//! the words of `clap`, of which the command here is a simple one.
+#![tactic(auto)]
+
+mod command;
+mod fault;
+mod help;
+mod settings;
+
+pub use fault::CommandLineFault;
+pub use settings::{MAX_NODES, MAX_PAIRS, MAX_WORKERS, Settings, read};
+
+#[cfg(test)]
+mod tests;
