@@ -1,0 +1,216 @@
+//! Limits of pairs and of nodes that are met exactly, and by one.
+
+use crate::row::Row;
+
+static ROWS: &[Row] = &[
+    Row {
+        declarations: "",
+        assertion: "assert a -> b -> STOP [T= a -> b -> STOP",
+        pairs: 3,
+        nodes: 100,
+        answer: "holds",
+    },
+    Row {
+        declarations: "",
+        assertion: "assert a -> b -> STOP [T= a -> b -> STOP",
+        pairs: 2,
+        nodes: 100,
+        answer: "unknown pairs",
+    },
+    Row {
+        declarations: "",
+        assertion: "assert a -> b -> STOP [T= a -> b -> STOP",
+        pairs: 1,
+        nodes: 100,
+        answer: "unknown pairs",
+    },
+    Row {
+        declarations: "",
+        assertion: "assert a -> STOP [T= a -> STOP |~| b -> STOP",
+        pairs: 4,
+        nodes: 100,
+        answer: "fails <tau> event b",
+    },
+    Row {
+        declarations: "",
+        assertion: "assert a -> STOP [T= a -> STOP |~| b -> STOP",
+        pairs: 3,
+        nodes: 100,
+        answer: "fails <tau> event b",
+    },
+    Row {
+        declarations: "",
+        assertion: "assert a -> STOP [T= a -> STOP |~| b -> STOP",
+        pairs: 2,
+        nodes: 100,
+        answer: "unknown pairs",
+    },
+    Row {
+        declarations: "",
+        assertion: "assert a -> STOP [T= a -> STOP |~| b -> STOP",
+        pairs: 1,
+        nodes: 100,
+        answer: "unknown pairs",
+    },
+    Row {
+        declarations: "",
+        assertion: "assert STOP [T= a -> STOP |~| b -> STOP",
+        pairs: 3,
+        nodes: 100,
+        answer: "fails <tau> event a",
+    },
+    Row {
+        declarations: "",
+        assertion: "assert STOP [T= a -> STOP |~| b -> STOP",
+        pairs: 2,
+        nodes: 100,
+        answer: "unknown pairs",
+    },
+    Row {
+        declarations: "R = a -> R\n",
+        assertion: "assert R [T= a -> STOP",
+        pairs: 2,
+        nodes: 100,
+        answer: "holds",
+    },
+    Row {
+        declarations: "R = a -> R\n",
+        assertion: "assert R [T= a -> STOP",
+        pairs: 1,
+        nodes: 100,
+        answer: "unknown pairs",
+    },
+    Row {
+        declarations: "A = a -> A [] b -> A\n",
+        assertion: "assert A [T= (a -> STOP [] b -> a -> STOP)",
+        pairs: 4,
+        nodes: 100,
+        answer: "holds",
+    },
+    Row {
+        declarations: "A = a -> A [] b -> A\n",
+        assertion: "assert A [T= (a -> STOP [] b -> a -> STOP)",
+        pairs: 3,
+        nodes: 100,
+        answer: "holds",
+    },
+    Row {
+        declarations: "A = a -> A [] b -> A\n",
+        assertion: "assert A [T= (a -> STOP [] b -> a -> STOP)",
+        pairs: 2,
+        nodes: 100,
+        answer: "unknown pairs",
+    },
+    Row {
+        declarations: "",
+        assertion: "assert a -> STOP [F= a -> STOP |~| STOP",
+        pairs: 3,
+        nodes: 100,
+        answer: "fails <tau> offers",
+    },
+    Row {
+        declarations: "",
+        assertion: "assert a -> STOP [F= a -> STOP |~| STOP",
+        pairs: 2,
+        nodes: 100,
+        answer: "unknown pairs",
+    },
+    Row {
+        declarations: "F = |~| x:{} @ STOP\n",
+        assertion: "assert a -> STOP [] b -> STOP [T= (a -> F) [] (b -> STOP)",
+        pairs: 4,
+        nodes: 100,
+        answer: "unknown fault choice",
+    },
+    Row {
+        declarations: "F = |~| x:{} @ STOP\n",
+        assertion: "assert a -> STOP [] b -> STOP [T= (a -> F) [] (b -> STOP)",
+        pairs: 3,
+        nodes: 100,
+        answer: "unknown pairs",
+    },
+    Row {
+        declarations: "F = d!2 -> STOP\n",
+        assertion: "assert STOP [T= F |~| (STOP |~| SKIP)",
+        pairs: 3,
+        nodes: 100,
+        answer: "unknown pairs",
+    },
+    Row {
+        declarations: "F = d!2 -> STOP\n",
+        assertion: "assert STOP [T= F |~| (STOP |~| SKIP)",
+        pairs: 2,
+        nodes: 100,
+        answer: "unknown pairs",
+    },
+    Row {
+        declarations: "",
+        assertion: "assert a -> STOP |~| b -> STOP [T= STOP",
+        pairs: 100,
+        nodes: 3,
+        answer: "holds",
+    },
+    Row {
+        declarations: "",
+        assertion: "assert a -> STOP |~| b -> STOP [T= STOP",
+        pairs: 100,
+        nodes: 2,
+        answer: "unknown nodes",
+    },
+    Row {
+        declarations: "",
+        assertion: "assert a -> STOP [T= STOP",
+        pairs: 100,
+        nodes: 2,
+        answer: "holds",
+    },
+    Row {
+        declarations: "",
+        assertion: "assert a -> STOP [T= STOP",
+        pairs: 100,
+        nodes: 1,
+        answer: "unknown nodes",
+    },
+    Row {
+        declarations: "",
+        assertion: "assert STOP [T= a -> STOP",
+        pairs: 1,
+        nodes: 1,
+        answer: "fails <> event a",
+    },
+    Row {
+        declarations: "N(n) = n < 4 & a -> N(n+1)\n\
+                       A = a -> A\n",
+        assertion: "assert A [T= N(0)",
+        pairs: 9,
+        nodes: 100,
+        answer: "unknown pairs",
+    },
+    Row {
+        declarations: "N(n) = n < 4 & a -> N(n+1)\n\
+                       A = a -> A\n",
+        assertion: "assert A [T= N(0)",
+        pairs: 8,
+        nodes: 100,
+        answer: "unknown pairs",
+    },
+    Row {
+        declarations: "",
+        assertion: "assert a -> STOP |~| b -> STOP [T= b -> STOP",
+        pairs: 10,
+        nodes: 3,
+        answer: "holds",
+    },
+    Row {
+        declarations: "",
+        assertion: "assert a -> STOP |~| b -> STOP [T= b -> STOP",
+        pairs: 10,
+        nodes: 2,
+        answer: "unknown nodes",
+    },
+];
+
+/// Hands out the table.
+pub(crate) fn rows() -> &'static [Row] {
+    ROWS
+}
