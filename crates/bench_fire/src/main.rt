@@ -3,115 +3,80 @@
 //! says on standard error how many steps and how many terms a second that is.
 #![tactic(auto)]
 
-mod composed;
+mod texts;
 
-use crate::composed::{components, hidden, renamed};
-use anyhow::{Result, ensure};
-use csp_expression::{BinaryOperator, Binding, Expr, TypeTable};
+ghost use Rattle.std.specs.Prelude.{IfOk};
+ghost use Rattle.csp_semantics.specs.Kinds.Scripts.{IsTermOf};
+ghost use Rattle.csp_term.specs.Script.{script_of};
+ghost use Rattle.csp_term.specs.Term.{process_of};
+
+use anyhow::{Result, bail, ensure};
+use csp_expression::Binding;
 use csp_fire::{Form, fire};
-use csp_term::{Channel, ChannelId, Field, Memory, Name, Script, Term, TermForm};
-use csp_value::{FieldSet, Value};
+use csp_kinds::check;
+use csp_lex::tokens;
+use csp_parse::parse;
+use csp_term::{Name, Script, Term, TermForm};
+use csp_value::Value;
 use std::alloc::Global;
 use std::time::Instant;
 
-/// The channel that has fields.
-const C: ChannelId = ChannelId(0);
+/// What is fired: the number of an assertion, how often, how many steps there are each time, and what they are.
+struct Firing {
+    assertion: usize,
+    firings: u32,
+    steps: u32,
+    name: &'static str,
+}
 
-const X: Name = Name(0);
+static FIRINGS: [Firing; 5] = [
+    Firing {
+        assertion: 0,
+        firings: 100,
+        steps: 4096,
+        name: "prefix over 4,096 events",
+    },
+    Firing {
+        assertion: 1,
+        firings: 20,
+        steps: 576,
+        name: "8 components",
+    },
+    Firing {
+        assertion: 2,
+        firings: 20,
+        steps: 1088,
+        name: "16 components",
+    },
+    Firing {
+        assertion: 3,
+        firings: 100,
+        steps: 1,
+        name: "renaming of 995 pairs",
+    },
+    Firing {
+        assertion: 4,
+        firings: 20,
+        steps: 4096,
+        name: "hiding over 4,096 events",
+    },
+];
 
-const Y: Name = Name(1);
-
-/// How many channels there are behind `c`, which have no fields.
-const PLAIN: u32 = 1000;
+/// The assertion whose specification is open in a name.
+const WIDE: usize = 5;
 
 const SUBSTITUTIONS: u32 = 4000;
 
 /// All substitutions.
 const TERMS: f64 = 4000.0;
 
-/// `{0..63}`
-fn field_set(alloc: Global) -> Result<FieldSet<Global>, Memory> {
-    let mut values = Vec::new(alloc);
-    for number in 0..64 {
-        values.push(Value::Int(number))?;
-    }
-    Ok(FieldSet::from_values(values))
-}
-
-/// `channel c : {0..63}.{0..63}`
-fn channel(alloc: Global) -> Result<Channel<Global>, Memory> {
-    let mut fields = Vec::new(alloc);
-    fields.push(field_set(alloc)?)?;
-    fields.push(field_set(alloc)?)?;
-    Ok(Channel {
-        spelling: String::from_str(alloc, "c")?,
-        fields,
-    })
-}
-
-/// `c`, and the channels that have no fields.
-fn channels(alloc: Global) -> Result<Vec<Channel<Global>, Global>, Memory> {
-    let mut channels = Vec::new(alloc);
-    channels.push(channel(alloc)?)?;
-    for _ in 0..PLAIN {
-        channels.push(Channel {
-            spelling: String::from_str(alloc, "plain")?,
-            fields: Vec::new(alloc),
-        })?;
-    }
-    Ok(channels)
-}
-
-fn script(alloc: Global) -> Result<Script<Global>, Memory> {
-    let channels = channels(alloc)?;
-    Ok(Script {
-        types: TypeTable {
-            datatypes: Vec::new(alloc),
-            nametypes: Vec::new(alloc),
-        },
-        constructors: Vec::new(alloc),
-        channels,
-        equations: Vec::new(alloc),
-        assertions: Vec::new(alloc),
-    })
-}
-
-fn prefix(
-    alloc: Global,
-    first: Field<Global>,
-    second: Field<Global>,
-    body: Term<Global>,
-) -> Result<Term<Global>, Memory> {
-    let mut fields = Vec::new(alloc);
-    fields.push(first)?;
-    fields.push(second)?;
-    Term::new(alloc, TermForm::Prefix(C, fields, body))
-}
-
-/// `c?x?y -> c!y!x -> STOP`
-fn exchange(alloc: Global) -> Result<Term<Global>, Memory> {
-    let first = Field::Given(Expr::Name(Y));
-    let second = Field::Given(Expr::Name(X));
-    let body = prefix(alloc, first, second, Term::new(alloc, TermForm::Stop)?)?;
-    prefix(alloc, Field::Input(X), Field::Input(Y), body)
-}
-
-/// `x + 1`
-fn next(alloc: Global) -> Result<Expr<Global>, Memory> {
-    let left = Box::new(alloc, Expr::Name(X))?;
-    let right = Box::new(alloc, Expr::Literal(Value::Int(1)))?;
-    Ok(Expr::Combine(BinaryOperator::Add, left, right))
-}
-
-/// A prefix of 499 fields `x + 1` and one `x`, which is a term of 2,000 nodes.
-fn wide(alloc: Global) -> Result<Term<Global>, Memory> {
-    let mut fields = Vec::new(alloc);
-    for _ in 0..499 {
-        fields.push(Field::Given(next(alloc)?))?;
-    }
-    fields.push(Field::Given(Expr::Name(X)))?;
-    let body = Term::new(alloc, TermForm::Stop)?;
-    Term::new(alloc, TermForm::Prefix(C, fields, body))
+/// The specification of the assertion of that number.
+fn specification(script: &Script<Global>, number: usize) -> Result<&Term<Global>>
+    ensures { IfOk result (λ t. IsTermOf (script_of script.now) (process_of t.now)) }
+{
+    let assertions = script.assertions();
+    ensure!(number < assertions.len(), "no assertion");
+    Ok(&assertions[number].specification)
 }
 
 /// How many steps the form has, none where it is stuck.
@@ -127,53 +92,60 @@ fn fire_often(
     rt: &HostRuntime,
     script: &Script<Global>,
     term: &Term<Global>,
-    firings: u32,
-    steps: u32,
-) -> Result<f64> {
+    firing: &Firing,
+) -> Result<f64>
+    requires { IsTermOf (script_of script.now) (process_of term.now) }
+{
     let start = Instant::now(rt)?;
-    let wanted = usize::try_from(steps)?;
-    for _ in 0..firings {
+    let wanted = usize::try_from(firing.steps)?;
+    for _ in 0..firing.firings {
         let expansion = fire(rt.alloc(), script, term)?;
         ensure!(steps_of(expansion.form()) == wanted, "not all steps");
     }
-    let all = f64::from(firings) * f64::from(steps);
+    let all = f64::from(firing.firings) * f64::from(firing.steps);
     Ok(all / start.elapsed(rt)?.as_secs_f64())
 }
 
-fn substitute_often(alloc: Global) -> Result<()> {
-    let term = wide(alloc)?;
+/// The name that the term is open in, and the term.
+fn opened(term: &Term<Global>) -> Result<(Name, &Term<Global>)> {
+    match term.form() {
+        TermForm::Replicated(_, name, _, body) => Ok((*name, body)),
+        _ => bail!("no open term"),
+    }
+}
+
+fn substitute_often(alloc: Global, script: &Script<Global>) -> Result<()> {
+    let (name, term) = opened(specification(script, WIDE)?)?;
     let value = Value::Int(7);
     let binding = Binding {
-        name: X,
+        name,
         value: &value,
     };
     for _ in 0..SUBSTITUTIONS {
         let put = term.subst(alloc, &[binding])?;
-        ensure!(put != term, "no value was put in");
+        ensure!(put != *term, "no value was put in");
     }
     Ok(())
 }
 
-fn fire_all(rt: &HostRuntime) -> Result<()> {
-    let alloc = rt.alloc();
-    let script = script(alloc)?;
-    let speed = fire_often(rt, &script, &exchange(alloc)?, 100, 4096)?;
-    eprintln!(rt; "prefix over 4,096 events: {speed:.0} steps a second")?;
-    for (count, steps) in [(8, 576), (16, 1088)] {
-        let speed = fire_often(rt, &script, &components(alloc, count)?, 20, steps)?;
-        eprintln!(rt; "{count} components: {speed:.0} steps a second")?;
+fn fire_all(rt: &HostRuntime, script: &Script<Global>) -> Result<()> {
+    for firing in &FIRINGS {
+        let term = specification(script, firing.assertion)?;
+        let speed = fire_often(rt, script, term, firing)?;
+        eprintln!(rt; "{}: {speed:.0} steps a second", firing.name)?;
     }
-    let speed = fire_often(rt, &script, &renamed(alloc)?, 100, 1)?;
-    eprintln!(rt; "renaming of 995 pairs: {speed:.0} firings a second")?;
-    let speed = fire_often(rt, &script, &hidden(alloc, exchange(alloc)?)?, 20, 4096)?;
-    eprintln!(rt; "hiding over 4,096 events: {speed:.0} steps a second")?;
     Ok(())
 }
 
 fn main(rt: HostRuntime) -> Result<()> {
-    fire_all(&rt)?;
+    let alloc = rt.alloc();
+    let text = texts::text(alloc)?;
+    let list = tokens(alloc, text.as_bytes())?;
+    let raw = parse(alloc, &list)?;
+    let script = check(alloc, &raw)?;
+    fire_all(&rt, &script)?;
     let start = Instant::now(&rt)?;
-    substitute_often(rt.alloc())?;
+    substitute_often(alloc, &script)?;
     let speed = TERMS / start.elapsed(&rt)?.as_secs_f64();
     eprintln!(rt; "{speed:.0} terms of 2,000 nodes a second")?;
     Ok(())

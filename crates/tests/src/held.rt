@@ -4,7 +4,7 @@
 //! not. So lists of such values are dropped here, and the tests themselves need not be proved twice.
 
 use csp_fire::Form;
-use pair_store::store::Store;
+use pair_store::Store;
 use std::alloc::Global;
 use verdict::{Outcome, Shown};
 

@@ -1,21 +1,19 @@
-//! Texts of chains, actions and outcomes, read.
+//! Texts of actions and outcomes, read.
 //!
-//! - A channel is a letter. A chain is the letters of its prefixes: `a b` is `a -> b -> STOP`, and `256*a` has as many
-//!   prefixes over `a`.
+//! - A channel is a letter.
 //! - An action is `tau`, `tick` or a letter with numbers as its fields, as `b.-1.0`.
 //! - An outcome is `holds`, `unknown` with the reason, or `fails`, the path in angle brackets, and what is lacking at its
 //!   end: `event` with it, or `offers` with all of them.
 
-use crate::scripts::prefixes;
-use csp_term::{Action, Assertion, ChannelId, Event, Fault, Model, Term};
+use csp_term::{Action, ChannelId, Event, Fault};
 use csp_value::Value;
 use smallvec::SmallVec;
 use std::alloc::Global;
 use std::test::Fail;
 use verdict::{Evidence, Outcome, Shown, Why};
 
-/// The channels by their letters. No script of the tests has the last.
-const CHANNELS: &[&str] = &["a", "b", "c", "d"];
+/// The channels by their letters.
+const CHANNELS: &[&str] = &["a", "b", "c"];
 
 const REASONS: &[(&str, Why)] = &[
     ("pairs", Why::Pairs),
@@ -27,7 +25,6 @@ const REASONS: &[(&str, Why)] = &[
     ("fault empty", Why::Fault(Fault::Empty)),
     ("fault modulus", Why::Fault(Fault::Modulus)),
     ("fault choice", Why::Fault(Fault::Choice)),
-    ("fault kind", Why::Fault(Fault::Kind)),
 ];
 
 fn channel(letter: &str) -> Result<u32, Fail> {
@@ -39,53 +36,6 @@ fn channel(letter: &str) -> Result<u32, Fail> {
         place = place.saturating_add(1);
     }
     Err(Fail::new("no channel"))
-}
-
-// The channel of the word, and how often it comes.
-fn repeated(word: &str) -> Result<(u32, u32), Fail> {
-    match word.split_once('*') {
-        Some((times, letter)) => Ok((channel(letter)?, times.parse::<u32>()?)),
-        None => Ok((channel(word)?, 1)),
-    }
-}
-
-fn push_times(channels: &mut Vec<u32>, channel: u32, times: u32) -> Result<(), Fail> {
-    for _ in 0..times {
-        channels.push(channel)?;
-    }
-    Ok(())
-}
-
-/// The channels that the text names, in order.
-pub(crate) fn channels(alloc: Global, text: &str) -> Result<Vec<u32>, Fail> {
-    let mut channels = Vec::new(alloc);
-    for word in text.split_whitespace() {
-        let (channel, times) = repeated(word)?;
-        push_times(&mut channels, channel, times)?;
-    }
-    Ok(channels)
-}
-
-/// Prefixes over the channels of the text, and then `STOP`.
-pub(crate) fn chain(alloc: Global, text: &str) -> Result<Term<Global>, Fail> {
-    let channels = channels(alloc, text)?;
-    Ok(prefixes(alloc, &channels)?)
-}
-
-/// An assertion about the chains of the texts.
-pub(crate) fn assertion(
-    alloc: Global,
-    model: Model,
-    specification: &str,
-    implementation: &str,
-) -> Result<Assertion<Global>, Fail> {
-    let specification = chain(alloc, specification)?;
-    let implementation = chain(alloc, implementation)?;
-    Ok(Assertion {
-        model,
-        specification,
-        implementation,
-    })
 }
 
 fn fields(alloc: Global, numbers: &str) -> Result<SmallVec<Value<Global>, 2, Global>, Fail> {

@@ -7,13 +7,11 @@ T = STOP
 DOES = STOP
 OFFERS = STOP
 
-T = OMEGA
-DOES = STOP
-OFFERS = STOP
-
 T = SKIP
 DOES = tick -> OMEGA
 OFFERS = tick -> STOP
+THEN DOES = STOP
+THEN OFFERS = STOP
 ";
 
 const CALLS: &str = "
@@ -37,16 +35,6 @@ const STUCK: &str = "
 T = Q
 LARGE = STOP
 
--- Another number of arguments.
-T = P
-FAULT = kind
-T = Q(1)
-FAULT = kind
-T = R(1)
-FAULT = kind
-
-T = UNDECLARED
-FAULT = kind
 
 T = P(head(<>))
 FAULT = empty

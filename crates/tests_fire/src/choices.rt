@@ -41,9 +41,6 @@ OFFERS = tick -> STOP
 T = STOP [] STOP
 DOES = STOP
 OFFERS = STOP
-T = OMEGA [] a -> STOP
-DOES = a -> STOP
-OFFERS = a -> STOP
 ";
 
 const INTERNAL: &str = "
@@ -61,9 +58,6 @@ T = SKIP |~| STOP
 DOES = tau -> STOP [] tau -> SKIP
 OFFERS = NOTHING
 
-T = OMEGA |~| P(0)
-DOES = tau -> OMEGA [] tau -> P(0)
-OFFERS = NOTHING
 ";
 
 const STUCK: &str = "

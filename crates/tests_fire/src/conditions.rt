@@ -70,21 +70,13 @@ const CAUSES: &str = "
 -- The condition's cause goes before that of the part behind it.
 T = head(<>) & c!2 -> STOP
 FAULT = empty
-T = 1 % 0 & c!2 -> STOP
+T = 1 % 0 == 1 & c!2 -> STOP
 FAULT = modulus
-T = 1 & c!2 -> STOP
-FAULT = kind
-T = x & c!2 -> STOP
-FAULT = kind
 
 T = if head(<>) then c!2 -> STOP else c!2 -> STOP
 FAULT = empty
-T = if 1 % 0 then c!2 -> STOP else c!2 -> STOP
+T = if 1 % 0 == 1 then c!2 -> STOP else c!2 -> STOP
 FAULT = modulus
-T = if 1 then c!2 -> STOP else c!2 -> STOP
-FAULT = kind
-T = if x then c!2 -> STOP else c!2 -> STOP
-FAULT = kind
 ";
 
 static SUBJECTS: [Subject; 4] = [

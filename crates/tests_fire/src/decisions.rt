@@ -3,51 +3,50 @@
 use crate::rows::Subject;
 
 const KINDS: &str = "
-VALUE = OF({3, 1, 3} == {1, 3}, true)
-VALUE = OF(1 == true, false)
-VALUE = OF(1 != true, true)
+VALUE = ({3, 1, 3} == {1, 3}) == true
 
-CAUSE = kind(1 < true, 1 + true, true and 1)
-CAUSE = kind(union({1}, <1>), inter({1}, <1>), diff({1}, <1>), {1} ^ <1>)
-CAUSE = kind(member(1, <1>), elem(1, {1}))
 ";
 
 const SIDES: &str = "
 -- `head(<>)` has no value, and is not looked at where the left side decides.
-VALUE = OF(false and head(<>) == 1, false)
-VALUE = OF(true or head(<>) == 1, true)
-CAUSE = empty(true and head(<>) == 1, false or head(<>) == 1)
+VALUE = (false and head(<>) == 1) == false
+VALUE = (true or head(<>) == 1) == true
+CAUSE empty = true and head(<>) == 1
+CAUSE empty = false or head(<>) == 1
 
-VALUE = OF(false and (true and head(<>) == 1), false)
-VALUE = OF(true or (true and head(<>) == 1), true)
-VALUE = OF(true or (false or head(<>) == 1), true)
-VALUE = OF(true and (false and head(<>) == 1), false)
-VALUE = OF(true and (true or head(<>) == 1), true)
-VALUE = OF(false or (false and head(<>) == 1), false)
-VALUE = OF(false or (true or head(<>) == 1), true)
-CAUSE = empty(true and (true and head(<>) == 1), true and (false or head(<>) == 1))
-CAUSE = empty(false or (true and head(<>) == 1), false or (false or head(<>) == 1))
+VALUE = (false and (true and head(<>) == 1)) == false
+VALUE = (true or (true and head(<>) == 1)) == true
+VALUE = (true or (false or head(<>) == 1)) == true
+VALUE = (true and (false and head(<>) == 1)) == false
+VALUE = (true and (true or head(<>) == 1)) == true
+VALUE = (false or (false and head(<>) == 1)) == false
+VALUE = (false or (true or head(<>) == 1)) == true
+CAUSE empty = true and (true and head(<>) == 1)
+CAUSE empty = true and (false or head(<>) == 1)
+CAUSE empty = false or (true and head(<>) == 1)
+CAUSE empty = false or (false or head(<>) == 1)
 ";
 
 const TRUTHS: &str = "
-VALUE = OF(false and false, false)
-VALUE = OF(false and true, false)
-VALUE = OF(true and false, false)
-VALUE = OF(true and true, true)
+VALUE = (false and false) == false
+VALUE = (false and true) == false
+VALUE = (true and false) == false
+VALUE = (true and true) == true
 
-VALUE = OF(false or false, false)
-VALUE = OF(false or true, true)
-VALUE = OF(true or false, true)
-VALUE = OF(true or true, true)
+VALUE = (false or false) == false
+VALUE = (false or true) == true
+VALUE = (true or false) == true
+VALUE = (true or true) == true
 
-VALUE = OF(not false, true)
-VALUE = OF(not true, false)
+VALUE = (not false) == true
+VALUE = (not true) == false
 ";
 
 const CAUSES: &str = "
-CAUSE = empty(head(<>) % 0, {0..head(<>)}, {7, true, head(<>), 7 % 0})
-CAUSE = overflow(2147483647 + 1 + head(<>))
-CAUSE = kind(x)
+CAUSE empty = head(<>) % 0
+CAUSE empty = {0..head(<>)}
+CAUSE empty = {7, head(<>), 7 % 0}
+CAUSE overflow = 2147483647 + 1 + head(<>)
 ";
 
 static SUBJECTS: [Subject; 4] = [

@@ -31,9 +31,6 @@ OFFERS = tick -> STOP
 T = (SKIP [] a -> STOP) \\ {a}
 DOES = tau -> (STOP \\ {a}) [] tick -> OMEGA
 OFFERS = tick -> STOP
-T = OMEGA \\ {a}
-DOES = STOP
-OFFERS = STOP
 
 T = (c!2 -> STOP) \\ {c.head(<>)}
 FAULT = empty
@@ -82,9 +79,6 @@ OFFERS = NOTHING
 T = SKIP[[a <- b]]
 DOES = tick -> OMEGA
 OFFERS = tick -> STOP
-T = OMEGA[[a <- b]]
-DOES = STOP
-OFFERS = STOP
 
 -- The pairs from left to right, from before to, and then the process.
 T = (c!2 -> STOP)[[c.head(<>) <- c.2]]
@@ -95,12 +89,6 @@ T = (c!2 -> STOP)[[a <- b, c.0 <- c.head(<>)]]
 FAULT = empty
 T = (c!2 -> STOP)[[c.0 <- c.1]]
 FAULT = range
-T = STOP[[c.0 <- c]]
-FAULT = kind
-T = STOP[[c <- d]]
-FAULT = kind
-T = STOP[[a <- undeclared]]
-FAULT = kind
 T = Q[[a <- b]]
 LARGE = STOP
 ";

@@ -41,34 +41,9 @@ T = e?x!(x % (1 - x))!2 -> STOP
 FAULT = range
 ";
 
-const KINDS: &str = "
--- Names that stand for nothing.
-T = c!x -> STOP
-FAULT = kind
-T = c?x:{x} -> STOP
-FAULT = kind
-T = undeclared -> STOP
-FAULT = kind
-
--- A set that is none.
-T = c?x:1 -> STOP
-FAULT = kind
-
--- Another number of parts.
-T = a?x -> STOP
-FAULT = kind
-T = c -> STOP
-FAULT = kind
-T = c?x?x -> STOP
-FAULT = kind
-T = d?x -> STOP
-FAULT = kind
-";
-
-static SUBJECTS: [Subject; 3] = [
+static SUBJECTS: [Subject; 2] = [
     ("fields without a value are faults", CAUSES),
     ("the first cause counts", FIRST_CAUSES),
-    ("fields of the wrong kind or number are faults", KINDS),
 ];
 
 pub(crate) fn subjects() -> &'static [Subject] {

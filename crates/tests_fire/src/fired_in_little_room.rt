@@ -1,13 +1,15 @@
 //! Firings in heaps of more and more bytes: each request for memory is refused in turn, and then none.
 
+ghost use Rattle.csp_semantics.specs.Kinds.Scripts.{IsTermOf};
+ghost use Rattle.csp_term.specs.Script.{HasSidesOf, script_of};
+ghost use Rattle.csp_term.specs.Term.{process_of};
+
+use crate::assertion_at::assertion_at;
 use crate::counts::Counts;
 use crate::samples::SAMPLES;
-use crate::script::{DECLARATIONS, script_of};
-use crate::terms::term;
-use crate::texts::read;
+use crate::texts::{Line, lines, script};
 use csp_fire::{Form, fire};
-use csp_parse::{Declaration, Process, Raw};
-use csp_term::{Memory, Script, Term};
+use csp_term::{Assertion, Memory, Script, Term};
 use linked_list_allocator::LocalHeap;
 use std::alloc::Global;
 use std::process::Abort;
@@ -25,113 +27,101 @@ fn are_same<'h>(left: &Form<&'h LocalHeap>, right: &Form<&'h LocalHeap>) -> bool
     }
 }
 
-/// Whether the heap has room for the firing, which then shows this.
+/// Whether the heap has room for the firing, which then shows this. Else the heap is empty again.
 fn is_fired_as<'h>(
     rt: &impl Abort,
     heap: &'h LocalHeap,
     script: &Script<&'h LocalHeap>,
     term: &Term<&'h LocalHeap>,
     whole: &Form<&'h LocalHeap>,
-) -> bool {
+) -> bool
+    requires { IsTermOf (script_of script.now) (process_of term.now) }
+{
     match fire(heap, script, term) {
         Ok(expansion) => {
             assert!(rt; are_same(expansion.form(), whole));
             true
         }
-        Err(Memory) => false,
+        Err(Memory) => {
+            assert!(rt; heap.used() == 0);
+            false
+        }
     }
 }
 
-/// Fires the term in the heap, which may have no room, and in the other one, which has.
-fn is_fired<'h>(
+/// Fires the term in heaps of so many bytes and more.
+fn fire_in_heaps<'h>(
     rt: &impl Abort,
-    heap: &'h LocalHeap,
-    other: &'h LocalHeap,
+    heaps: &'h [LocalHeap],
+    ample: &'h LocalHeap,
     script: &Script<&'h LocalHeap>,
     term: &Term<&'h LocalHeap>,
-) -> Result<bool, Memory> {
-    let whole = fire(other, script, term)?;
-    Ok(is_fired_as(rt, heap, script, term, whole.form()))
-}
-
-/// Whether the script is that of the declarations, and the term that of the sample.
-fn are_kept<'h>(
-    heap: &'h LocalHeap,
-    declarations: &Raw<'_, Global>,
-    sample: &Process<'_, Global>,
-    script: &Script<&'h LocalHeap>,
-    fired: &Term<&'h LocalHeap>,
-) -> Result<bool, Fail> {
-    Ok(term(heap, sample)? == *fired && script_of(heap, declarations)? == *script)
-}
-
-/// Fires the sample in the heap, which may have no room. Then the script and the term are as they were.
-fn is_sample_fired<'h>(
-    rt: &impl Abort,
-    heap: &'h LocalHeap,
-    other: &'h LocalHeap,
-    declarations: &Raw<'_, Global>,
-    sample: &Process<'_, Global>,
-) -> Result<bool, Fail> {
-    let script = script_of(other, declarations)?;
-    let term = term(other, sample)?;
-    let is_fired = is_fired(rt, heap, other, &script, &term)?;
-    let are_kept = is_fired || are_kept(other, declarations, sample, &script, &term)?;
-    assert!(rt; are_kept);
-    Ok(is_fired)
-}
-
-/// Fires the sample in a heap of so many bytes, for which there may be no room.
-fn is_fired_within(
-    rt: &impl Abort,
-    alloc: Global,
-    declarations: &Raw<'_, Global>,
-    sample: &Process<'_, Global>,
-    bytes: usize,
-) -> Result<bool, Fail> {
-    let here = LocalHeap::new(alloc, 131_072)?;
-    let there = LocalHeap::new(alloc, bytes)?;
-    is_sample_fired(rt, &there, &here, declarations, sample)
-}
-
-/// Counts firings of the sample.
-fn count_firings(
-    rt: &impl Abort,
-    alloc: Global,
-    declarations: &Raw<'_, Global>,
-    sample: &Process<'_, Global>,
     counts: &mut Counts,
-) -> Result<(), Fail> {
-    for size in 1..256 {
-        let is_fired = is_fired_within(rt, alloc, declarations, sample, 16 * size)?;
-        counts.count(is_fired);
+) -> Result<(), Fail>
+    requires { IsTermOf (script_of script.now) (process_of term.now) }
+{
+    let whole = fire(ample, script, term)?;
+    for heap in heaps {
+        counts.count(is_fired_as(rt, heap, script, term, whole.form()));
     }
     Ok(())
 }
 
-fn count_all_firings(
+/// Fires both sides of the assertion in the heaps.
+fn fire_sides<'h>(
     rt: &impl Abort,
-    alloc: Global,
-    declarations: &Raw<'_, Global>,
-    samples: &Raw<'_, Global>,
+    heaps: &'h [LocalHeap],
+    ample: &'h LocalHeap,
+    script: &Script<&'h LocalHeap>,
+    assertion: &Assertion<&'h LocalHeap>,
+    counts: &mut Counts,
+) -> Result<(), Fail>
+    requires { HasSidesOf (script_of script.now) assertion.now }
+{
+    let (left, right) = (&assertion.specification, &assertion.implementation);
+    fire_in_heaps(rt, heaps, ample, script, left, counts)?;
+    fire_in_heaps(rt, heaps, ample, script, right, counts)
+}
+
+/// Fires both sides of the assertion of each line in the heaps.
+fn fire_all<'h>(
+    rt: &impl Abort,
+    global: Global,
+    heaps: &'h [LocalHeap],
+    ample: &'h LocalHeap,
+    lines: &[Line<'_>],
 ) -> Result<Counts, Fail> {
+    let script = script(global, ample, "samples", lines, true)?;
     let mut counts = Counts::none();
-    for sample in &samples.declarations {
-        if let Declaration::Equation { body, .. } = sample {
-            count_firings(rt, alloc, declarations, body, &mut counts)?;
-        }
+    for number in 0..lines.len() {
+        let Some(assertion) = assertion_at(&script, number) else {
+            return Err(Fail::new("no assertion of the line"));
+        };
+        fire_sides(rt, heaps, ample, &script, assertion, &mut counts)?;
     }
     Ok(counts)
 }
 
+/// Heaps of more and more bytes.
+pub(crate) fn heaps(alloc: Global) -> Result<Vec<LocalHeap>, Fail> {
+    let mut heaps = Vec::new(alloc);
+    for size in 1..160 {
+        heaps.push(LocalHeap::new(alloc, size * 32)?)?;
+    }
+    Ok(heaps)
+}
+
 #[test]
-fn a_firing_that_finds_no_room_says_so(rt: HostRuntime) -> Result<(), Fail> {
-    let declarations = read(rt.alloc(), "the script", DECLARATIONS)?;
-    let samples = read(rt.alloc(), "samples", SAMPLES)?;
-    let Counts { refused, answered } = count_all_firings(&rt, rt.alloc(), &declarations, &samples)?;
+fn a_firing_without_room_is_refused(rt: HostRuntime) -> Result<(), Fail> {
+    let ample = LocalHeap::new(rt.alloc(), 4_194_304)?;
+    let heaps = heaps(rt.alloc())?;
+    let lines = lines(rt.alloc(), SAMPLES)?;
+    let counts = fire_all(&rt, rt.alloc(), &heaps, &ample, &lines)?;
     assert!(rt;
-        refused > 300 && answered > 1000,
-        "{refused} and {answered}"
+        counts.refused > 200 && counts.answered > 2000,
+        "{} and {}",
+        counts.refused,
+        counts.answered
     );
     Ok(())
 }

@@ -1,12 +1,13 @@
 //! What expressions, sets of events, terms, scripts and `csp_fire` are seen to do: worked rows of each form, faults and
-//! their order, what is past the limits, and refused memory. The rows and what is said of them are texts, which `rows`
-//! reads.
+//! their order, what is past the limits, and refused memory. The rows and what is said of them are texts,
+//! which are made assertions of a checked script.
 //!
 //! The tests stand in a crate above the libraries, since a crate is proved anew for the tests that it has of its own.
-//! `evaluated` is there without tests too: it drops evaluated sets and renamings, which wants proofs, and a proof file has
-//! to have its function whether the tests are looked at or not.
+//! Some modules are there without tests too: what they do wants proofs, and a proof file has to have its function whether
+//! the tests are looked at or not.
 #![tactic(auto)]
 
+mod assertion_at;
 #[cfg(test)]
 mod calls;
 #[cfg(test)]
@@ -21,27 +22,21 @@ mod counts;
 mod decisions;
 mod evaluated;
 #[cfg(test)]
-mod event_sets;
-#[cfg(test)]
 mod events_changed;
-#[cfg(test)]
-mod expressions;
 #[cfg(test)]
 mod faults;
 #[cfg(test)]
 mod fired_in_little_room;
 #[cfg(test)]
 mod limits;
-#[cfg(test)]
 mod literals;
 #[cfg(test)]
 mod lookups;
 #[cfg(test)]
 mod made_in_little_room;
 #[cfg(test)]
-mod names;
-#[cfg(test)]
 mod numbers;
+mod opened;
 #[cfg(test)]
 mod orders;
 #[cfg(test)]
@@ -56,9 +51,9 @@ mod replicated;
 mod rows;
 #[cfg(test)]
 mod rule_steps;
+mod said;
 #[cfg(test)]
 mod samples;
-#[cfg(test)]
 mod script;
 #[cfg(test)]
 mod sequences;
@@ -70,7 +65,7 @@ mod sizes;
 mod substitution;
 #[cfg(test)]
 mod successions;
-#[cfg(test)]
+mod targets;
 mod terms;
 #[cfg(test)]
 mod texts;

@@ -5,45 +5,26 @@
 //! - `NONE`: the word of the first cause for which it has no value.
 
 use crate::evaluated::{has, images, stuck_of_renaming, stuck_of_set};
-use crate::event_sets::{event_set, pairs};
-use crate::rows::{Subject, event, is_word};
+use crate::rows::Subject;
+use crate::said::add_events;
+use crate::texts::Line;
+use crate::values::is_for;
 use csp_event_sets::{EventSet, RenamingPair};
-use csp_expression::EvalFault;
-use csp_parse::{Name, Process};
-use csp_term::{Event, Script};
+use csp_expression::NoValue;
+use csp_term::{Event, Script, ScriptParts, Term, TermForm};
 use std::alloc::Global;
 use std::test::Fail;
 
-/// Adds the events of the prefixes.
-fn add_events(
-    alloc: Global,
-    script: &Script<Global>,
-    said: &Process<'_, Global>,
-    events: &mut Vec<Event<Global>, Global>,
-) -> Result<(), Fail> {
-    match said {
-        Process::Prefix(name, fields, rest) => {
-            events.push(event(alloc, script, *name, fields)?)?;
-            add_events(alloc, script, rest, events)
-        }
-        _ => Ok(()),
-    }
-}
-
-fn said_events(
-    alloc: Global,
-    script: &Script<Global>,
-    said: &Process<'_, Global>,
-) -> Result<Vec<Event<Global>, Global>, Fail> {
+fn said_events(alloc: Global, said: &Term<Global>) -> Result<Vec<Event<Global>, Global>, Fail> {
     let mut events = Vec::new(alloc);
-    add_events(alloc, script, said, &mut events)?;
+    add_events(alloc, said, &mut events)?;
     Ok(events)
 }
 
 /// Whether the set has each of the events, or none of them.
 fn have_all(
     alloc: Global,
-    script: &Script<Global>,
+    script: &ScriptParts<Global>,
     set: &EventSet<Global>,
     events: &[Event<Global>],
     said: bool,
@@ -59,7 +40,7 @@ fn have_all(
 /// Whether the first event has the others as its images.
 fn makes(
     alloc: Global,
-    script: &Script<Global>,
+    script: &ScriptParts<Global>,
     pairs: &[RenamingPair<Global>],
     mut events: Vec<Event<Global>, Global>,
 ) -> bool {
@@ -74,58 +55,52 @@ fn makes(
 }
 
 /// Whether there is nothing, for the cause of the word.
-fn is_cause(stuck: Option<EvalFault>, said: &Process<'_, Global>) -> bool {
+fn is_cause(stuck: Option<NoValue>, word: &str) -> bool {
     match stuck {
-        Some(EvalFault::Fault(cause)) => is_word(cause.word(), said),
-        _ => false,
+        Some(why) => is_for(why, word),
+        None => false,
     }
 }
 
 fn is_set_so(
     alloc: Global,
-    script: &Script<Global>,
+    script: &ScriptParts<Global>,
     set: &EventSet<Global>,
-    name: Name<'_>,
-    said: &Process<'_, Global>,
+    line: Line<'_>,
+    said: &Term<Global>,
 ) -> Result<bool, Fail> {
-    if name.text == "NONE" {
-        return Ok(is_cause(stuck_of_set(alloc, script, set), said));
+    if line.word == "NONE" {
+        return Ok(is_cause(stuck_of_set(alloc, script, set), line.said));
     }
-    let events = said_events(alloc, script, said)?;
-    Ok(have_all(alloc, script, set, &events, name.text == "HAS"))
+    let events = said_events(alloc, said)?;
+    Ok(have_all(alloc, script, set, &events, line.word == "HAS"))
 }
 
 fn are_images_so(
     alloc: Global,
-    script: &Script<Global>,
+    script: &ScriptParts<Global>,
     pairs: &[RenamingPair<Global>],
-    name: Name<'_>,
-    said: &Process<'_, Global>,
+    line: Line<'_>,
+    said: &Term<Global>,
 ) -> Result<bool, Fail> {
-    if name.text == "NONE" {
-        return Ok(is_cause(stuck_of_renaming(alloc, script, pairs), said));
+    if line.word == "NONE" {
+        return Ok(is_cause(stuck_of_renaming(alloc, script, pairs), line.said));
     }
-    let events = said_events(alloc, script, said)?;
+    let events = said_events(alloc, said)?;
     Ok(makes(alloc, script, pairs, events))
 }
 
 /// Whether what is said of the set or of the renaming is so.
-pub(crate) fn is_so<'t>(
+pub(crate) fn is_so(
     alloc: Global,
     script: &Script<Global>,
-    of: &Process<'t, Global>,
-    name: Name<'t>,
-    said: &Process<'t, Global>,
+    line: Line<'_>,
+    term: &Term<Global>,
+    said: &Term<Global>,
 ) -> Result<bool, Fail> {
-    match of {
-        Process::Hiding(_, set) => {
-            let set = event_set(alloc, set)?;
-            is_set_so(alloc, script, &set, name, said)
-        }
-        Process::Renaming(_, raw) => {
-            let pairs = pairs(alloc, raw)?;
-            are_images_so(alloc, script, &pairs, name, said)
-        }
+    match term.form() {
+        TermForm::Hiding(_, set) => is_set_so(alloc, script.parts(), set, line, said),
+        TermForm::Renaming(_, pairs) => are_images_so(alloc, script.parts(), pairs, line, said),
         _ => Err(Fail::new("no set and no renaming")),
     }
 }
@@ -149,11 +124,9 @@ T = STOP \\ diff({a, b}, {b, c.0})
 HAS = a -> STOP
 LACKS = b -> c!0 -> STOP
 
--- A value outside of its field set, a field too few, and the first of two causes.
+-- A value outside of its field set, and the first of two causes.
 T = STOP \\ {c.2}
 NONE = range
-T = STOP \\ {c}
-NONE = kind
 T = STOP \\ union({c.head(<>)}, {c.(1 % 0)})
 NONE = empty
 ";
@@ -168,9 +141,7 @@ MAKES = b -> b -> STOP
 T = STOP[[a <- b, a <- a]]
 MAKES = a -> a -> b -> STOP
 
--- The channels have other fields. The left side of a pair goes before the right one.
-T = STOP[[c <- d]]
-NONE = kind
+-- The left side of a pair goes before the right one.
 T = STOP[[c.head(<>) <- c.(1 % 0)]]
 NONE = empty
 ";

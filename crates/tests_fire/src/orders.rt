@@ -1,18 +1,17 @@
 //! The orders of terms, of sets of events and of expressions: in each text, each row is less than the next. So is the
 //! copy of the next one in another allocator, and the copy of the same one is equal and has its hash.
 
-use crate::event_sets::event_set;
-use crate::expressions::expression;
+use crate::opened::opened;
 use crate::rows::Subject;
-use crate::terms::term;
-use crate::texts::read;
-use csp_event_sets::EventSet as Events;
+use crate::terms::meant;
+use crate::texts::{lines, script};
+use crate::values::sides;
+use csp_event_sets::EventSet;
 use csp_event_sets::laws::{compare_event_sets, equal_event_sets, hash_event_set};
 use csp_expression::Expr;
 use csp_expression::laws::{compare_expressions, equal_expressions, hash_expression};
-use csp_parse::{Declaration, EventSet, Expression, Process, Raw};
 use csp_term::laws::{compare_terms, equal_terms, hash_term};
-use csp_term::{Memory, Term, TryCopy};
+use csp_term::{Assertion, Memory, Term, TermForm, TryCopy};
 use linked_list_allocator::LocalHeap;
 use std::alloc::{Allocator, Global};
 use std::cmp::Ordering;
@@ -23,92 +22,129 @@ use std::test::Fail;
 /// Terms of each form.
 const TERMS: &str = "
 T = STOP
+ROW = STOP
 T = SKIP
+ROW = STOP
 T = OMEGA
-T = P
+ROW = STOP
 T = P(0)
-T = P(0, 1)
+ROW = STOP
 T = P(1)
-T = P(x)
-T = R
+ROW = STOP
+T = |~| x:{1} @ P(x)
+ROW = STOP
+T = R(0, 0)
+ROW = STOP
+T = R(0, 1)
+ROW = STOP
 T = a -> STOP
+ROW = STOP
 T = a -> a -> STOP
-T = a!0 -> STOP
-T = a!0 -> SKIP
-T = a!0?x -> STOP
-T = a!1 -> STOP
-T = a?x -> STOP
-T = a?y -> STOP
-T = a?x:{} -> STOP
-T = a?x:{0} -> STOP
-T = a?y:{} -> STOP
+ROW = STOP
 T = b -> STOP
+ROW = STOP
+T = c!0 -> STOP
+ROW = STOP
+T = c!0 -> SKIP
+ROW = STOP
+T = c!1 -> STOP
+ROW = STOP
+T = c?x -> STOP
+ROW = STOP
+T = c?y -> STOP
+ROW = STOP
+T = c?x:{} -> STOP
+ROW = STOP
+T = c?x:{0} -> STOP
+ROW = STOP
+T = c?y:{} -> STOP
+ROW = STOP
+T = d!0!0 -> STOP
+ROW = STOP
+T = d!0?x -> STOP
+ROW = STOP
 T = false & STOP
+ROW = STOP
 T = true & STOP
+ROW = STOP
 T = true & SKIP
+ROW = STOP
 T = if false then SKIP else STOP
+ROW = STOP
 T = if true then STOP else STOP
+ROW = STOP
 T = if true then STOP else SKIP
+ROW = STOP
 T = if true then SKIP else STOP
-T = if x then STOP else STOP
+ROW = STOP
+T = |~| x:{true} @ if x then STOP else STOP
+ROW = STOP
 ";
 
 /// Sets of events of each form, behind `\\`.
 const EVENT_SETS: &str = "
 T = STOP \\ {}
-T = STOP \\ {a.1}
-T = STOP \\ {a.1, a.0}
-T = STOP \\ {a.2}
-T = STOP \\ {b.0}
-T = STOP \\ {|NOTHING|}
-T = STOP \\ {|a.x|}
+ROW = STOP
+T = STOP \\ {c.1}
+ROW = STOP
+T = STOP \\ {c.1, c.0}
+ROW = STOP
+T = STOP \\ {c.2}
+ROW = STOP
+T = STOP \\ {f.0}
+ROW = STOP
+T = STOP \\ {|c|}
+ROW = STOP
+T = |~| x:{1} @ STOP \\ {|c.x|}
+ROW = STOP
 T = STOP \\ union({}, {})
-T = STOP \\ union({}, {|NOTHING|})
-T = STOP \\ union({|NOTHING|}, {})
+ROW = STOP
+T = STOP \\ union({}, {|c|})
+ROW = STOP
+T = STOP \\ union({|c|}, {})
+ROW = STOP
 T = STOP \\ inter({}, {})
+ROW = STOP
 T = STOP \\ diff({}, {})
-T = STOP \\ diff({|NOTHING|}, {})
+ROW = STOP
+T = STOP \\ diff({|c|}, {})
+ROW = STOP
 ";
 
 /// Expressions of each form.
 const EXPRESSIONS: &str = "
-nametype T = LEAST
-nametype T = MINUS1
-nametype T = 0
-nametype T = 2147483647
-nametype T = false
-nametype T = true
-nametype T = A3
-nametype T = SEQ
-nametype T = SET
-nametype T = x
-nametype T = y
-nametype T = -1
-nametype T = -2
-nametype T = not 0
-nametype T = card(0)
-nametype T = 1 + 5
-nametype T = 2 + 4
-nametype T = 2 + 5
-nametype T = 0 and 0
-nametype T = diff(0, 0)
-nametype T = <>
-nametype T = <0>
-nametype T = <0, 5>
-nametype T = <1>
-nametype T = {}
-nametype T = {0}
-nametype T = {0, 5}
-nametype T = {1}
-nametype T = {0..1}
-nametype T = {0..2}
-nametype T = {1..0}
-nametype T = {#(x ^ <1, 2>)..card(SET15)}
-nametype T = Bool
-nametype T = D
-nametype T = E
-nametype T = N
-nametype T = M
+CAUSE of = 0
+CAUSE of = 2147483647
+CAUSE of = false
+CAUSE of = true
+CAUSE of = A3
+VALUE = |~| x:{1} @ x == x
+VALUE = |~| y:{1} @ y == y
+CAUSE of = -1
+CAUSE of = -2
+CAUSE of = not true
+CAUSE of = card({})
+CAUSE of = 1 + 5
+CAUSE of = 2 + 4
+CAUSE of = 2 + 5
+CAUSE of = true and true
+CAUSE of = diff({}, {})
+CAUSE of = <>
+CAUSE of = <0>
+CAUSE of = <0, 5>
+CAUSE of = <1>
+CAUSE of = {}
+CAUSE of = {0}
+CAUSE of = {0, 5}
+CAUSE of = {1}
+CAUSE of = {0..1}
+CAUSE of = {0..2}
+CAUSE of = {1..0}
+VALUE = |~| x:{<1>} @ {#(x ^ <1, 2>)..card({1, 5})} == {}
+CAUSE of = Bool
+CAUSE of = B
+CAUSE of = D
+CAUSE of = N
 ";
 
 const ORDERED: &[Subject] = &[
@@ -139,27 +175,19 @@ fn are_terms_placed<A: Allocator>(left: &Term<A>, right: &Term<A>, order: Orderi
     compare_terms(left, right) == order && is_same && is_hashed
 }
 
-/// A copy of what is read in the other heap.
-fn copied_term<'h>(
+fn are_terms_ordered<'h>(
     heaps: Heaps<'h>,
-    raw: &Process<'_, Global>,
-) -> Result<Term<&'h LocalHeap>, Fail> {
-    let original = term(heaps.here, raw)?;
-    Ok(original.try_copy(heaps.there)?)
-}
-
-fn are_terms_ordered<'h, 't>(
-    heaps: Heaps<'h>,
-    left: &Process<'t, Global>,
-    right: &Process<'t, Global>,
+    left: &Term<&'h LocalHeap>,
+    right: &Term<&'h LocalHeap>,
     order: Ordering,
 ) -> Result<bool, Fail> {
-    let left = term(heaps.here, left)?;
-    let copy = copied_term(heaps, right)?;
+    let left = meant(heaps.here, left)?;
+    let original = meant(heaps.here, right)?;
+    let copy = original.try_copy(heaps.there)?;
     Ok(are_terms_placed(&left, &copy, order))
 }
 
-fn are_sets_placed<A: Allocator>(left: &Events<A>, right: &Events<A>, order: Ordering) -> bool {
+fn are_sets_placed<A: Allocator>(left: &EventSet<A>, right: &EventSet<A>, order: Ordering) -> bool {
     let (mut of_left, mut of_right) = (DefaultHasher::new(), DefaultHasher::new());
     hash_event_set(left, &mut of_left);
     hash_event_set(right, &mut of_right);
@@ -168,24 +196,14 @@ fn are_sets_placed<A: Allocator>(left: &Events<A>, right: &Events<A>, order: Ord
     compare_event_sets(left, right) == order && is_same && is_hashed
 }
 
-/// A copy of what is read in the other heap.
-fn copied_set<'h>(
+fn are_sets_ordered<'h>(
     heaps: Heaps<'h>,
-    raw: &EventSet<'_, Global>,
-) -> Result<Events<&'h LocalHeap>, Fail> {
-    let original = event_set(heaps.here, raw)?;
-    Ok(copied(heaps.there, &original)?)
-}
-
-fn are_sets_ordered<'h, 't>(
-    heaps: Heaps<'h>,
-    left: &EventSet<'t, Global>,
-    right: &EventSet<'t, Global>,
+    left: &EventSet<&'h LocalHeap>,
+    right: &EventSet<&'h LocalHeap>,
     order: Ordering,
-) -> Result<bool, Fail> {
-    let left = event_set(heaps.here, left)?;
-    let copy = copied_set(heaps, right)?;
-    Ok(are_sets_placed(&left, &copy, order))
+) -> Result<bool, Memory> {
+    let copy = copied(heaps.there, right)?;
+    Ok(are_sets_placed(left, &copy, order))
 }
 
 fn are_expressions_placed<A: Allocator>(left: &Expr<A>, right: &Expr<A>, order: Ordering) -> bool {
@@ -197,54 +215,35 @@ fn are_expressions_placed<A: Allocator>(left: &Expr<A>, right: &Expr<A>, order: 
     compare_expressions(left, right) == order && is_same && is_hashed
 }
 
-/// A copy of what is read in the other heap.
-fn copied_expression<'h>(
+fn are_expressions_ordered<'h>(
     heaps: Heaps<'h>,
-    raw: &Expression<'_, Global>,
-) -> Result<Expr<&'h LocalHeap>, Fail> {
-    let original = expression(heaps.here, raw)?;
-    Ok(copied(heaps.there, &original)?)
+    left: &Expr<&'h LocalHeap>,
+    right: &Expr<&'h LocalHeap>,
+    order: Ordering,
+) -> Result<bool, Memory> {
+    let copy = copied(heaps.there, right)?;
+    Ok(are_expressions_placed(left, &copy, order))
 }
 
-fn are_expressions_ordered<'h, 't>(
+fn are_ordered<'h>(
     heaps: Heaps<'h>,
-    left: &Expression<'t, Global>,
-    right: &Expression<'t, Global>,
+    subject: &str,
+    left: &Assertion<&'h LocalHeap>,
+    right: &Assertion<&'h LocalHeap>,
     order: Ordering,
 ) -> Result<bool, Fail> {
-    let left = expression(heaps.here, left)?;
-    let copy = copied_expression(heaps, right)?;
-    Ok(are_expressions_placed(&left, &copy, order))
-}
-
-fn are_behind_ordered<'h, 't>(
-    heaps: Heaps<'h>,
-    left: &Process<'t, Global>,
-    right: &Process<'t, Global>,
-    order: Ordering,
-) -> Result<bool, Fail> {
-    match (left, right) {
-        (Process::Hiding(_, left), Process::Hiding(_, right)) => {
-            are_sets_ordered(heaps, left, right, order)
+    let (_, left) = opened(heaps.here, &left.specification)?;
+    let (_, right) = opened(heaps.here, &right.specification)?;
+    if subject == "expressions" {
+        let (left, _) = sides(left)?;
+        let (right, _) = sides(right)?;
+        return Ok(are_expressions_ordered(heaps, left, right, order)?);
+    }
+    match (left.form(), right.form()) {
+        (TermForm::Hiding(_, left), TermForm::Hiding(_, right)) => {
+            Ok(are_sets_ordered(heaps, left, right, order)?)
         }
         _ => are_terms_ordered(heaps, left, right, order),
-    }
-}
-
-fn are_ordered<'h, 't>(
-    heaps: Heaps<'h>,
-    left: &Declaration<'t, Global>,
-    right: &Declaration<'t, Global>,
-    order: Ordering,
-) -> Result<bool, Fail> {
-    match (left, right) {
-        (Declaration::Equation { body: left, .. }, Declaration::Equation { body, .. }) => {
-            are_behind_ordered(heaps, left, body, order)
-        }
-        (Declaration::Nametype { domain: left, .. }, Declaration::Nametype { domain, .. }) => {
-            are_expressions_ordered(heaps, &left.set, &domain.set, order)
-        }
-        _ => Err(Fail::new("no rows of one form")),
     }
 }
 
@@ -252,11 +251,11 @@ fn all_rise<'h>(
     rt: &impl Abort,
     heaps: Heaps<'h>,
     subject: &str,
-    raw: &Raw<'_, Global>,
+    rows: &[Assertion<&'h LocalHeap>],
 ) -> Result<(), Fail> {
-    for (i, left) in raw.declarations.iter().enumerate() {
-        for (j, right) in raw.declarations.iter().enumerate() {
-            let are_ordered = are_ordered(heaps, left, right, i.cmp(&j))?;
+    for (i, left) in rows.iter().enumerate() {
+        for (j, right) in rows.iter().enumerate() {
+            let are_ordered = are_ordered(heaps, subject, left, right, i.cmp(&j))?;
             assert!(rt; are_ordered, "{subject}: rows {i} and {j}");
         }
     }
@@ -270,13 +269,14 @@ fn rise_in<'h>(
     subject: &str,
     text: &str,
 ) -> Result<(), Fail> {
-    let raw = read(alloc, subject, text)?;
-    all_rise(rt, heaps, subject, &raw)
+    let lines = lines(alloc, text)?;
+    let script = script(alloc, heaps.here, subject, &lines, false)?;
+    all_rise(rt, heaps, subject, script.assertions())
 }
 
 /// Each row of the text is less than the next.
 fn rise(rt: &impl Abort, alloc: Global, subject: &str, text: &str) -> Result<(), Fail> {
-    let here = LocalHeap::new(alloc, 16_384)?;
+    let here = LocalHeap::new(alloc, 2_097_152)?;
     let there = LocalHeap::new(alloc, 16_384)?;
     let heaps = Heaps {
         here: &here,

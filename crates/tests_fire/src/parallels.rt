@@ -26,15 +26,13 @@ OFFERS = NOTHING
 T = SKIP ||| SKIP
 DOES = tau -> (SKIP ||| OMEGA) [] tau -> (OMEGA ||| SKIP)
 OFFERS = NOTHING
-T = OMEGA ||| SKIP
-DOES = tau -> (OMEGA ||| OMEGA)
-OFFERS = NOTHING
-T = OMEGA ||| OMEGA
-DOES = tick -> OMEGA
-OFFERS = tick -> STOP
-T = OMEGA ||| (a -> STOP)
-DOES = a -> (OMEGA ||| STOP)
-OFFERS = a -> STOP
+THEN DOES = tau -> (OMEGA ||| OMEGA)
+THEN OFFERS = NOTHING
+THEN THEN DOES = tick -> OMEGA
+THEN THEN OFFERS = tick -> STOP
+T = SKIP ||| (a -> STOP)
+THEN DOES = a -> (OMEGA ||| STOP)
+THEN OFFERS = a -> STOP
 ";
 
 const GENERALISED: &str = "
@@ -83,12 +81,11 @@ OFFERS = NOTHING
 T = SKIP [| {a} |] SKIP
 DOES = tau -> (SKIP [| {a} |] OMEGA) [] tau -> (OMEGA [| {a} |] SKIP)
 OFFERS = NOTHING
-T = OMEGA [| {a} |] OMEGA
-DOES = tick -> OMEGA
-OFFERS = tick -> STOP
-T = OMEGA [| {a} |] (a -> STOP)
-DOES = STOP
-OFFERS = STOP
+THEN THEN DOES = tick -> OMEGA
+THEN THEN OFFERS = tick -> STOP
+T = SKIP [| {a} |] (a -> STOP)
+THEN DOES = STOP
+THEN OFFERS = STOP
 ";
 
 const ALPHABETISED: &str = "
@@ -121,9 +118,8 @@ OFFERS = NOTHING
 T = SKIP [{a} || {b}] SKIP
 DOES = tau -> (SKIP [{a} || {b}] OMEGA) [] tau -> (OMEGA [{a} || {b}] SKIP)
 OFFERS = NOTHING
-T = OMEGA [{a} || {b}] OMEGA
-DOES = tick -> OMEGA
-OFFERS = tick -> STOP
+THEN THEN DOES = tick -> OMEGA
+THEN THEN OFFERS = tick -> STOP
 ";
 
 const SETS: &str = "
@@ -167,15 +163,6 @@ FAULT = range
 T = STOP [| union({c.(1 % 0)}, {c.2}) |] STOP
 FAULT = modulus
 
--- Another number of fields, and a channel that is none.
-T = STOP [| {c} |] STOP
-FAULT = kind
-T = STOP [| {c.0.0} |] STOP
-FAULT = kind
-T = STOP [| {| c.0.0 |} |] STOP
-FAULT = kind
-T = STOP [| {undeclared} |] STOP
-FAULT = kind
 
 T = Q ||| (a -> STOP)
 LARGE = STOP

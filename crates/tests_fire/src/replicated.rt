@@ -35,8 +35,6 @@ T = [] x:{0..1} @ c!(1 % x) -> STOP
 FAULT = modulus
 T = [] x:head(<>) @ c!2 -> STOP
 FAULT = empty
-T = [] x:1 @ STOP
-FAULT = kind
 T = [] x:{0..1} @ Q
 LARGE = STOP
 ";

@@ -4,24 +4,30 @@
 //! - `LEADS`: the one step, as a prefix. `PAST` behind it stands for a term that is past the limits.
 //! - `STUCK`: the word of the first cause for which there are no steps.
 
-use crate::rows::{Subject, action, is_word};
-use crate::terms::term;
-use csp_expression::{Binding, EvalFault};
-use csp_parse::{Name, Process};
-use csp_rules::{RuleStep, Target, steps};
-use csp_term::{Memory, Script};
+use crate::opened::opened;
+use crate::rows::Subject;
+use crate::said::action;
+use crate::script::PAST;
+use crate::terms::meant;
+use crate::texts::Line;
+use crate::values::is_for;
+use csp_expression::Binding;
+use csp_rules::{NoValue, RuleStep, Target, steps};
+use csp_term::{Memory, Script, Term, TermForm};
 use std::alloc::Global;
 use std::test::Fail;
 
-fn is_target(
-    alloc: Global,
-    found: &Target<Global>,
-    said: &Process<'_, Global>,
-) -> Result<bool, Fail> {
-    let is_past = is_word("PAST", said);
+fn is_past(said: &Term<Global>) -> bool {
+    match said.form() {
+        TermForm::Call(equation, _) => *equation == PAST,
+        _ => false,
+    }
+}
+
+fn is_target(alloc: Global, found: &Target<Global>, said: &Term<Global>) -> Result<bool, Fail> {
     match found {
-        Target::Past => Ok(is_past),
-        Target::Within(found) => Ok(!is_past && *found == term(alloc, said)?),
+        Target::Past => Ok(is_past(said)),
+        Target::Within(found) => Ok(!is_past(said) && *found == meant(alloc, said)?),
     }
 }
 
@@ -30,11 +36,11 @@ fn is_step(
     alloc: Global,
     script: &Script<Global>,
     step: &RuleStep<Global>,
-    said: &Process<'_, Global>,
+    said: &Term<Global>,
 ) -> Result<bool, Fail> {
-    match said {
-        Process::Prefix(name, fields, target) => {
-            let action = action(alloc, script, *name, fields)?;
+    match said.form() {
+        TermForm::Prefix(channel, fields, target) => {
+            let action = action(alloc, script, *channel, fields)?;
             Ok(step.action == action && is_target(alloc, &step.target, target)?)
         }
         _ => Err(Fail::new("no step")),
@@ -45,7 +51,7 @@ fn are_one(
     alloc: Global,
     script: &Script<Global>,
     steps: &[RuleStep<Global>],
-    said: &Process<'_, Global>,
+    said: &Term<Global>,
 ) -> Result<bool, Fail> {
     match steps.first() {
         Some(step) => Ok(steps.len() == 1 && is_step(alloc, script, step, said)?),
@@ -53,21 +59,34 @@ fn are_one(
     }
 }
 
-/// Whether what is said of the steps with the values put in is so.
-pub(crate) fn is_so<'t>(
+/// Whether the steps with the values put in are what the line says.
+fn are_said(
     alloc: Global,
     script: &Script<Global>,
+    line: Line<'_>,
     bindings: &[Binding<'_, Global>],
-    of: &Process<'t, Global>,
-    name: Name<'t>,
-    said: &Process<'t, Global>,
+    of: &Term<Global>,
+    said: &Term<Global>,
 ) -> Result<bool, Fail> {
-    let term = term(alloc, of)?;
-    match steps(alloc, script, bindings, &term) {
-        Ok(found) => Ok(name.text == "LEADS" && are_one(alloc, script, &found, said)?),
-        Err(EvalFault::Fault(cause)) => Ok(name.text == "STUCK" && is_word(cause.word(), said)),
-        Err(EvalFault::Memory) => Err(Fail::from(Memory)),
+    match steps(alloc, script.parts(), bindings, of) {
+        Ok(found) => Ok(line.word == "LEADS" && are_one(alloc, script, &found, said)?),
+        Err(NoValue::Memory) => Err(Fail::from(Memory)),
+        Err(why) => Ok(line.word == "STUCK" && is_for(why, line.said)),
     }
+}
+
+/// Whether what is said of the steps with the values put in is so.
+pub(crate) fn is_so(
+    alloc: Global,
+    script: &Script<Global>,
+    line: Line<'_>,
+    term: &Term<Global>,
+    said: &Term<Global>,
+) -> Result<bool, Fail> {
+    let (given, of) = opened(alloc, term)?;
+    let bindings = given.bindings(alloc)?;
+    let of = meant(alloc, of)?;
+    are_said(alloc, script, line, &bindings, &of, said)
 }
 
 const LIMITS: &str = "
@@ -80,15 +99,16 @@ LEADS = a -> PAST
 ";
 
 const VALUES: &str = "
-T = c!x -> STOP
-LEADS = [] x:1 @ c!1 -> STOP
+T = [] x:{1} @ c!x -> STOP
+LEADS = c!1 -> STOP
 ";
 
 const CAUSES: &str = "
-T = undeclared -> STOP
-STUCK = kind
-T = c!x -> STOP
-STUCK = kind
+T = [] x:{2} @ c!x -> STOP
+STUCK = range
+T = c!head(<>) -> STOP
+STUCK = empty
+
 ";
 
 static SUBJECTS: [Subject; 3] = [

@@ -1,21 +1,31 @@
 //! The script of the tests.
 
-use crate::literals::digits;
-use crate::names::{CONSTRUCTORS, bound};
-use crate::terms::term;
-use crate::texts::read;
-use csp_expression::{Constructors, Expr, TypeTable};
-use csp_parse::{Declaration, Name as Word, Process, Raw};
-use csp_term::{
-    Assertion, Channel, ChannelId, Constructor, Equation, EquationId, Memory, Model, Script, Term,
-    TermForm,
-};
-use csp_value::{ConId, FieldSet, SetOf, Value};
-use std::alloc::{Allocator, Global};
-use std::test::Fail;
+use csp_expression::Expr;
+use csp_term::{ChannelId, EquationId, Memory, Term, TermForm};
+use std::alloc::Allocator;
 
-/// The equations and assertions.
+/// `OMEGA` stands for the process that has ended, and `PREFIXES(3)` for as many prefixes over `a` before `STOP`, which are
+/// too deep for a text. `tau` and `tick` are no events of theirs. `ANY` and what follows it has arguments of any kinds.
 pub(crate) static DECLARATIONS: &str = "
+OMEGA = STOP
+PREFIXES(n) = STOP
+NOTHING = STOP
+PAST = STOP
+range = STOP
+overflow = STOP
+empty = STOP
+modulus = STOP
+choice = STOP
+OF(x, y) = STOP
+channel a, b
+channel c : {0..1}
+channel d : {0..1}.{0..1}
+channel e : {0..1}.{0..1}.{0..1}
+channel f, in, mid, out : {0..1}
+channel tau, tick
+datatype B = A0 | A1
+datatype D = A2 | A3 | A4
+nametype N = {5, 7}
 P(x) = c!x -> STOP
 R(x, y) = d!x!y -> STOP
 COPY1 = in?x -> mid!x -> COPY1
@@ -24,11 +34,26 @@ CHAIN = (COPY1 [| {| mid |} |] COPY2) \\ {| mid |}
 BUF(n, s) = (#s < n & in?x -> BUF(n, s ^ <x>)) [] (#s > 0 & out!head(s) -> BUF(n, tail(s)))
 LOOP = LOOP
 RUN = a -> RUN
-Q = PREFIXES(256)
-
-assert b -> STOP [F= STOP
-assert P(1) [T= R(0, 1)
+ANY(x) = STOP
+TWO(x, y) = STOP
+SEVEN(x1, x2, x3, x4, x5, x6, x7) = STOP
+EIGHT(x1, x2, x3, x4, x5, x6, x7, x8) = STOP
+NINE(x1, x2, x3, x4, x5, x6, x7, x8, x9) = STOP
 ";
+
+/// A channel of a sequence of 1,000 times 0 or of `<1>`, and of a number.
+pub(crate) static LONG_CHANNEL: &str = "channel long : {<ZEROS(1000)>, <1>}.{0..1}\n";
+
+/// A call whose body is past the limits.
+pub(crate) static LARGE_BODY: &str = "MUCH(x) = STOP\nQ = MUCH(<ONES(2000)>)\n";
+
+pub(crate) const OMEGA: EquationId = EquationId(0);
+
+pub(crate) const PREFIXES: EquationId = EquationId(1);
+
+pub(crate) const NOTHING: EquationId = EquationId(2);
+
+pub(crate) const PAST: EquationId = EquationId(3);
 
 /// As many prefixes over `a` before `STOP`.
 pub(crate) fn chain<A: Allocator + Copy>(alloc: A, prefixes: u32) -> Result<Term<A>, Memory> {
@@ -51,195 +76,4 @@ pub(crate) fn wide<A: Allocator + Copy>(
         all.push(argument.try_copy(alloc)?)?;
     }
     Term::new(alloc, TermForm::Call(EquationId(0), all))
-}
-
-/// `{0..1}`
-pub(crate) fn bits<A: Allocator + Copy>(alloc: A) -> Result<FieldSet<A>, Memory> {
-    let mut values = Vec::new(alloc);
-    values.push(Value::Int(0))?;
-    values.push(Value::Int(1))?;
-    Ok(FieldSet::from_values(values))
-}
-
-/// A channel of so many fields of `{0..1}`.
-fn channel<A: Allocator + Copy>(
-    alloc: A,
-    spelling: &str,
-    fields: usize,
-) -> Result<Channel<A>, Memory> {
-    let mut sets = Vec::new(alloc);
-    for _ in 0..fields {
-        sets.push(bits(alloc)?)?;
-    }
-    let spelling = String::from_str(alloc, spelling)?;
-    Ok(Channel {
-        spelling,
-        fields: sets,
-    })
-}
-
-static SPELLINGS: [(&str, usize); 9] = [
-    ("a", 0),
-    ("b", 0),
-    ("c", 1),
-    ("d", 2),
-    ("e", 3),
-    ("f", 1),
-    ("in", 1),
-    ("mid", 1),
-    ("out", 1),
-];
-
-fn channels<A: Allocator + Copy>(alloc: A) -> Result<Vec<Channel<A>, A>, Memory> {
-    let mut channels = Vec::new(alloc);
-    for (spelling, fields) in &SPELLINGS {
-        channels.push(channel(alloc, *spelling, *fields)?)?;
-    }
-    Ok(channels)
-}
-
-fn equation<A: Allocator + Copy, B: Allocator>(
-    alloc: A,
-    words: &[Word<'_>],
-    body: &Process<'_, B>,
-) -> Result<Equation<A>, Fail> {
-    let mut parameters = Vec::new(alloc);
-    for word in words {
-        parameters.push(bound(*word)?)?;
-    }
-    let body = term(alloc, body)?;
-    Ok(Equation { parameters, body })
-}
-
-/// The equations of the text.
-fn equations<A: Allocator + Copy, B: Allocator>(
-    alloc: A,
-    raw: &Raw<'_, B>,
-) -> Result<Vec<Equation<A>, A>, Fail> {
-    let mut equations = Vec::new(alloc);
-    for declaration in &raw.declarations {
-        if let Declaration::Equation {
-            parameters,
-            body,
-            ..
-        } = declaration
-        {
-            equations.push(equation(alloc, parameters, body)?)?;
-        }
-    }
-    Ok(equations)
-}
-
-fn assertion<A: Allocator + Copy, B: Allocator>(
-    alloc: A,
-    model: Model,
-    specification: &Process<'_, B>,
-    implementation: &Process<'_, B>,
-) -> Result<Assertion<A>, Fail> {
-    let specification = term(alloc, specification)?;
-    let implementation = term(alloc, implementation)?;
-    Ok(Assertion {
-        model,
-        specification,
-        implementation,
-    })
-}
-
-fn assertions<A: Allocator + Copy, B: Allocator>(
-    alloc: A,
-    raw: &Raw<'_, B>,
-) -> Result<Vec<Assertion<A>, A>, Fail> {
-    let mut assertions = Vec::new(alloc);
-    for declaration in &raw.declarations {
-        if let Declaration::Assertion {
-            model,
-            specification,
-            implementation,
-            ..
-        } = declaration
-        {
-            assertions.push(assertion(alloc, *model, specification, implementation)?)?;
-        }
-    }
-    Ok(assertions)
-}
-
-fn constructors<A: Allocator + Copy>(alloc: A) -> Result<Vec<Constructor<A>, A>, Memory> {
-    let mut constructors = Vec::new(alloc);
-    for spelling in &CONSTRUCTORS {
-        let spelling = String::from_str(alloc, *spelling)?;
-        constructors.push(Constructor { spelling })?;
-    }
-    Ok(constructors)
-}
-
-/// The datatype `D` of the constructors 2 to 4, and the nametype `N`, which is `{5, 7}`.
-pub(crate) fn types<A: Allocator + Copy>(alloc: A) -> Result<TypeTable<A>, Memory> {
-    let of_data = Constructors {
-        first: ConId(2),
-        following: 2,
-    };
-    let datatypes = Vec::from_slice(alloc, &[of_data])?;
-    let mut nametypes = Vec::new(alloc);
-    nametypes.push(SetOf::from_values(digits(alloc, "75")?))?;
-    Ok(TypeTable {
-        datatypes,
-        nametypes,
-    })
-}
-
-/// The script with these equations and assertions.
-pub(crate) fn script_of<A: Allocator + Copy, B: Allocator>(
-    alloc: A,
-    raw: &Raw<'_, B>,
-) -> Result<Script<A>, Fail> {
-    let channels = channels(alloc)?;
-    let equations = equations(alloc, raw)?;
-    let assertions = assertions(alloc, raw)?;
-    let constructors = constructors(alloc)?;
-    Ok(Script {
-        types: types(alloc)?,
-        constructors,
-        channels,
-        equations,
-        assertions,
-    })
-}
-
-/// The channels but `s`, the types, the equations and two assertions.
-pub(crate) fn script<A: Allocator + Copy>(alloc: A) -> Result<Script<A>, Fail> {
-    let raw = read(alloc, "the script", DECLARATIONS)?;
-    script_of(alloc, &raw)
-}
-
-fn sequence(alloc: Global, number: i32, times: u32) -> Result<Value<Global>, Memory> {
-    let mut items = Vec::new(alloc);
-    for _ in 0..times {
-        items.push(Value::Int(number))?;
-    }
-    Ok(Value::Seq(items))
-}
-
-/// A sequence of 1,000 times 0, and `<1>`.
-fn sequences(alloc: Global) -> Result<FieldSet<Global>, Memory> {
-    let mut values = Vec::new(alloc);
-    values.push(sequence(alloc, 0, 1000)?)?;
-    values.push(sequence(alloc, 1, 1)?)?;
-    Ok(FieldSet::from_values(values))
-}
-
-/// The channel `s`.
-fn of_sequences(alloc: Global) -> Result<Channel<Global>, Memory> {
-    let mut fields = Vec::new(alloc);
-    fields.push(sequences(alloc)?)?;
-    fields.push(bits(alloc)?)?;
-    let spelling = String::from_str(alloc, "s")?;
-    Ok(Channel { spelling, fields })
-}
-
-/// The script with the channel `s`.
-pub(crate) fn script_with_sequences(alloc: Global) -> Result<Script<Global>, Fail> {
-    let mut script = script(alloc)?;
-    script.channels.push(of_sequences(alloc)?)?;
-    Ok(script)
 }

@@ -3,32 +3,30 @@
 use crate::rows::Subject;
 
 const SEQUENCES: &str = "
-VALUE = OF(head(<1, 2, 3>), 1)
-VALUE = OF(head(SEQ123), 1)
-VALUE = OF(tail(<1, 2, 3>), <2, 3>)
-CAUSE = empty(head(<>), head(SEQ), tail(<>), tail(SEQ))
-CAUSE = kind(head({1}), tail({1}))
+VALUE = (head(<1, 2, 3>)) == 1
+VALUE = (tail(<1, 2, 3>)) == <2, 3>
+CAUSE empty = head(<>)
+CAUSE empty = tail(<>)
 
-VALUE = OF(null(<>), true)
-VALUE = OF(null(<1>), false)
+VALUE = (null(<>)) == true
+VALUE = (null(<1>)) == false
 
-VALUE = OF(<1, 2> ^ <3>, <1, 2, 3>)
-VALUE = OF(SEQ12 ^ SEQ3, <1, 2, 3>)
-VALUE = OF(elem(1, <>), false)
-VALUE = OF(elem(1, <1>), true)
+VALUE = (<1, 2> ^ <3>) == <1, 2, 3>
+VALUE = (elem(1, <>)) == false
+VALUE = (elem(1, <1>)) == true
 ";
 
 const MANY: &str = "
-VALUE = OF(#<BELOW1023, 0>, 1024)
-CAUSE = overflow(<BELOW1023, 0> ^ <1>)
-CAUSE = overflow(<BELOW1024, 0>)
-VALUE = OF(#(<BELOW1022, 0> ^ <1>), 1024)
+VALUE = (#<BELOW(1023), 0>) == 1024
+CAUSE overflow = <BELOW(1023), 0> ^ <1>
+CAUSE overflow = <BELOW(1024), 0>
+VALUE = (#(<BELOW(1022), 0> ^ <1>)) == 1024
 
 -- The 0 at the end is no further member.
-VALUE = OF(card({BELOW1024, 0}), 1024)
-CAUSE = overflow(union({BELOW1024, 0}, {MINUS1}))
-VALUE = OF(card(union({BELOW1024, 0}, {1023})), 1024)
-CAUSE = overflow({BELOW1025, 0})
+VALUE = (card({BELOW(1024), 0})) == 1024
+CAUSE overflow = union({BELOW(1024), 0}, {(-1)})
+VALUE = (card(union({BELOW(1024), 0}, {1023}))) == 1024
+CAUSE overflow = {BELOW(1025), 0}
 ";
 
 static SUBJECTS: [Subject; 2] = [

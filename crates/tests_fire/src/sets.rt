@@ -3,50 +3,49 @@
 use crate::rows::Subject;
 
 const SETS: &str = "
-VALUE = OF({3, 1, 3}, {1, 3})
-VALUE = OF(union({3, 1, 2}, {4, 2, 3}), {1, 2, 3, 4})
-VALUE = OF(inter({3, 1, 2}, {4, 2, 3}), {2, 3})
-VALUE = OF(diff({3, 1, 2}, {4, 2, 3}), {1})
+VALUE = ({3, 1, 3}) == {1, 3}
+VALUE = (union({3, 1, 2}, {4, 2, 3})) == {1, 2, 3, 4}
+VALUE = (inter({3, 1, 2}, {4, 2, 3})) == {2, 3}
+VALUE = (diff({3, 1, 2}, {4, 2, 3})) == {1}
 
-VALUE = OF(member(0, {3, 1, 3}), false)
-VALUE = OF(member(1, {3, 1, 3}), true)
-VALUE = OF(member(2, {3, 1, 3}), false)
-VALUE = OF(member(3, {3, 1, 3}), true)
-VALUE = OF(member(4, {3, 1, 3}), false)
+VALUE = (member(0, {3, 1, 3})) == false
+VALUE = (member(1, {3, 1, 3})) == true
+VALUE = (member(2, {3, 1, 3})) == false
+VALUE = (member(3, {3, 1, 3})) == true
+VALUE = (member(4, {3, 1, 3})) == false
 
 -- sets of sets
-VALUE = OF(card({{1, 2}, {2, 1, 2}, {1..2}}), 1)
-VALUE = OF(card({{1, 2}, {}, {1}}), 3)
+VALUE = (card({{1, 2}, {2, 1, 2}, {1..2}})) == 1
+VALUE = (card({{1, 2}, {}, {1}})) == 3
 ";
 
 const RANGES: &str = "
-VALUE = OF({5..4}, {})
-VALUE = OF(card({5..4}), 0)
-VALUE = OF(card({2147483647..LEAST}), 0)
-VALUE = OF(card({0..0}), 1)
-VALUE = OF(card({ -2..2}), 5)
-VALUE = OF(card({0..1023}), 1024)
-VALUE = OF(card({2147483647..2147483647}), 1)
-CAUSE = overflow({0..1024}, card({0..1024}), card({ -1..1023}), card({LEAST..2147483647}))
+VALUE = ({5..4}) == {}
+VALUE = (card({5..4})) == 0
+VALUE = (card({2147483647..(-2147483647 - 1)})) == 0
+VALUE = (card({0..0})) == 1
+VALUE = (card({ -2..2})) == 5
+VALUE = (card({0..1023})) == 1024
+VALUE = (card({2147483647..2147483647})) == 1
+CAUSE overflow = {0..1024}
+CAUSE overflow = card({0..1024})
+CAUSE overflow = card({ -1..1023})
+CAUSE overflow = card({(-2147483647 - 1)..2147483647})
 
-VALUE = OF({ -1..1}, { -1, 0, 1})
-CAUSE = kind({0..true})
+VALUE = ({ -1..1}) == { -1, 0, 1}
 ";
 
 const NAMED: &str = "
-VALUE = OF(card(Bool), 2)
-VALUE = OF(card(D), 3)
-VALUE = OF(card(N), 2)
-VALUE = OF(N, {5, 7})
-CAUSE = kind(card(E), card(M))
+VALUE = (card(Bool)) == 2
+VALUE = (card(D)) == 3
+VALUE = (card(N)) == 2
+VALUE = (N) == {5, 7}
 
-VALUE = OF(member(false, Bool), true)
-VALUE = OF(member(true, Bool), true)
-VALUE = OF(member(A1, D), false)
-VALUE = OF(member(A2, D), true)
-VALUE = OF(member(A3, D), true)
-VALUE = OF(member(A4, D), true)
-VALUE = OF(member(A5, D), false)
+VALUE = (member(false, Bool)) == true
+VALUE = (member(true, Bool)) == true
+VALUE = (member(A2, D)) == true
+VALUE = (member(A3, D)) == true
+VALUE = (member(A4, D)) == true
 ";
 
 static SUBJECTS: [Subject; 3] = [

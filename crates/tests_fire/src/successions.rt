@@ -20,9 +20,6 @@ OFFERS = NOTHING
 T = STOP ; a -> STOP
 DOES = STOP
 OFFERS = STOP
-T = OMEGA ; a -> STOP
-DOES = STOP
-OFFERS = STOP
 T = (a -> STOP) ; c!2 -> STOP
 DOES = a -> (STOP ; c!2 -> STOP)
 OFFERS = a -> STOP
@@ -59,12 +56,6 @@ T = SKIP /\\ SKIP
 DOES = tick -> OMEGA
 OFFERS = tick -> STOP
 
-T = OMEGA /\\ (a -> STOP)
-DOES = a -> STOP
-OFFERS = a -> STOP
-T = (a -> STOP) /\\ OMEGA
-DOES = a -> (STOP /\\ OMEGA)
-OFFERS = a -> STOP
 ";
 
 const STUCK: &str = "

@@ -1,15 +1,25 @@
 //! What is said of the values of expressions:
 //!
-//! - `VALUE = OF(e, v)`: that `e` has the value that `v` writes.
-//! - `CAUSE = word(e, ..)`: that none of the expressions has a value, for the cause of that word.
+//! - `VALUE = e == v`: that `e` has the value that `v` writes. `[] x:{1} @` before it puts 1 in for `x`.
+//! - `CAUSE word = e`: that `e` has no value, for the cause of that word.
 
-use crate::expressions::expression;
 use crate::literals::value;
-use csp_expression::{Binding, EvalFault, Expr, TypeTable};
-use csp_parse::{Expression, Process};
+use crate::opened::opened;
+use csp_expression::{BinaryOperator, Binding, Expr, NoValue, TypeTable};
+use csp_term::{Term, TermForm};
 use csp_value::Value;
-use std::alloc::Global;
+use std::alloc::{Allocator, Global};
 use std::test::Fail;
+
+/// Both sides of the comparison that is the term's guard.
+pub(crate) fn sides<A: Allocator>(term: &Term<A>) -> Result<(&Expr<A>, &Expr<A>), Fail> {
+    match term.form() {
+        TermForm::Guard(Expr::Combine(BinaryOperator::Equals, left, right), _) => {
+            Ok((left, right))
+        }
+        _ => Err(Fail::new("no comparison")),
+    }
+}
 
 /// Whether the expression has the value with the bindings, where it lies and as a copy.
 fn sees(
@@ -18,76 +28,46 @@ fn sees(
     bindings: &[Binding<'_, Global>],
     expression: &Expr<Global>,
     said: &Value<Global>,
-) -> Result<bool, EvalFault> {
+) -> Result<bool, NoValue> {
     let seen = expression.look(alloc, types, bindings)?;
     let is_seen = *seen.value() == *said;
     Ok(seen.into_value(alloc)? == *said && is_seen)
 }
 
-fn has_written_value<'t>(
+/// Whether the left side of the guard has the value that the right one writes.
+pub(crate) fn is_value(
     alloc: Global,
     types: &TypeTable<Global>,
-    bindings: &[Binding<'_, Global>],
-    raw: &Expression<'t, Global>,
-    said: &Expression<'t, Global>,
+    term: &Term<Global>,
 ) -> Result<bool, Fail> {
-    let said = value(alloc, said)?;
-    let expression = expression(alloc, raw)?;
-    Ok(sees(alloc, types, bindings, &expression, &said) == Ok(true))
+    let (given, term) = opened(alloc, term)?;
+    let bindings = given.bindings(alloc)?;
+    let (expression, written) = sides(term)?;
+    let said = value(alloc, written)?;
+    Ok(sees(alloc, types, &bindings, expression, &said) == Ok(true))
 }
 
-/// Whether the expression of the call has the value of the call, with the bindings.
-pub(crate) fn has_value(
+/// Whether the left side of the guard has no value, for the cause of the word.
+pub(crate) fn is_cause(
     alloc: Global,
     types: &TypeTable<Global>,
-    bindings: &[Binding<'_, Global>],
-    said: &Process<'_, Global>,
+    term: &Term<Global>,
+    word: &str,
 ) -> Result<bool, Fail> {
-    match said {
-        Process::Call(_, arguments) => match (arguments.first(), arguments.get(1)) {
-            (Some(raw), Some(said)) => has_written_value(alloc, types, bindings, raw, said),
-            _ => Err(Fail::new("no expression and value")),
+    let (expression, _) = sides(term)?;
+    match expression.find_value(alloc, types) {
+        Err(why) => Ok(is_for(why, word)),
+        Ok(_) => Ok(false),
+    }
+}
+
+/// Whether there is no value for the cause of the word.
+pub(crate) fn is_for(why: NoValue, word: &str) -> bool {
+    match why {
+        NoValue::Cause(cause) => match cause.fault() {
+            Some(fault) => fault.word() == word,
+            None => false,
         },
-        _ => Err(Fail::new("no call")),
-    }
-}
-
-/// Whether the expression has no value, for this cause.
-fn has_cause(
-    alloc: Global,
-    types: &TypeTable<Global>,
-    raw: &Expression<'_, Global>,
-    word: &str,
-) -> Result<bool, Fail> {
-    let expression = expression(alloc, raw)?;
-    match expression.eval(alloc, types) {
-        Err(EvalFault::Fault(cause)) => Ok(cause.word() == word),
-        _ => Ok(false),
-    }
-}
-
-fn have_cause(
-    alloc: Global,
-    types: &TypeTable<Global>,
-    arguments: &[Expression<'_, Global>],
-    word: &str,
-) -> Result<bool, Fail> {
-    for raw in arguments {
-        if !has_cause(alloc, types, raw, word)? {
-            return Ok(false);
-        }
-    }
-    Ok(!arguments.is_empty())
-}
-
-/// Whether the expressions of the call have no value, for the cause that it names.
-pub(crate) fn are_faulty(
-    alloc: Global,
-    types: &TypeTable<Global>,
-    said: &Process<'_, Global>,
-) -> Result<bool, Fail> {
-    match said {
-        Process::Call(word, arguments) => have_cause(alloc, types, arguments, word.text),
-        _ => Err(Fail::new("no call")),
+        NoValue::Memory => false,
     }
 }

@@ -27,15 +27,10 @@ fn faults_have_numbers_and_words(rt: HostRuntime) -> Result<(), Fail> {
     for (fault, number, word) in &FAULTS {
         assert!(rt; is_named(*fault, *number, *word), "{word}");
     }
-    assert_eq!(rt; Fault::Kind.word(), "kind");
     let memory = TermFault::from(Memory);
     assert!(rt; is_told(rt.alloc(), memory, "T01 out of memory")?);
     let large = TermFault::TooLarge;
     assert!(rt; is_told(rt.alloc(), large, "T02 the term is past the limits")?);
     assert_eq!(rt; EvalFault::from(Memory), EvalFault::Memory);
-    assert_eq!(rt;
-        EvalFault::from(Fault::Range),
-        EvalFault::Fault(Fault::Range)
-    );
     Ok(())
 }

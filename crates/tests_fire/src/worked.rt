@@ -64,12 +64,10 @@ OFFERS = tick -> STOP |~| (tick -> STOP [] a -> STOP)
 T = SKIP ||| (a -> SKIP)
 DOES = tau -> (OMEGA ||| (a -> SKIP)) [] a -> (SKIP ||| SKIP)
 OFFERS = NOTHING
-T = OMEGA ||| (a -> SKIP)
-DOES = a -> (OMEGA ||| SKIP)
-OFFERS = a -> STOP
-T = OMEGA ||| SKIP
-DOES = tau -> (OMEGA ||| OMEGA)
-OFFERS = NOTHING
+THEN DOES = a -> (OMEGA ||| SKIP)
+THEN OFFERS = a -> STOP
+THEN THEN DOES = tau -> (OMEGA ||| OMEGA)
+THEN THEN OFFERS = NOTHING
 
 T = (a -> STOP) /\\ (b -> STOP)
 DOES = a -> (STOP /\\ (b -> STOP)) [] b -> STOP

@@ -4,8 +4,6 @@
 #![tactic(auto)]
 
 #[cfg(test)]
-mod answers;
-#[cfg(test)]
 mod composed_rows;
 #[cfg(test)]
 mod memory;
@@ -17,5 +15,6 @@ mod refusals;
 mod row;
 #[cfg(test)]
 mod sequential_rows;
+mod specifications;
 #[cfg(test)]
 mod texts;

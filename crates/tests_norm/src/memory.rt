@@ -1,5 +1,6 @@
 //! Normal forms in heaps of more and more bytes: each request for memory is refused in turn, and then none.
 
+use crate::specifications::specification;
 use csp_kinds::check;
 use csp_lex::{TokenList, tokens};
 use csp_norm::{NormFault, normalise};
@@ -17,10 +18,8 @@ fn nodes_of<'h>(
     heap: &'h LocalHeap,
     script: &Script<&'h LocalHeap>,
 ) -> Result<Option<usize>, Fail> {
-    let Some(assertion) = script.assertions.first() else {
-        return Err(Fail::new("no assertion"));
-    };
-    match normalise(heap, script, &assertion.specification, 10) {
+    let specification = specification(script)?;
+    match normalise(heap, script, specification, 10) {
         Ok(normal) => Ok(Some(normal.nodes())),
         Err(NormFault::Memory) => Ok(None),
         Err(_) => Err(Fail::new("another fault")),

@@ -1,8 +1,10 @@
 //! Specifications without a normal form.
 
+use crate::specifications::specification;
 use crate::texts::script;
-use csp_norm::normalise;
-use std::alloc::Global;
+use csp_norm::{NormFault, normalise};
+use csp_term::Fault;
+use std::alloc::{AllocError, Global};
 use std::test::Fail;
 
 struct Refusal {
@@ -13,8 +15,9 @@ struct Refusal {
     why: &'static str,
 }
 
-/// `UP(0)` goes on for ever by taus, and `LATER` grows until it is too large.
-const DEFINITIONS: &str = "UP(n) = UP(n+1)\nLATER = LATER ; SKIP";
+/// `UP(0)` goes on for ever by taus, and `LATER` grows until it is too deep.
+const DEFINITIONS: &str = "UP(n) = UP(n+1)
+LATER = (((((((LATER ; SKIP) ; SKIP) ; SKIP) ; SKIP) ; SKIP) ; SKIP) ; SKIP) ; SKIP";
 
 static REFUSALS: &[Refusal] = &[
     Refusal {
@@ -133,20 +136,35 @@ static REFUSALS: &[Refusal] = &[
     },
 ];
 
+/// Why there may be no normal form, and how that is told.
+static FAULTS: &[(NormFault, &str)] = &[
+    (NormFault::Nodes, "N01 nodes"),
+    (NormFault::Fault(Fault::Range), "N02 fault range"),
+    (NormFault::Term, "N03 a term too large"),
+    (NormFault::Memory, "N04 out of memory"),
+];
+
+/// Hands out the table.
+fn faults() -> &'static [(NormFault, &'static str)] {
+    FAULTS
+}
+
 /// Hands out the table.
 fn refusals() -> &'static [Refusal] {
     REFUSALS
 }
 
+fn is_told(alloc: Global, fault: NormFault, text: &str) -> Result<bool, AllocError> {
+    Ok(format!(in alloc; "{fault}")?.as_str() == text)
+}
+
 /// Whether the specification has no normal form because of this.
 fn is_refused(alloc: Global, row: &Refusal) -> Result<bool, Fail> {
     let script = script(alloc, row.definitions, row.specification, "STOP")?;
-    let Some(assertion) = script.assertions.first() else {
-        return Ok(false);
-    };
-    match normalise(alloc, &script, &assertion.specification, row.nodes) {
+    let specification = specification(&script)?;
+    match normalise(alloc, &script, specification, row.nodes) {
         Ok(_) => Ok(false),
-        Err(fault) => Ok(format!(in alloc; "{fault}")?.as_str() == row.why),
+        Err(fault) => Ok(is_told(alloc, fault, row.why)?),
     }
 }
 
@@ -159,6 +177,9 @@ fn a_form_is_refused_for_its_first_reason(rt: HostRuntime) -> Result<(), Fail> {
             row.specification,
             row.nodes
         );
+    }
+    for (fault, text) in faults() {
+        assert!(rt; is_told(rt.alloc(), *fault, *text)?, "{text}");
     }
     Ok(())
 }
