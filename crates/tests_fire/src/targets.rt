@@ -1,0 +1,46 @@
+//! What the first steps of terms lead to.
+
+ghost use Rattle.std.specs.Prelude.{IfOk, IfSome};
+ghost use Rattle.csp_semantics.specs.Kinds.Scripts.{IsTermOf};
+ghost use Rattle.csp_fire.specs.Form.{form_of};
+ghost use Rattle.csp_fire.specs.Targets.{LeadsToTermsOf};
+ghost use Rattle.csp_term.specs.Script.{script_of};
+ghost use Rattle.csp_term.specs.Term.{process_of};
+
+use csp_fire::{Form, fire};
+use csp_term::{Memory, Script, Term};
+use std::alloc::Global;
+
+/// What the first step of the form leads to, a term of the script.
+fn first_target<'f>(script: &Script<Global>, form: &'f Form<Global>) -> Option<&'f Term<Global>>
+    requires { LeadsToTermsOf (script_of script.now) (form_of form.now) }
+    ensures { IfSome result (λ term. IsTermOf (script_of script.now) (process_of term.now)) }
+{
+    match form {
+        Form::Steps(steps, _) => {
+            let steps = steps.as_slice();
+            if steps.is_empty() {
+                None
+            } else {
+                Some(&steps[0].target)
+            }
+        }
+        _ => None,
+    }
+}
+
+/// What the first step of the term leads to, a term of the script.
+pub(crate) fn target(
+    alloc: Global,
+    script: &Script<Global>,
+    term: &Term<Global>,
+) -> Result<Option<Term<Global>>, Memory>
+    requires { IsTermOf (script_of script.now) (process_of term.now) }
+    ensures { IfOk result (λ found. IfSome found (λ target. IsTermOf (script_of script.now) (process_of target))) }
+{
+    let expansion = fire(alloc, script, term)?;
+    match first_target(script, expansion.form()) {
+        Some(target) => Ok(Some(target.try_copy(alloc)?)),
+        None => Ok(None),
+    }
+}
