@@ -17,11 +17,7 @@ mod growth;
 #[cfg(test)]
 mod limits;
 #[cfg(test)]
-mod orders;
-#[cfg(test)]
 mod paths;
-#[cfg(test)]
-mod refused_memory;
 #[cfg(test)]
 mod row;
 #[cfg(test)]
