@@ -1,4 +1,4 @@
-//! Normal forms in heaps of more and more bytes: each request for memory is refused in turn, and then none.
+//! Normal forms in heaps of more and more bytes, in steps of 32: memory is refused ever later, and then not at all.
 
 use crate::specifications::specification;
 use csp_kinds::check;
