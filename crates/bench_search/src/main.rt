@@ -8,7 +8,7 @@ use csp_kinds::check;
 use csp_lex::tokens;
 use csp_parse::parse;
 use csp_term::Script;
-use explore::explore;
+use explore::explore_alone;
 use pair_store::Limits;
 use std::alloc::{AllocError, Global};
 use std::env;
@@ -124,7 +124,7 @@ fn holds(alloc: Global, script: &Script<Global>, pairs: u32) -> Result<bool> {
     ensure!(most > 0 && most <= 1_000_000, "a number out of range");
     match script.assertions().first() {
         Some(assertion) => {
-            let outcome = explore(alloc, script, assertion, Limits::new(most, 100));
+            let outcome = explore_alone(alloc, script, assertion, Limits::new(most, 100));
             Ok(matches!(outcome, Outcome::Holds))
         }
         None => bail!("no assertion"),

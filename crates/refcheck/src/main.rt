@@ -31,6 +31,7 @@ fn main(rt: HostRuntime) -> ExitCode {
                 run(
                     rt.alloc(),
                     rt.alloc(),
+                    &rt,
                     &words,
                     &mut MachineFiles::new(&rt),
                     &mut out,

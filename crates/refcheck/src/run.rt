@@ -15,11 +15,13 @@ use crate::files::Files;
 use crate::reader;
 use crate::refusal::{Refusal, push_line};
 use csp_term::{AllocHandle, Script};
-use explore::explore;
+use explore::{Open, explore};
 use pair_store::Limits;
 use report::{Sink, push_all, write};
 use settings::{CommandLineFault, Settings};
 use std::alloc::{AllocError, Global};
+use std::sync::Wait;
+use std::thread::Threads;
 use verdict::Outcome;
 
 /// The whole program: checks the assertions of the script in the file that the words name, within the limits that they
@@ -28,10 +30,19 @@ use verdict::Outcome;
 ///
 /// Answers the status: 3 where anything was refused, else 2 where an assertion has no answer within the limits, else 1
 /// where one fails, else 0. The words are looked at first, then the file, the script and the output. A failure of `err`
-/// changes nothing. The words are read with the memory of `command_line`, and all else with that of `alloc`.
-pub fn run<'w, A: AllocHandle, F: Files<A>, O: Sink, E: Sink>(
+/// changes nothing. The words are read with the memory of `command_line`, and all else with that of `alloc`. Workers are
+/// started by `rt`.
+pub fn run<
+    'w,
+    A: AllocHandle + Send + Sync,
+    R: Threads + Wait + Sync,
+    F: Files<A>,
+    O: Sink,
+    E: Sink,
+>(
     command_line: Global,
     alloc: A,
+    rt: &R,
     words: &'w [&'w str],
     files: &mut F,
     out: &mut O,
@@ -45,7 +56,7 @@ pub fn run<'w, A: AllocHandle, F: Files<A>, O: Sink, E: Sink>(
     ensures refused { result ≡ 3 → IsRefused (F.may_hold files.old) (F.may_lack files.old) (texts_of words.entry.now) O.taken O.has_failed out.old out.new (E.taken err.old) (E.taken err.new) (E.has_failed err.new) }
 {
     match settings::read(command_line, words) {
-        Ok(settings) => check(alloc, &settings, files, out, err),
+        Ok(settings) => check(alloc, rt, &settings, files, out, err),
         Err(CommandLineFault::Help(text)) => show(text.as_str(), out, err),
         Err(CommandLineFault::Version(text)) => show(text.as_str(), out, err),
         Err(CommandLineFault::Refused(text)) => refuse_words(text.as_str(), err),
@@ -90,8 +101,9 @@ fn show<O: Sink, E: Sink>(text: &str, out: &mut O, err: &mut E) -> u8
 }
 
 // Checks what the settings ask for.
-fn check<A: AllocHandle, F: Files<A>, O: Sink, E: Sink>(
+fn check<A: AllocHandle + Send + Sync, R: Threads + Wait + Sync, F: Files<A>, O: Sink, E: Sink>(
     alloc: A,
+    rt: &R,
     settings: &Settings<'_>,
     files: &mut F,
     out: &mut O,
@@ -104,15 +116,16 @@ fn check<A: AllocHandle, F: Files<A>, O: Sink, E: Sink>(
     ensures silent { result < 3 → err.new ≡ err.old }
     ensures refused { result ≡ 3 → IsCheckRefused (F.may_hold files.old) (F.may_lack files.old) settings.now.file.now (limits_of settings.now) O.taken O.has_failed out.old out.new (E.taken err.old) (E.taken err.new) (E.has_failed err.new) }
 {
-    match answer(alloc, settings, files, out) {
+    match answer(alloc, rt, settings, files, out) {
         Ok(status) => status,
         Err(why) => refuse(why, err),
     }
 }
 
 // Reads, checks and reports. The status is at most 2.
-fn answer<A: AllocHandle, F: Files<A>, O: Sink>(
+fn answer<A: AllocHandle + Send + Sync, R: Threads + Wait + Sync, F: Files<A>, O: Sink>(
     alloc: A,
+    rt: &R,
     settings: &Settings<'_>,
     files: &mut F,
     out: &mut O,
@@ -125,7 +138,7 @@ fn answer<A: AllocHandle, F: Files<A>, O: Sink>(
     let text = files.read(settings.file)?;
     let script = reader::read(alloc, &text)?;
     let limits = limits(settings);
-    let outcomes = outcomes(alloc, &script, limits)?;
+    let outcomes = outcomes(alloc, rt, &script, limits, settings.workers)?;
     match write(alloc, &script, &outcomes, out) {
         Ok(()) => Ok(status(&outcomes)),
         Err(_) => Err(Refusal::Output),
@@ -139,17 +152,20 @@ fn limits(settings: &Settings<'_>) -> Limits
     Limits::new(settings.max_pairs, settings.max_nodes)
 }
 
-// A right outcome for each assertion, in order.
-fn outcomes<A: AllocHandle>(
+// A right outcome for each assertion, in order, each by so many workers.
+fn outcomes<A: AllocHandle + Send + Sync, R: Threads + Wait + Sync>(
     alloc: A,
+    rt: &R,
     script: &Script<A>,
     limits: Limits,
+    workers: usize,
 ) -> Result<Vec<Outcome<A>, A>, AllocError>
+    requires { (1 ≤ workers) × (workers ≤ 64) }
     ensures { IfOk result (λ outcomes. AreRight (script_of script.now) (bounds_of limits) (script_of script.now).assertions (map outcome_of outcomes.items)) }
 {
     let mut outcomes = Vec::new(alloc);
     for assertion in script.assertions() {
-        outcomes.push(explore(alloc, script, assertion, limits))?;
+        outcomes.push(explore(alloc, rt, script, assertion, limits, workers, &Open))?;
     }
     Ok(outcomes)
 }

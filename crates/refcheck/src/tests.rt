@@ -14,15 +14,17 @@ use command_lines::{checked, wrong_words};
 use csp_term::AllocHandle;
 use examples::{all_examples, examples_with_options};
 use full::Full;
-use linked_list_allocator::LocalHeap;
 use outcomes::{BEYOND_STOP, WITHIN_PREFIX, failing, holding, unknown};
 use refusals::{no_scripts, unchecked};
+use refusing_memory::RefusesOnce;
 use report::{Buffer, Out};
 use rows::Row;
 use std::alloc::{AllocError, Global};
 use std::io::Write;
 use std::process::Abort;
+use std::sync::Wait;
 use std::test::Fail;
+use std::thread::Threads;
 use tour::stops_of_the_tour;
 
 // A text in pieces, each with how often it is repeated.
@@ -101,15 +103,16 @@ impl Files<Global> for NoMemory {
 }
 
 // A run whose memory is the allocator's, and whose outputs have room.
-fn run_in<'w, A: AllocHandle, F: Files<A>>(
+fn run_in<'w, A: AllocHandle + Send + Sync, R: Threads + Wait + Sync, F: Files<A>>(
     room: Global,
     alloc: A,
+    rt: &R,
     words: &'w [&'w str],
     files: &mut F,
 ) -> Told {
     let mut out = Buffer::new(room);
     let mut err = Buffer::new(room);
-    let status = run(room, alloc, words, files, &mut out, &mut err);
+    let status = run(room, alloc, rt, words, files, &mut out, &mut err);
     Told {
         status,
         out: out.bytes,
@@ -118,23 +121,39 @@ fn run_in<'w, A: AllocHandle, F: Files<A>>(
 }
 
 // A run on the words, where the file of that name holds the text.
-fn run_over<'w>(alloc: Global, name: &str, words: &'w [&'w str], text: &[u8]) -> Told {
+fn run_over<'w, R: Threads + Wait + Sync>(
+    alloc: Global,
+    rt: &R,
+    name: &str,
+    words: &'w [&'w str],
+    text: &[u8],
+) -> Told {
     let mut files = OneText { name, text, alloc };
-    run_in(alloc, alloc, words, &mut files)
+    run_in(alloc, alloc, rt, words, &mut files)
 }
 
 // A run on the words, where the file `script` holds the text.
-fn run_on<'w>(alloc: Global, words: &'w [&'w str], text: &[u8]) -> Told {
-    run_over(alloc, "script", words, text)
+fn run_on<'w, R: Threads + Wait + Sync>(
+    alloc: Global,
+    rt: &R,
+    words: &'w [&'w str],
+    text: &[u8],
+) -> Told {
+    run_over(alloc, rt, "script", words, text)
 }
 
-fn check(alloc: Global, text: &[u8]) -> Told {
-    run_on(alloc, &["script"], text)
+fn check<R: Threads + Wait + Sync>(alloc: Global, rt: &R, text: &[u8]) -> Told {
+    run_on(alloc, rt, &["script"], text)
 }
 
-fn are_answered_so(rt: &impl Abort, alloc: Global, status: u8, rows: &[Row]) -> Result<(), Fail> {
+fn are_answered_so<R: Abort + Threads + Wait + Sync>(
+    rt: &R,
+    alloc: Global,
+    status: u8,
+    rows: &[Row],
+) -> Result<(), Fail> {
     for (text, lines) in rows {
-        let told = check(alloc, text.as_bytes());
+        let told = check(alloc, rt, text.as_bytes());
         assert!(rt; told.is_answered(status, lines), "at {text}");
     }
     Ok(())
@@ -156,10 +175,13 @@ fn put_together(alloc: Global, pieces: Pieces) -> Result<String, AllocError> {
     Ok(whole)
 }
 
-fn long_are_answered_so(rt: &impl Abort, alloc: Global) -> Result<(), Fail> {
+fn long_are_answered_so<R: Abort + Threads + Wait + Sync>(
+    rt: &R,
+    alloc: Global,
+) -> Result<(), Fail> {
     for (status, pieces, lines) in LONG {
         let text = put_together(alloc, pieces)?;
-        let told = check(alloc, text.as_bytes());
+        let told = check(alloc, rt, text.as_bytes());
         assert!(rt; told.is_answered(*status, lines), "at {pieces:?}");
     }
     Ok(())
@@ -178,7 +200,7 @@ fn texts_are_answered_so(rt: HostRuntime) -> Result<(), Fail> {
 #[test]
 fn examples_are_answered_so(rt: HostRuntime) -> Result<(), Fail> {
     for example in all_examples() {
-        let told = check(rt.alloc(), example.text.as_bytes());
+        let told = check(rt.alloc(), &rt, example.text.as_bytes());
         assert!(rt;
             told.is_answered(example.status, example.lines),
             "at {}",
@@ -199,7 +221,7 @@ fn example_named(name: &str) -> Option<&'static str> {
 fn examples_are_answered_so_with_options(rt: HostRuntime) -> Result<(), Fail> {
     for (name, words, status, lines) in examples_with_options() {
         let text = example_named(name).ok_or("an example")?;
-        let told = run_on(rt.alloc(), words, text.as_bytes());
+        let told = run_on(rt.alloc(), &rt, words, text.as_bytes());
         assert!(rt; told.is_answered(*status, lines), "at {name}");
     }
     Ok(())
@@ -208,7 +230,7 @@ fn examples_are_answered_so_with_options(rt: HostRuntime) -> Result<(), Fail> {
 #[test]
 fn command_lines_are_answered_so(rt: HostRuntime) -> Result<(), Fail> {
     for (words, status, (text, lines)) in checked() {
-        let told = run_on(rt.alloc(), words, text.as_bytes());
+        let told = run_on(rt.alloc(), &rt, words, text.as_bytes());
         assert!(rt; told.is_answered(*status, lines), "at {words:?}");
     }
     Ok(())
@@ -218,7 +240,7 @@ fn command_lines_are_answered_so(rt: HostRuntime) -> Result<(), Fail> {
 fn the_tour_is_answered_so(rt: HostRuntime) -> Result<(), Fail> {
     for (words, status, (beginning, rest), lines) in stops_of_the_tour() {
         let text = format!(in rt.alloc(); "{beginning}{rest}")?;
-        let told = run_over(rt.alloc(), "protocol.csp", words, text.as_bytes());
+        let told = run_over(rt.alloc(), &rt, "protocol.csp", words, text.as_bytes());
         assert!(rt; told.is_answered(*status, lines), "at {lines}");
     }
     Ok(())
@@ -227,7 +249,7 @@ fn the_tour_is_answered_so(rt: HostRuntime) -> Result<(), Fail> {
 #[test]
 fn wrong_command_lines_are_refused(rt: HostRuntime) -> Result<(), Fail> {
     for (words, said) in wrong_words() {
-        let told = run_on(rt.alloc(), words, BEYOND_STOP.0.as_bytes());
+        let told = run_on(rt.alloc(), &rt, words, BEYOND_STOP.0.as_bytes());
         let is_said = told.err.as_slice().starts_with(said.as_bytes());
         assert!(rt;
             told.status == 3 && told.out.is_empty() && is_said,
@@ -239,28 +261,33 @@ fn wrong_command_lines_are_refused(rt: HostRuntime) -> Result<(), Fail> {
 
 #[test]
 fn help_and_version_are_shown(rt: HostRuntime) -> Result<(), Fail> {
-    let version = run_on(rt.alloc(), &["--version"], b"");
+    let version = run_on(rt.alloc(), &rt, &["--version"], b"");
     assert!(rt; version.is(0, "refcheck 0.1.0\n", ""));
-    let help = run_on(rt.alloc(), &["--help"], b"");
+    let help = run_on(rt.alloc(), &rt, &["--help"], b"");
     let said = b"Checks the refinement assertions of a CSP script";
     assert!(rt; help.status == 0 && help.err.is_empty());
     assert!(rt; help.out.as_slice().starts_with(said));
-    let other = run_on(rt.alloc(), &["-h", "script"], b"");
+    let other = run_on(rt.alloc(), &rt, &["-h", "script"], b"");
     assert_eq!(rt; other.out.as_slice(), help.out.as_slice());
     Ok(())
 }
 
 #[test]
 fn what_cannot_be_read_is_refused(rt: HostRuntime) -> Result<(), Fail> {
-    let told = run_in(rt.alloc(), rt.alloc(), &["script"], &mut NoMemory);
+    let told = run_in(rt.alloc(), rt.alloc(), &rt, &["script"], &mut NoMemory);
     assert!(rt; told.is_refused("refused memory\n"));
-    let told = check(rt.alloc(), &[0x50, 0xff]);
+    let told = check(rt.alloc(), &rt, &[0x50, 0xff]);
     assert!(rt; told.is_refused("refused L04 at 1:2\n"));
     Ok(())
 }
 
 // Whether the run is refused since the output fails, as the error output says.
-fn is_cut_off<'w, W: Write + Drop>(alloc: Global, words: &'w [&'w str], writer: W) -> bool {
+fn is_cut_off<'w, R: Threads + Wait + Sync, W: Write + Drop>(
+    alloc: Global,
+    rt: &R,
+    words: &'w [&'w str],
+    writer: W,
+) -> bool {
     let mut files = OneText {
         name: "script",
         text: BEYOND_STOP.0.as_bytes(),
@@ -268,7 +295,7 @@ fn is_cut_off<'w, W: Write + Drop>(alloc: Global, words: &'w [&'w str], writer: 
     };
     let mut out = Out::new(writer);
     let mut err = Buffer::new(alloc);
-    let status = run(alloc, alloc, words, &mut files, &mut out, &mut err);
+    let status = run(alloc, alloc, rt, words, &mut files, &mut out, &mut err);
     status == 3 && err.bytes.as_slice() == "refused output\n".as_bytes()
 }
 
@@ -279,13 +306,13 @@ fn an_output_that_breaks_off_is_refused(rt: HostRuntime) -> Result<(), Fail> {
     for room in 0..report.len() {
         let mut taken = [0u8; 25];
         assert!(rt;
-            is_cut_off(rt.alloc(), &["script"], &mut taken[..room]),
+            is_cut_off(rt.alloc(), &rt, &["script"], &mut taken[..room]),
             "at {room}"
         );
         assert_eq!(rt; &taken[..room], &report[..room], "at {room}");
         let mut taken = [0u8; 25];
         assert!(rt;
-            is_cut_off(rt.alloc(), &["script"], Full::new(&mut taken[..room])),
+            is_cut_off(rt.alloc(), &rt, &["script"], Full::new(&mut taken[..room])),
             "at {room}"
         );
         assert_eq!(rt; &taken[..room], &report[..room], "at {room}");
@@ -296,19 +323,23 @@ fn an_output_that_breaks_off_is_refused(rt: HostRuntime) -> Result<(), Fail> {
 #[test]
 fn a_text_that_breaks_off_is_refused(rt: HostRuntime) -> Result<(), Fail> {
     let mut taken = [0u8; 8];
-    assert!(rt; is_cut_off(rt.alloc(), &["--version"], &mut taken[..]));
+    assert!(rt; is_cut_off(rt.alloc(), &rt, &["--version"], &mut taken[..]));
     assert_eq!(rt; &taken, b"refcheck");
-    assert!(rt; is_cut_off(rt.alloc(), &["--help"], Full::new(&mut taken[..])));
+    assert!(rt; is_cut_off(rt.alloc(), &rt, &["--help"], Full::new(&mut taken[..])));
     assert_eq!(rt; &taken, b"Checks t");
     Ok(())
 }
 
 // What an error output with room for seven bytes has, where a run on these words has status 3.
-fn said_in_seven_bytes<'w>(alloc: Global, words: &'w [&'w str]) -> Option<[u8; 7]> {
+fn said_in_seven_bytes<'w, R: Threads + Wait + Sync>(
+    alloc: Global,
+    rt: &R,
+    words: &'w [&'w str],
+) -> Option<[u8; 7]> {
     let mut out = Buffer::new(alloc);
     let mut room = [0u8; 7];
     let mut err = Out::new(Full::new(&mut room[..]));
-    let status = run(alloc, alloc, words, &mut NoMemory, &mut out, &mut err);
+    let status = run(alloc, alloc, rt, words, &mut NoMemory, &mut out, &mut err);
     if status == 3 && out.bytes.is_empty() {
         Some(room)
     } else {
@@ -319,10 +350,13 @@ fn said_in_seven_bytes<'w>(alloc: Global, words: &'w [&'w str]) -> Option<[u8; 7
 #[test]
 fn an_error_output_that_fails_changes_no_status(rt: HostRuntime) -> Result<(), Fail> {
     assert_eq!(rt;
-        said_in_seven_bytes(rt.alloc(), &["script"]),
+        said_in_seven_bytes(rt.alloc(), &rt, &["script"]),
         Some(*b"refused")
     );
-    assert_eq!(rt; said_in_seven_bytes(rt.alloc(), &[]), Some(*b"error: "));
+    assert_eq!(rt;
+        said_in_seven_bytes(rt.alloc(), &rt, &[]),
+        Some(*b"error: ")
+    );
     Ok(())
 }
 
@@ -347,39 +381,41 @@ fn ending_of(told: &Told, report: &str, status: u8) -> Ending {
     Ending::Other
 }
 
-// How the run over the text ends in a heap of so many bytes.
-fn ending_within(
+// How the run on the words, over the text, ends where one request for memory is refused.
+fn ending_without<'w, R: Threads + Wait + Sync>(
     alloc: Global,
-    bytes: usize,
-    text: &str,
-    report: &str,
+    rt: &R,
+    request: u64,
+    words: &'w [&'w str],
     status: u8,
-) -> Result<Ending, AllocError> {
-    let heap = LocalHeap::new(alloc, bytes)?;
+    row: &Row,
+) -> Ending {
+    let (text, report) = *row;
+    let memory = RefusesOnce::new(alloc, request);
     let mut files = OneText {
         name: "script",
         text: text.as_bytes(),
-        alloc: &heap,
+        alloc: &memory,
     };
-    let told = run_in(alloc, &heap, &["script"], &mut files);
-    Ok(ending_of(&told, report, status))
+    let told = run_in(alloc, &memory, rt, words, &mut files);
+    ending_of(&told, report, status)
 }
 
-// In heaps of more and more bytes each request for memory is refused in turn, and then none.
-fn is_answered_or_refused(
-    rt: &impl Abort,
+// Each request for memory is refused in turn, and then one that is not made.
+fn is_answered_or_refused<'w, R: Abort + Threads + Wait + Sync>(
+    rt: &R,
     alloc: Global,
+    words: &'w [&'w str],
     status: u8,
     row: &Row,
 ) -> Result<(), Fail> {
-    let (text, report) = *row;
     let (mut refused, mut without_answer, mut answered) = (0u32, 0u32, 0u32);
-    for size in 1..256 {
-        match ending_within(alloc, 128 * size, text, report, status)? {
+    for request in 0..256 {
+        match ending_without(alloc, rt, request, words, status, row) {
             Ending::Answered => answered = answered.saturating_add(1),
             Ending::WithoutAnswer => without_answer = without_answer.saturating_add(1),
             Ending::Refused => refused = refused.saturating_add(1),
-            Ending::Other => assert!(rt; false, "at {text} in {size}"),
+            Ending::Other => assert!(rt; false, "at {words:?} without {request}"),
         }
     }
     let each = refused > 4 && without_answer > 4 && answered > 4;
@@ -389,6 +425,9 @@ fn is_answered_or_refused(
 
 #[test]
 fn refused_memory_changes_no_other_answer(rt: HostRuntime) -> Result<(), Fail> {
-    is_answered_or_refused(&rt, rt.alloc(), 1, &BEYOND_STOP)?;
-    is_answered_or_refused(&rt, rt.alloc(), 0, &WITHIN_PREFIX)
+    is_answered_or_refused(&rt, rt.alloc(), &["script"], 1, &BEYOND_STOP)?;
+    is_answered_or_refused(&rt, rt.alloc(), &["script"], 0, &WITHIN_PREFIX)?;
+    let words = &["--workers=2", "script"];
+    is_answered_or_refused(&rt, rt.alloc(), words, 1, &BEYOND_STOP)?;
+    is_answered_or_refused(&rt, rt.alloc(), words, 0, &WITHIN_PREFIX)
 }

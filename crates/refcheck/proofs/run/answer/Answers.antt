@@ -1,3 +1,4 @@
+use denote.Param.Send.{sendable}
 use Rattle.std.proofs.Common.{◌≡◌, List, map, sym, ap, subst, ◌∙◌, arith, inl, inr, lit<, lit≤}
 use Rattle.std.proofs.lemmas.Result.{err_from_is_err_and}
 use Rattle.csp_answers.specs.Outcome.{Bounds}
@@ -61,35 +62,53 @@ returns-clause-refused g c =
 
 pub outcomes-requires : goal.outcomes-requires
 outcomes-requires g c =
-    elim g.met.A.AllocHandle.small [
-      | inl e ↦ rw (e.0, e.1) (lit< tt)
-      | inr e ↦ rw (e.0, e.1) (lit< tt)
-    ]
+    let sa = c.type_bounds.send-A in
+    let ya = c.type_bounds.sync-A in
+    let sr = c.type_bounds.sync-R in
+    let small = (g.met.A.AllocHandle g.world.𝓛 g.world.𝓜 g.world.𝓡 ((λ s x. x), (λ x. x), (λ x. x), λ x. x)).small in (
+      search sendable depth 20,
+      (
+        search sendable depth 20,
+        (
+          search sendable depth 20,
+          (
+            c.type_bounds.frees-A-Allocator,
+            (
+              elim small [
+                | inl e ↦ rw (e.0, e.1) (lit< tt)
+                | inr e ↦ rw (e.0, e.1) (lit< tt)
+              ],
+              c.args.settings.now.workers_in_range,
+            ),
+          ),
+        ),
+      ),
+    )
 
 pub status-requires : goal.status-requires
 status-requires g c =
-    elim g.met.A.AllocHandle.small [
+    elim (g.met.A.AllocHandle g.world.𝓛 g.world.𝓜 g.world.𝓡 ((λ s x. x), (λ x. x), (λ x. x), λ x. x)).small [
       | inl e ↦ rw (e.0, e.1) (lit< tt)
       | inr e ↦ rw (e.0, e.1) (lit< tt)
     ]
 
 pub drop-outcomes-requires-room-T-Destruct : goal.drop-outcomes-requires-room-T-Destruct
 drop-outcomes-requires-room-T-Destruct g c κs within =
-    elim g.met.A.AllocHandle.small [
+    elim (g.met.A.AllocHandle g.world.𝓛 g.world.𝓜 g.world.𝓡 ((λ s x. x), (λ x. x), (λ x. x), λ x. x)).small [
       | inl e ↦ rw (e.0, e.1) (lit< tt)
       | inr e ↦ rw (e.0, e.1) (lit< tt)
     ]
 
 pub drop-outcomes-requires-2-room-T-Destruct : goal.drop-outcomes-requires-2-room-T-Destruct
 drop-outcomes-requires-2-room-T-Destruct g c κs within =
-    elim g.met.A.AllocHandle.small [
+    elim (g.met.A.AllocHandle g.world.𝓛 g.world.𝓜 g.world.𝓡 ((λ s x. x), (λ x. x), (λ x. x), λ x. x)).small [
       | inl e ↦ rw (e.0, e.1) (lit< tt)
       | inr e ↦ rw (e.0, e.1) (lit< tt)
     ]
 
 pub write-requires : goal.write-requires
 write-requires g c =
-    elim g.met.A.AllocHandle.small [
+    elim (g.met.A.AllocHandle g.world.𝓛 g.world.𝓜 g.world.𝓡 ((λ s x. x), (λ x. x), (λ x. x), λ x. x)).small [
       | inl e ↦ rw (e.0, e.1) (lit≤ tt, c.requires)
       | inr e ↦ rw (e.0, e.1) (lit≤ tt, c.requires)
     ]

@@ -1,3 +1,4 @@
+use denote.Param.Send.{sendable}
 use Rattle.std.proofs.Common.{List, map, subst, inl, inr, lit<}
 use Rattle.std.proofs.lemmas.List.{take_all}
 use Rattle.csp_syntax.specs.Process as pure
@@ -13,12 +14,31 @@ pub explore-requires : goal.explore-requires
 explore-requires g c =
     let script = script_of c.args.script.now in
     let sides = sides_at assertion_of (HasSidesOf script) script c.assertions-assertion-items.result.now c.loop-assertion.assertion-index c.assertion-item.result c.assertions-assertion-items.ensures.sides c.loop-assertion-test.true c.assertion-item.is
-    (λ b sides. record { specification = sides.0; implementation = sides.1 }) in (
-      elim g.met.A.AllocHandle.small [
-        | inl e ↦ rw (e.0, e.1) (lit< tt)
-        | inr e ↦ rw (e.0, e.1) (lit< tt)
-      ],
-      sides,
+    (λ b sides. record { specification = sides.0; implementation = sides.1 }) in
+    let sa = c.type_bounds.send-A in
+    let ya = c.type_bounds.sync-A in
+    let sr = c.type_bounds.sync-R in
+    let small = (g.met.A.AllocHandle g.world.𝓛 g.world.𝓜 g.world.𝓡 ((λ s x. x), (λ x. x), (λ x. x), λ x. x)).small in (
+      search sendable depth 20,
+      (
+        search sendable depth 20,
+        (
+          search sendable depth 20,
+          (
+            search sendable depth 20,
+            (
+              c.type_bounds.frees-A-Allocator,
+              (
+                elim small [
+                  | inl e ↦ rw (e.0, e.1) (lit< tt)
+                  | inr e ↦ rw (e.0, e.1) (lit< tt)
+                ],
+                (sides, c.requires),
+              ),
+            ),
+          ),
+        ),
+      ),
     )
 
 pub loop-assertion-preserved : goal.loop-assertion-preserved
