@@ -1,46 +1,46 @@
-//! Checks in heaps of more and more bytes: each request for memory is refused in turn, and then none.
+//! Checks whose requests for memory are refused in turn: at the first of them, then at the second, until none is refused.
 
-use crate::samples::{PAINTING, SMALL};
+use crate::samples::{BUFFERS, PAINTING, SMALL};
 use csp_kinds::{Refused, check};
 use csp_lex::{TokenList, tokens};
 use csp_parse::{Raw, parse};
 use csp_term::Script;
 use csp_term::laws::equal_scripts;
 use linked_list_allocator::LocalHeap;
+use refusing_memory::RefusesOnce;
 use std::alloc::Global;
 use std::process::Abort;
 use std::test::Fail;
 
-/// A text in two parts, how much longer each heap is than the last one, in bytes, and the answer.
-type Row = (&'static str, &'static str, usize, &'static str);
+/// A heap that refuses one request.
+type Memory<'m, 'h> = &'m RefusesOnce<&'h LocalHeap>;
 
-static ROWS: [Row; 6] = [
-    (SMALL, "", 32, "fine"),
-    (SMALL, "assert P(0) [T= STOP", 32, "K03 at 5:1"),
-    (PAINTING, "", 128, "fine"),
+/// A text in two parts, and the answer.
+type Row = (&'static str, &'static str, &'static str);
+
+static ROWS: [Row; 7] = [
+    (SMALL, "", "fine"),
+    (SMALL, "assert P(0) [T= STOP", "K03 at 5:1"),
+    (BUFFERS, "", "fine"),
+    (PAINTING, "", "fine"),
     (
         PAINTING,
         "assert PAINT(0,{}) [T= STOP\nchannel paint",
-        128,
         "K02 at 15:9",
     ),
-    (PAINTING, "assert PAINT(0) [T= STOP", 128, "K04 at 14:8"),
-    (PAINTING, "assert PAINT({},0) [T= STOP", 128, "K03 at 14:1"),
+    (PAINTING, "assert PAINT(0) [T= STOP", "K04 at 14:8"),
+    (PAINTING, "assert PAINT({},0) [T= STOP", "K03 at 14:1"),
 ];
 
-/// How often memory was refused, and how often there was enough.
-#[derive(Clone, Copy)]
-struct Counts {
-    refused: u32,
-    answered: u32,
-}
+/// More requests than any of these checks makes.
+const MANY: u64 = 100_000;
 
 /// The tree of the text, in the heap.
-fn tree<'t, 'h>(
-    heap: &'h LocalHeap,
+fn tree<'t, 'm, 'h>(
+    memory: Memory<'m, 'h>,
     list: &TokenList<'t, Global>,
-) -> Result<Raw<'t, &'h LocalHeap>, Fail> {
-    match parse(heap, list) {
+) -> Result<Raw<'t, Memory<'m, 'h>>, Fail> {
+    match parse(memory, list) {
         Ok(raw) => Ok(raw),
         Err(refused) => Err(Fail::new(format_args!("{refused}"))),
     }
@@ -53,10 +53,10 @@ fn is_told(alloc: Global, refused: Refused, expected: &str) -> Result<bool, Fail
 }
 
 /// Whether the answer is the one that is expected, with an equal script where there is one.
-fn is_so<'h>(
+fn is_so<'m, 'h>(
     alloc: Global,
-    answer: &Result<Script<&'h LocalHeap>, Refused>,
-    whole: &Result<Script<&'h LocalHeap>, Refused>,
+    answer: &Result<Script<Memory<'m, 'h>>, Refused>,
+    whole: &Result<Script<Memory<'m, 'h>>, Refused>,
     expected: &str,
 ) -> Result<bool, Fail> {
     match (answer, whole) {
@@ -66,99 +66,99 @@ fn is_so<'h>(
     }
 }
 
-/// Whether the heap had room for the check, which then is answered so. Else the heap is empty again.
-fn is_checked<'h>(
-    rt: &impl Abort,
-    alloc: Global,
-    heap: &'h LocalHeap,
-    raw: &Raw<'_, &'h LocalHeap>,
-    whole: &Result<Script<&'h LocalHeap>, Refused>,
-    expected: &str,
-) -> Result<bool, Fail> {
-    let answer = check(heap, raw);
-    if let Err(Refused::Memory) = answer {
-        assert!(rt;
-            heap.used() == 0,
-            "{expected}: {} bytes are held",
-            heap.used()
-        );
-        return Ok(false);
-    }
-    let is_so = is_so(alloc, &answer, whole, expected)?;
-    assert!(rt;
-        is_so,
-        "{expected}: another answer in {} bytes",
-        heap.size()
-    );
-    Ok(true)
-}
-
-/// Two heaps, of which one has room for all.
+/// Two heaps, one for what is given and one for the check.
 #[derive(Drop)]
 struct Heaps {
     wide: LocalHeap,
     narrow: LocalHeap,
 }
 
-/// Checks the tokens' tree in the heap that has room, and then in the other one, in which there may be none.
+/// The wide heap, which grants all requests, and the narrow one, which refuses one.
+#[derive(Drop)]
+struct Memories<'h> {
+    ample: RefusesOnce<&'h LocalHeap>,
+    sparse: RefusesOnce<&'h LocalHeap>,
+}
+
+/// Whether the check was granted all that it asked for. It says that memory was refused, and then the narrow heap is empty
+/// again, or it is answered as with ample memory.
+fn is_checked<'m, 'h>(
+    rt: &impl Abort,
+    alloc: Global,
+    heaps: &'h Heaps,
+    memories: &'m Memories<'h>,
+    raw: &Raw<'_, Memory<'m, 'h>>,
+    whole: &Result<Script<Memory<'m, 'h>>, Refused>,
+    expected: &str,
+) -> Result<bool, Fail> {
+    let answer = check(&memories.sparse, raw);
+    let has_refused = memories.sparse.has_refused();
+    if has_refused && let Err(Refused::Memory) = answer {
+        let held = heaps.narrow.used();
+        assert!(rt; held == 0, "{expected}: {held} bytes are held");
+        return Ok(false);
+    }
+    let is_so = is_so(alloc, &answer, whole, expected)?;
+    assert!(rt; is_so, "another answer than {expected}");
+    Ok(!has_refused)
+}
+
+/// Checks the tokens' tree with ample memory, and then with the other one.
+fn is_checked_with<'m, 'h>(
+    rt: &impl Abort,
+    alloc: Global,
+    heaps: &'h Heaps,
+    memories: &'m Memories<'h>,
+    list: &TokenList<'_, Global>,
+    expected: &str,
+) -> Result<bool, Fail> {
+    let raw = tree(&memories.ample, list)?;
+    let whole = check(&memories.ample, &raw);
+    is_checked(rt, alloc, heaps, memories, &raw, &whole, expected)
+}
+
+/// Checks the tokens' tree where that request is refused.
 fn is_checked_in<'h>(
     rt: &impl Abort,
     alloc: Global,
     heaps: &'h Heaps,
     list: &TokenList<'_, Global>,
     expected: &str,
+    request: u64,
 ) -> Result<bool, Fail> {
-    let raw = tree(&heaps.wide, list)?;
-    let whole = check(&heaps.wide, &raw);
-    is_checked(rt, alloc, &heaps.narrow, &raw, &whole, expected)
-}
-
-/// Checks the tokens' tree, and the same in a heap of so many bytes.
-fn is_checked_within(
-    rt: &impl Abort,
-    alloc: Global,
-    list: &TokenList<'_, Global>,
-    expected: &str,
-    bytes: usize,
-) -> Result<bool, Fail> {
-    let wide = LocalHeap::new(alloc, 131_072)?;
-    let narrow = LocalHeap::new(alloc, bytes)?;
-    let heaps = Heaps { wide, narrow };
-    is_checked_in(rt, alloc, &heaps, list, expected)
-}
-
-/// Counts checks in heaps of more and more bytes.
-fn count_checks(
-    rt: &impl Abort,
-    alloc: Global,
-    list: &TokenList<'_, Global>,
-    step: usize,
-    expected: &str,
-) -> Result<Counts, Fail> {
-    let mut counts = Counts {
-        refused: 0,
-        answered: 0,
+    let memories = Memories {
+        ample: RefusesOnce::new(&heaps.wide, u64::MAX),
+        sparse: RefusesOnce::new(&heaps.narrow, request),
     };
-    for size in 1..256 {
-        if is_checked_within(rt, alloc, list, expected, step.saturating_mul(size))? {
-            counts.answered = counts.answered.saturating_add(1);
-        } else {
-            counts.refused = counts.refused.saturating_add(1);
+    is_checked_with(rt, alloc, heaps, &memories, list, expected)
+}
+
+/// How many requests a check makes, of which each was refused in turn.
+fn requests_of(
+    rt: &impl Abort,
+    alloc: Global,
+    list: &TokenList<'_, Global>,
+    expected: &str,
+) -> Result<u64, Fail> {
+    for request in 0..MANY {
+        let heaps = Heaps {
+            wide: LocalHeap::new(alloc, 131_072)?,
+            narrow: LocalHeap::new(alloc, 131_072)?,
+        };
+        if is_checked_in(rt, alloc, &heaps, list, expected, request)? {
+            return Ok(request);
         }
     }
-    Ok(counts)
+    Err(Fail::new("requests without end"))
 }
 
 #[test]
-fn a_check_that_finds_no_room_says_so(rt: HostRuntime) -> Result<(), Fail> {
-    for (start, end, step, expected) in &ROWS {
+fn a_check_that_is_refused_memory_says_so(rt: HostRuntime) -> Result<(), Fail> {
+    for (start, end, expected) in &ROWS {
         let text = format!(in rt.alloc(); "{start}{end}")?;
         let list = tokens(rt.alloc(), text.as_bytes())?;
-        let Counts { refused, answered } = count_checks(&rt, rt.alloc(), &list, *step, expected)?;
-        assert!(rt;
-            refused > 5 && answered > 20,
-            "{end}: {refused} and {answered}"
-        );
+        let requests = requests_of(&rt, rt.alloc(), &list, expected)?;
+        assert!(rt; requests > 5, "{end}: {requests}");
     }
     Ok(())
 }
