@@ -7,17 +7,27 @@
 #[cfg(test)]
 mod answers;
 #[cfg(test)]
+mod arena;
+#[cfg(test)]
 mod chains;
 #[cfg(test)]
 mod divergence;
 #[cfg(test)]
 mod evidence;
+mod fired;
 #[cfg(test)]
 mod growth;
+mod held;
 #[cfg(test)]
 mod limits;
 #[cfg(test)]
+mod orders;
+#[cfg(test)]
 mod paths;
+#[cfg(test)]
+mod positions;
+#[cfg(test)]
+mod refused_memory;
 #[cfg(test)]
 mod row;
 #[cfg(test)]

@@ -37,6 +37,16 @@ pub(crate) fn tables() -> [&'static [Row]; 10] {
     ]
 }
 
+/// The tables whose answers rest on which of several rows of a level is looked at.
+pub(crate) fn small_tables() -> [&'static [Row]; 4] {
+    [
+        paths::rows(),
+        evidence::rows(),
+        stops::rows(),
+        limits::rows(),
+    ]
+}
+
 /// The script of the row.
 pub(crate) fn script(alloc: Global, row: &Row) -> Result<Script<Global>, Fail> {
     let text = format!(in alloc;

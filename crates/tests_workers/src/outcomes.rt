@@ -1,0 +1,116 @@
+//! The answer is the same for every number of workers, and in whichever order they put.
+
+ghost use Rattle.std.specs.Prelude.{◌≤◌};
+ghost use Rattle.csp_answers.specs.Terms.{IsAssertionOf};
+ghost use Rattle.csp_term.specs.Script.{assertion_of, script_of};
+
+use crate::gates::Holding;
+use crate::scripts::{
+    A_HUNDRED_VIOLATIONS, IN_A_BUFFER_OF_ONE, IN_A_BUFFER_OF_TWO, ONE_WIDE_LEVEL,
+    THREE_WIDE_LEVELS, script,
+};
+use csp_term::{Assertion, Script};
+use explore::{Gate, Open, explore};
+use pair_store::Limits;
+use report::{Buffer, write};
+use std::alloc::Global;
+use std::process::Abort;
+use std::sync::Wait;
+use std::test::Fail;
+use std::thread::Threads;
+use verdict::Outcome;
+
+// A script, the levels of a hundred rows in which a worker is held, the puts of others that it waits for, and the lines.
+type Held = (&'static str, u64, u64, &'static str);
+
+static HELD: [Held; 5] = [
+    (ONE_WIDE_LEVEL, 1, 1, "1 holds\n"),
+    (ONE_WIDE_LEVEL, 1, 3, "1 holds\n"),
+    (THREE_WIDE_LEVELS, 3, 1, "1 holds\n"),
+    (THREE_WIDE_LEVELS, 3, 3, "1 holds\n"),
+    (
+        A_HUNDRED_VIOLATIONS,
+        1,
+        3,
+        "1 fails trace <c.0> event d.0\n",
+    ),
+];
+
+// A script, and the line of its assertion.
+static CHAINS: [(&str, &str); 2] = [
+    (IN_A_BUFFER_OF_TWO, "1 holds\n"),
+    (IN_A_BUFFER_OF_ONE, "1 fails trace <in.0> event in.0\n"),
+];
+
+// The answer to the assertion.
+fn outcome<R: Threads + Wait + Sync, G: Gate>(
+    alloc: Global,
+    rt: &R,
+    script: &Script<Global>,
+    assertion: &Assertion<Global>,
+    workers: usize,
+    gate: &G,
+) -> Outcome<Global>
+    requires terms { IsAssertionOf (script_of script.now) (assertion_of assertion.now) }
+    requires workers { (1 ≤ workers) × (workers ≤ 64) }
+{
+    let limits = Limits::new(1000, 100);
+    explore(alloc, rt, script, assertion, limits, workers, gate)
+}
+
+// The line of the text's one assertion.
+fn lines<R: Threads + Wait + Sync, G: Gate>(
+    alloc: Global,
+    rt: &R,
+    text: &str,
+    workers: usize,
+    gate: &G,
+) -> Result<Vec<u8>, Fail>
+    requires { (1 ≤ workers) × (workers ≤ 64) }
+{
+    let script = script(alloc, text)?;
+    let Some(assertion) = script.assertions().first() else {
+        return Err(Fail::new("no assertion"));
+    };
+    let outcomes = [outcome(alloc, rt, &script, assertion, workers, gate)];
+    let mut lines = Buffer::new(alloc);
+    write(alloc, &script, &outcomes, &mut lines)?;
+    Ok(lines.bytes)
+}
+
+fn is_answered_held<R: Abort + Threads + Wait + Sync>(
+    rt: &R,
+    alloc: Global,
+    row: &Held,
+) -> Result<(), Fail> {
+    let (text, levels, others, expected) = *row;
+    let alone = lines(alloc, rt, text, 1, &Open)?;
+    assert!(rt; alone.as_slice() == expected.as_bytes(), "alone at {text}");
+    let gate = Holding::new(levels, others);
+    let together = lines(alloc, rt, text, 2, &gate)?;
+    assert!(rt; together.as_slice() == expected.as_bytes(), "at {text}");
+    assert!(rt; gate.held_and_saw(), "nobody overtook at {text}");
+    Ok(())
+}
+
+#[test]
+fn two_workers(rt: HostRuntime) -> Result<(), Fail> {
+    for row in &HELD {
+        is_answered_held(&rt, rt.alloc(), row)?;
+    }
+    Ok(())
+}
+
+#[test]
+fn many_workers(rt: HostRuntime) -> Result<(), Fail> {
+    for workers in [1, 2, 8, 64] {
+        for (text, expected) in &CHAINS {
+            let lines = lines(rt.alloc(), &rt, text, workers, &Open)?;
+            assert!(rt;
+                lines.as_slice() == expected.as_bytes(),
+                "by {workers} at {text}"
+            );
+        }
+    }
+    Ok(())
+}
