@@ -1,1 +1,2 @@
 pub mod Seats
+mod Crossing
