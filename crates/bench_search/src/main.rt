@@ -1,129 +1,159 @@
 //! Searches a hidden chain of buffers, a table of philosophers, a ring that passes a token, and a counter, a level for each
-//! of its pairs, and says on standard error how many pairs a second that is. The first word is the number of workers, 1
-//! where there is none. With a second word, whatever it is, all systems are larger, and the counter has 30,002 levels.
-//!
-//! Behind it a line says which share of the time one worker is in each part of its rounds: copying the level, putting,
-//! which alone is under the lock, and closing the level. The rest is firing.
+//! of its pairs, and says on standard error how many pairs a second that is. With an argument, whatever it is, all of them
+//! are larger, and the counter has 30,002 levels.
 #![tactic(auto)]
 
-ghost use Rattle.std.specs.Prelude.{◌≤◌};
-
-mod catalogue;
-mod timing;
-
 use anyhow::{Result, bail, ensure};
-use catalogue::{SYSTEMS, Size, System, text_of};
 use csp_kinds::check;
 use csp_lex::tokens;
 use csp_parse::parse;
 use csp_term::Script;
-use explore::{Open, explore};
+use explore::explore_alone;
 use pair_store::Limits;
-use std::alloc::Global;
+use std::alloc::{AllocError, Global};
 use std::env;
-use std::rt::Clock;
-use std::sync::Wait;
-use std::thread::Threads;
 use std::time::Instant;
-use timing::{Parts, parts_of};
 use verdict::Outcome;
 
-// The words of the command line.
-struct Words {
-    workers: usize,
-    is_large: bool,
-    ghost workers_in_range: { (1 ≤ workers) × (workers ≤ 64) },
+/// A system of some size, and how many pairs are reachable then.
+#[derive(Clone, Copy)]
+struct Size {
+    size: u32,
+    pairs: u32,
 }
 
-fn read_words(rt: &HostRuntime) -> Result<Words> {
-    let mut words = env::args(rt)?.skip(1);
-    let Some(word) = words.next() else {
-        return Ok(Words {
-            workers: 1,
-            is_large: false,
-        });
-    };
-    let workers = word.parse::<usize>()?;
-    ensure!(workers > 0 && workers <= 64, "workers out of range");
-    Ok(Words {
-        workers,
-        is_large: words.next().is_some(),
-    })
+/// A script whose one assertion holds. Its text has the size in the place of `$`, and one less in that of `~`.
+struct System {
+    name: &'static str,
+    text: &'static str,
+    small: Size,
+    large: Size,
 }
 
-// Room for so many pairs and no more.
-fn limits(pairs: u32) -> Result<Limits> {
+static SYSTEMS: [System; 4] = [
+    System {
+        name: "chain of buffers",
+        text: "channel c : {0..$}.{0..1}
+BUFFER(i) = c!i?x -> c!(i+1)!x -> BUFFER(i)
+CHAIN(n) = if n == 0 then BUFFER(0) else (CHAIN(n-1) [| {| c.n |} |] BUFFER(n))
+ENDS = (c!0?x -> ENDS) [] (c!$?x -> ENDS)
+assert ENDS [T= CHAIN(~) \\ diff({| c |},{| c.0, c.$ |})
+",
+        small: Size { size: 3, pairs: 75 },
+        large: Size {
+            size: 6,
+            pairs: 4191,
+        },
+    },
+    System {
+        name: "philosophers",
+        text: "channel get, put : {0..~}.{0..~}
+PHILOSOPHER(i) = get!i!i -> get!i!((i+1) % $) -> put!i!i -> put!i!((i+1) % $) -> PHILOSOPHER(i)
+FORK(i) = (get!i!i -> put!i!i -> FORK(i)) [] (get!((i+~) % $)!i -> put!((i+~) % $)!i -> FORK(i))
+PHILOSOPHERS = ||| i:{0..~} @ PHILOSOPHER(i)
+FORKS = ||| i:{0..~} @ FORK(i)
+ANY = (get?i?f -> ANY) [] (put?i?f -> ANY)
+assert ANY [T= PHILOSOPHERS [| {| get, put |} |] FORKS
+",
+        small: Size { size: 2, pairs: 53 },
+        large: Size {
+            size: 4,
+            pairs: 1505,
+        },
+    },
+    System {
+        name: "ring with a token",
+        text: "channel enter, leave, pass : {0..~}
+NODE(i) = pass!i -> HOLDER(i)
+HOLDER(i) = enter!i -> leave!i -> pass!((i+1) % $) -> NODE(i)
+NODES(n) = if n == 0 then HOLDER(0) else (NODES(n-1) [| {pass.n} |] NODE(n))
+RING = NODES(~-1) [| {pass.0,pass.~} |] NODE(~)
+SAFE = enter?i -> leave!i -> SAFE
+assert SAFE [T= RING \\ {| pass |}
+",
+        small: Size { size: 3, pairs: 59 },
+        large: Size {
+            size: 8,
+            pairs: 4479,
+        },
+    },
+    System {
+        name: "counter",
+        text: "channel up
+COUNTER(n) = n < $ & up -> COUNTER(n+1)
+UP = up -> UP
+assert UP [T= COUNTER(0)
+",
+        small: Size {
+            size: 150,
+            pairs: 302,
+        },
+        large: Size {
+            size: 15000,
+            pairs: 30002,
+        },
+    },
+];
+
+/// The piece of a text, and what stands for the sign at its end.
+fn push_piece(alloc: Global, text: &mut String, piece: &str, size: u32) -> Result<(), AllocError> {
+    if let Some(before) = piece.strip_suffix('$') {
+        text.push_str(before)?;
+        return text.push_str(format!(in alloc; "{size}")?.as_str());
+    }
+    if let Some(before) = piece.strip_suffix('~') {
+        let less = size.saturating_sub(1);
+        text.push_str(before)?;
+        return text.push_str(format!(in alloc; "{less}")?.as_str());
+    }
+    text.push_str(piece)
+}
+
+/// The text of that size.
+fn text_of(alloc: Global, system: &System, size: u32) -> Result<String, AllocError> {
+    let mut text = String::new(alloc);
+    for piece in system.text.split_inclusive(['$', '~']) {
+        push_piece(alloc, &mut text, piece, size)?;
+    }
+    Ok(text)
+}
+
+/// Whether the script's first assertion holds, with room for so many pairs and no more.
+fn holds(alloc: Global, script: &Script<Global>, pairs: u32) -> Result<bool> {
     let most = usize::try_from(pairs)?;
     ensure!(most > 0 && most <= 1_000_000, "a number out of range");
-    Ok(Limits::new(most, 100))
-}
-
-// Whether the script's first assertion holds, by so many workers.
-fn holds<R: Threads + Wait + Sync>(
-    alloc: Global,
-    rt: &R,
-    script: &Script<Global>,
-    limits: Limits,
-    workers: usize,
-) -> Result<bool>
-    requires { (1 ≤ workers) × (workers ≤ 64) }
-{
     match script.assertions().first() {
         Some(assertion) => {
-            let outcome = explore(alloc, rt, script, assertion, limits, workers, &Open);
+            let outcome = explore_alone(alloc, script, assertion, Limits::new(most, 100));
             Ok(matches!(outcome, Outcome::Holds))
         }
         None => bail!("no assertion"),
     }
 }
 
-fn script_of(alloc: Global, system: &System, size: u32) -> Result<Script<Global>> {
-    let text = text_of(alloc, system, size)?;
+/// Says how many pairs a second are searched.
+fn measure(rt: &HostRuntime, system: &System, size: Size) -> Result<()> {
+    let alloc = rt.alloc();
+    let text = text_of(alloc, system, size.size)?;
     let list = tokens(alloc, text.as_bytes())?;
     let raw = parse(alloc, &list)?;
-    Ok(check(alloc, &raw)?)
-}
-
-// How many pairs a second so many workers search.
-fn speed<R: Threads + Wait + Clock + Sync>(
-    alloc: Global,
-    rt: &R,
-    script: &Script<Global>,
-    pairs: u32,
-    workers: usize,
-) -> Result<f64>
-    requires { (1 ≤ workers) × (workers ≤ 64) }
-{
+    let script = check(alloc, &raw)?;
     let start = Instant::now(rt)?;
-    ensure!(
-        holds(alloc, rt, script, limits(pairs)?, workers)?,
-        "it does not hold"
-    );
-    Ok(f64::from(pairs) / start.elapsed(rt)?.as_secs_f64())
+    ensure!(holds(alloc, &script, size.pairs)?, "it does not hold");
+    let seconds = start.elapsed(rt)?.as_secs_f64();
+    let speed = f64::from(size.pairs) / seconds;
+    eprintln!(rt;
+        "{}: {} pairs, {speed:.0} pairs a second",
+        system.name, size.pairs
+    )?;
+    Ok(())
 }
 
 fn main(rt: HostRuntime) -> Result<()> {
-    let Words { workers, is_large } = read_words(&rt)?;
+    let is_large = env::args(&rt)?.len() > 1;
     for system in &SYSTEMS {
-        let Size { size, pairs } = if is_large { system.large } else { system.small };
-        let script = script_of(rt.alloc(), system, size)?;
-        let speed = speed(rt.alloc(), &rt, &script, pairs, workers)?;
-        eprintln!(rt;
-            "{}: {pairs} pairs, {speed:.0} pairs a second by {workers}",
-            system.name
-        )?;
-        let Parts {
-            level,
-            put,
-            close,
-            whole,
-        } = parts_of(rt.alloc(), &rt, &script, limits(pairs)?)?;
-        eprintln!(rt;
-            "    by one: level {:.1}%, put {:.1}%, close {:.1}% of {whole:.3} s",
-            100.0 * level / whole,
-            100.0 * put / whole,
-            100.0 * close / whole
-        )?;
+        let size = if is_large { system.large } else { system.small };
+        measure(&rt, system, size)?;
     }
     Ok(())
 }

@@ -1,15 +1,15 @@
 //! Posts that look on.
 
 use explore::Post;
-use pair_store::{Batch, Level, PutFault, Task};
+use pair_store::{Batch, PutFault, Task};
 use std::alloc::Global;
 use std::sync::atomic::AtomicU64;
 use std::sync::atomic::Ordering::SeqCst;
 
-/// Records how long each batch is, and how many places come in the order of the level.
+/// Records how long each batch is, and how many places come in the order of a level, whose places it knows.
 #[derive(Drop)]
 pub(crate) struct Recorder<'l> {
-    level: &'l Level<Global>,
+    places: &'l [usize],
     puts: AtomicU64,
     lengths: [AtomicU64; 3],
     pairs: AtomicU64,
@@ -17,9 +17,9 @@ pub(crate) struct Recorder<'l> {
 }
 
 impl<'l> Recorder<'l> {
-    pub(crate) fn new(level: &'l Level<Global>) -> Recorder<'l> {
+    pub(crate) fn new(places: &'l [usize]) -> Recorder<'l> {
         Recorder {
-            level,
+            places,
             puts: AtomicU64::new(0),
             lengths: [AtomicU64::new(0), AtomicU64::new(0), AtomicU64::new(0)],
             pairs: AtomicU64::new(0),
@@ -40,9 +40,7 @@ impl<'l> Recorder<'l> {
 
     fn record(&self, place: usize) {
         let position = self.pairs.fetch_add(1, SeqCst);
-        if let Some(row) = self.level.rows.get(position as usize)
-            && row.place == place
-        {
+        if self.places.get(position as usize) == Some(&place) {
             self.in_order.fetch_add(1, SeqCst);
         }
     }

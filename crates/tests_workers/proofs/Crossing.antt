@@ -1,7 +1,0 @@
--- What may cross to the threads of workers, type by type.
-pub mod Values
-pub mod Terms
-pub mod Scripts
-pub mod Tables
-pub mod NormalForms
-pub mod Stores
