@@ -4,6 +4,7 @@
 
 #[cfg(test)]
 mod gates;
+mod held;
 #[cfg(test)]
 mod outcomes;
 #[cfg(test)]
