@@ -8,16 +8,15 @@ use Rattle.csp_semantics.specs.Meaning.Evaluation.{Cause}
 use Rattle.csp_semantics.specs.Meaning.Refinement.{IsRefinement}
 use Rattle.csp_semantics.specs.Meaning.Violations.{Violation, IsViolation}
 use Rattle.csp_answers.specs.Outcome.{Bounds, TooManyPairs, TooManyNodes, LargeTerm, Fault, NoMemory, Outcome, Holds, Fails, Unknown}
-use Rattle.csp_semantics.specs.Meaning.Runs.{NoneStuck}
-use Rattle.explore.specs.Answering.{IsAnswerOrNoMemory, IsReason, IsRight, IsTrueOf}
+use Rattle.explore.specs.Answering.{IsAnswerOrNoMemory, IsReason, IsRight, IsTrueOf, NeitherSideStuck}
 use Rattle.refcheck.specs.Answering.{AreRight}
 
 -- An outcome is right where it is the one answer, and each answer that it may be says what it should.
 module _ (script : Script) (a : Assertion) (bounds : Bounds) where
-  is_true : (o : Outcome) → (o ≡ Holds → IsRefinement script a) → (o ≡ Holds → NoneStuck script a.specification × NoneStuck script a.implementation) →
+  is_true : (o : Outcome) → (o ≡ Holds → IsRefinement script a) → (o ≡ Holds → NeitherSideStuck script a) →
       ((v : Violation) → o ≡ Fails v → IsViolation script a v) → (o ≡ Unknown TooManyPairs → IsReason script a bounds TooManyPairs) → (o ≡ Unknown TooManyNodes → IsReason script a bounds TooManyNodes) →
       (o ≡ Unknown LargeTerm → IsReason script a bounds LargeTerm) → ((cause : Cause) → o ≡ Unknown (Fault cause) → IsReason script a bounds (Fault cause)) → IsTrueOf script a bounds o
-  is_true Holds refines unstuck fails pairs nodes term fault = (refines refl, (unstuck refl).0, (unstuck refl).1)
+  is_true Holds refines unstuck fails pairs nodes term fault = (refines refl, unstuck refl)
   is_true (Fails v) refines unstuck fails pairs nodes term fault = fails v refl
   is_true (Unknown TooManyPairs) refines unstuck fails pairs nodes term fault = pairs refl
   is_true (Unknown TooManyNodes) refines unstuck fails pairs nodes term fault = nodes refl
@@ -25,7 +24,7 @@ module _ (script : Script) (a : Assertion) (bounds : Bounds) where
   is_true (Unknown (Fault cause)) refines unstuck fails pairs nodes term fault = fault cause refl
   is_true (Unknown NoMemory) refines unstuck fails pairs nodes term fault = tt
 
-  pub is_right : (o : Outcome) → IsAnswerOrNoMemory script a bounds o → (o ≡ Holds → IsRefinement script a) → (o ≡ Holds → NoneStuck script a.specification × NoneStuck script a.implementation) →
+  pub is_right : (o : Outcome) → IsAnswerOrNoMemory script a bounds o → (o ≡ Holds → IsRefinement script a) → (o ≡ Holds → NeitherSideStuck script a) →
       ((v : Violation) → o ≡ Fails v → IsViolation script a v) → (o ≡ Unknown TooManyPairs → IsReason script a bounds TooManyPairs) → (o ≡ Unknown TooManyNodes → IsReason script a bounds TooManyNodes) →
       (o ≡ Unknown LargeTerm → IsReason script a bounds LargeTerm) → ((cause : Cause) → o ≡ Unknown (Fault cause) → IsReason script a bounds (Fault cause)) → IsRight script a bounds o
   is_right o answer refines unstuck fails pairs nodes term fault = record { answer = answer; true_of = is_true o refines unstuck fails pairs nodes term fault }
