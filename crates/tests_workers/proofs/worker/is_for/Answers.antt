@@ -2,4 +2,4 @@
 use Rattle.tests_workers.proofs.worker.is_for.Goals as goal
 
 pub returns : goal.returns
-returns g c = λ t. (c.asked.ensures.0 t).of_script
+returns c = λ t. (c.asked.ensures.0 t).of_script
