@@ -8,8 +8,8 @@ use csp_parse::parse;
 use std::alloc::{AllocError, Global};
 use std::time::Instant;
 
-/// What a text begins with, what it repeats, each time with the next number in the place of `$` and the one behind it in
-/// that of `~`, how often, and its end.
+/// What a text begins with, what it repeats, each time with the next number in the place of `$` and the one behind it
+/// in that of `~`, how often, and its end.
 struct Text {
     name: &'static str,
     begin: &'static str,

@@ -1,6 +1,6 @@
-//! Measures the parts of a check, each over inputs of its own, and says on standard error how fast each is: the tokens and the
-//! tree of a long text, the names and kinds of texts that ask much of them, normal forms, and searches by 1, 2 and 4 workers,
-//! with the shares of a search's time. With an argument, whatever it is, the searches are larger.
+//! Measures the parts of a check, each over inputs of its own, and says on standard error how fast each is: the tokens
+//! and the tree of a long text, the names and kinds of texts that ask much of them, normal forms, and searches by 1, 2
+//! and 4 workers, with the shares of a search's time. With an argument, whatever it is, the searches are larger.
 #![tactic(auto)]
 
 mod kinds;

@@ -1,5 +1,5 @@
-//! Normal forms: of a hidden chain of buffers, whose nodes have many states each, and of an interleaving of counters, which
-//! has 2,401 nodes.
+//! Normal forms: of a hidden chain of buffers, whose nodes have many states each, and of an interleaving of counters,
+//! which has 2,401 nodes.
 
 ghost use Rattle.std.specs.Prelude.{IfOk};
 ghost use Rattle.csp_semantics.specs.Kinds.Scripts.{IsTermOf};
@@ -13,7 +13,8 @@ use csp_term::{Script, Term};
 use std::alloc::Global;
 use std::time::Instant;
 
-/// Six one-place buffers over two values. A node tells the contents of all, a row of at most six values: 127 nodes at least.
+/// Six one-place buffers over two values. A node tells the contents of all, a row of at most six values: 127 nodes at
+/// least.
 const BUFFERS: &str = "channel c : {0..6}.{0..1}
 BUFFER(i) = c!i?x -> c!(i+1)!x -> BUFFER(i)
 TWO(i) = (BUFFER(i) [| {| c.(i+1) |} |] BUFFER(i+1)) \\ {| c.(i+1) |}

@@ -1,5 +1,5 @@
-//! Searches: of a hidden chain of buffers, a table of philosophers, a ring that passes a token, and a counter, which has a
-//! level for each of its pairs.
+//! Searches: of a hidden chain of buffers, a table of philosophers, a ring that passes a token, and a counter, which
+//! has a level for each of its pairs.
 
 ghost use Rattle.std.specs.Prelude.{◌≤◌};
 
@@ -69,8 +69,8 @@ pub(crate) struct Speeds {
     four: f64,
 }
 
-/// How fast the search for a violation of the script's first assertion is, which holds and has so many pairs; and where the
-/// time of one worker goes.
+/// How fast the search for a violation of the script's first assertion is, which holds and has so many pairs; and where
+/// the time of one worker goes.
 pub(crate) fn speeds_of<R: Threads + Wait + Clock + Sync>(
     alloc: Global,
     rt: &R,

@@ -7,7 +7,8 @@ use csp_expression::Expr;
 use csp_value::{ChannelId, Memory, TryCopy};
 use std::alloc::Allocator;
 
-/// `c.e.f`, a channel with expressions for its first fields. The order is that of the channels, then of the fields in turn.
+/// `c.e.f`, a channel with expressions for its first fields. The order is that of the channels, then of the fields in
+/// turn.
 #[derive(Drop)]
 #[derive_where(PartialEq, Eq, PartialOrd, Ord, Hash)]
 pub struct EventExpression<A: Allocator> {

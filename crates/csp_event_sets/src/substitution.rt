@@ -13,7 +13,8 @@ use csp_value::Memory;
 use std::alloc::Allocator;
 
 impl<A: Allocator + Copy> EventExpression<A> {
-    /// The event in the given allocator with each name of the list replaced by its value. `Memory` where there is no room.
+    /// The event in the given allocator with each name of the list replaced by its value. `Memory` where there is no
+    /// room.
     pub fn put_in(
         &self,
         alloc: A,
@@ -30,7 +31,8 @@ impl<A: Allocator + Copy> EventExpression<A> {
 }
 
 impl<A: Allocator + Copy> RenamingPair<A> {
-    /// The pair in the given allocator with each name of the list replaced by its value. `Memory` where there is no room.
+    /// The pair in the given allocator with each name of the list replaced by its value. `Memory` where there is no
+    /// room.
     pub fn put_in(&self, alloc: A, bindings: &[Binding<'_, A>]) -> Result<RenamingPair<A>, Memory>
         ensures { IfOk result (λ put. renaming_pair_of put ≡ put_pair (bindings_of bindings.now) (renaming_pair_of self.now)) }
     {
@@ -41,7 +43,8 @@ impl<A: Allocator + Copy> RenamingPair<A> {
 }
 
 impl<A: Allocator + Copy> EventSet<A> {
-    /// The set in the given allocator with each name of the list replaced by its value. `Memory` where there is no room.
+    /// The set in the given allocator with each name of the list replaced by its value. `Memory` where there is no
+    /// room.
     #[tactic(auto, using(crate::proofs::EventPutting::put_combined))]
     pub fn put_in(&self, alloc: A, bindings: &[Binding<'_, A>]) -> Result<EventSet<A>, Memory>
         ensures { IfOk result (λ put. event_set_of put ≡ put_event_set (bindings_of bindings.now) (event_set_of self.now)) }

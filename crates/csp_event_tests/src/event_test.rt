@@ -192,8 +192,8 @@ fn is_beginning<A: AllocHandle>(
     found.is_ok()
 }
 
-/// Whether the event begins with one of these, which rise. Its channel is looked for by halving with none of its fields,
-/// with the first one, and so on: so many searches as it has fields, and one more.
+/// Whether the event begins with one of these, which rise. Its channel is looked for by halving with none of its
+/// fields, with the first one, and so on: so many searches as it has fields, and one more.
 fn is_begun<A: AllocHandle>(beginnings: &[Event<A>], event: &Event<A>) -> bool
     requires { IsSortedBy (λ e f. is_lt (event_cmp (event_of e) (event_of f))) beginnings.now }
     ensures { result ≡ list_any (begins_with (event_of event.now)) (map event_of beginnings.now) }

@@ -52,7 +52,8 @@ pub(crate) fn multiply<A: Allocator>(left: &Value<A>, right: &Value<A>) -> Resul
     }
 }
 
-/// `e % f`: the number from 0 to `f` - 1 that differs from `e` by a multiple of `f`. `Modulus` where `f` is not positive.
+/// `e % f`: the number from 0 to `f` - 1 that differs from `e` by a multiple of `f`. `Modulus` where `f` is not
+/// positive.
 pub(crate) fn remainder<A: Allocator>(left: &Value<A>, right: &Value<A>) -> Result<Value<A>, Cause>
     ensures { IsAnswer result (combine pure.Modulus (value_of left.now) (value_of right.now)) }
 {

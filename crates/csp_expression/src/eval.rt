@@ -25,9 +25,9 @@ use csp_value::Value;
 use std::alloc::Allocator;
 
 impl<A: Allocator + Copy> Expr<A> {
-    /// The value of the closed, well-kinded expression in the given allocator, or the first fault from left to right for
-    /// which it has none. `and` and `or` look at their right side only where the left one does not decide. `Memory` says
-    /// nothing of the value.
+    /// The value of the closed, well-kinded expression in the given allocator, or the first fault from left to right
+    /// for which it has none. `and` and `or` look at their right side only where the left one does not decide. `Memory`
+    /// says nothing of the value.
     pub fn eval(&self, alloc: A, types: &TypeTable<A>) -> Result<Value<A>, EvalFault>
         requires closed { IsClosedExpression (table_of types.now) (expression_of self.now) }
         ensures { Answers result (value (table_of types.now) (expression_of self.now)) }

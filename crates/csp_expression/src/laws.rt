@@ -1,5 +1,5 @@
-//! What the comparisons mean: two expressions are equal exactly where those that they stand for are, whichever allocator
-//! holds them, their order is that of the definitions, and those that stand for the same have one hash.
+//! What the comparisons mean: two expressions are equal exactly where those that they stand for are, whichever
+//! allocator holds them, their order is that of the definitions, and those that stand for the same have one hash.
 
 ghost use Rattle.std.specs.Prelude.{◌≡◌, ◌↔◌, IsTrue};
 ghost use Rattle.std.specs.List.{fold};

@@ -1,10 +1,10 @@
 //! Expressions, their values, and values put in for names.
 //!
 //! An expression stands for one of the definitions, by `expression_of`, and every call here is stated over that one: a
-//! copy stands for the same, `==`, the order and the hash of two expressions are those of what they stand for, whichever
-//! allocator holds them, `eval` answers the value or the first fault of a closed, well-kinded expression, and values are
-//! put in as the definitions say. `look` and `find_value`, over any expression, have one cause more: an operand of the
-//! wrong kind.
+//! copy stands for the same, `==`, the order and the hash of two expressions are those of what they stand for,
+//! whichever allocator holds them, `eval` answers the value or the first fault of a closed, well-kinded expression, and
+//! values are put in as the definitions say. `look` and `find_value`, over any expression, have one cause more: an
+//! operand of the wrong kind.
 #![tactic(auto)]
 
 mod arithmetic;

@@ -7,7 +7,8 @@ use csp_value::Memory;
 use std::alloc::AllocFailed;
 use thiserror::Error;
 
-/// Why the value of an expression, a set of events, a renaming or the steps of a term are not answered, over any script.
+/// Why the value of an expression, a set of events, a renaming or the steps of a term are not answered, over any
+/// script.
 #[derive(Clone, Copy, Debug, PartialEq, Eq, Error)]
 pub enum NoValue {
     /// There is no room for the answer.

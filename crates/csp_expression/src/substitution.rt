@@ -84,8 +84,8 @@ fn ranging<A: Allocator + Copy>(alloc: A, from: Expr<A>, to: Expr<A>) -> Result<
 }
 
 impl<A: Allocator + Copy> Expr<A> {
-    /// The expression in the given allocator with each name of the list replaced by its value, of which the first counts
-    /// where a name is there more than once. Nothing is evaluated. `Memory` where there is no room.
+    /// The expression in the given allocator with each name of the list replaced by its value, of which the first
+    /// counts where a name is there more than once. Nothing is evaluated. `Memory` where there is no room.
     #[cycle(put)]
     pub fn put_in(&self, alloc: A, bindings: &[Binding<'_, A>]) -> Result<Expr<A>, Memory>
         ensures { IfOk result (λ put. expression_of put ≡ put_expression (bindings_of bindings.now) (expression_of self.now)) }

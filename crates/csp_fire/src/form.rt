@@ -13,7 +13,8 @@ pub struct Step<A: AllocHandle> {
 /// What one firing shows of a term.
 #[derive(Drop)]
 pub enum Form<A: AllocHandle> {
-    /// All steps, by action and then by target, each once; and the acceptances as rising lists of actions, sorted, each once.
+    /// All steps, by action and then by target, each once; and the acceptances as rising lists of actions, sorted, each
+    /// once.
     Steps(Vec<Step<A>, A>, Vec<Vec<Action<A>, A>, A>),
     /// A rule for the term needs a value that does not exist. This is the first cause.
     Faulty(Fault),

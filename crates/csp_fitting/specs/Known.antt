@@ -8,7 +8,8 @@ use Rattle.csp_checking.specs.Inference.Equations.{Ask, Numbering, kinds_under, 
 use Rattle.csp_checking.specs.Inference.Items.{AreNumbersFor, next_number}
 use Rattle.csp_checking.specs.Inference.Sets.{FitFirstSets}
 
--- The numbering is the tree's, and the state solves the equations that the sets so far ask for. The numbers below the next one are in use.
+-- The numbering is the tree's, and the state solves the equations that the sets so far ask for. The numbers below the
+-- next one are in use.
 pub record AreKnown (raw so_far : RawScript) (o : Numbering) (next : ℕ) (s : State) : Type 0 where
   pub owners : AreOwners (types_of raw) o
   pub numbers : AreNumbersFor raw (next_number raw) o

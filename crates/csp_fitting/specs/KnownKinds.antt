@@ -28,7 +28,8 @@ Fits raw so_far known (Ok _) = KnowsKinds raw so_far known × SomeFit (types_of 
 Fits raw so_far known (Err misfit.NoKinds) = ¬ (SomeFit (types_of raw) so_far)
 Fits raw so_far known (Err misfit.Memory) = ⊤
 
--- Over a tree in which the nametype stands behind so many others, with this set or one in which a name is refused: whether some kinds fit the sets up to it.
+-- Over a tree in which the nametype stands behind so many others, with this set or one in which a name is refused:
+-- whether some kinds fit the sets up to it.
 abbrev pub FitsNametype : {A : Type 0} → Types → ℕ → Option Expression → KnownKinds A → KnownKinds A → Result (Unit {0}) Misfit → Type 0
 FitsNametype types nametype set old new result =
     (raw above below : RawScript) (name : RawName) (domain : RawDomain) → raw ≡ above ++ RawNametype name domain ∷ below → types.datatypes ≡ (types_of raw).datatypes → nametype ≡ length (nametype_sets above) →
@@ -40,7 +41,8 @@ pub record IsColumnOf (column : Column) (above : RawScript) (names : List RawNam
   pub channels : column.channels ≡ length names
   pub field : column.field ≡ length before
 
--- Over a tree in which channels have this set as their next field, or one in which a name is refused: whether some kinds fit the sets up to it.
+-- Over a tree in which channels have this set as their next field, or one in which a name is refused: whether some
+-- kinds fit the sets up to it.
 abbrev pub FitsField : {A : Type 0} → Types → Column → Option Expression → KnownKinds A → KnownKinds A → Result (Unit {0}) Misfit → Type 0
 FitsField types column set old new result =
     (raw above below : RawScript) (names : List RawName) (before rest : List RawDomain) (d : RawDomain) → raw ≡ above ++ RawChannels names (before ++ d ∷ rest) ∷ below → types.datatypes ≡ (types_of raw).datatypes → IsColumnOf column above names before →

@@ -16,8 +16,9 @@ use csp_term::ScriptParts;
 use std::alloc::Allocator;
 
 impl<A: Allocator + Copy> KnownKinds<A> {
-    /// Takes up the equations and assertions of the tree's script, once all sets are. `WrongKind` at the first one that no
-    /// kinds fit, with those before it and the sets, and `Memory` where there is no room; then this is of no more use.
+    /// Takes up the equations and assertions of the tree's script, once all sets are. `WrongKind` at the first one that
+    /// no kinds fit, with those before it and the sets, and `Memory` where there is no room; then this is of no more
+    /// use.
     pub fn fit_items(
         &mut self,
         alloc: A,

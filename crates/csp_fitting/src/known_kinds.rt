@@ -21,7 +21,8 @@ pub struct KnownKinds<A: Allocator> {
 }
 
 impl<A: Allocator + Copy> KnownKinds<A> {
-    /// Each part of the tree has a number, and no set is looked at yet. `Memory` where there is no room for the numbers.
+    /// Each part of the tree has a number, and no set is looked at yet. `Memory` where there is no room for the
+    /// numbers.
     pub fn new(alloc: A, raw: &Raw<'_, A>) -> Result<KnownKinds<A>, Memory>
         ensures { IfOk result (λ known. NoneRefused IsRedeclared (all_declared (script_of raw.now)) → KnowsKinds (script_of raw.now) [] known) }
     {

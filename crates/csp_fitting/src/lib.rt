@@ -1,5 +1,5 @@
-//! Whether kinds fit a tree: its parts are numbered, and the equations between their kinds solved, set by set and item by
-//! item.
+//! Whether kinds fit a tree: its parts are numbered, and the equations between their kinds solved, set by set and item
+//! by item.
 #![tactic(auto)]
 
 mod copies;

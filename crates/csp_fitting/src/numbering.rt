@@ -15,8 +15,8 @@ use csp_parse::Raw;
 use csp_value::Memory;
 use std::alloc::Allocator;
 
-/// The numbers of the kinds of a tree's nametypes, fields and parameters, in a row from 0, and the next number. `Memory`
-/// where there is no room for them.
+/// The numbers of the kinds of a tree's nametypes, fields and parameters, in a row from 0, and the next number.
+/// `Memory` where there is no room for them.
 pub fn number<A: Allocator + Copy>(
     alloc: A,
     raw: &Raw<'_, A>,

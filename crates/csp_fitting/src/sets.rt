@@ -25,8 +25,8 @@ pub struct Column {
 }
 
 impl<A: Allocator + Copy> KnownKinds<A> {
-    /// Takes up the nametype of this number with its set, if no name in the set is refused. `NoKinds` where no kinds fit the
-    /// sets up to it, and `Memory` where there is no room; then this is of no more use.
+    /// Takes up the nametype of this number with its set, if no name in the set is refused. `NoKinds` where no kinds
+    /// fit the sets up to it, and `Memory` where there is no room; then this is of no more use.
     pub fn add_nametype(
         &mut self,
         alloc: A,
@@ -63,8 +63,8 @@ impl<A: Allocator + Copy> KnownKinds<A> {
         self.state.solve(alloc, self.equations.met())
     }
 
-    /// Takes up a field of channels with its set, if no name in the set is refused. `NoKinds` where no kinds fit the sets up
-    /// to it, and `Memory` where there is no room; then this is of no more use.
+    /// Takes up a field of channels with its set, if no name in the set is refused. `NoKinds` where no kinds fit the
+    /// sets up to it, and `Memory` where there is no room; then this is of no more use.
     pub fn add_field(
         &mut self,
         alloc: A,

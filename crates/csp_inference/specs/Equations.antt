@@ -24,8 +24,8 @@ pub record Adds {A : Type 0} (old new : Equations A) (es : List pure.KindEquatio
 abbrev pub AreHopeless : List pure.KindEquation → Type 0
 AreHopeless es = (a : Assignment) → ¬ pure.Solves a es
 
--- These equations stand behind those so far, and m is the next number. Or those so far have no solution with these, and those
--- that stand there now have none either; then the next number does not matter.
+-- These equations stand behind those so far, and m is the next number. Or those so far have no solution with these, and
+-- those that stand there now have none either; then the next number does not matter.
 pub data Asks {A : Type 0} (old new : Equations A) (es : List pure.KindEquation) (m : ℕ) : Type 0 where
   exactly : Adds old new es m → Asks old new es m
   hopelessly : AreHopeless (equations_of old ++ es) → AreHopeless (equations_of new) → Asks old new es m

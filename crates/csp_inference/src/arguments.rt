@@ -16,8 +16,8 @@ use csp_value::Memory;
 use std::alloc::Allocator;
 
 impl<A: Allocator + Copy> Equations<A> {
-    /// Adds the equations for expressions that are to have the kinds of the numbers in turn. No kinds fit where there are
-    /// more expressions than numbers, or fewer. `Memory` where there is no room.
+    /// Adds the equations for expressions that are to have the kinds of the numbers in turn. No kinds fit where there
+    /// are more expressions than numbers, or fewer. `Memory` where there is no room.
     pub(crate) fn ask_all(
         &mut self,
         types: &TypeTable<A>,

@@ -15,7 +15,8 @@ use csp_value::Memory;
 use std::alloc::Allocator;
 
 impl<A: Allocator + Copy> Equations<A> {
-    /// Adds the equations for an event of a channel with all its fields, or is `Memory` where there is no room for them.
+    /// Adds the equations for an event of a channel with all its fields, or is `Memory` where there is no room for
+    /// them.
     pub(crate) fn ask_event(
         &mut self,
         types: &TypeTable<A>,

@@ -20,8 +20,8 @@ use csp_value::Memory;
 use std::alloc::Allocator;
 
 impl<A: Allocator + Copy> Equations<A> {
-    /// Adds the equations for an expression that is to have the kind, where the names have the kinds of their numbers, or
-    /// is `Memory` where there is no room for them.
+    /// Adds the equations for an expression that is to have the kind, where the names have the kinds of their numbers,
+    /// or is `Memory` where there is no room for them.
     #[cycle(ask_expression)]
     pub fn ask_expression(
         &mut self,

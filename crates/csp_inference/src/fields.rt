@@ -29,8 +29,8 @@ pub(crate) fn bind_name<A: Allocator + Copy>(
 
 impl<A: Allocator + Copy> Equations<A> {
     /// Adds the equations for the fields of a prefix, which are to have the kinds of the numbers in turn, and gives the
-    /// names behind their inputs. No kinds fit where there are more fields than numbers, or fewer. `Memory` where there is
-    /// no room.
+    /// names behind their inputs. No kinds fit where there are more fields than numbers, or fewer. `Memory` where there
+    /// is no room.
     pub(crate) fn ask_fields(
         &mut self,
         alloc: A,

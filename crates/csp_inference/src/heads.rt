@@ -38,7 +38,8 @@ impl<A: Allocator + Copy> Equations<A> {
         Ok(())
     }
 
-    /// Adds the equations for the fields of a prefix, and gives the names behind its inputs. `Memory` where there is no room.
+    /// Adds the equations for the fields of a prefix, and gives the names behind its inputs. `Memory` where there is no
+    /// room.
     pub(crate) fn ask_prefix(
         &mut self,
         alloc: A,

@@ -35,8 +35,8 @@ fn number_parameters<A: Allocator + Copy>(
 }
 
 impl<A: Allocator + Copy> Equations<A> {
-    /// Adds the equations for an equation of the script whose parameters have the kinds of the numbers. No kinds fit where
-    /// there are more parameters than numbers, or fewer. `Memory` where there is no room.
+    /// Adds the equations for an equation of the script whose parameters have the kinds of the numbers. No kinds fit
+    /// where there are more parameters than numbers, or fewer. `Memory` where there is no room.
     pub fn ask_equation(
         &mut self,
         alloc: A,

@@ -16,8 +16,8 @@ use csp_value::Memory;
 use std::alloc::Allocator;
 
 impl<A: Allocator + Copy> Equations<A> {
-    /// Adds the equations for a process, where the names have the kinds of their numbers, or is `Memory` where there is no
-    /// room for them.
+    /// Adds the equations for a process, where the names have the kinds of their numbers, or is `Memory` where there is
+    /// no room for them.
     pub fn ask_process(
         &mut self,
         alloc: A,

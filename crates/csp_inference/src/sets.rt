@@ -15,8 +15,8 @@ use csp_value::Memory;
 use std::alloc::Allocator;
 
 impl<A: Allocator + Copy> Equations<A> {
-    /// Adds the equations for a set whose members have the kind of the number, or is `Memory` where there is no room for
-    /// them.
+    /// Adds the equations for a set whose members have the kind of the number, or is `Memory` where there is no room
+    /// for them.
     pub fn ask_set(
         &mut self,
         types: &TypeTable<A>,

@@ -13,7 +13,8 @@ use crate::misfit::Misfit;
 use csp_value::Memory;
 use std::alloc::Allocator;
 
-/// For each number of a kind nothing, or the kind that it is bound to. No bound number stands at the end of a bound kind.
+/// For each number of a kind nothing, or the kind that it is bound to. No bound number stands at the end of a bound
+/// kind.
 #[derive(Drop)]
 pub struct State<A: Allocator> {
     /// Numbers behind the end of the list are not bound.
@@ -30,8 +31,8 @@ impl<A: Allocator + Copy> State<A> {
         }
     }
 
-    /// Solves the equations in turn. `NoKinds` where they have no solution, and `Memory` where there is no room; then the
-    /// state is of no more use.
+    /// Solves the equations in turn. `NoKinds` where they have no solution, and `Memory` where there is no room; then
+    /// the state is of no more use.
     pub fn solve(&mut self, alloc: A, equations: &[KindEquation]) -> Result<(), Misfit>
         requires { IsResolved (state_in self.old) }
         ensures { Solved (state_in self.old) (map equation_of equations.now) (state_in self.new) result }
@@ -86,8 +87,8 @@ impl<A: Allocator + Copy> State<A> {
         Ok(())
     }
 
-    /// Binds the number, of which nothing is known, to the layers and the end: they take its place at the end of all kinds.
-    /// `Memory` where there is no room; then the state is of no more use.
+    /// Binds the number, of which nothing is known, to the layers and the end: they take its place at the end of all
+    /// kinds. `Memory` where there is no room; then the state is of no more use.
     fn bind(
         &mut self,
         alloc: A,
@@ -104,7 +105,8 @@ impl<A: Allocator + Copy> State<A> {
         Ok(())
     }
 
-    /// Makes the kind of the number and the one of the layers and the end one, if they can be. Nothing is known of their ends.
+    /// Makes the kind of the number and the one of the layers and the end one, if they can be. Nothing is known of
+    /// their ends.
     fn bind_open(
         &mut self,
         alloc: A,
@@ -150,8 +152,8 @@ impl<A: Allocator + Copy> State<A> {
         }
     }
 
-    /// Makes two kinds one. `NoKinds` where they cannot be, and `Memory` where there is no room; then the state is of no
-    /// more use.
+    /// Makes two kinds one. `NoKinds` where they cannot be, and `Memory` where there is no room; then the state is of
+    /// no more use.
     pub fn unify(&mut self, alloc: A, left: Demand, right: Demand) -> Result<(), Misfit>
         requires { IsResolved (state_in self.old) }
         ensures { Solved (state_in self.old) ((demand_of left, demand_of right) ∷ []) (state_in self.new) result }

@@ -40,7 +40,8 @@ pub record Adds {A : Type 0} (raw : RawScript) (d : RawDeclaration) (old new : I
   pub equations : equations_made new ≡ equations_made old ++ equation_declared raw d
   pub assertions : assertions_made new ≡ assertions_made old ++ assertion_declared raw d
 
--- The declaration is added, and the names that are bound in it were met. Or the first of its sites is answered that is refused.
+-- The declaration is added, and the names that are bound in it were met. Or the first of its sites is answered that is
+-- refused.
 abbrev pub AddsItem : {A : Type 0} → Scope A → BoundNames A → BoundNames A → RawDeclaration → Items A → Items A → Result (Unit {0}) Refused → Type 0
 AddsItem scope bound bound' d old new (Ok _) =
     ((raw : RawScript) → Serves scope bound (spellings (bound_in_declaration d)) (environment_of raw) → Adds raw d old new) × (IsInOrder bound → Binds bound bound' (spellings (bound_in_declaration d)) [])

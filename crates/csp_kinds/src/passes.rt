@@ -17,9 +17,9 @@ use std::alloc::Allocator;
 
 /// The script that a tree stands for, or why it is refused.
 ///
-/// The first pass refuses a name that is declared again. The second goes over the sets and the names in use, and the third
-/// over the equations and assertions, whose kinds have to fit. The first refusal of the first pass that has one is
-/// answered. `Refused::Memory` comes where there was no room, and says nothing of the tree.
+/// The first pass refuses a name that is declared again. The second goes over the sets and the names in use, and the
+/// third over the equations and assertions, whose kinds have to fit. The first refusal of the first pass that has one
+/// is answered. `Refused::Memory` comes where there was no room, and says nothing of the tree.
 pub fn check<A: Allocator + Copy>(alloc: A, raw: &Raw<'_, A>) -> Result<Script<A>, Refused>
     ensures script { IfOk result (λ script. IsCheckedTree (tree.script_of raw.now) (script_of script)) }
     ensures refusal { IfErr result (IsRefusalOf (tree.script_of raw.now)) }

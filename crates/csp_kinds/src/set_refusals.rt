@@ -5,7 +5,8 @@ ghost use Rattle.csp_kinds.specs.Refusals.{PassesSets};
 use csp_names::Refused;
 use csp_sets::RefusedSet;
 
-/// The refusal of the declaration with this number, if it is the first one that is refused for a set, or for a name in one.
+/// The refusal of the declaration with this number, if it is the first one that is refused for a set, or for a name in
+/// one.
 pub(crate) fn pass_sets(refused: Option<RefusedSet>, declaration: usize) -> Result<(), Refused>
     ensures { PassesSets refused declaration result }
 {

@@ -48,7 +48,8 @@ pub record Holds {A : Type 0} (names : Names A) (ns : List RawName) : Type 0 whe
   pub spelled : row_spellings (rows_of names) ≡ spellings ns
   pub once : NoneRefused IsRedeclared ns
 
--- Between the two, names were added: their rows, and so many parameters and fields. Behind any names that the table held, each was declared for the first time.
+-- Between the two, names were added: their rows, and so many parameters and fields. Behind any names that the table
+-- held, each was declared for the first time.
 pub record Adds {A : Type 0} (old new : Names A) (rs : List Row) (added : List RawName) (ps fs : List ℕ) : Type 0 where
   pub rows : rows_of new ≡ rows_of old ++ rs
   pub parameters : new.parameters.items ≡ old.parameters.items ++ ps

@@ -58,19 +58,22 @@ pub record IsInOrder {A : Type 0} (bound : BoundNames A) : Type 0 where
 abbrev pub HaveNumbersIn : List (List ℕ) → List (List ℕ) → Type 0
 HaveNumbersIn ss table = (s : List ℕ) (i : ℕ) → number_in ss s ≡ Some i → number_in table s ≡ Some i
 
--- Between the two, these spellings were met as bound names, and those of the inner ones are still bound, each once more for each time that it is one of them.
+-- Between the two, these spellings were met as bound names, and those of the inner ones are still bound, each once more
+-- for each time that it is one of them.
 pub record Binds {A : Type 0} (old new : BoundNames A) (met inner : List (List ℕ)) : Type 0 where
   pub in_order : IsInOrder new
   pub spellings : bound_spellings new ≡ with_spellings (bound_spellings old) met
   pub times : (s : List ℕ) → times_at new s ≡ occurrences inner s + times_at old s
 
--- These bindings have ended between the two: a name that was bound for each time that it is one of them, and some times more, is bound so many times now.
+-- These bindings have ended between the two: a name that was bound for each time that it is one of them, and some times
+-- more, is bound so many times now.
 pub record Releases {A : Type 0} (old new : BoundNames A) (inner : List (List ℕ)) : Type 0 where
   pub in_order : IsInOrder new
   pub spellings : bound_spellings new ≡ bound_spellings old
   pub times : (s : List ℕ) (k : ℕ) → times_at old s ≡ occurrences inner s + k → times_at new s ≡ k
 
--- Between two declarations: the names so far are those that the declarations above bind, and none of them is bound here.
+-- Between two declarations: the names so far are those that the declarations above bind, and none of them is bound
+-- here.
 pub record IsBetween {A : Type 0} (bound : BoundNames A) (above : RawScript) : Type 0 where
   pub in_order : IsInOrder bound
   pub spellings : bound_spellings bound ≡ checking.bound_spellings above
@@ -90,7 +93,8 @@ pub record StandsFor {A : Type 0} (scope : Scope A) (bound : BoundNames A) (env 
 abbrev pub known_sets : {A : Type 0} → Option (Vec (FieldSet A) A) → Option (List (List Value))
 known_sets o = option_map (λ sets. map field_values sets.items) o
 
--- The scope has the numbers of parameters and fields of the whole script, and the field sets of each channel of which no rule refuses one.
+-- The scope has the numbers of parameters and fields of the whole script, and the field sets of each channel of which
+-- no rule refuses one.
 pub record KnowsScript {A : Type 0} (scope : Scope A) (raw : RawScript) : Type 0 where
   pub parameters : flat_map parameters_declared raw ≡ scope.names.now.parameters.items
   pub fields : flat_map fields_declared raw ≡ scope.names.now.fields.items

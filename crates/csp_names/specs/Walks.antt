@@ -40,7 +40,8 @@ abbrev pub Stops : List Site → Refused → Type 0
 Stops sites (refused.Fault fault place) = IsStoppedAt sites (fault_of fault) (place_of place)
 Stops sites refused.Memory = ⊤
 
--- The sites are all fine, and what is answered is what they stand for. Or the first of them is answered that is refused.
+-- The sites are all fine, and what is answered is what they stand for. Or the first of them is answered that is
+-- refused.
 abbrev pub Walked : {T X : Type 0} → List Site → Option X → (T → X) → Result T Refused → Type 0
 Walked sites meaning of (Ok t) = AllFine sites × (meaning ≡ Some (of t))
 Walked sites meaning of (Err refused) = Stops sites refused
@@ -140,7 +141,8 @@ pub record Serves {A : Type 0} (scope : Scope A) (old : BoundNames A) (met : Lis
   pub knows : KnowsScript scope env.declarations
   pub numbers : HaveNumbersIn (with_spellings (bound_spellings old) met) env.numbered
 
--- All sites are fine, and this is what they stand for. The names that were met have their numbers, and the inner ones of them are still bound.
+-- All sites are fine, and this is what they stand for. The names that were met have their numbers, and the inner ones
+-- of them are still bound.
 pub record Done {A X : Type 0} (scope : Scope A) (old new : BoundNames A) (sites : Environment → List Site) (meaning : Environment → Option X) (met inner : List (List ℕ)) (x : X) : Type 0 where
   pub fine : (env : Environment) → Serves scope old met env → AllFine (sites env) × (meaning env ≡ Some x)
   pub bound : IsInOrder old → Binds old new met inner

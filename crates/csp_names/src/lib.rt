@@ -1,8 +1,8 @@
 //! What the names of a tree mean where they stand, and the terms that are made of them.
 //!
-//! The declared names are taken up once (`names_of`). A walk over a part of the tree looks at its names in the order of the
-//! text, and makes the term at once. By its contract it answers what the definitions make of the part where no name is
-//! refused, and else the first refusal at its place.
+//! The declared names are taken up once (`names_of`). A walk over a part of the tree looks at its names in the order of
+//! the text, and makes the term at once. By its contract it answers what the definitions make of the part where no name
+//! is refused, and else the first refusal at its place.
 #![tactic(auto)]
 
 mod bound_names;

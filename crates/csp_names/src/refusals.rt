@@ -11,7 +11,8 @@ use thiserror::Error;
 pub enum KindFault {
     /// a name that is neither bound nor declared, or, in the set of a nametype or field, not declared above
     UnknownName,
-    /// a declared name that is declared again, a bound name that is a declared one, or a parameter named twice in one head
+    /// a declared name that is declared again, a bound name that is a declared one, or a parameter named twice in one
+    /// head
     DeclaredTwice,
     /// a name of the wrong class, or a set, an equation or an assertion that no kinds fit
     WrongKind,
@@ -60,7 +61,8 @@ pub enum Refused {
     /// The tree is refused, by this fault at this place.
     #[error("{fault} at {place}")]
     Fault { fault: KindFault, place: Place },
-    /// There was no room: memory was refused, or a number was too great for what it is kept in. Nothing is said of the tree.
+    /// There was no room: memory was refused, or a number was too great for what it is kept in. Nothing is said of the
+    /// tree.
     #[error("out of memory")]
     Memory,
 }

@@ -15,8 +15,8 @@ use csp_parse::Name as RawName;
 use csp_value::FieldSet;
 use std::alloc::Allocator;
 
-/// The declared names of a script of which so many first ones can be used, and the field sets of each channel, if no rule
-/// refuses one of them.
+/// The declared names of a script of which so many first ones can be used, and the field sets of each channel, if no
+/// rule refuses one of them.
 #[derive(Drop)]
 pub struct Scope<'n, 't, A: Allocator> {
     pub names: &'n Names<'t, A>,

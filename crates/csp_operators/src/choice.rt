@@ -1,5 +1,5 @@
-//! Choices. `P [] Q` keeps the choice by a tau of a side, and makes it by an event or tick. `P |~| Q` chooses by itself,
-//! and looks at neither side.
+//! Choices. `P [] Q` keeps the choice by a tau of a side, and makes it by an event or tick. `P |~| Q` chooses by
+//! itself, and looks at neither side.
 
 ghost use Rattle.std.specs.Prelude.{◌≡◌, ◌∷◌, [], IfOk, map};
 ghost use Rattle.csp_syntax.specs.Process as pure;

@@ -1,4 +1,5 @@
-//! What a side does whose first visible action leaves the composition: tau keeps it, and an event or tick goes on alone.
+//! What a side does whose first visible action leaves the composition: tau keeps it, and an event or tick goes on
+//! alone.
 
 ghost use Rattle.std.specs.Prelude.{◌≡◌, ◌++◌, ◌∷◌, [], IfOk, OnOk, map};
 ghost use Rattle.csp_value.specs.Action.{action_of};

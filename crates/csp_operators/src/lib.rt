@@ -1,8 +1,8 @@
 //! What the operators make of the steps of the processes that they are put to.
 //!
 //! For each operator that looks at its sides there is one function here, in a file of its name. Given what the rules
-//! answer of the sides, or why they answer nothing, it answers what the rules give the whole: each step and no other, also
-//! those that lead past the limits, or the first cause. Which steps the sides have is not asked here.
+//! answer of the sides, or why they answer nothing, it answers what the rules give the whole: each step and no other,
+//! also those that lead past the limits, or the first cause. Which steps the sides have is not asked here.
 #![tactic(auto)]
 
 pub mod choice;

@@ -1,5 +1,5 @@
-//! What a side does alone that stays in the composition: tau, and events that it is free to do. What follows its tick is
-//! the operator's own.
+//! What a side does alone that stays in the composition: tau, and events that it is free to do. What follows its tick
+//! is the operator's own.
 
 ghost use Rattle.std.specs.Prelude.{◌≡◌, ◌++◌, ◌∷◌, [], IfOk, OnOk, map};
 ghost use Rattle.csp_value.specs.Action.{action_of};

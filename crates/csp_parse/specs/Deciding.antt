@@ -1,4 +1,5 @@
--- What a reader of tokens tells of other tokens: where what it read ends whatever stands behind it, and why nothing was read.
+-- What a reader of tokens tells of other tokens: where what it read ends whatever stands behind it, and why nothing was
+-- read.
 use Rattle.std.specs.Prelude.{◌≡◌, ◌<◌, ◌≤◌, Option, Some, None, List, [], ◌∷◌, ◌++◌, ⊤}
 use Rattle.csp_text.specs.Token.{Token, SignToken, Sign, PlacedToken}
 use Rattle.csp_text.specs.Height.{Nest, nesting, after_token, after_tokens, nest_height, greatest_height}
@@ -28,15 +29,18 @@ Stops c (t ∷ ts) = ¬ (c t.token)
 abbrev pub Begins : (List PlacedToken → Type 0) → List PlacedToken → Type 0
 Begins Is ts = (more : List PlacedToken) × Is (ts ++ more)
 
--- Whatever stands behind the first token that is left: each beginning that is of the form Is, and that no token of c follows, is of the form Q.
+-- Whatever stands behind the first token that is left: each beginning that is of the form Is, and that no token of c
+-- follows, is of the form Q.
 abbrev pub Decides : (Is Q : List PlacedToken → Type 0) → (Token → Type 0) → (front left : List PlacedToken) → Type 0
 Decides Is Q c front left = (later a b : List PlacedToken) → first later ≡ first left → front ++ later ≡ a ++ b → Is a → Stops c b → Q a
 
--- Only the tokens that were passed are of the form, whatever stands behind the next token; the tokens of c may continue the form.
+-- Only the tokens that were passed are of the form, whatever stands behind the next token; the tokens of c may continue
+-- the form.
 pub record Ends (Is : List PlacedToken → Type 0) (c : Token → Type 0) (before after : Standing) : Type 0 where
   pub decides : (front : List PlacedToken) → before.left ≡ front ++ after.left → Decides Is (λ a. a ≡ front) c front after.left
 
--- Tokens of the form are read, and they are the only ones, whatever stands behind the next token; the tokens of c may continue the form.
+-- Tokens of the form are read, and they are the only ones, whatever stands behind the next token; the tokens of c may
+-- continue the form.
 pub record Done (Is : List PlacedToken → Type 0) (c : Token → Type 0) (before after : Standing) : Type 0 where
   pub front : List PlacedToken
   pub splits : Splits before front after

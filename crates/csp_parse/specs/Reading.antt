@@ -19,7 +19,8 @@ pub record Standing : Type 0 where
 abbrev pub standing_of : {A : Type 0} → Parser A → Standing
 standing_of p = record { left = left_of p; nest = nest_of p.nest }
 
--- The first of these tokens, if there is one, is counted behind n, and is within the limit of heights; m is where that leads.
+-- The first of these tokens, if there is one, is counted behind n, and is within the limit of heights; m is where that
+-- leads.
 abbrev pub CountsFirst : Nest → List PlacedToken → Nest → Type 0
 CountsFirst n [] m = m ≡ n
 CountsFirst n (t ∷ ts) m = (m ≡ after_token (nesting t.token) n) × (nest_height m ≤ greatest_height)
@@ -83,6 +84,7 @@ pub record Extends {X Y : Type 0} (Is : List PlacedToken → X → Type 0) (Beco
   pub splits : Splits before front after
   pub becomes : (earlier : List PlacedToken) → Is earlier x → Becomes (earlier ++ front) y
 
--- Whatever was read as the first form for x up to the old place has been read as the second form for y up to the new one.
+-- Whatever was read as the first form for x up to the old place has been read as the second form for y up to the new
+-- one.
 abbrev pub Continues : {X Y : Type 0} → (List PlacedToken → X → Type 0) → (List PlacedToken → Y → Type 0) → Standing → Standing → X → Y → Type 0
 Continues Is Becomes old new x y = (before : Standing) → Reads Is before old x → Reads Becomes before new y

@@ -45,7 +45,8 @@ abbrev pub IsOperandStart : {A : Type 0} → Start A → Type 0
 IsOperandStart (start.Operand p) = ⊤
 IsOperandStart _ = ⊥
 
--- what the tokens of an expression that may be a guard, or what stands behind its atom, are not, where the form is that of what is no guard
+-- what the tokens of an expression that may be a guard, or what stands behind its atom, are not, where the form is that
+-- of what is no guard
 abbrev pub OnlyAtom : {A : Type 0} → (List PlacedToken → Type 0) → Start A → List PlacedToken → Type 0
 OnlyAtom Is (start.Name n) ts = ⊥
 OnlyAtom Is (start.Expression e) ts = ¬ (Then Is Guarded ts)

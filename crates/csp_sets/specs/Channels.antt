@@ -15,7 +15,8 @@ use Rattle.csp_sets.specs.Members.{IsCount}
 abbrev pub sets_in : {A : Type 0} → Channels A → List (Option (List (List Value)))
 sets_in channels = map known_sets channels.field_sets.items
 
--- Where some kinds fit the sets so far and these are the members of the channels' sets: the events are counted, and this is the first fault at the names.
+-- Where some kinds fit the sets so far and these are the members of the channels' sets: the events are counted, and
+-- this is the first fault at the names.
 abbrev pub HasHeads : {A : Type 0} → List RawName → Option (List (List Value)) → Channels A → Channels A → Option SetFault → Type 0
 HasHeads names own old new fault =
     (raw so_far : RawScript) (rest : List (Option (List (List Value)))) → SomeFit (types_of raw) so_far → channel_members raw ≡ sets_in new ++ rest → IsCount old.events (number_of_events (sets_in old)) →

@@ -32,7 +32,8 @@ pub record IsNextOf {A : Type 0} (s : Above A) (fit : Fit A) (first channels : �
   pub number : first ≡ length (channel_sets above)
   pub counted : channels ≡ length names
 
--- They are the fields of these channels so far, and what is known of kinds is known of their sets too, where some kinds fitted the sets above or not.
+-- They are the fields of these channels so far, and what is known of kinds is known of their sets too, where some kinds
+-- fitted the sets above or not.
 pub record AreFieldsOf {A : Type 0} (raw above : RawScript) (names : List RawName) (domains : List RawDomain) (fitted : Bool) (fields : Fields A) (fit : Fit A) : Type 0 where
   pub known : IsFitOf raw (above ++ RawChannels names domains ∷ []) fit
   pub sets : known_fields fields ≡ every (field_members raw) (map (set_expression above) domains)

@@ -76,7 +76,8 @@ abbrev pub looked_refusal : {A : Type 0} → LookedSet A → Option (checking.Ki
 looked_refusal (looked.Set set members) = None
 looked_refusal (looked.Refused f) = Some (set_fault f)
 
--- It is the tree's set below those declarations: its expression, its members over the nametypes above it, or the first fault of a name in it.
+-- It is the tree's set below those declarations: its expression, its members over the nametypes above it, or the first
+-- fault of a name in it.
 pub record IsLookedAt {A : Type 0} (raw above : RawScript) (d : RawDomain) (l : LookedSet A) : Type 0 where
   pub expression : looked_expression l ≡ set_expression above d
   pub read : IsRead (set_expression above d) (in_expression (environment_above above) d.set) (looked_refusal l)

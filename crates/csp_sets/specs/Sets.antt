@@ -39,7 +39,8 @@ abbrev pub IsSetRefusal : {A : Type 0} → RawScript → Sets A → Option Refus
 IsSetRefusal raw sets None = AreUnrefused raw sets
 IsSetRefusal raw sets (Some r) = IsFirstRefusedSet raw r
 
--- The types are those of the tree, and each channel has its field sets where no rule refuses one of them or a name in it.
+-- The types are those of the tree, and each channel has its field sets where no rule refuses one of them or a name in
+-- it.
 pub record AreSetsOf {A : Type 0} (raw : RawScript) (sets : Sets A) : Type 0 where
   pub types : table_of sets.types ≡ types_of raw
   pub counted : length sets.channels.items ≡ length (channel_sets raw)

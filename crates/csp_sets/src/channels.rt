@@ -30,8 +30,8 @@ pub(crate) struct Channels<A: Allocator> {
 }
 
 impl<A: Allocator + Copy> Channels<A> {
-    /// Adds channels with these names, of which each has these field sets. The fault is at the first name with which there are
-    /// too many events.
+    /// Adds channels with these names, of which each has these field sets. The fault is at the first name with which
+    /// there are too many events.
     pub(crate) fn add(
         &mut self,
         alloc: A,

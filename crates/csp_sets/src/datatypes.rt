@@ -12,8 +12,8 @@ use csp_parse::Declaration;
 use csp_value::{ConId, Memory};
 use std::alloc::Allocator;
 
-/// The datatypes, whose constructors are numbered one after the other. `Memory` where there is no room for them, or for one
-/// that has no constructor.
+/// The datatypes, whose constructors are numbered one after the other. `Memory` where there is no room for them, or for
+/// one that has no constructor.
 pub(crate) fn datatypes_of<A: Allocator + Copy>(
     alloc: A,
     declarations: &[Declaration<'_, A>],

@@ -1,8 +1,8 @@
-//! The sets of a tree's nametypes and channels' fields: each is resolved, fitted with a kind and evaluated once, over the
-//! types that are declared above it.
+//! The sets of a tree's nametypes and channels' fields: each is resolved, fitted with a kind and evaluated once, over
+//! the types that are declared above it.
 //!
-//! A pass goes over the declarations in their order. It keeps the first refusal and goes on behind it, since the types and the
-//! field sets of all channels are of use there too.
+//! A pass goes over the declarations in their order. It keeps the first refusal and goes on behind it, since the types
+//! and the field sets of all channels are of use there too.
 #![tactic(auto)]
 
 mod channels;

@@ -40,8 +40,8 @@ pub struct RefusedSet {
     pub place: Place,
 }
 
-/// The sets of the tree with these names. `Memory` where there is no room for them, or for a datatype without a constructor,
-/// which no text has.
+/// The sets of the tree with these names. `Memory` where there is no room for them, or for a datatype without a
+/// constructor, which no text has.
 pub fn sets_of<'t, A: Allocator + Copy>(
     alloc: A,
     raw: &Raw<'t, A>,

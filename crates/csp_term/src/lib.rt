@@ -1,9 +1,9 @@
 //! Terms of processes and the scripts that hold them.
 //!
-//! A term stands for a process of the definitions, by `process_of`, and every call here is stated over that process:
-//! a copy stands for the same process, values are put in as the definitions say, the limits are decided exactly, and
-//! `==`, the order and the hash of two terms are those of their processes, whichever allocator holds them. The type of a
-//! script keeps that some kinds fit it.
+//! A term stands for a process of the definitions, by `process_of`, and every call here is stated over that process: a
+//! copy stands for the same process, values are put in as the definitions say, the limits are decided exactly, and
+//! `==`, the order and the hash of two terms are those of their processes, whichever allocator holds them. The type of
+//! a script keeps that some kinds fit it.
 #![tactic(auto)]
 
 mod assertion;

@@ -1,4 +1,5 @@
-//! Processes of two operands, where the values are put into one of them already. So each call has one operand to go down.
+//! Processes of two operands, where the values are put into one of them already. So each call has one operand to go
+//! down.
 
 ghost use Rattle.std.specs.Prelude.{◌≡◌, IfOk};
 ghost use Rattle.csp_syntax.specs.Process.{AlphabetisedParallel, GeneralisedParallel, If};
@@ -45,7 +46,8 @@ pub(crate) fn put_in_binary<A: Allocator + Copy>(
     Ok(TermForm::Binary(operator, left, right.put_in(alloc, bindings)?))
 }
 
-/// The two processes with the values put in, and into the set of the events that they share. They are in the left one already.
+/// The two processes with the values put in, and into the set of the events that they share. They are in the left one
+/// already.
 #[cycle(put_term)]
 pub(crate) fn put_in_generalised<A: Allocator + Copy>(
     alloc: A,

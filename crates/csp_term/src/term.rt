@@ -11,8 +11,8 @@ use csp_syntax::{ProcessOperator, ReplicatedOperator};
 use csp_value::{ChannelId, Memory};
 use std::alloc::Allocator;
 
-/// A process as it is written. It holds its form behind a pointer, so that a term is moved and dropped alike whatever its
-/// form is. The order is that of the forms.
+/// A process as it is written. It holds its form behind a pointer, so that a term is moved and dropped alike whatever
+/// its form is. The order is that of the forms.
 #[cycle(term)]
 #[derive(Drop)]
 #[derive_where(PartialEq, Eq, PartialOrd, Ord, Hash)]

@@ -1,8 +1,8 @@
 //! Values, events and actions of processes.
 //!
-//! Each stands for one of the definitions, by `value_of`, `event_of` and `action_of`, and every call here is stated over
-//! what it stands for: a copy stands for the same, sets are made and joined as the definitions say, and `==`, the order
-//! and the hash of two values are those of what they stand for, whichever allocator holds them.
+//! Each stands for one of the definitions, by `value_of`, `event_of` and `action_of`, and every call here is stated
+//! over what it stands for: a copy stands for the same, sets are made and joined as the definitions say, and `==`, the
+//! order and the hash of two values are those of what they stand for, whichever allocator holds them.
 #![tactic(auto)]
 
 mod action;

@@ -50,7 +50,8 @@ pub record IsScriptOfFile (may_hold : List ℕ → List ℕ → Type 0) (name : 
   pub held : may_hold name text
   pub of_text : IsCheckedText text script
 
--- The report of right outcomes for the assertions of the file's script went out, one for each, and the status is that of the outcomes.
+-- The report of right outcomes for the assertions of the file's script went out, one for each, and the status is that
+-- of the outcomes.
 pub record IsReported (may_hold : List ℕ → List ℕ → Type 0) (name : List ℕ) (bounds : Bounds) (old new : Option (List ℕ)) (failed : Bool) (status : ℕ) : Type 0 where
   pub script : Script
   pub outcomes : List Outcome
@@ -94,14 +95,16 @@ IsCause may_hold may_lack name refusal.Output = ⊤
 abbrev pub IsGiven : Option (List ℕ) → Option (List ℕ) → Bool → List ℕ → Type 0
 IsGiven old new failed text = Sends old new failed text ⊎ Breaks old new failed text
 
--- A check is refused, with its cause: its line was given to the one sink, and to the other nothing but the beginning of a report.
+-- A check is refused, with its cause: its line was given to the one sink, and to the other nothing but the beginning of
+-- a report.
 pub record IsCheckRefused {S : Type 0} (may_hold : List ℕ → List ℕ → Type 0) (may_lack : List ℕ → Type 0) (name : List ℕ) (bounds : Bounds) (taken : S → Option (List ℕ)) (has_failed : S → Bool) (old new : S) (told_old told_new : Option (List ℕ)) (failed : Bool) : Type 0 where
   pub why : Refusal
   pub cause : IsCause may_hold may_lack name why
   pub output : Leaves may_hold name bounds why taken has_failed old new
   pub line : IsGiven told_old told_new failed (refusal_line why)
 
--- A run is refused: its words are wrong, and the command line's own text was given to the error output; memory was refused for the words; the text that they ask for was cut off; or their check is refused.
+-- A run is refused: its words are wrong, and the command line's own text was given to the error output; memory was
+-- refused for the words; the text that they ask for was cut off; or their check is refused.
 pub data IsRefused {S : Type 0} (may_hold : List ℕ → List ℕ → Type 0) (may_lack : List ℕ → Type 0) (words : List (List ℕ)) (taken : S → Option (List ℕ)) (has_failed : S → Bool) (old new : S) (told_old told_new : Option (List ℕ)) (failed : Bool) : Type 0 where
   wrong_words : (text : List ℕ) → AreWrong words → new ≡ old → IsGiven told_old told_new failed text → IsRefused may_hold may_lack words taken has_failed old new told_old told_new failed
   no_memory : new ≡ old → IsGiven told_old told_new failed (refusal_line refusal.Memory) → IsRefused may_hold may_lack words taken has_failed old new told_old told_new failed

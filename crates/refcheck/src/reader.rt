@@ -14,8 +14,8 @@ use std::alloc::Allocator;
 
 /// The script that the text is.
 ///
-/// The tokens are looked at first (`Text`), then the grammar (`Grammar`), then names and kinds (`Kinds`). `Memory` comes
-/// where memory was refused, and says nothing of the text.
+/// The tokens are looked at first (`Text`), then the grammar (`Grammar`), then names and kinds (`Kinds`). `Memory`
+/// comes where memory was refused, and says nothing of the text.
 pub(crate) fn read<A: Allocator + Copy>(alloc: A, text: &[u8]) -> Result<Script<A>, Refusal>
     ensures script { IfOk result (λ script. IsCheckedText text.now (script_of script)) }
     ensures refused { IfErr result (λ why. IsRefusalOf text.now why) }

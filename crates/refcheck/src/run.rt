@@ -30,8 +30,8 @@ use verdict::Outcome;
 ///
 /// Answers the status: 3 where anything was refused, else 2 where an assertion has no answer within the limits, else 1
 /// where one fails, else 0. The words are looked at first, then the file, the script and the output. A failure of `err`
-/// changes nothing. The words are read with the memory of `command_line`, and all else with that of `alloc`. Workers are
-/// started by `rt`.
+/// changes nothing. The words are read with the memory of `command_line`, and all else with that of `alloc`. Workers
+/// are started by `rt`.
 pub fn run<
     'w,
     A: AllocHandle + Send + Sync,

@@ -1,4 +1,5 @@
-//! Memory that is refused once: an allocator that refuses one request, which is chosen by its number, and grants the others.
+//! Memory that is refused once: an allocator that refuses one request, which is chosen by its number, and grants the
+//! others.
 //!
 //! Tests lend it to what they look at, in several threads too, to see that refused memory changes no answer. The handle
 //! is `&RefusesOnce`.

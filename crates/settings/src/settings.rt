@@ -38,8 +38,9 @@ pub struct Settings<'a> {
 
 /// The settings of the words after the program's name.
 ///
-/// The words may ask for the help (`Help`) or the version (`Version`), or be none of the command line's (`Refused`): a word that is no option, an
-/// option that is used twice, a value that is no number or lies out of its range, no file, more than one.
+/// The words may ask for the help (`Help`) or the version (`Version`), or be none of the command line's (`Refused`): a
+/// word that is no option, an option that is used twice, a value that is no number or lies out of its range, no file,
+/// more than one.
 pub fn read<'a>(alloc: Global, words: &'a [&'a str]) -> Result<Settings<'a>, CommandLineFault>
     ensures taken { IfOk result (λ _. faults_of (texts words.entry.now) ≡ []) }
     ensures workers { IfOk result (λ s. s.workers ≡ chosen (codes "workers") 1 (texts words.entry.now)) }

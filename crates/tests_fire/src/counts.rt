@@ -18,8 +18,8 @@ impl Counts {
         }
     }
 
-    /// Counts whether there was an answer in the heap, which is the one that was expected. Without room for it, the heap is
-    /// empty again.
+    /// Counts whether there was an answer in the heap, which is the one that was expected. Without room for it, the
+    /// heap is empty again.
     pub(crate) fn count(&mut self, heap: &LocalHeap, answer: Option<bool>) -> Result<(), Fail> {
         match answer {
             Some(true) => self.answered = self.answered.saturating_add(1),

@@ -3,8 +3,8 @@
 //! concept, which are made assertions of a checked script.
 //!
 //! The tests stand in a crate above the libraries, since a crate is proved anew for the tests that it has of its own.
-//! Some modules are there without tests too: what they do wants proofs, and a proof file has to have its function whether
-//! the tests are looked at or not.
+//! Some modules are there without tests too: what they do wants proofs, and a proof file has to have its function
+//! whether the tests are looked at or not.
 #![tactic(auto)]
 
 mod assertion_at;

@@ -84,7 +84,8 @@ fn is_made<'h>(
     Ok(copy == *of && put == *expected && within == *expected)
 }
 
-/// Copies the term behind the names in the heaps, and puts the values in: that is what is said, where it can be written.
+/// Copies the term behind the names in the heaps, and puts the values in: that is what is said, where it can be
+/// written.
 fn make_in_heaps<'h>(
     room: Room<'h>,
     line: Line<'_>,

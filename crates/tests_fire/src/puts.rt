@@ -12,7 +12,8 @@ use csp_term::{Term, TermFault};
 use std::alloc::Global;
 use std::test::Fail;
 
-/// Whether the term with the values put in is the other one, within the limits too, and stays as it is with nothing put in.
+/// Whether the term with the values put in is the other one, within the limits too, and stays as it is with nothing put
+/// in.
 fn becomes(
     alloc: Global,
     of: &Term<Global>,

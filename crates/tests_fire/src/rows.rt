@@ -1,15 +1,17 @@
-//! Texts that say of terms what they do. A text has a term as `T`, and behind it what is said of that term, each on a line
-//! of its own:
+//! Texts that say of terms what they do. A text has a term as `T`, and behind it what is said of that term, each on a
+//! line of its own:
 //!
 //! - `VALUE` and `CAUSE` of expressions, as `values` reads them. They need no term.
-//! - `PUT`, `BOUND`, `FITS` and `PAST`, as `puts` reads them, `LEADS` and `STUCK`, as `rule_steps` reads them, `MEASURES`, as
-//!   `sizes` reads it, and `HAS`, `LACKS` and `MAKES`, as `lookups` reads them.
-//! - `DOES`: the steps, in order, as prefixes with `[]` between. `tau` and `tick` are no channels, and `STOP` is no step.
+//! - `PUT`, `BOUND`, `FITS` and `PAST`, as `puts` reads them, `LEADS` and `STUCK`, as `rule_steps` reads them,
+//!   `MEASURES`, as `sizes` reads it, and `HAS`, `LACKS` and `MAKES`, as `lookups` reads them.
+//! - `DOES`: the steps, in order, as prefixes with `[]` between. `tau` and `tick` are no channels, and `STOP` is no
+//!   step.
 //! - `OFFERS`: the acceptances, in order, each as prefixes before `STOP` with `[]` between, and `|~|` between two
 //!   acceptances. `STOP` is the empty one, and `NOTHING` stands for none.
 //! - `FAULT`: the word of its cause.
 //! - `LARGE`: that it is large, and `FIRES`: that it is neither faulty nor large, whatever stands behind.
-//! - `THEN DOES` and the like: the same of what the first step leads to, and `THEN THEN DOES` of the first step behind that.
+//! - `THEN DOES` and the like: the same of what the first step leads to, and `THEN THEN DOES` of the first step behind
+//!   that.
 //!
 //! What is not so is told with the name of its text, the term and the line.
 

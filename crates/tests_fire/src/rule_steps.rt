@@ -1,7 +1,8 @@
 //! What is said of the steps that the rules alone give a term with values put in, where no limit of the term itself is
 //! looked at:
 //!
-//! - `LEADS`: the steps, in order, as prefixes between `[]`. `PAST` behind one stands for a term that is past the limits.
+//! - `LEADS`: the steps, in order, as prefixes between `[]`. `PAST` behind one stands for a term that is past the
+//!   limits.
 //! - `STUCK`: the word of the first cause for which there are no steps.
 
 use crate::opened::opened;

@@ -1,5 +1,5 @@
-//! Terms of each form and expressions, for what is tried with little memory. `[] x:{1} @ P` stands for `P`, where 1 is put
-//! in for `x`.
+//! Terms of each form and expressions, for what is tried with little memory. `[] x:{1} @ P` stands for `P`, where 1 is
+//! put in for `x`.
 
 pub(crate) const TEXT: &str = r"
 T = [] x:{1} @ STOP

@@ -4,7 +4,8 @@ use csp_term::{ChannelId, EquationId};
 
 /// `OMEGA` stands for the process that has ended, and the calls behind it for terms that are too deep for a text, as
 /// `terms` reads them. `tau` and `tick` are no events of theirs. `ANY` and what follows it has arguments of any kinds.
-/// `long` is a channel of a sequence of 1,000 times 0 or of `<1>`, and of a number, and the body of `Q` is past the limits.
+/// `long` is a channel of a sequence of 1,000 times 0 or of `<1>`, and of a number, and the body of `Q` is past the
+/// limits.
 pub(crate) const DECLARATIONS: &str = r"
 OMEGA = STOP
 PREFIXES(n) = STOP

@@ -1,6 +1,6 @@
 //! Terms as texts mean them: with the process that has ended as `OMEGA`, and with what is too deep for a text.
-//! `PREFIXES(3)` stands for as many prefixes over `a` before `STOP`, `NEGATIONS(3)` for `ANY(---1)`, and `NESTED(3)` for a
-//! call of the value `<<<1>>>`.
+//! `PREFIXES(3)` stands for as many prefixes over `a` before `STOP`, `NEGATIONS(3)` for `ANY(---1)`, and `NESTED(3)`
+//! for a call of the value `<<<1>>>`.
 
 use crate::script::{ANY, FIRST, NEGATIONS, NESTED, OMEGA, PREFIXES};
 use csp_expression::{Expr, UnaryOperator};

@@ -1,8 +1,9 @@
-//! Texts of tables, read. A line `T = term` is of a term, and each line behind it, as `DOES = said`, says something of that
-//! term. A line `-- ..` is a comment. In the place of `MANY(3, 1)` stands `1,1,1`, and of `MANY(3, 0..)` stands `0,1,2`.
+//! Texts of tables, read. A line `T = term` is of a term, and each line behind it, as `DOES = said`, says something of
+//! that term. A line `-- ..` is a comment. In the place of `MANY(3, 1)` stands `1,1,1`, and of `MANY(3, 0..)` stands
+//! `0,1,2`.
 //!
-//! The lines of a text are the assertions of one script: the term of the line on the left, and what is said on the right.
-//! What `VALUE` and `CAUSE` say is a comparison, which becomes a guard.
+//! The lines of a text are the assertions of one script: the term of the line on the left, and what is said on the
+//! right. What `VALUE` and `CAUSE` say is a comparison, which becomes a guard.
 
 use crate::script::DECLARATIONS;
 use csp_kinds::check;

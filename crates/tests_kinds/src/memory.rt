@@ -1,4 +1,5 @@
-//! Checks whose requests for memory are refused in turn: at the first of them, then at the second, until none is refused.
+//! Checks whose requests for memory are refused in turn: at the first of them, then at the second, until none is
+//! refused.
 
 use crate::samples::{BUFFERS, PAINTING, SMALL};
 use csp_kinds::{Refused, check};
@@ -80,8 +81,8 @@ struct Memories<'h> {
     sparse: RefusesOnce<&'h LocalHeap>,
 }
 
-/// Whether the check was granted all that it asked for. It says that memory was refused, and then the narrow heap is empty
-/// again, or it is answered as with ample memory.
+/// Whether the check was granted all that it asked for. It says that memory was refused, and then the narrow heap is
+/// empty again, or it is answered as with ample memory.
 fn is_checked<'m, 'h>(
     rt: &impl Abort,
     alloc: Global,

@@ -1,5 +1,6 @@
-//! Tables of scripts and their answers. A table is one text: the lines of a script, and behind them a line `-- ` with the
-//! answer, `fine` or a refusal; then the next script. What is answered otherwise is told with the line of its answer.
+//! Tables of scripts and their answers. A table is one text: the lines of a script, and behind them a line `-- ` with
+//! the answer, `fine` or a refusal; then the next script. What is answered otherwise is told with the line of its
+//! answer.
 
 use crate::answers::answer;
 use crate::{counts, declared_twice, inference, kinds, names, passes, sets, worked};

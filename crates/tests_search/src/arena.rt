@@ -10,8 +10,8 @@ fn fill(alloc: Global, arena: &Bump, bytes: usize) -> Result<(), AllocError> {
     Ok(())
 }
 
-/// An arena with so many bytes left, at most those of a chunk. It takes none back: an arena does so only in its first chunk,
-/// and these bytes are of its second, which is its last.
+/// An arena with so many bytes left, at most those of a chunk. It takes none back: an arena does so only in its first
+/// chunk, and these bytes are of its second, which is its last.
 pub(crate) fn arena(alloc: Global, left: usize) -> Result<Bump, AllocError> {
     let arena = Bump::try_with_capacity(alloc, left.max(1))?;
     fill(alloc, &arena, arena.chunk_capacity())?;

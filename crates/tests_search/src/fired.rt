@@ -34,8 +34,8 @@ pub(crate) fn unfinished<A: AllocHandle>(
     Ok(level)
 }
 
-/// A batch in one allocator of what the rows at these positions of the level do, which is made in the other one: of those
-/// rows that the level has, and of as many as a batch has.
+/// A batch in one allocator of what the rows at these positions of the level do, which is made in the other one: of
+/// those rows that the level has, and of as many as a batch has.
 pub(crate) fn batch_of<'s, A: AllocHandle>(
     alloc: A,
     firing: A,

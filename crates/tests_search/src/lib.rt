@@ -1,7 +1,7 @@
 //! What searches for violations are seen to answer: the least violation, or why there is none.
 //!
-//! Each row of the tables is a script over the channels `a`, `b` and `c` without fields, and `d` of 0 and 1. The answers
-//! come from the rules of the language, by an explorer of its own that looks at all paths.
+//! Each row of the tables is a script over the channels `a`, `b` and `c` without fields, and `d` of 0 and 1. The
+//! answers come from the rules of the language, by an explorer of its own that looks at all paths.
 #![tactic(auto)]
 
 #[cfg(test)]

@@ -1,7 +1,7 @@
 //! What the tests hold and drop.
 //!
-//! To drop what holds actions wants proofs, and a proof file has to have its function whether the tests are looked at or
-//! not. So lists of such values are dropped here, and the tests themselves need not be proved twice.
+//! To drop what holds actions wants proofs, and a proof file has to have its function whether the tests are looked at
+//! or not. So lists of such values are dropped here, and the tests themselves need not be proved twice.
 
 use csp_fire::Form;
 use pair_store::Store;

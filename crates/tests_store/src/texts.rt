@@ -2,8 +2,8 @@
 //!
 //! - A channel is a letter.
 //! - An action is `tau`, `tick` or a letter with numbers as its fields, as `b.-1.0`.
-//! - An outcome is `holds`, `unknown` with the reason, or `fails`, the path in angle brackets, and what is lacking at its
-//!   end: `event` with it, or `offers` with all of them.
+//! - An outcome is `holds`, `unknown` with the reason, or `fails`, the path in angle brackets, and what is lacking at
+//!   its end: `event` with it, or `offers` with all of them.
 
 use csp_term::{Action, ChannelId, Event, Fault};
 use csp_value::Value;

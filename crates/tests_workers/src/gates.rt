@@ -11,8 +11,8 @@ const LOOKS: u32 = 10_000_000;
 // How many batches a level of a hundred rows has.
 const BATCHES: u64 = 4;
 
-/// Holds the worker of the first put in each of some levels of a hundred rows, until others have put so often. The level
-/// before them has one put, which passes.
+/// Holds the worker of the first put in each of some levels of a hundred rows, until others have put so often. The
+/// level before them has one put, which passes.
 #[derive(Drop)]
 pub(crate) struct Holding {
     levels: u64,

@@ -20,7 +20,8 @@ use std::test::Fail;
 use std::thread::Threads;
 use verdict::Outcome;
 
-// A script, the levels of a hundred rows in which a worker is held, the puts of others that it waits for, and the lines.
+// A script, the levels of a hundred rows in which a worker is held, the puts of others that it waits for, and the
+// lines.
 type Held = (&'static str, u64, u64, &'static str);
 
 static HELD: [Held; 5] = [

@@ -1,6 +1,6 @@
-//! Replicated operators. `op x : S @ P` is the chain of its instances, grouped to the left: one of each value of the set, in
-//! order, with the value put in for the name. The steps of the chain are found from those of its instances, and of the
-//! chain itself no more is built than fits the limits.
+//! Replicated operators. `op x : S @ P` is the chain of its instances, grouped to the left: one of each value of the
+//! set, in order, with the value put in for the name. The steps of the chain are found from those of its instances, and
+//! of the chain itself no more is built than fits the limits.
 
 ghost use Rattle.std.specs.Prelude.{◌≡◌, ◌∷◌, [], IfOk, map};
 ghost use Rattle.csp_syntax.specs.Process.{ExternalChoice, InternalChoice, Interleaving, Skip, Stop};
