@@ -1,3 +1,5 @@
+//! Classes of characters, and runs of them.
+
 ghost use Rattle.std.specs.Prelude.{◌≡◌};
 ghost use Rattle.csp_lex.specs.Classes.{class_test};
 ghost use Rattle.csp_lex.specs.Cursors.{RunsOver};
@@ -7,15 +9,15 @@ use crate::cursors::Cursor;
 /// A class of characters that go on as what has begun.
 #[derive(Clone, Copy)]
 pub(crate) enum Class {
-    /// what may go on in a name
+    /// What may go on in a name.
     Continuing,
-    /// the `'` that a name may end in
+    /// The `'` that a name may end in.
     Prime,
-    /// the digits 0 to 9
+    /// The digits 0 to 9.
     Digit,
-    /// all but the end of a line
+    /// All but the end of a line.
     WithinLine,
-    /// every character
+    /// Every character.
     Any,
 }
 

@@ -1,3 +1,5 @@
+//! Comments over several lines.
+
 ghost use Rattle.std.specs.Prelude.{IfSome, IfNone, [], ◌∷◌, nat_eq};
 ghost use Rattle.csp_text.specs.Fronts.{StopsAt};
 ghost use Rattle.csp_text.specs.Token.{HasNoMark};

@@ -1,3 +1,5 @@
+//! Where a reader of a text stands.
+
 ghost use Rattle.std.specs.Prelude.{◌≡◌, ℕ, List, ◌+◌, ◌≤◌, length, [], ◌∷◌, IfSome, IfNone};
 ghost use Rattle.std.specs.Str.{IsUtf8, chars, encode_utf8_all};
 

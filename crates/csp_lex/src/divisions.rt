@@ -1,3 +1,5 @@
+//! A text divided into its tokens.
+
 ghost use Rattle.std.specs.Prelude.{◌≤◌, IfOk, IfErr, length, map};
 ghost use Rattle.csp_text.specs.Spans.{RiseBetween, AreInRange};
 ghost use Rattle.csp_text.specs.Token.{AreTokens, longest_text};

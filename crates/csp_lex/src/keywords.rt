@@ -1,3 +1,5 @@
+//! Keywords.
+
 ghost use Rattle.std.specs.Prelude.{◌≡◌, IfSome, IfNone, IsFalse};
 ghost use Rattle.std.specs.Str.{chars};
 

@@ -1,3 +1,5 @@
+//! Tokens and their kinds.
+
 use crate::keywords::Keyword;
 use crate::places::Place;
 use crate::signs::Sign;
@@ -9,7 +11,7 @@ pub enum TokenKind {
     Keyword(Keyword),
     Sign(Sign),
     Name,
-    /// a number, of at most `GREATEST_NUMBER`
+    /// A number, of at most `GREATEST_NUMBER`.
     Number(u32),
 }
 
@@ -18,11 +20,11 @@ pub enum TokenKind {
 pub struct Token<'a> {
     pub kind: TokenKind,
     pub text: &'a str,
-    /// the place of its first character
+    /// The place of its first character.
     pub place: Place,
-    /// the number of bytes before it
+    /// The number of bytes before it.
     pub from: usize,
-    /// the number of bytes before what follows it
+    /// The number of bytes before what follows it.
     pub to: usize,
 }
 
@@ -30,6 +32,6 @@ pub struct Token<'a> {
 #[derive(Drop)]
 pub struct TokenList<'a, A: Allocator> {
     pub tokens: Vec<Token<'a>, A>,
-    /// the place behind the text's last character
+    /// The place behind the text's last character.
     pub end: Place,
 }

@@ -1,3 +1,5 @@
+//! The longest sign or beginning of a comment.
+
 ghost use Rattle.std.specs.Prelude.{◌≡◌, [], ◌∷◌, IfSome, IfNone, None};
 ghost use Rattle.std.specs.Option.{option_map};
 ghost use Rattle.csp_text.specs.Fronts.{StartsPlainly};

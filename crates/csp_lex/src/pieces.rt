@@ -1,3 +1,5 @@
+//! The pieces of a text: its tokens, and what stands between them.
+
 ghost use Rattle.std.specs.Prelude.{◌≡◌, ◌<◌, ◌||◌, ◌==◌, [], IfOk, IfErr, IfSome, IfNone, length};
 ghost use Rattle.csp_text.specs.Fronts.{StartsPlainly};
 ghost use Rattle.csp_text.specs.Token.{is_white, IsRefusedHere};
@@ -18,7 +20,7 @@ use crate::words::read_word;
 #[derive(Clone, Copy)]
 pub(crate) struct Piece<'a> {
     pub(crate) kind: Option<TokenKind>,
-    /// the cursor behind the piece
+    /// The cursor behind the piece.
     pub(crate) end: Cursor<'a>,
 }
 

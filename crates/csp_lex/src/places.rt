@@ -1,3 +1,5 @@
+//! Places in a text.
+
 ghost use Rattle.std.specs.Prelude.{◌≡◌, ◌+◌, ◌^◌, ◌<◌};
 
 use std::fmt;

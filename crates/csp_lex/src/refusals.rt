@@ -1,3 +1,5 @@
+//! Why a text has no tokens.
+
 ghost use Rattle.std.specs.Prelude.{◌≡◌};
 ghost use Rattle.csp_lex.specs.declared.refusals.Refused.TheVariants.{Memory};
 
@@ -9,15 +11,15 @@ use thiserror::Error;
 /// What is wrong with a text that has no tokens.
 #[derive(Clone, Copy, Debug, PartialEq, Eq)]
 pub enum TextFault {
-    /// a character that begins no token
+    /// A character that begins no token.
     NoToken,
-    /// a comment `{-` without its end
+    /// A comment `{-` without its end.
     OpenComment,
-    /// a number over `GREATEST_NUMBER`
+    /// A number over `GREATEST_NUMBER`.
     LargeNumber,
-    /// bytes that are not UTF-8
+    /// Bytes that are not UTF-8.
     NotUtf8,
-    /// more bytes than `LONGEST_TEXT`
+    /// More bytes than `LONGEST_TEXT`.
     LongText,
 }
 

@@ -1,3 +1,5 @@
+//! Signs.
+
 ghost use Rattle.std.specs.Prelude.{◌≡◌};
 
 use std::fmt;

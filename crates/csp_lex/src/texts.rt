@@ -1,3 +1,5 @@
+//! Which bytes are a text.
+
 ghost use Rattle.std.specs.Prelude.{◌≡◌, ◌≤◌, IfOk, IfErr, length};
 ghost use Rattle.csp_text.specs.Token.{longest_text};
 ghost use Rattle.std.specs.Str.{IsUtf8, chars};

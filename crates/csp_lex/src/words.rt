@@ -1,3 +1,5 @@
+//! Keywords and names.
+
 ghost use Rattle.std.specs.Prelude.{Some};
 ghost use Rattle.unicode_ident.specs.Ident.{is_xid_start};
 ghost use Rattle.csp_text.specs.Fronts.{StartsWith};

@@ -1,3 +1,5 @@
+//! Why a tree has no checked script.
+
 ghost use Rattle.std.specs.Prelude.{◌≡◌};
 
 use csp_lex::Place;
@@ -9,18 +11,18 @@ use thiserror::Error;
 /// What is wrong with a tree that has no checked script.
 #[derive(Clone, Copy, Debug, PartialEq, Eq)]
 pub enum KindFault {
-    /// a name that is neither bound nor declared, or, in the set of a nametype or field, not declared above
+    /// A name that is neither bound nor declared, or, in the set of a nametype or field, not declared above.
     UnknownName,
-    /// a declared name that is declared again, a bound name that is a declared one, or a parameter named twice in one
-    /// head
+    /// A declared name that is declared again, a bound name that is a declared one, or a parameter named twice in one
+    /// head.
     DeclaredTwice,
-    /// a name of the wrong class, or a set, an equation or an assertion that no kinds fit
+    /// A name of the wrong class, or a set, an equation or an assertion that no kinds fit.
     WrongKind,
-    /// another number of arguments or fields than are declared
+    /// Another number of arguments or fields than are declared.
     WrongCount,
-    /// a set that has no value, or the set of a field without a member
+    /// A set that has no value, or the set of a field without a member.
     BadFieldSet,
-    /// a channel with which all channels so far have too many events
+    /// A channel with which all channels so far have too many events.
     TooManyEvents,
 }
 

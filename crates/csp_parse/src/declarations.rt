@@ -1,3 +1,5 @@
+//! Declarations and scripts, as they are written.
+
 use crate::expressions::Expression;
 use crate::names::Name;
 use crate::processes::Process;

@@ -1,3 +1,5 @@
+//! Sets of events, as they are written.
+
 use crate::events::Event;
 use csp_syntax::EventSetOperator;
 use std::alloc::Allocator;

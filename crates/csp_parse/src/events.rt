@@ -1,3 +1,5 @@
+//! Events and pairs of renamings, as they are written.
+
 use crate::expressions::Expression;
 use crate::names::Name;
 use std::alloc::Allocator;

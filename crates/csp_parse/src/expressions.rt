@@ -1,3 +1,5 @@
+//! Expressions, as they are written.
+
 use crate::names::Name;
 use csp_syntax::{BinaryOperator, UnaryOperator};
 use std::alloc::Allocator;
@@ -9,7 +11,7 @@ pub enum Expression<'a, A: Allocator> {
     Truth(bool),
     /// `Bool`
     Booleans,
-    /// a name: a bound one, a constructor, a datatype or a nametype
+    /// A name: a bound one, a constructor, a datatype or a nametype.
     Use(Name<'a>),
     Apply(UnaryOperator, Box<Expression<'a, A>, A>),
     Combine(BinaryOperator, Box<Expression<'a, A>, A>, Box<Expression<'a, A>, A>),

@@ -1,3 +1,5 @@
+//! How strongly operators between expressions bind.
+
 ghost use Rattle.std.specs.Prelude.{◌≡◌, ℕ, List};
 ghost use Rattle.std.specs.Option.{option_map};
 ghost use Rattle.csp_syntax.specs.Operators.{unary_of, binary_of};
@@ -10,17 +12,17 @@ use csp_syntax::{BinaryOperator, UnaryOperator};
 /// How strongly an expression holds together, the weakest first.
 #[derive(Clone, Copy)]
 pub(crate) enum Level {
-    /// a chain of `or`
+    /// A chain of `or`.
     Disjunction,
-    /// a chain of `and`
+    /// A chain of `and`.
     Conjunction,
     /// `not`
     Negation,
-    /// one comparison at most
+    /// One comparison at most.
     Comparison,
-    /// a chain of `+`, `-` and `^`
+    /// A chain of `+`, `-` and `^`.
     Sum,
-    /// a chain of `*` and `%`
+    /// A chain of `*` and `%`.
     Product,
     Atom,
 }

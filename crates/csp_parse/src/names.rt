@@ -1,3 +1,5 @@
+//! Names, as they are written.
+
 use csp_lex::Place;
 
 /// A name as it is written, with the place of its token.

@@ -1,3 +1,5 @@
+//! The heights of declarations, counted token by token.
+
 ghost use Rattle.std.specs.Prelude.{◌≡◌, ◌≤◌, ◌<◌, ◌+◌, ℕ, List, IfOk};
 ghost use Rattle.csp_text.specs.Height.{nesting, nest_height, group_height, after_token, greatest_height};
 ghost use Rattle.csp_text.specs.Height as height;
@@ -14,11 +16,11 @@ pub const GREATEST_HEIGHT: u32 = 100;
 /// What a token does for the height of its declaration.
 #[derive(Clone, Copy)]
 pub(crate) enum Nesting {
-    /// it opens a bracket group
+    /// It opens a bracket group.
     Opens,
-    /// it closes a bracket group
+    /// It closes a bracket group.
     Closes,
-    /// it counts one in its group
+    /// It counts one in its group.
     Counts,
     Plain,
 }
@@ -87,9 +89,9 @@ pub(crate) fn nesting_of(kind: TokenKind) -> Nesting
 /// A bracket group so far.
 #[derive(Clone, Copy)]
 pub(crate) struct Group {
-    /// the tokens that count directly in it
+    /// The tokens that count directly in it.
     direct: u32,
-    /// the greatest height of a group in it
+    /// The greatest height of a group in it.
     deepest: u32,
 }
 
@@ -134,7 +136,7 @@ impl Group {
 #[derive(Drop)]
 pub(crate) struct Nest<A: Allocator> {
     current: Group,
-    /// the groups around it, the outermost first
+    /// The groups around it, the outermost first.
     around: Vec<Group, A>,
 }
 

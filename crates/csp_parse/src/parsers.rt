@@ -1,3 +1,5 @@
+//! A reader of tokens: the next one is looked at, and passed.
+
 ghost use Rattle.std.specs.Prelude.{◌≡◌, ◌<◌, ◌≤◌, ℕ, List, [], true, false, IfOk, IfErr, IfSome, IfNone, length, map};
 ghost use Rattle.csp_text.specs.Token.{SignToken};
 ghost use Rattle.csp_text.specs.Height.{token_fault};
@@ -20,9 +22,9 @@ use std::alloc::Allocator;
 pub(crate) struct Parser<'t, 'a, A: Allocator> {
     pub(crate) alloc: A,
     tokens: &'t [Token<'a>],
-    /// the number of tokens that are passed
+    /// The number of tokens that are passed.
     position: usize,
-    /// where the token behind the next one stands in the next one's declaration
+    /// Where the token behind the next one stands in the next one's declaration.
     nest: Nest<A>,
 }
 

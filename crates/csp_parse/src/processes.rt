@@ -1,3 +1,5 @@
+//! Processes, as they are written.
+
 ghost use Rattle.std.specs.Prelude.{◌≡◌, IfOk, IfErr, map};
 ghost use Rattle.csp_lex.specs.Tokens.{sign_of};
 ghost use Rattle.csp_parse.specs.Processes.{infix_of, replicator_of};
@@ -52,7 +54,7 @@ pub(crate) fn replicated_sign(operator: ReplicatedOperator) -> Sign
 pub enum Process<'a, A: Allocator> {
     Stop,
     Skip,
-    /// a call, where one without arguments is the bare name
+    /// A call, where one without arguments is the bare name.
     Call(Name<'a>, Vec<Expression<'a, A>, A>),
     /// `c!e?x -> P`
     Prefix(Name<'a>, Vec<Field<'a, A>, A>, Box<Process<'a, A>, A>),

@@ -1,3 +1,5 @@
+//! Reading declarations.
+
 ghost use Rattle.std.specs.Prelude.{◌≡◌, ◌<◌, ◌≤◌, IfOk, IfErr, length, map};
 ghost use Rattle.csp_syntax.specs.Models.{model_of};
 ghost use Rattle.csp_text.specs.Grammar.{IsName, IsExpression, AreDomains, IsModel, IsDeclaration};

@@ -1,3 +1,5 @@
+//! Reading events, sets of events and renamings.
+
 ghost use Rattle.std.specs.Prelude.{◌≡◌, ◌<◌, ◌≤◌, IfOk, IfErr, length, map};
 ghost use Rattle.std.specs.Option.{option_map};
 ghost use Rattle.csp_text.specs.Token.{DotSign};

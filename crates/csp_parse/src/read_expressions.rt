@@ -1,3 +1,5 @@
+//! Reading expressions.
+
 ghost use Rattle.std.specs.Prelude.{◌≡◌, ◌<◌, ◌≤◌, None, IfOk, IfErr, length};
 ghost use Rattle.csp_syntax.specs.Operators.{unary_of, binary_of};
 ghost use Rattle.csp_text.specs.Token.{RangeSign, CloseBraceSign, LessSign, OpenBraceSign};

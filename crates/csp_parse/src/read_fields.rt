@@ -1,3 +1,5 @@
+//! Reading the fields of a prefix.
+
 ghost use Rattle.std.specs.Prelude.{◌<◌, ◌≤◌, IfOk, IfErr, length, map};
 ghost use Rattle.csp_text.specs.Grammar.{AreFields};
 ghost use Rattle.csp_text.specs.Token.{ColonSign};

@@ -1,3 +1,5 @@
+//! Reading processes.
+
 ghost use Rattle.std.specs.Prelude.{◌≡◌, ◌<◌, ◌≤◌, ◌⊎◌, true, false, IfOk, IfErr, IfSome, IfNone, length};
 ghost use Rattle.csp_text.specs.Grammar.{IsSign, IsWord, IsExpression, IsRenamingPart, IsHidingPart, IsBase, IsOperand, IsProcess};
 ghost use Rattle.csp_text.specs.Token.{IfWord, OpenRenamingSign, HidingSign};

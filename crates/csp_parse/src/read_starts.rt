@@ -1,3 +1,5 @@
+//! Reading what stands where an operand or an expression begins.
+
 ghost use Rattle.std.specs.Prelude.{◌≡◌, ◌<◌, ◌≤◌, ◌⊎◌, true, false, IfOk, IfErr, length};
 ghost use Rattle.csp_text.specs.Grammar.{IsWord, IsName, IsAtom, IsExpression};
 ghost use Rattle.csp_text.specs.Token.{StopWord, SkipWord};

@@ -1,3 +1,5 @@
+//! Why tokens are no script.
+
 ghost use Rattle.std.specs.Prelude.{◌≡◌};
 
 use csp_lex::Place;
@@ -7,13 +9,13 @@ use thiserror::Error;
 /// What is wrong with tokens that are no script.
 #[derive(Clone, Copy, Debug, PartialEq, Eq)]
 pub enum GrammarFault {
-    /// a token with which the tokens so far begin no script
+    /// A token with which the tokens so far begin no script.
     UnexpectedToken,
-    /// a token with which its declaration is too high
+    /// A token with which its declaration is too high.
     Nested,
-    /// the end of tokens that begin a script and are none
+    /// The end of tokens that begin a script and are none.
     UnexpectedEnd,
-    /// an unexpected token that is an infix operator of processes, a hiding sign or an opening square bracket
+    /// An unexpected token that is an infix operator of processes, a hiding sign or an opening square bracket.
     MixedOperators,
 }
 

@@ -1,3 +1,5 @@
+//! What stands where an operand or an expression begins.
+
 ghost use Rattle.std.specs.Prelude.{◌≡◌, IfOk, IfErr, map};
 ghost use Rattle.csp_text.specs.Grammar.{IsOperand};
 ghost use Rattle.csp_text.specs.Raw.{RawPrefix, RawGuard};
@@ -18,13 +20,13 @@ use std::alloc::Allocator;
 /// What stands where an operand or an expression begins.
 #[derive(Drop)]
 pub(crate) enum Start<'a, A: Allocator> {
-    /// a name, perhaps in brackets: an atom, or a call without arguments
+    /// A name, perhaps in brackets: an atom, or a call without arguments.
     Name(Name<'a>),
-    /// an expression that is no name, and no guard
+    /// An expression that is no name, and no guard.
     Expression(Expression<'a, A>),
-    /// a process that renamings and hidings may follow
+    /// A process that renamings and hidings may follow.
     Base(Box<Process<'a, A>, A>),
-    /// a prefix, or a process with a guard
+    /// A prefix, or a process with a guard.
     Operand(Box<Process<'a, A>, A>),
 }
 
@@ -62,9 +64,9 @@ impl<'a, A: Allocator + Copy> Start<'a, A> {
 /// What stands in brackets where an operand or an expression begins.
 #[derive(Drop)]
 pub(crate) enum Inner<'a, A: Allocator> {
-    /// a name, perhaps in brackets: an expression, or a call without arguments
+    /// A name, perhaps in brackets: an expression, or a call without arguments.
     Name(Name<'a>),
-    /// an expression that is no name
+    /// An expression that is no name.
     Expression(Expression<'a, A>),
     Process(Box<Process<'a, A>, A>),
 }

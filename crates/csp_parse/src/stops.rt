@@ -1,3 +1,5 @@
+//! Why a reader of tokens stopped.
+
 ghost use Rattle.std.specs.Prelude.{◌≡◌};
 ghost use Rattle.csp_parse.specs.declared.stops.Stopped.TheVariants.{Memory};
 

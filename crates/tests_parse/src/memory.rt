@@ -1,3 +1,5 @@
+//! Refused memory.
+
 use crate::worked::WORKED;
 use csp_lex::{TokenList, tokens};
 use csp_parse::{Refused, parse};

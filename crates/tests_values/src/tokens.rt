@@ -1,3 +1,5 @@
+//! Tables of texts with their tokens, and with their refusals.
+
 use csp_lex::{Refused, Token, TokenKind, TokenList, tokens};
 use linked_list_allocator::LocalHeap;
 use std::alloc::{AllocError, Global};
