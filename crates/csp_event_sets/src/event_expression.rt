@@ -12,7 +12,9 @@ use std::alloc::Allocator;
 #[derive(Drop)]
 #[derive_where(PartialEq, Eq, PartialOrd, Ord, Hash)]
 pub struct EventExpression<A: Allocator> {
+    /// The channel, by its number in the order of the declarations.
     pub channel: ChannelId,
+    /// One expression for each of the first fields, in order.
     pub fields: Vec<Expr<A>, A>,
 }
 

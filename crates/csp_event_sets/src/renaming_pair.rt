@@ -11,7 +11,9 @@ use std::alloc::Allocator;
 #[derive(Drop)]
 #[derive_where(PartialEq, Eq, PartialOrd, Ord, Hash)]
 pub struct RenamingPair<A: Allocator> {
+    /// The event, or the bare channel, that is renamed.
     pub from: EventExpression<A>,
+    /// What stands in its place.
     pub to: EventExpression<A>,
 }
 

@@ -29,6 +29,7 @@ pub enum EventTest<A: AllocHandle> {
     Events(Vec<Event<A>, A>),
     /// The events that begin with one of these: its channel and its fields, and whatever fields behind. They rise too.
     Beginnings(Vec<Event<A>, A>),
+    /// An operator with the tests of its left and its right operand.
     Combine(EventSetOperator, Box<EventTest<A>, A>, Box<EventTest<A>, A>),
 }
 

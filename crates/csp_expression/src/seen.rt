@@ -10,7 +10,9 @@ use std::alloc::Allocator;
 /// A value that lies in the expression, or one that was made.
 #[derive(Drop)]
 pub enum Seen<'e, A: Allocator> {
+    /// It lies in the expression, or in a binding.
     Lent(&'e Value<A>),
+    /// It was made by the evaluation.
     Made(Value<A>),
 }
 

@@ -16,7 +16,9 @@ use std::alloc::Allocator;
 /// A name with the value that it stands for.
 #[derive(Clone, Copy)]
 pub struct Binding<'v, A: Allocator> {
+    /// The bound name.
     pub name: Name,
+    /// The value, where it lies.
     pub value: &'v Value<A>,
 }
 

@@ -8,7 +8,9 @@ use std::alloc::Allocator;
 /// The constructors of a datatype, which are numbered one after the other: the first one, and how many follow it.
 #[derive(Clone, Copy, PartialEq, Eq)]
 pub struct Constructors {
+    /// The first constructor.
     pub first: ConId,
+    /// How many constructors follow the first one, from 0.
     pub following: u32,
 }
 
@@ -16,6 +18,7 @@ pub struct Constructors {
 #[derive(Drop)]
 #[derive_where(PartialEq, Eq)]
 pub struct TypeTable<A: Allocator> {
+    /// The constructors of each datatype.
     pub datatypes: Vec<Constructors, A>,
     /// The set that each nametype names.
     pub nametypes: Vec<SetOf<A>, A>,

@@ -6,7 +6,9 @@ use csp_term::{Action, AllocHandle, Fault, Term};
 #[derive(Drop)]
 #[derive_where(PartialEq, Eq, PartialOrd, Ord)]
 pub struct Step<A: AllocHandle> {
+    /// What is done.
     pub action: Action<A>,
+    /// The term that it leads to, which is within the limits.
     pub target: Term<A>,
 }
 

@@ -28,15 +28,20 @@ pub enum End {
 /// What a kind is of another kind.
 #[derive(Clone, Copy, PartialEq, Eq)]
 pub(crate) enum Layer {
+    /// The sequences of it.
     Sequence,
+    /// The sets of it.
     Set,
 }
 
 /// A kind as terms ask for it: an end, or sequences or sets of it.
 #[derive(Clone, Copy, PartialEq, Eq)]
 pub enum Demand {
+    /// The end itself.
     Plain(End),
+    /// Sequences of the end.
     SequenceOf(End),
+    /// Sets of the end.
     SetOf(End),
 }
 

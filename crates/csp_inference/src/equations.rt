@@ -13,7 +13,9 @@ use std::alloc::Allocator;
 /// Two kinds that are to be one.
 #[derive(Clone, Copy)]
 pub struct KindEquation {
+    /// One of the two kinds.
     pub left: Demand,
+    /// The other one.
     pub right: Demand,
 }
 

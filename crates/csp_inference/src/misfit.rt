@@ -9,6 +9,7 @@ use thiserror::Error;
 /// Why no kinds are found.
 #[derive(Clone, Copy, Debug, PartialEq, Eq, Error)]
 pub enum Misfit {
+    /// Memory was refused, and nothing is said of kinds.
     #[error("out of memory")]
     Memory,
     /// No kinds fit.

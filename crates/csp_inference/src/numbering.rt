@@ -24,7 +24,9 @@ pub struct Numbering<A: Allocator> {
 /// A bound name with the number of its kind.
 #[derive(Clone, Copy)]
 pub struct NumberedName {
+    /// The bound name.
     pub name: Name,
+    /// The number of its kind.
     pub number: KindNumber,
 }
 

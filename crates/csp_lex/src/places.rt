@@ -7,7 +7,9 @@ use std::fmt;
 /// A line and a column of a text, both counted from 1 and in characters.
 #[derive(Clone, Copy, Debug, PartialEq, Eq)]
 pub struct Place {
+    /// The line, from 1.
     pub line: u32,
+    /// The column, from 1, in characters.
     pub column: u32,
 }
 

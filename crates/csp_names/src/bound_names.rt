@@ -17,13 +17,16 @@ use std::hash::{BuildHasherDefault, FoldHasher};
 /// A bound name's number, and how often the name is bound where the text is looked at.
 #[derive(Clone, Copy)]
 pub struct BoundName {
+    /// Its number.
     pub name: Name,
+    /// How many bindings of it are open, 0 where the name is not bound here.
     pub times: u32,
 }
 
 /// The names that the text binds so far, each once, in the order in which they first are.
 #[derive(Drop)]
 pub struct BoundNames<'t, A: Allocator> {
+    /// A row for each spelling, by its bytes.
     pub table: IndexMap<&'t [u8], BoundName, BuildHasherDefault<FoldHasher>, A>,
 }
 

@@ -13,10 +13,15 @@ use std::alloc::Allocator;
 /// What a name is declared as.
 #[derive(Clone, Copy)]
 pub enum Declared {
+    /// A datatype, which stands for the set of its values.
     Datatype(DatatypeId),
+    /// A constructor of a datatype.
     Constructor(ConId),
+    /// A nametype, which stands for its set.
     Nametype(NametypeId),
+    /// A channel.
     Channel(ChannelId),
+    /// An equation.
     Equation(EquationId),
 }
 

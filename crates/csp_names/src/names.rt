@@ -17,8 +17,11 @@ use std::hash::{BuildHasherDefault, FoldHasher};
 /// how many fields each channel has.
 #[derive(Drop)]
 pub struct Names<'t, A: Allocator> {
+    /// Each name by the bytes of its spelling, in the order of the text.
     pub table: IndexMap<&'t [u8], Declared, BuildHasherDefault<FoldHasher>, A>,
+    /// How many parameters each equation has.
     pub parameters: Vec<usize, A>,
+    /// How many fields each channel has.
     pub fields: Vec<usize, A>,
 }
 

@@ -19,8 +19,11 @@ use std::alloc::Allocator;
 /// rule refuses one of them.
 #[derive(Drop)]
 pub struct Scope<'n, 't, A: Allocator> {
+    /// All declared names of the script.
     pub names: &'n Names<'t, A>,
+    /// How many of them, the first ones, can be used.
     pub visible: usize,
+    /// The field sets of each channel, `None` where a rule refuses one of them.
     pub field_sets: &'n [Option<Vec<FieldSet<A>, A>>],
 }
 

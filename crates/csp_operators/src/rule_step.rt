@@ -23,7 +23,9 @@ pub enum Target<A: AllocHandle> {
 /// A step of a rule: the action, and where it leads.
 #[derive(Drop)]
 pub struct RuleStep<A: AllocHandle> {
+    /// What is done.
     pub action: Action<A>,
+    /// Where it leads.
     pub target: Target<A>,
 }
 

@@ -10,7 +10,9 @@ use std::alloc::Allocator;
 /// The set of a nametype or of a channel's field, with the place of its first token.
 #[derive(Drop)]
 pub struct Domain<'a, A: Allocator> {
+    /// The place of the set's first token.
     pub place: Place,
+    /// The set.
     pub set: Expression<'a, A>,
 }
 
@@ -50,5 +52,6 @@ pub enum Declaration<'a, A: Allocator> {
 /// A script as it is written: its declarations, in the order of the text.
 #[derive(Drop)]
 pub struct Raw<'a, A: Allocator> {
+    /// The declarations, in the order of the text.
     pub declarations: Vec<Declaration<'a, A>, A>,
 }

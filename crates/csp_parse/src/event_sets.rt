@@ -11,5 +11,6 @@ pub enum EventSet<'a, A: Allocator> {
     Enumeration(Vec<Event<'a, A>, A>),
     /// `{| c.e, .. |}`
     Productions(Vec<Event<'a, A>, A>),
+    /// `union(X, Y)`, `inter(X, Y)` or `diff(X, Y)`
     Combine(EventSetOperator, Box<EventSet<'a, A>, A>, Box<EventSet<'a, A>, A>),
 }

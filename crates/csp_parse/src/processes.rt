@@ -52,7 +52,9 @@ pub(crate) fn replicated_sign(operator: ReplicatedOperator) -> Sign
 /// A process as it is written. Brackets leave no mark.
 #[derive(Drop)]
 pub enum Process<'a, A: Allocator> {
+    /// `STOP`
     Stop,
+    /// `SKIP`
     Skip,
     /// A call, where one without arguments is the bare name.
     Call(Name<'a>, Vec<Expression<'a, A>, A>),
@@ -62,6 +64,7 @@ pub enum Process<'a, A: Allocator> {
     Guard(Expression<'a, A>, Box<Process<'a, A>, A>),
     /// `if e then P else Q`
     If(Expression<'a, A>, Box<Process<'a, A>, A>, Box<Process<'a, A>, A>),
+    /// An operator with its left and its right operand.
     Infix(ProcessOperator, Box<Process<'a, A>, A>, Box<Process<'a, A>, A>),
     /// `P [| X |] Q`
     GeneralisedParallel(Box<Process<'a, A>, A>, EventSet<'a, A>, Box<Process<'a, A>, A>),

@@ -36,7 +36,9 @@ pub struct Sets<A: Allocator> {
 pub struct RefusedSet {
     /// How many declarations stand above it.
     pub declaration: usize,
+    /// What is wrong with it.
     pub fault: KindFault,
+    /// Where the refusal is.
     pub place: Place,
 }
 

@@ -11,8 +11,11 @@ use std::alloc::Allocator;
 #[derive(Drop)]
 #[derive_where(PartialEq, Eq)]
 pub struct Assertion<A: Allocator> {
+    /// The model in which the two are compared.
     pub model: Model,
+    /// The left side.
     pub specification: Term<A>,
+    /// The right side.
     pub implementation: Term<A>,
 }
 

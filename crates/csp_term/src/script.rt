@@ -13,7 +13,9 @@ use std::alloc::Allocator;
 #[derive(Drop)]
 #[derive_where(PartialEq, Eq)]
 pub struct Channel<A: Allocator> {
+    /// The name as it is printed.
     pub spelling: String<A>,
+    /// The set of each field, in order.
     pub fields: Vec<FieldSet<A>, A>,
 }
 
@@ -21,6 +23,7 @@ pub struct Channel<A: Allocator> {
 #[derive(Drop)]
 #[derive_where(PartialEq, Eq)]
 pub struct Constructor<A: Allocator> {
+    /// The name as it is printed.
     pub spelling: String<A>,
 }
 
@@ -28,7 +31,9 @@ pub struct Constructor<A: Allocator> {
 #[derive(Drop)]
 #[derive_where(PartialEq, Eq)]
 pub struct Equation<A: Allocator> {
+    /// The bound names of its parameters, in order.
     pub parameters: Vec<Name, A>,
+    /// The process that it defines.
     pub body: Term<A>,
 }
 
@@ -36,11 +41,15 @@ pub struct Equation<A: Allocator> {
 #[derive(Drop)]
 #[derive_where(PartialEq, Eq)]
 pub struct ScriptParts<A: Allocator> {
+    /// The datatypes and the nametypes, by their numbers.
     pub types: TypeTable<A>,
     /// The constructors of all datatypes, by their numbers.
     pub constructors: Vec<Constructor<A>, A>,
+    /// The channels, by their numbers.
     pub channels: Vec<Channel<A>, A>,
+    /// The equations, by their numbers.
     pub equations: Vec<Equation<A>, A>,
+    /// The assertions.
     pub assertions: Vec<Assertion<A>, A>,
 }
 

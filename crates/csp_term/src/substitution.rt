@@ -25,8 +25,10 @@ use thiserror::Error;
 /// Why a term with values put in is not answered.
 #[derive(Clone, Copy, Debug, PartialEq, Eq, Error)]
 pub enum TermFault {
+    /// Memory was refused, and nothing is said of the term's size.
     #[error("T01 out of memory")]
     Memory,
+    /// The term would be past the limits: over 2,000 nodes, or deeper than 256.
     #[error("T02 the term is past the limits")]
     TooLarge,
 }

@@ -16,7 +16,9 @@ use smallvec::SmallVec;
 #[derive(Drop)]
 #[derive_where(PartialEq, Eq, PartialOrd, Ord, Hash)]
 pub struct Event<A: AllocHandle> {
+    /// The channel.
     pub channel: ChannelId,
+    /// The values of its fields, in order.
     pub fields: SmallVec<Value<A>, 2, A>,
 }
 
@@ -28,6 +30,7 @@ pub enum Action<A: AllocHandle> {
     Tau,
     /// The end of a process.
     Tick,
+    /// A visible event.
     Event(Event<A>),
 }
 

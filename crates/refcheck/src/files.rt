@@ -69,8 +69,11 @@ impl<R: rt::Files + Alloc> Files<R::A> for MachineFiles<'_, R> {
 /// One text in memory, under a name. There is no other file.
 #[derive(Drop)]
 pub struct OneText<'t, A> {
+    /// The name of the one file.
     pub name: &'t str,
+    /// Its bytes.
     pub text: &'t [u8],
+    /// Where copies of it are made.
     pub alloc: A,
 }
 

@@ -32,6 +32,7 @@ pub trait Sink {
 /// A sink in memory. A growth that is refused is a failure.
 #[derive(Drop)]
 pub struct Buffer<A: Allocator> {
+    /// The bytes taken so far.
     pub bytes: Vec<u8, A>,
     failed: bool,
 }
