@@ -42,7 +42,8 @@ impl<A: Allocator + Copy> Expr<A> {
         }
     }
 
-    /// The same for any expression: a name that no value was put in for, and an operand of the wrong kind, are `Kind`.
+    /// The same for any expression: a name that no value was put in for, and an operand of the wrong kind, are the
+    /// cause `Kind`. `Memory` says nothing of the value.
     #[tactic(auto, using(csp_semantics::proofs::Putting::put_nothing_in_expression))]
     pub fn find_value(&self, alloc: A, types: &TypeTable<A>) -> Result<Value<A>, NoValue>
         ensures { Gives result (value (table_of types.now) (expression_of self.now)) }

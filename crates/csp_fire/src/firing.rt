@@ -18,7 +18,7 @@ use csp_rules::{NoValue, RuleStep, Target, steps};
 use csp_term::{AllocHandle, Memory, Script, ScriptParts, Term};
 
 /// Fires a term of the script, which is closed and well-kinded. The expansion names the script and the term that were
-/// handed in, and its steps lead to terms of the script.
+/// handed in, and its steps lead to terms of the script. `Memory` says that there is no room for it.
 pub fn fire<'s, A: AllocHandle>(
     alloc: A,
     script: &'s Script<A>,

@@ -75,9 +75,9 @@ impl<A: Allocator + Copy> Chain<A> {
         Ok(Chain { layers, end })
     }
 
-    #[tactic(auto, using(crate::proofs::Layers::over_append))]
     /// Puts the layers and the end in the place of the chain's end, or does nothing and is `Memory` where there is no
     /// room.
+    #[tactic(auto, using(crate::proofs::Layers::over_append))]
     pub(crate) fn go_on(&mut self, layers: &[Layer], end: End) -> Result<(), Memory>
         ensures { IfOk result (λ _. chain_of self.new ≡ over_all self.old.layers.items (over_all layers.now (end_of end))) }
     {

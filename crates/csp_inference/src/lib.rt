@@ -1,7 +1,9 @@
-//! Whether the kinds of a script fit, and which they are.
+//! What the terms of a script ask of kinds, as equations, and whether these have a solution.
 //!
 //! The kind of each nametype, field, parameter and bound name has a number. Terms ask for equations between kinds with
-//! open ends, which are solved one by one as they are met.
+//! open ends, which are solved one by one as they are met. By the contract of `Equations` those are the equations of
+//! the definitions, no more and no less; and by that of `State::solve` what is then known is what was known and they
+//! say, or they have no solution.
 #![tactic(auto)]
 
 mod arguments;

@@ -36,7 +36,8 @@ impl<A: Allocator + Copy> Equations<A> {
         Ok(())
     }
 
-    /// The same for a set that several channels have for a field, each with a number of its own.
+    /// The same for a set that several channels have for a field, each with a number of its own. `Memory` where there
+    /// is no room.
     pub fn ask_copies(
         &mut self,
         types: &TypeTable<A>,

@@ -27,7 +27,8 @@ struct NameTable<'t, A: Allocator> {
     nametypes: u32,
 }
 
-/// The names that a script declares, or the first one that is declared again.
+/// The names that a script declares, or the first one that is declared again, with its place. `Memory` says nothing of
+/// the script.
 pub fn names_of<'t, A: Allocator + Copy>(
     alloc: A,
     raw: &Raw<'t, A>,

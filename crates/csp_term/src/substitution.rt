@@ -89,7 +89,7 @@ pub(crate) fn without<'v, A: Allocator + Copy>(
     Ok(left)
 }
 
-/// The bindings with the name's value given anew.
+/// The name with its value, in front of the bindings of other names. `Memory` where there is no room.
 pub fn bind<'v, A: Allocator + Copy>(
     alloc: A,
     name: Name,

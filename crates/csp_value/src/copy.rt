@@ -8,6 +8,7 @@ use std::alloc::Allocator;
 
 /// A type whose values can be copied into a given allocator.
 pub trait TryCopy<A: Allocator>: Sized + Drop {
+    /// That the second value is a copy of the first one.
     ghost is_copy: { Self → Self → Type 0 };
 
     /// An equal value in the given allocator, or `Memory` where that has no room.

@@ -7,6 +7,7 @@ use std::alloc::{Allocator, Global};
 /// An allocator whose handle takes no room, or that of a pointer, so that what holds it is of a known size. Any
 /// allocator is lent as such a handle, by a reference.
 pub trait AllocHandle: Allocator + Copy {
+    /// That the handle has the size of nothing, or of a pointer.
     ghost small: { IsHandle Self.row };
 }
 

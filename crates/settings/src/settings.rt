@@ -23,11 +23,11 @@ pub const MAX_NODES: usize = 100_000;
 /// What a command line asks of the program.
 #[derive(Clone, Copy, Debug, PartialEq, Eq)]
 pub struct Settings<'a> {
-    /// How many workers search.
+    /// How many workers search, 1 to 64.
     pub workers: usize,
-    /// The most pairs that a search keeps.
+    /// The most pairs that a search keeps, 1 to 1,000,000.
     pub max_pairs: usize,
-    /// The most nodes of a normal form.
+    /// The most nodes of a normal form, and the most states of each, 1 to 100,000.
     pub max_nodes: usize,
     /// The name of the script's file.
     pub file: &'a str,

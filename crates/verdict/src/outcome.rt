@@ -10,13 +10,13 @@ use csp_term::{AllocHandle, Fault, Memory};
 pub enum Why {
     /// More pairs are reachable than the limit allows.
     Pairs,
-    /// The specification has more nodes than the limit allows.
+    /// The specification has more nodes than the limit allows, or more states than that in one of them.
     Nodes,
-    /// A reachable state of a side is past the limits of a term.
+    /// A side reaches a term that is large: past the limits of a term, or with a step that leads past them.
     Term,
-    /// A reachable state of a side is faulty, with this cause.
+    /// A side reaches a term that is faulty, with this cause.
     Fault(Fault),
-    /// Memory was refused.
+    /// Memory was refused, and nothing is said of the assertion.
     Memory,
 }
 
@@ -27,14 +27,14 @@ pub enum Outcome<A: AllocHandle> {
     Holds,
     /// It does not: this is a violation.
     Fails(Shown<A>),
-    /// No answer within the limits.
+    /// There is no answer, for this reason.
     Unknown(Why),
 }
 
 impl<A: AllocHandle> Outcome<A> {
     ghost use Rattle.verdict.specs.Outcome.{outcome_of};
 
-    /// An equal outcome in the given allocator.
+    /// An equal outcome in the given allocator, or `Memory` where that has no room.
     pub fn try_copy(&self, alloc: A) -> Result<Outcome<A>, Memory>
         ensures { IfOk result (λ copy. outcome_of copy ≡ outcome_of self.now) }
     {

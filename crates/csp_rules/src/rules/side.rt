@@ -11,7 +11,7 @@ use csp_expression::{Binding, NoValue};
 use csp_operators::{Side, Target};
 use csp_term::{AllocHandle, ScriptParts, Term};
 
-/// The term with the values put in.
+/// The term with the values put in, as a side: with its steps, or why it has none.
 #[cycle(steps)]
 pub(crate) fn under<'v, A: AllocHandle>(
     alloc: A,
