@@ -2,4 +2,4 @@ use Rattle.csp_semantics.proofs.ClosedTerms.{no_misfit}
 use Rattle.csp_semantics.proofs.kinds.closed_terms_are_no_misfits.Goals as goal
 
 pub returns : goal.returns
-returns c = λ script kinds t good h. no_misfit script kinds good t h
+returns c = no_misfit

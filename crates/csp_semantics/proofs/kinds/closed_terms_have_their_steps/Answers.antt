@@ -2,4 +2,4 @@ use Rattle.csp_semantics.proofs.ClosedTerms.{goes_on}
 use Rattle.csp_semantics.proofs.kinds.closed_terms_have_their_steps.Goals as goal
 
 pub returns : goal.returns
-returns c = λ script kinds t good h. goes_on script kinds good t h
+returns c = goes_on

@@ -2,13 +2,13 @@ use Rattle.csp_semantics.proofs.KindedSets.{value_ok, elements_ok, next_set, all
 use Rattle.csp_semantics.proofs.kinds.first_sets_have_their_kinds.Goals as goal
 
 pub returns-clause-value : goal.returns-clause-value
-returns-clause-value c = λ types kinds e k v sets h is. value_ok types kinds sets e k v h is
+returns-clause-value c = λ types kinds sets e k h v is. value_ok types kinds sets e k v h is
 
 pub returns-clause-members : goal.returns-clause-members
-returns-clause-members c = λ types kinds e k vs sets h is. elements_ok types kinds sets e k vs h is
+returns-clause-members c = λ types kinds sets e k h vs is. elements_ok types kinds sets e k vs h is
 
 pub returns-clause-next : goal.returns-clause-next
-returns-clause-next c = λ types kinds vs k sets e h. next_set types kinds sets vs k e h
+returns-clause-next c = next_set
 
 pub returns-clause-all : goal.returns-clause-all
-returns-clause-all c = λ types kinds sets e. all_sets types kinds sets e
+returns-clause-all c = all_sets

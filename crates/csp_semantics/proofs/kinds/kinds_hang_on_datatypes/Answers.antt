@@ -2,10 +2,10 @@ use Rattle.csp_semantics.proofs.KindedSets.{same_value, same_members, same_expre
 use Rattle.csp_semantics.proofs.kinds.kinds_hang_on_datatypes.Goals as goal
 
 pub returns-clause-values : goal.returns-clause-values
-returns-clause-values c = λ types others v k same h. same_value types others same v k h
+returns-clause-values c = same_value
 
 pub returns-clause-members : goal.returns-clause-members
-returns-clause-members c = λ types others vs k same h. same_members types others same vs k h
+returns-clause-members c = same_members
 
 pub returns-clause-expressions : goal.returns-clause-expressions
-returns-clause-expressions c = λ types others kinds scope e k same h. same_expression types others same kinds scope e k h
+returns-clause-expressions c = same_expression

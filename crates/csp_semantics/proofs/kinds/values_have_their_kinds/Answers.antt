@@ -6,13 +6,13 @@ use Rattle.csp_semantics.proofs.KindedValues.{value_kind, values_kind}
 use Rattle.csp_semantics.proofs.kinds.values_have_their_kinds.Goals as goal
 
 pub returns-clause-value : goal.returns-clause-value
-returns-clause-value c = λ types kinds e k sets h v is. gives_value (λ w. IsValueOf types w k) (value types e) v (value_kind types kinds sets e k h) is
+returns-clause-value c = λ types kinds sets e k h v is. gives_value (λ w. IsValueOf types w k) (value types e) v (value_kind types kinds sets e k h) is
 
 pub returns-clause-no_misfit : goal.returns-clause-no_misfit
-returns-clause-no_misfit c = λ types kinds e k sets h. gives_no_misfit (λ w. IsValueOf types w k) (value types e) (value_kind types kinds sets e k h)
+returns-clause-no_misfit c = λ types kinds sets e k h. gives_no_misfit (λ w. IsValueOf types w k) (value types e) (value_kind types kinds sets e k h)
 
 pub returns-clause-values : goal.returns-clause-values
-returns-clause-values c = λ types kinds es k sets h vs is. gives_value (λ ws. MembersHaveKind types ws k) (values types es) vs (values_kind types kinds sets es k h) is
+returns-clause-values c = λ types kinds sets es k h vs is. gives_value (λ ws. MembersHaveKind types ws k) (values types es) vs (values_kind types kinds sets es k h) is
 
 pub returns-clause-no_misfits : goal.returns-clause-no_misfits
-returns-clause-no_misfits c = λ types kinds es k sets h. gives_no_misfit (λ ws. MembersHaveKind types ws k) (values types es) (values_kind types kinds sets es k h)
+returns-clause-no_misfits c = λ types kinds sets es k h. gives_no_misfit (λ ws. MembersHaveKind types ws k) (values types es) (values_kind types kinds sets es k h)
