@@ -1,2 +1,5 @@
--- Small trees for the laws.
+-- What the laws speak of, and small trees for them.
 pub mod Trees
+pub mod DeclaredNames
+pub mod SiteWalks
+pub mod UsedNames

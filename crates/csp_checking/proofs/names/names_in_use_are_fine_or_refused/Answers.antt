@@ -6,25 +6,25 @@ pub returns-clause-unknown : goal.returns-clause-unknown
 returns-clause-unknown c = unknown_stops
 
 pub returns-clause-class : goal.returns-clause-class
-returns-clause-class c = class_stops
+returns-clause-class c = λ env u n h. class_stops env u n h.0 h.1 h.2
 
 pub returns-clause-expression : goal.returns-clause-expression
-returns-clause-expression c = expression_fine
+returns-clause-expression c = λ env n h. expression_fine env n h.0 h.1 h.2
 
 pub returns-clause-equation : goal.returns-clause-equation
-returns-clause-equation c = equation_fine
+returns-clause-equation c = λ env k n h count. equation_fine env k n h.0 h.1 h.2 count
 
 pub returns-clause-arguments : goal.returns-clause-arguments
-returns-clause-arguments c = arguments_stop
+returns-clause-arguments c = λ env k n h other. arguments_stop env k n h.0 other.0 h.1 h.2 other.1 other.2
 
 pub returns-clause-event : goal.returns-clause-event
-returns-clause-event c = event_fine
+returns-clause-event c = λ env k n h count. event_fine env k n h.0 h.1 h.2 count
 
 pub returns-clause-fields : goal.returns-clause-fields
-returns-clause-fields c = fields_stop
+returns-clause-fields c = λ env k n h other. fields_stop env k n h.0 other.0 h.1 h.2 other.1 other.2
 
 pub returns-clause-productions : goal.returns-clause-productions
-returns-clause-productions c = productions_fine
+returns-clause-productions c = λ env k n h enough. productions_fine env k n h.0 enough.0 h.1 h.2 enough.1 enough.2
 
 pub returns-clause-too_many : goal.returns-clause-too_many
-returns-clause-too_many c = productions_stop
+returns-clause-too_many c = λ env k n h less. productions_stop env k n h.0 less.0 h.1 h.2 less.1 less.2

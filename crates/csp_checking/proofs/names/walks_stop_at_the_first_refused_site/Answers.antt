@@ -14,7 +14,7 @@ pub returns-clause-next : goal.returns-clause-next
 returns-clause-next c = fine_next
 
 pub returns-clause-stopped : goal.returns-clause-stopped
-returns-clause-stopped c = λ raw above below d f p is fine h. stopped_in_declaration raw above below d is fine h
+returns-clause-stopped c = λ raw f p h. stopped_in_declaration raw h.0 h.2 h.1 h.3 h.4 h.5
 
 pub returns-clause-refusal : goal.returns-clause-refusal
 returns-clause-refusal c = λ raw f p once h. stopped_is_refusal raw once h
