@@ -3,3 +3,7 @@ pub mod Trees
 pub mod DeclaredNames
 pub mod SiteWalks
 pub mod UsedNames
+pub mod Searches
+pub mod Asking
+pub mod FittingKinds
+pub mod FirstSets

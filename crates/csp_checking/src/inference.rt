@@ -1,30 +1,27 @@
-//! How kinds that fit are found, or it is seen that none fit: two kinds are made one, and equations say what a term asks for.
+//! How kinds that fit are found, or it is seen that none fit: two kinds are made one, and equations say what a term asks
+//! for.
 
-ghost use Rattle.std.specs.Prelude.{◌≡◌, ◌≢◌, ◌⊎◌, ◌↔◌, ℕ, ◌+◌, ◌<◌, ◌≤◌, true, false, List, [], ◌∷◌, ◌++◌, length, map, set, drop, slice_get, Option, Some, None, option_map};
-ghost use Rattle.csp_syntax.specs.Value.{Value, Truth};
-ghost use Rattle.csp_syntax.specs.Expression.{Expression, Expressions, Literal, Combine, Equals, SequenceOf, no_expressions, expression_and};
-ghost use Rattle.csp_syntax.specs.Process.{Field, EventExpression, EventSet, RenamingPair, Process, Script};
+ghost use Rattle.std.specs.Prelude.{◌≡◌, ◌≢◌, ◌↔◌, ℕ, ◌<◌, List, [], ◌∷◌, ◌++◌, length, set, Option, Some, None};
+ghost use Rattle.csp_syntax.specs.Process.{Script};
 ghost use Rattle.csp_syntax.specs.Types.{Types};
-ghost use Rattle.csp_semantics.specs.Kinds.Kind.{Kinds, BeginsInTurn, Each};
-ghost use Rattle.csp_semantics.specs.Kinds.Values.{IsValueOf};
-ghost use Rattle.csp_semantics.specs.Kinds.Expressions.{HasKind, AllHaveKind, HaveKinds, HaveFirstKinds};
-ghost use Rattle.csp_semantics.specs.Kinds.Events.{FieldsHaveKinds, IsEvent, IsEventSet, IsPair};
-ghost use Rattle.csp_semantics.specs.Kinds.Processes.{IsWellKinded};
-ghost use Rattle.csp_text.specs.Raw.{RawName, RawDomain, RawDeclaration, RawNametype, RawChannels, RawScript};
-ghost use Rattle.csp_checking.specs.Sets.{set_expression, nametypes_declared, channels_declared, IsSetOf, nametype_sets, channel_sets, types_of, FitSets};
+ghost use Rattle.csp_semantics.specs.Kinds.Kind.{Kinds};
+ghost use Rattle.csp_text.specs.Raw.{RawDeclaration, RawScript};
+ghost use Rattle.csp_checking.specs.Sets.{types_of};
 ghost use Rattle.csp_checking.specs.Rules.{SomeFit};
 ghost use Rattle.csp_checking.specs.Faults.{KindFault, WrongKind};
-ghost use Rattle.csp_checking.specs.Fitting.{Item, FitsItem, FitKinds, IsMisfit};
-ghost use Rattle.csp_semantics.specs.Laws.Terms.{no_types, num};
-ghost use Rattle.csp_checking.specs.Inference.Chain.{Chain, IntEnd, BoolEnd, DatatypeEnd, OpenEnd, SequenceOver, SetOver, Assignment, kind_of, open_end, with_ends, in_place_of};
-ghost use Rattle.csp_checking.specs.Inference.State.{State, nothing_known, state_of, Satisfies, IsOpenIn, IsResolved, resolve, bound_to, KindEquation, IsSolved, HasNoSolution, IsUnified, CannotBeOne, ends_in, unify_resolved, unify, solve};
-ghost use Rattle.csp_checking.specs.Inference.Equations.{no_numbers, Ask, Numbering, kinds_under, Numbered, scope_under, IsBelow, NamesBelow, IsChainBelow, AreOwners};
-ghost use Rattle.csp_checking.specs.Inference.Expressions.{behind_value, behind_expression, behind_expressions, of_value, of_expression, of_expressions, of_all, of_first};
-ghost use Rattle.csp_checking.specs.Inference.Processes.{behind_fields, behind_event, behind_event_set, behind_pairs, behind_process, of_fields, of_event, of_event_set, of_pairs, of_process};
-ghost use Rattle.csp_checking.specs.Inference.Items.{behind_set, of_set, behind_copies, of_copies, behind_sets, of_sets, behind_rows, of_rows, behind_items, of_item, of_items, AreNumbersFor, rows_from, owners_from, numbers_of, next_number};
-ghost use Rattle.csp_checking.specs.Inference.Sets.{FitFirstSets, IsBeginningOf, IsColumn};
+ghost use Rattle.csp_checking.specs.Fitting.{Item};
+ghost use Rattle.csp_checking.specs.Inference.Chain.{Chain, IntEnd, BoolEnd, DatatypeEnd, OpenEnd, SequenceOver, SetOver, Assignment, kind_of, open_end};
+ghost use Rattle.csp_checking.specs.Inference.State.{State, nothing_known, state_of, Satisfies, IsOpenIn, IsResolved, resolve, bound_to, KindEquation, IsSolved, HasNoSolution, IsUnified, CannotBeOne, unify_resolved, unify, solve};
+ghost use Rattle.csp_checking.specs.Inference.Equations.{Numbering, IsBelow, AreOwners};
+ghost use Rattle.csp_checking.specs.Inference.Items.{AreNumbersFor, rows_from, owners_from, numbers_of, next_number};
+ghost use Rattle.csp_checking.specs.Inference.Sets.{FitFirstSets, IsBeginningOf};
+ghost use Rattle.csp_checking.specs.Laws.Searches.{CanBeBound, with_bound, AreSameStates, found_of, sequence_twice, sequence_of_itself, sequences_compared, mixed_sequence};
+ghost use Rattle.csp_checking.specs.Laws.Asking.{ValuesAskForKinds, ExpressionsAskForKinds, ItemsAskForKinds, TurnsAskForKinds, FirstTurnsAskForKinds, FieldsAskForKinds, EventsAskForKinds, EventSetsAskForKinds, PairsAskForKinds, ProcessesAskForKinds, SetsAskForKinds, DeclarationsAskForKinds};
+ghost use Rattle.csp_checking.specs.Laws.FittingKinds.{AskForSets, of_tree, behind_tree, AreForSets, NumberedTree, AskForFit, Fit, IsSolvedFor, IsUnsolvedFor, AreKindsOf, IsMisfitOf, EquationsGoOn, AreOwnersIn, SetsAreDecided, ItemsAreDecided};
+ghost use Rattle.csp_checking.specs.Laws.FirstSets.{AskForFirstSets, AreForFirstSets, FirstSetsAreAllSets, FirstFieldsAreABeginning, NametypesAskForTheirSet, FieldsAskForTheirSet, HeadsAskForNothing, OthersAskForNothing, FitItsSets};
 
-/// Some assignment satisfies each resolved state, whichever kinds the numbers have that are not bound. Where nothing is known, each does.
+/// Some assignment satisfies each resolved state, whichever kinds the numbers have that are not bound. Where nothing is
+/// known, each does.
 pub fn resolved_states_are_satisfied()
     ensures some { (s : State) → IsResolved s → (a : Assignment) × Satisfies a s }
     ensures chosen { (s : State) (a : Assignment) → IsResolved s → (b : Assignment) × Satisfies b s × ((n : ℕ) → s n ≡ None → b n ≡ a n) }
@@ -40,16 +37,18 @@ pub fn one_look_up_resolves()
     ensures none { (s : State) (c d : Chain) → CannotBeOne s (resolve s c) (resolve s d) → CannotBeOne s c d }
 {}
 
-/// Two kinds are made one: what they begin with alike is taken off, equal ends are one, and an open end is bound to a resolved chain that does not end in it.
+/// Two kinds are made one: what they begin with alike is taken off, equal ends are one, and an open end is bound to a
+/// resolved chain that does not end in it.
 pub fn kinds_are_made_one()
     ensures sequences { (s t : State) (c d : Chain) → IsUnified s c d t → IsUnified s (SequenceOver c) (SequenceOver d) t }
     ensures sets { (s t : State) (c d : Chain) → IsUnified s c d t → IsUnified s (SetOver c) (SetOver d) t }
     ensures turned { (s t : State) (c d : Chain) → IsUnified s c d t → IsUnified s d c t }
     ensures equal { (s : State) (c : Chain) → IsResolved s → IsUnified s c c s }
-    ensures bound { (s : State) (n : ℕ) (c : Chain) → IsResolved s → s n ≡ None → IsOpenIn s c → ends_in n c ≡ false → IsUnified s (OpenEnd n) c (bound_to s n c) }
+    ensures bound { (s : State) (n : ℕ) (c : Chain) → IsResolved s → CanBeBound s n c → IsUnified s (OpenEnd n) c (bound_to s n c) }
 {}
 
-/// Kinds that cannot be one: below like beginnings, in a longer chain that ends in the open end itself, and with unlike beginnings or known ends.
+/// Kinds that cannot be one: below like beginnings, in a longer chain that ends in the open end itself, and with unlike
+/// beginnings or known ends.
 pub fn kinds_cannot_be_one()
     ensures sequences { (s : State) (c d : Chain) → CannotBeOne s c d → CannotBeOne s (SequenceOver c) (SequenceOver d) }
     ensures sets { (s : State) (c d : Chain) → CannotBeOne s c d → CannotBeOne s (SetOver c) (SetOver d) }
@@ -74,10 +73,10 @@ pub fn search_for_kinds_is_right()
 
 /// Small searches: 0 is a sequence of 1 and a sequence of numbers; 0 is a sequence of itself; `<1> == <>`; `<1,true>`.
 pub fn small_searches_for_kinds()
-    ensures found { option_map (λ s. s 1) (solve nothing_known ((OpenEnd 0, SequenceOver (OpenEnd 1)) ∷ (OpenEnd 0, SequenceOver IntEnd) ∷ [])) ≡ Some (Some IntEnd) }
-    ensures endless { solve nothing_known ((OpenEnd 0, SequenceOver (OpenEnd 0)) ∷ []) ≡ None }
-    ensures compared { option_map (λ s. s 0) (solve nothing_known (of_expression no_types no_numbers 0 [] (Combine Equals (SequenceOf (expression_and (num 1) no_expressions)) (SequenceOf no_expressions)) BoolEnd)) ≡ Some (Some (SequenceOver IntEnd)) }
-    ensures mixed { solve nothing_known (of_expression no_types no_numbers 1 [] (SequenceOf (expression_and (num 1) (expression_and (Literal (Truth true)) no_expressions))) (OpenEnd 0)) ≡ None }
+    ensures found { found_of 1 sequence_twice ≡ Some (Some IntEnd) }
+    ensures endless { solve nothing_known sequence_of_itself ≡ None }
+    ensures compared { found_of 0 sequences_compared ≡ Some (Some (SequenceOver IntEnd)) }
+    ensures mixed { solve nothing_known mixed_sequence ≡ None }
 {}
 
 /// Equations are solved in turn.
@@ -88,49 +87,41 @@ pub fn equations_are_solved_in_turn()
     ensures first { (s : State) (es fs : List KindEquation) → HasNoSolution s es → HasNoSolution s (es ++ fs) }
 {}
 
-/// A list of chains as a state: a new number at its end is not bound, and to bind a number is to go over the list once. Only what a state says of each number counts.
+/// A list of chains as a state: a new number at its end is not bound, and to bind a number is to go over the list once.
+/// Only what a state says of each number counts.
 pub fn lists_of_chains_are_states()
     ensures longer { (cs : List (Option Chain)) (n : ℕ) → state_of (cs ++ None ∷ []) n ≡ state_of cs n }
-    ensures bound { (cs : List (Option Chain)) (n m : ℕ) (c : Chain) → n < length cs → state_of (set (map (option_map (with_ends (in_place_of n c))) cs) n (Some c)) m ≡ bound_to (state_of cs) n c m }
-    ensures after { (s t u : State) (es : List KindEquation) → ((n : ℕ) → t n ≡ u n) → IsSolved s es t → IsSolved s es u }
-    ensures before { (s t u : State) (es : List KindEquation) → ((n : ℕ) → s n ≡ u n) → IsSolved s es t → IsSolved u es t }
-    ensures none { (s u : State) (es : List KindEquation) → ((n : ℕ) → s n ≡ u n) → HasNoSolution s es → HasNoSolution u es }
+    ensures bound { (cs : List (Option Chain)) (n m : ℕ) (c : Chain) →
+        n < length cs → state_of (with_bound cs n c) m ≡ bound_to (state_of cs) n c m }
+    ensures after { (s t u : State) (es : List KindEquation) → AreSameStates t u → IsSolved s es t → IsSolved s es u }
+    ensures before { (s t u : State) (es : List KindEquation) → AreSameStates s u → IsSolved s es t → IsSolved u es t }
+    ensures none { (s u : State) (es : List KindEquation) → AreSameStates s u → HasNoSolution s es → HasNoSolution u es }
 {}
 
 /// The equations of an expression ask that it has the kind.
 pub fn equations_of_expressions()
-    ensures values { (types : Types) (o : Numbering) (n : ℕ) (v : Value) (k : Chain) → AreOwners types o → IsChainBelow n k → Ask n (of_value o n v k) (behind_value n v) (λ a. IsValueOf types v (kind_of a k)) }
-    ensures expressions { (types : Types) (o : Numbering) (n : ℕ) (names : Numbered) (e : Expression) (k : Chain) → AreOwners types o → IsBelow n o → NamesBelow n names → IsChainBelow n k →
-        Ask n (of_expression types o n names e k) (behind_expression n e) (λ a. HasKind types (kinds_under a o) (scope_under a names) e (kind_of a k)) }
-    ensures items { (types : Types) (o : Numbering) (n : ℕ) (names : Numbered) (es : Expressions) (k : Chain) → AreOwners types o → IsBelow n o → NamesBelow n names → IsChainBelow n k →
-        Ask n (of_expressions types o n names es k) (behind_expressions n es) (λ a. AllHaveKind types (kinds_under a o) (scope_under a names) es (kind_of a k)) }
-    ensures in_turn { (types : Types) (o : Numbering) (n : ℕ) (names : Numbered) (es : Expressions) (ms : List ℕ) → AreOwners types o → IsBelow n o → NamesBelow n names → Each (λ m. m < n) ms →
-        Ask n (of_all types o n names es ms) (behind_expressions n es) (λ a. HaveKinds types (kinds_under a o) (scope_under a names) es (map a ms)) }
-    ensures first_in_turn { (types : Types) (o : Numbering) (n : ℕ) (names : Numbered) (es : Expressions) (ms : List ℕ) → AreOwners types o → IsBelow n o → NamesBelow n names → Each (λ m. m < n) ms →
-        Ask n (of_first types o n names es ms) (behind_expressions n es) (λ a. HaveFirstKinds types (kinds_under a o) (scope_under a names) es (map a ms)) }
+    ensures values { (types : Types) (o : Numbering) → AreOwners types o → ValuesAskForKinds types o }
+    ensures expressions { (types : Types) (o : Numbering) → AreOwners types o → ExpressionsAskForKinds types o }
+    ensures items { (types : Types) (o : Numbering) → AreOwners types o → ItemsAskForKinds types o }
+    ensures in_turn { (types : Types) (o : Numbering) → AreOwners types o → TurnsAskForKinds types o }
+    ensures first_in_turn { (types : Types) (o : Numbering) → AreOwners types o → FirstTurnsAskForKinds types o }
 {}
 
 /// The equations of fields, sets of events, renamings and processes ask that they are well-kinded.
 pub fn equations_of_processes()
-    ensures fields { (types : Types) (o : Numbering) (n : ℕ) (names : Numbered) (fs : List Field) (ms : List ℕ) → AreOwners types o → IsBelow n o → NamesBelow n names → Each (λ m. m < n) ms →
-        Ask n (of_fields types o n names fs ms) (behind_fields n fs) (λ a. FieldsHaveKinds types (kinds_under a o) (scope_under a names) fs (map a ms)) }
-    ensures events { (types : Types) (o : Numbering) (n : ℕ) (names : Numbered) (e : EventExpression) → AreOwners types o → IsBelow n o → NamesBelow n names →
-        Ask n (of_event types o n names e) (behind_event n e) (λ a. IsEvent types (kinds_under a o) (scope_under a names) e) }
-    ensures event_sets { (types : Types) (o : Numbering) (n : ℕ) (names : Numbered) (s : EventSet) → AreOwners types o → IsBelow n o → NamesBelow n names →
-        Ask n (of_event_set types o n names s) (behind_event_set n s) (λ a. IsEventSet types (kinds_under a o) (scope_under a names) s) }
-    ensures pairs { (script : Script) (o : Numbering) (n : ℕ) (names : Numbered) (rs : List RenamingPair) → AreOwners script.types o → IsBelow n o → NamesBelow n names →
-        Ask n (of_pairs script o n names rs) (behind_pairs n rs) (λ a. Each (IsPair script (kinds_under a o) (scope_under a names)) rs) }
-    ensures processes { (script : Script) (o : Numbering) (n : ℕ) (names : Numbered) (p : Process) → AreOwners script.types o → IsBelow n o → NamesBelow n names →
-        Ask n (of_process script o n names p) (behind_process n p) (λ a. IsWellKinded script (kinds_under a o) (scope_under a names) p) }
+    ensures fields { (types : Types) (o : Numbering) → AreOwners types o → FieldsAskForKinds types o }
+    ensures events { (types : Types) (o : Numbering) → AreOwners types o → EventsAskForKinds types o }
+    ensures event_sets { (types : Types) (o : Numbering) → AreOwners types o → EventSetsAskForKinds types o }
+    ensures pairs { (script : Script) (o : Numbering) → AreOwners script.types o → PairsAskForKinds script o }
+    ensures processes { (script : Script) (o : Numbering) → AreOwners script.types o → ProcessesAskForKinds script o }
 {}
 
 /// The equations of sets, equations and assertions ask that kinds fit them.
 pub fn equations_of_scripts()
-    ensures sets { (types : Types) (raw : RawScript) (o : Numbering) (n : ℕ) → AreOwners types o → IsBelow n o →
-        Ask n (of_sets types o n (nametype_sets raw) o.nametypes ++ of_rows types o (behind_sets n (nametype_sets raw)) (channel_sets raw) o.channels) (behind_rows (behind_sets n (nametype_sets raw)) (channel_sets raw)) (λ a. FitSets types raw (kinds_under a o)) }
-    ensures items { (script : Script) (o : Numbering) (n : ℕ) (xs : List Item) → AreOwners script.types o → IsBelow n o → Ask n (of_items script o n xs) (behind_items script n xs) (λ a. Each (FitsItem script (kinds_under a o)) xs) }
-    ensures all { (raw : RawScript) (script : Script) (o : Numbering) (n m : ℕ) (es : List KindEquation) (xs : List Item) → AreOwners script.types o → AreNumbersFor raw n o → Ask n es m (λ a. FitSets (types_of raw) raw (kinds_under a o)) →
-        Ask n (es ++ of_items script o m xs) (behind_items script m xs) (λ a. FitKinds raw script (kinds_under a o) xs) }
+    ensures sets { (types : Types) (raw : RawScript) (o : Numbering) (n : ℕ) →
+        AreOwners types o → IsBelow n o → AskForSets types raw o n (of_tree types raw o n) (behind_tree raw n) }
+    ensures items { (script : Script) (o : Numbering) → AreOwners script.types o → DeclarationsAskForKinds script o }
+    ensures all { (tree : NumberedTree) (xs : List Item) → AskForFit tree xs }
 {}
 
 /// Nametypes, fields of channels and parameters of equations, numbered in a row, are numbers for the tree.
@@ -140,65 +131,65 @@ pub fn numbers_in_a_row_are_for_the_tree()
 
 /// Constructors that are numbered in a row, datatype by datatype, have their datatypes.
 pub fn constructors_in_a_row_have_their_owners()
-    ensures { (types : Types) (o : Numbering) (ks : List ℕ) → types.datatypes ≡ rows_from 0 ks → o.owners ≡ owners_from 0 ks → AreOwners types o }
+    ensures { (types : Types) (o : Numbering) (ks : List ℕ) →
+        types.datatypes ≡ rows_from 0 ks → o.owners ≡ owners_from 0 ks → AreOwners types o }
 {}
 
 /// Some kinds fit the sets where their equations are solved, and none where they have no solution.
 pub fn fitting_kinds_of_sets_are_found()
-    ensures some { (types : Types) (raw : RawScript) (o : Numbering) (n m : ℕ) (es : List KindEquation) (t : State) → AreNumbersFor raw n o → Ask n es m (λ a. FitSets types raw (kinds_under a o)) → IsSolved nothing_known es t → SomeFit types raw }
-    ensures none { (types : Types) (raw : RawScript) (o : Numbering) (n m : ℕ) (es : List KindEquation) → AreNumbersFor raw n o → Ask n es m (λ a. FitSets types raw (kinds_under a o)) → HasNoSolution nothing_known es → ¬ SomeFit types raw }
+    ensures some { (types : Types) (raw : RawScript) (es : List KindEquation) (t : State) →
+        AreForSets types raw es → IsSolved nothing_known es t → SomeFit types raw }
+    ensures none { (types : Types) (raw : RawScript) (es : List KindEquation) →
+        AreForSets types raw es → HasNoSolution nothing_known es → ¬ SomeFit types raw }
 {}
 
-/// Kinds fit equations and assertions, with all sets, just where they are those under an assignment that satisfies the state. Where the equations have no solution none fit: a misfit.
+/// Kinds fit equations and assertions, with all sets, just where they are those under an assignment that satisfies the
+/// state. Where the equations have no solution none fit: a misfit.
 pub fn fitting_kinds_are_found()
-    ensures some { (raw : RawScript) (script : Script) (o : Numbering) (n m : ℕ) (es : List KindEquation) (xs : List Item) (t : State) → AreOwners script.types o → AreNumbersFor raw n o → Ask n es m (λ a. FitSets (types_of raw) raw (kinds_under a o)) →
-        IsSolved nothing_known (es ++ of_items script o m xs) t → (kinds : Kinds) × FitKinds raw script kinds xs }
-    ensures fit { (raw : RawScript) (script : Script) (o : Numbering) (n m : ℕ) (es : List KindEquation) (xs : List Item) (t : State) (a : Assignment) → AreOwners script.types o → AreNumbersFor raw n o →
-        Ask n es m (λ a. FitSets (types_of raw) raw (kinds_under a o)) → IsSolved nothing_known (es ++ of_items script o m xs) t → Satisfies a t → FitKinds raw script (kinds_under a o) xs }
-    ensures satisfy { (raw : RawScript) (script : Script) (o : Numbering) (n m : ℕ) (es : List KindEquation) (xs : List Item) (t : State) (kinds : Kinds) → AreOwners script.types o → AreNumbersFor raw n o →
-        Ask n es m (λ a. FitSets (types_of raw) raw (kinds_under a o)) → IsSolved nothing_known (es ++ of_items script o m xs) t → FitKinds raw script kinds xs → (a : Assignment) × Satisfies a t × (kinds_under a o ≡ kinds) }
-    ensures misfit { (raw : RawScript) (script : Script) (o : Numbering) (n m : ℕ) (es : List KindEquation) (before : List Item) (x : Item) → AreOwners script.types o → AreNumbersFor raw n o → Ask n es m (λ a. FitSets (types_of raw) raw (kinds_under a o)) →
-        HasNoSolution nothing_known (es ++ of_items script o m (before ++ x ∷ [])) → IsMisfit raw script before x WrongKind }
-    ensures no_misfit { (raw : RawScript) (script : Script) (o : Numbering) (n m : ℕ) (es : List KindEquation) (before : List Item) (x : Item) (t : State) → AreOwners script.types o → AreNumbersFor raw n o → Ask n es m (λ a. FitSets (types_of raw) raw (kinds_under a o)) →
-        IsSolved nothing_known (es ++ of_items script o m (before ++ x ∷ [])) t → (f : KindFault) → ¬ IsMisfit raw script before x f }
-    ensures next { (script : Script) (o : Numbering) (n : ℕ) (before : List Item) (x : Item) → of_items script o n (before ++ x ∷ []) ≡ of_items script o n before ++ of_item script o (behind_items script n before) x }
+    ensures some { (tree : NumberedTree) (xs : List Item) (t : State) → IsSolvedFor tree xs t → (kinds : Kinds) × Fit tree kinds xs }
+    ensures fit { (tree : NumberedTree) (xs : List Item) (t : State) (kinds : Kinds) →
+        IsSolvedFor tree xs t → AreKindsOf tree t kinds → Fit tree kinds xs }
+    ensures satisfy { (tree : NumberedTree) (xs : List Item) (t : State) (kinds : Kinds) →
+        IsSolvedFor tree xs t → Fit tree kinds xs → AreKindsOf tree t kinds }
+    ensures misfit { (tree : NumberedTree) (before : List Item) (x : Item) →
+        IsUnsolvedFor tree (before ++ x ∷ []) → IsMisfitOf tree before x WrongKind }
+    ensures no_misfit { (tree : NumberedTree) (before : List Item) (x : Item) (t : State) (f : KindFault) →
+        IsSolvedFor tree (before ++ x ∷ []) t → ¬ IsMisfitOf tree before x f }
+    ensures next { (script : Script) (o : Numbering) → EquationsGoOn script o }
 {}
 
 /// It is decided whether some kinds fit.
 pub fn whether_kinds_fit_is_decided()
-    ensures sets { (types : Types) (raw : RawScript) (owners : List ℕ) → AreOwners types (numbers_of owners raw) → SomeFit types raw ⊎ (¬ SomeFit types raw) }
-    ensures items { (raw : RawScript) (script : Script) (owners : List ℕ) (xs : List Item) → AreOwners (types_of raw) (numbers_of owners raw) → AreOwners script.types (numbers_of owners raw) →
-        ((kinds : Kinds) × FitKinds raw script kinds xs) ⊎ ((kinds : Kinds) → ¬ FitKinds raw script kinds xs) }
+    ensures sets { (types : Types) (raw : RawScript) (owners : List ℕ) → AreOwnersIn raw owners types → SetsAreDecided types raw }
+    ensures items { (raw : RawScript) (script : Script) (owners : List ℕ) →
+        AreOwnersIn raw owners (types_of raw) → AreOwnersIn raw owners script.types → ItemsAreDecided raw script }
 {}
 
-/// Kinds for the sets of the first declarations, with numbers for the whole tree: some fit where the equations so far are solved, and none where they have no solution. Of all declarations, these are the kinds that fit all sets.
+/// Kinds for the sets of the first declarations, with numbers for the whole tree: some fit where the equations so far are
+/// solved, and none where they have no solution. Of all declarations, these are the kinds that fit all sets.
 pub fn fitting_kinds_of_first_sets_are_found()
-    ensures some { (types : Types) (raw so_far : RawScript) (o : Numbering) (n m : ℕ) (es : List KindEquation) (t : State) → AreNumbersFor raw n o → Ask n es m (λ a. FitFirstSets types so_far (kinds_under a o)) → IsSolved nothing_known es t → SomeFit types so_far }
-    ensures none { (types : Types) (raw so_far : RawScript) (o : Numbering) (n m : ℕ) (es : List KindEquation) → AreNumbersFor raw n o → IsBeginningOf raw so_far → Ask n es m (λ a. FitFirstSets types so_far (kinds_under a o)) → HasNoSolution nothing_known es → ¬ SomeFit types so_far }
-    ensures all { (types : Types) (raw : RawScript) (o : Numbering) (n m : ℕ) (es : List KindEquation) → AreNumbersFor raw n o → Ask n es m (λ a. FitFirstSets types raw (kinds_under a o)) → Ask n es m (λ a. FitSets types raw (kinds_under a o)) }
+    ensures some { (types : Types) (raw so_far : RawScript) (es : List KindEquation) (t : State) →
+        AreForFirstSets types raw so_far es → IsSolved nothing_known es t → SomeFit types so_far }
+    ensures none { (types : Types) (raw so_far : RawScript) (es : List KindEquation) → IsBeginningOf raw so_far →
+        AreForFirstSets types raw so_far es → HasNoSolution nothing_known es → ¬ SomeFit types so_far }
+    ensures all { (types : Types) (raw : RawScript) (o : Numbering) → FirstSetsAreAllSets types raw o }
 {}
 
 /// Declarations, and channels with their first fields, are the beginning of a tree that goes on with more.
 pub fn first_sets_are_a_beginning()
     ensures above { (so_far more : RawScript) → IsBeginningOf (so_far ++ more) so_far }
-    ensures fields { (above : RawScript) (names : List RawName) (ds rest : List RawDomain) (below : RawScript) → IsBeginningOf (above ++ RawChannels names (ds ++ rest) ∷ below) (above ++ RawChannels names ds ∷ []) }
+    ensures fields { (above below : RawScript) → FirstFieldsAreABeginning above below }
 {}
 
-/// The equations of the sets, declaration by declaration: none before the first, those of its set with a nametype, those of each field of each channel with channels, and no more with the others.
+/// The equations of the sets, declaration by declaration: none before the first, those of its set with a nametype, those
+/// of each field of each channel with channels, and no more with the others.
 pub fn equations_of_first_sets()
-    ensures nothing { (types : Types) (o : Numbering) (n : ℕ) → Ask n [] n (λ a. FitFirstSets types [] (kinds_under a o)) }
-    ensures nametype { (types : Types) (above : RawScript) (o : Numbering) (n m x : ℕ) (es : List KindEquation) (name : RawName) (domain : RawDomain) → AreOwners types o → IsBelow n o → slice_get o.nametypes (length (nametype_sets above)) ≡ Some x →
-        Ask n es m (λ a. FitFirstSets types above (kinds_under a o)) →
-        Ask n (es ++ of_set types o m (set_expression above domain) x) (behind_set m (set_expression above domain)) (λ a. FitFirstSets types (above ++ RawNametype name domain ∷ []) (kinds_under a o)) }
-    ensures field { (types : Types) (above : RawScript) (o : Numbering) (n m : ℕ) (es : List KindEquation) (names : List RawName) (before : List RawDomain) (d : RawDomain) (ms : List ℕ) → AreOwners types o → IsBelow n o →
-        length ms ≡ length names → IsColumn (length before) ms (drop (length (channel_sets above)) o.channels) → Ask n es m (λ a. FitFirstSets types (above ++ RawChannels names before ∷ []) (kinds_under a o)) →
-        Ask n (es ++ of_copies types o m (set_expression above d) ms) (behind_copies m (set_expression above d) ms) (λ a. FitFirstSets types (above ++ RawChannels names (before ++ d ∷ []) ∷ []) (kinds_under a o)) }
-    ensures heads { (types : Types) (above : RawScript) (o : Numbering) (n m : ℕ) (es : List KindEquation) (names : List RawName) → length (channel_sets above) + length names ≤ length o.channels →
-        Ask n es m (λ a. FitFirstSets types above (kinds_under a o)) → Ask n es m (λ a. FitFirstSets types (above ++ RawChannels names [] ∷ []) (kinds_under a o)) }
-    ensures other { (types : Types) (above : RawScript) (o : Numbering) (n m : ℕ) (es : List KindEquation) (d : RawDeclaration) → nametypes_declared above d ≡ [] → channels_declared above d ≡ [] →
-        Ask n es m (λ a. FitFirstSets types above (kinds_under a o)) → Ask n es m (λ a. FitFirstSets types (above ++ d ∷ []) (kinds_under a o)) }
-    ensures declaration { (types : Types) (above : RawScript) (d : RawDeclaration) (kinds : Kinds) → FitFirstSets types (above ++ d ∷ []) kinds ↔
-        (FitFirstSets types above kinds × BeginsInTurn (IsSetOf types kinds) (nametypes_declared above d) (drop (length (nametype_sets above)) kinds.nametypes) ×
-        BeginsInTurn (BeginsInTurn (IsSetOf types kinds)) (channels_declared above d) (drop (length (channel_sets above)) kinds.channels)) }
-    ensures set { (types : Types) (o : Numbering) (n x : ℕ) (e : Option Expression) → AreOwners types o → IsBelow n o → x < n → Ask n (of_set types o n e x) (behind_set n e) (λ a. IsSetOf types (kinds_under a o) e (a x)) }
+    ensures nothing { (types : Types) (o : Numbering) (n : ℕ) → AskForFirstSets types [] o n [] n }
+    ensures nametype { (types : Types) (o : Numbering) → AreOwners types o → NametypesAskForTheirSet types o }
+    ensures field { (types : Types) (o : Numbering) → AreOwners types o → FieldsAskForTheirSet types o }
+    ensures heads { (types : Types) (o : Numbering) → HeadsAskForNothing types o }
+    ensures other { (types : Types) (o : Numbering) → OthersAskForNothing types o }
+    ensures declaration { (types : Types) (above : RawScript) (d : RawDeclaration) (kinds : Kinds) →
+        FitFirstSets types (above ++ d ∷ []) kinds ↔ (FitFirstSets types above kinds × FitItsSets types above d kinds) }
+    ensures set { (types : Types) (o : Numbering) → AreOwners types o → SetsAskForKinds types o }
 {}

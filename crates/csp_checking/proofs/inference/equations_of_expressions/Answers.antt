@@ -3,16 +3,16 @@ use Rattle.csp_checking.proofs.AskingExpressions.{value_asks, expression_asks, e
 use Rattle.csp_checking.proofs.inference.equations_of_expressions.Goals as goal
 
 pub returns-clause-values : goal.returns-clause-values
-returns-clause-values c = λ types o n v k owners h. value_asks types o owners n v k (fixed_chain n k h)
+returns-clause-values c = λ types o owners n v k h. value_asks types o owners n v k (fixed_chain n k h)
 
 pub returns-clause-expressions : goal.returns-clause-expressions
-returns-clause-expressions c = λ types o n names e k owners below named h. expression_asks types o owners names n e k (below, named) (fixed_chain n k h)
+returns-clause-expressions c = λ types o owners n names e k below h. expression_asks types o owners names n e k below (fixed_chain n k h)
 
 pub returns-clause-items : goal.returns-clause-items
-returns-clause-items c = λ types o n names es k owners below named h. expressions_asks types o owners names n es k (below, named) (fixed_chain n k h)
+returns-clause-items c = λ types o owners n names es k below h. expressions_asks types o owners names n es k below (fixed_chain n k h)
 
 pub returns-clause-in_turn : goal.returns-clause-in_turn
-returns-clause-in_turn c = λ types o n names es ms owners below named h. all_asks types o owners names n es ms (below, named) h
+returns-clause-in_turn c = λ types o owners n names es ms below h. all_asks types o owners names n es ms below h
 
 pub returns-clause-first_in_turn : goal.returns-clause-first_in_turn
-returns-clause-first_in_turn c = λ types o n names es ms owners below named h. first_asks types o owners names n es ms (below, named) h
+returns-clause-first_in_turn c = λ types o owners n names es ms below h. first_asks types o owners names n es ms below h

@@ -6,19 +6,21 @@ pub returns-clause-nothing : goal.returns-clause-nothing
 returns-clause-nothing c = λ types o n. none_asked types o n
 
 pub returns-clause-nametype : goal.returns-clause-nametype
-returns-clause-nametype c = λ types above o n m x es name domain owners below found h. nametype_asked types above o n m x es name domain owners below found h
+returns-clause-nametype c = λ types o owners above n m x es name domain below found h. nametype_asked types above o n m x es name domain owners below found h
 
 pub returns-clause-declaration : goal.returns-clause-declaration
-returns-clause-declaration c = λ types above d kinds. one_declaration_more types above d kinds
+returns-clause-declaration c = λ types above d kinds.
+    let both = one_declaration_more types above d kinds in
+    (λ h. let x = both.0 h in (x.0, (x.1, x.2)), λ h. both.1 (h.0, h.1.0, h.1.1))
 
 pub returns-clause-set : goal.returns-clause-set
-returns-clause-set c = λ types o n x e owners below small. set_asked types o owners n e x below small
+returns-clause-set c = λ types o owners n x e below small. set_asked types o owners n e x below small
 
 pub returns-clause-field : goal.returns-clause-field
-returns-clause-field c = λ types above o n m es names before d ms owners below same column h. field_asked types o owners above names before d ms same column n m es below h
+returns-clause-field c = λ types o owners above n m es names before d ms below same column h. field_asked types o owners above names before d ms same column n m es below h
 
 pub returns-clause-heads : goal.returns-clause-heads
-returns-clause-heads c = λ types above o n m es names le h. heads_asked types above o n m es h names le
+returns-clause-heads c = λ types o above n m es names le h. heads_asked types above o n m es h names le
 
 pub returns-clause-other : goal.returns-clause-other
-returns-clause-other c = λ types above o n m es d e f h. other_asked types above o n m es h d e f
+returns-clause-other c = λ types o above n m es d e f h. other_asked types above o n m es h d e f

@@ -5,7 +5,8 @@ pub returns-clause-sets : goal.returns-clause-sets
 returns-clause-sets c = λ types raw o n owners below. fit_sets_asked types o owners raw n below
 
 pub returns-clause-items : goal.returns-clause-items
-returns-clause-items c = λ script o n xs owners below. items_asked script o owners n xs below
+returns-clause-items c = λ script o owners n xs below. items_asked script o owners n xs below
 
 pub returns-clause-all : goal.returns-clause-all
-returns-clause-all c = λ raw script o n m es xs owners numbers sets. fit_asked script o owners raw n m es xs sets numbers.below numbers.parameters
+returns-clause-all c = λ tree xs.
+    fit_asked tree.script tree.numbers tree.owners tree.raw tree.start tree.end tree.equations xs tree.asking tree.below.below tree.below.parameters

@@ -5,4 +5,4 @@ pub returns-clause-above : goal.returns-clause-above
 returns-clause-above c = λ so_far more. beginning_above so_far more
 
 pub returns-clause-fields : goal.returns-clause-fields
-returns-clause-fields c = λ above names ds rest below. beginning_in_fields above names ds rest below
+returns-clause-fields c = λ above below names ds rest. beginning_in_fields above names ds rest below

@@ -15,4 +15,4 @@ pub returns-clause-equal : goal.returns-clause-equal
 returns-clause-equal c = λ s c resolved. nothing_done s ((c, c) ∷ []) resolved (λ a sat. (refl, tt))
 
 pub returns-clause-bound : goal.returns-clause-bound
-returns-clause-bound c = λ s n c resolved free unbound other. bound_unified s n c resolved free unbound other
+returns-clause-bound c = λ s n c resolved can. bound_unified s n c resolved can.0 can.1 can.2

@@ -1,0 +1,91 @@
+-- Kinds for the sets of a tree's first declarations, and how their equations go on.
+use Rattle.std.specs.Prelude.{◌≡◌, ℕ, ◌+◌, ◌≤◌, List, [], ◌∷◌, ◌++◌, length, drop, slice_get, Some}
+use Rattle.csp_syntax.specs.Types.{Types}
+use Rattle.csp_semantics.specs.Kinds.Kind.{Kinds, BeginsInTurn}
+use Rattle.csp_text.specs.Raw.{RawName, RawDomain, RawDeclaration, RawNametype, RawChannels, RawScript}
+use Rattle.csp_checking.specs.Sets.{set_expression, nametypes_declared, channels_declared, IsSetOf, nametype_sets, channel_sets}
+use Rattle.csp_checking.specs.Rules.{SomeFit}
+use Rattle.csp_checking.specs.Inference.State.{KindEquation}
+use Rattle.csp_checking.specs.Inference.Equations.{Ask, Numbering, kinds_under, IsBelow}
+use Rattle.csp_checking.specs.Inference.Items.{behind_set, of_set, behind_copies, of_copies, AreNumbersFor}
+use Rattle.csp_checking.specs.Inference.Sets.{FitFirstSets, IsBeginningOf, IsColumn}
+use Rattle.csp_checking.specs.Laws.FittingKinds.{AskForSets}
+
+-- the declarations above, and channels with these first fields
+abbrev pub with_channels : RawScript → List RawName → List RawDomain → RawScript
+with_channels above names ds = above ++ RawChannels names ds ∷ []
+
+-- the equations, in which the numbers from n up to m are new, ask that kinds fit the sets so far
+abbrev pub AskForFirstSets : Types → RawScript → Numbering → ℕ → List KindEquation → ℕ → Type 0
+AskForFirstSets types so_far o n es m = Ask n es m (λ a. FitFirstSets types so_far (kinds_under a o))
+
+-- with some numbers for the tree the equations ask for kinds of the sets so far
+abbrev pub AreForFirstSets : Types → RawScript → RawScript → List KindEquation → Type 0
+AreForFirstSets types raw so_far es =
+    (o : Numbering) × (n : ℕ) × (m : ℕ) × AreNumbersFor raw n o × AskForFirstSets types so_far o n es m
+
+-- equations that ask for the sets so far, where these are all, ask for all sets
+abbrev pub FirstSetsAreAllSets : Types → RawScript → Numbering → Type 0
+FirstSetsAreAllSets types raw o = (n m : ℕ) (es : List KindEquation) →
+    AreNumbersFor raw n o →
+    AskForFirstSets types raw o n es m →
+    AskForSets types raw o n es m
+
+-- kinds for a declaration's first fields
+abbrev pub FirstFieldsFit : Types → RawScript → Type 0
+FirstFieldsFit types above = (names : List RawName) (ds more : List RawDomain) →
+    SomeFit types (with_channels above names (ds ++ more)) →
+    SomeFit types (with_channels above names ds)
+
+-- a channel with its first fields is the beginning of one with more
+abbrev pub FirstFieldsAreABeginning : RawScript → RawScript → Type 0
+FirstFieldsAreABeginning above below = (names : List RawName) (ds rest : List RawDomain) →
+    IsBeginningOf (above ++ RawChannels names (ds ++ rest) ∷ below) (with_channels above names ds)
+
+-- ---- what comes with one more declaration, behind equations that ask for the sets above
+
+-- with a nametype the equations of its set
+abbrev pub NametypesAskForTheirSet : Types → Numbering → Type 0
+NametypesAskForTheirSet types o =
+    (above : RawScript) (n m x : ℕ) (es : List KindEquation) (name : RawName) (domain : RawDomain) →
+    IsBelow n o →
+    slice_get o.nametypes (length (nametype_sets above)) ≡ Some x →
+    AskForFirstSets types above o n es m →
+    AskForFirstSets types (above ++ RawNametype name domain ∷ []) o n
+    (es ++ of_set types o m (set_expression above domain) x)
+    (behind_set m (set_expression above domain))
+
+-- with one more field of channels those of its set, once for each channel
+abbrev pub FieldsAskForTheirSet : Types → Numbering → Type 0
+FieldsAskForTheirSet types o =
+    (above : RawScript) (n m : ℕ) (es : List KindEquation)
+    (names : List RawName) (before : List RawDomain) (d : RawDomain) (ms : List ℕ) →
+    IsBelow n o →
+    length ms ≡ length names →
+    IsColumn (length before) ms (drop (length (channel_sets above)) o.channels) →
+    AskForFirstSets types (with_channels above names before) o n es m →
+    AskForFirstSets types (with_channels above names (before ++ d ∷ [])) o n
+    (es ++ of_copies types o m (set_expression above d) ms)
+    (behind_copies m (set_expression above d) ms)
+
+-- with channels no equations before those of their fields
+abbrev pub HeadsAskForNothing : Types → Numbering → Type 0
+HeadsAskForNothing types o = (above : RawScript) (n m : ℕ) (es : List KindEquation) (names : List RawName) →
+    length (channel_sets above) + length names ≤ length o.channels →
+    AskForFirstSets types above o n es m →
+    AskForFirstSets types (with_channels above names []) o n es m
+
+-- and none with what declares no sets
+abbrev pub OthersAskForNothing : Types → Numbering → Type 0
+OthersAskForNothing types o = (above : RawScript) (n m : ℕ) (es : List KindEquation) (d : RawDeclaration) →
+    nametypes_declared above d ≡ [] →
+    channels_declared above d ≡ [] →
+    AskForFirstSets types above o n es m →
+    AskForFirstSets types (above ++ d ∷ []) o n es m
+
+-- kinds fit the sets of a declaration, behind as many as there are above it
+abbrev pub FitItsSets : Types → RawScript → RawDeclaration → Kinds → Type 0
+FitItsSets types above d kinds =
+    BeginsInTurn (IsSetOf types kinds) (nametypes_declared above d) (drop (length (nametype_sets above)) kinds.nametypes)
+    × BeginsInTurn (BeginsInTurn (IsSetOf types kinds)) (channels_declared above d)
+    (drop (length (channel_sets above)) kinds.channels)
