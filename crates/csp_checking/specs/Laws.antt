@@ -1,5 +1,6 @@
 -- What the laws speak of, and small trees for them.
 pub mod Trees
+pub mod Refusals
 pub mod DeclaredNames
 pub mod SiteWalks
 pub mod UsedNames

@@ -1,7 +1,7 @@
 //! How kinds that fit are found, or it is seen that none fit: two kinds are made one, and equations say what a term asks
 //! for.
 
-ghost use Rattle.std.specs.Prelude.{◌≡◌, ◌≢◌, ◌↔◌, ℕ, ◌<◌, List, [], ◌∷◌, ◌++◌, length, set, Option, Some, None};
+ghost use Rattle.std.specs.Prelude.{◌≡◌, ◌≢◌, ℕ, ◌<◌, List, [], ◌∷◌, ◌++◌, length, Option, Some, None};
 ghost use Rattle.csp_syntax.specs.Process.{Script};
 ghost use Rattle.csp_syntax.specs.Types.{Types};
 ghost use Rattle.csp_semantics.specs.Kinds.Kind.{Kinds};
@@ -14,11 +14,11 @@ ghost use Rattle.csp_checking.specs.Inference.Chain.{Chain, IntEnd, BoolEnd, Dat
 ghost use Rattle.csp_checking.specs.Inference.State.{State, nothing_known, state_of, Satisfies, IsOpenIn, IsResolved, resolve, bound_to, KindEquation, IsSolved, HasNoSolution, IsUnified, CannotBeOne, unify_resolved, unify, solve};
 ghost use Rattle.csp_checking.specs.Inference.Equations.{Numbering, IsBelow, AreOwners};
 ghost use Rattle.csp_checking.specs.Inference.Items.{AreNumbersFor, rows_from, owners_from, numbers_of, next_number};
-ghost use Rattle.csp_checking.specs.Inference.Sets.{FitFirstSets, IsBeginningOf};
+ghost use Rattle.csp_checking.specs.Inference.Sets.{IsBeginningOf};
 ghost use Rattle.csp_checking.specs.Laws.Searches.{CanBeBound, with_bound, AreSameStates, found_of, sequence_twice, sequence_of_itself, sequences_compared, mixed_sequence};
 ghost use Rattle.csp_checking.specs.Laws.Asking.{ValuesAskForKinds, ExpressionsAskForKinds, ItemsAskForKinds, TurnsAskForKinds, FirstTurnsAskForKinds, FieldsAskForKinds, EventsAskForKinds, EventSetsAskForKinds, PairsAskForKinds, ProcessesAskForKinds, SetsAskForKinds, DeclarationsAskForKinds};
-ghost use Rattle.csp_checking.specs.Laws.FittingKinds.{AskForSets, of_tree, behind_tree, AreForSets, NumberedTree, AskForFit, Fit, IsSolvedFor, IsUnsolvedFor, AreKindsOf, IsMisfitOf, EquationsGoOn, AreOwnersIn, SetsAreDecided, ItemsAreDecided};
-ghost use Rattle.csp_checking.specs.Laws.FirstSets.{AskForFirstSets, AreForFirstSets, FirstSetsAreAllSets, FirstFieldsAreABeginning, NametypesAskForTheirSet, FieldsAskForTheirSet, HeadsAskForNothing, OthersAskForNothing, FitItsSets};
+ghost use Rattle.csp_checking.specs.Laws.FittingKinds.{AskForSets, of_tree, behind_tree, AreForSets, AreSolvable, AreUnsolvable, NumberedTree, AskForFit, Fit, IsSolvedFor, IsUnsolvedFor, AreKindsOf, IsMisfitOf, EquationsGoOn, AreOwnersIn, SetsAreDecided, ItemsAreDecided};
+ghost use Rattle.csp_checking.specs.Laws.FirstSets.{AskForFirstSets, AreForFirstSets, AreForABeginning, FirstSetsAreAllSets, FirstFieldsAreABeginning, NametypesAskForTheirSet, FieldsAskForTheirSet, HeadsAskForNothing, OthersAskForNothing, FirstSetsGoOn};
 
 /// Some assignment satisfies each resolved state, whichever kinds the numbers have that are not bound. Where nothing is
 /// known, each does.
@@ -137,10 +137,8 @@ pub fn constructors_in_a_row_have_their_owners()
 
 /// Some kinds fit the sets where their equations are solved, and none where they have no solution.
 pub fn fitting_kinds_of_sets_are_found()
-    ensures some { (types : Types) (raw : RawScript) (es : List KindEquation) (t : State) →
-        AreForSets types raw es → IsSolved nothing_known es t → SomeFit types raw }
-    ensures none { (types : Types) (raw : RawScript) (es : List KindEquation) →
-        AreForSets types raw es → HasNoSolution nothing_known es → ¬ SomeFit types raw }
+    ensures some { (types : Types) (raw : RawScript) (es : List KindEquation) → AreForSets types raw es → AreSolvable es → SomeFit types raw }
+    ensures none { (types : Types) (raw : RawScript) (es : List KindEquation) → AreForSets types raw es → AreUnsolvable es → ¬ SomeFit types raw }
 {}
 
 /// Kinds fit equations and assertions, with all sets, just where they are those under an assignment that satisfies the
@@ -168,10 +166,10 @@ pub fn whether_kinds_fit_is_decided()
 /// Kinds for the sets of the first declarations, with numbers for the whole tree: some fit where the equations so far are
 /// solved, and none where they have no solution. Of all declarations, these are the kinds that fit all sets.
 pub fn fitting_kinds_of_first_sets_are_found()
-    ensures some { (types : Types) (raw so_far : RawScript) (es : List KindEquation) (t : State) →
-        AreForFirstSets types raw so_far es → IsSolved nothing_known es t → SomeFit types so_far }
-    ensures none { (types : Types) (raw so_far : RawScript) (es : List KindEquation) → IsBeginningOf raw so_far →
-        AreForFirstSets types raw so_far es → HasNoSolution nothing_known es → ¬ SomeFit types so_far }
+    ensures some { (types : Types) (raw so_far : RawScript) (es : List KindEquation) →
+        AreForFirstSets types raw so_far es → AreSolvable es → SomeFit types so_far }
+    ensures none { (types : Types) (raw so_far : RawScript) (es : List KindEquation) →
+        AreForABeginning types raw so_far es → AreUnsolvable es → ¬ SomeFit types so_far }
     ensures all { (types : Types) (raw : RawScript) (o : Numbering) → FirstSetsAreAllSets types raw o }
 {}
 
@@ -189,7 +187,6 @@ pub fn equations_of_first_sets()
     ensures field { (types : Types) (o : Numbering) → AreOwners types o → FieldsAskForTheirSet types o }
     ensures heads { (types : Types) (o : Numbering) → HeadsAskForNothing types o }
     ensures other { (types : Types) (o : Numbering) → OthersAskForNothing types o }
-    ensures declaration { (types : Types) (above : RawScript) (d : RawDeclaration) (kinds : Kinds) →
-        FitFirstSets types (above ++ d ∷ []) kinds ↔ (FitFirstSets types above kinds × FitItsSets types above d kinds) }
+    ensures declaration { (types : Types) (above : RawScript) (d : RawDeclaration) → FirstSetsGoOn types above d }
     ensures set { (types : Types) (o : Numbering) → AreOwners types o → SetsAskForKinds types o }
 {}

@@ -4,13 +4,13 @@
 //! right. The rules are those of CSPM, as the manual of FDR has them.
 #![tactic(auto)]
 
-ghost use Rattle.std.specs.Prelude.{◌≡◌, List, [], ◌∷◌, ◌++◌, map};
+ghost use Rattle.std.specs.Prelude.{◌≡◌, List, ◌++◌, map};
 ghost use Rattle.csp_syntax.specs.Process.{Script};
 ghost use Rattle.csp_syntax.specs.Types.{Types};
 ghost use Rattle.csp_semantics.specs.Kinds.Scripts.{IsCheckedScript};
 ghost use Rattle.csp_text.specs.Place.{Place};
 ghost use Rattle.csp_text.specs.Token.{PlacedToken};
-ghost use Rattle.csp_text.specs.Raw.{RawName, RawDomain, RawChannels, RawScript};
+ghost use Rattle.csp_text.specs.Raw.{RawScript};
 ghost use Rattle.csp_text.specs.Grammar.{IsScript};
 ghost use Rattle.csp_checking.specs.Order.{StandAlong};
 ghost use Rattle.csp_checking.specs.Sites.{site_place, sites};
@@ -20,6 +20,8 @@ ghost use Rattle.csp_checking.specs.Scripts.{IsScriptOf};
 ghost use Rattle.csp_checking.specs.Faults.{KindFault, UnknownName, DeclaredTwice, WrongKind, WrongCount, BadFieldSet, TooManyEvents};
 ghost use Rattle.csp_checking.specs.Refusals.{IsKindRefusal, PassesNames};
 ghost use Rattle.csp_checking.specs.Checked.{IsCheckedTree};
+ghost use Rattle.csp_checking.specs.Laws.Refusals.{IsUnrefused};
+ghost use Rattle.csp_checking.specs.Laws.FirstSets.{FirstFieldsFit};
 ghost use Rattle.csp_checking.specs.Laws.Trees.{at, unknown_process, declared_parameter, channel_as_process, too_few_arguments, empty_field_set, channel_twice, growing_parameter, many_events, large_field_set, channel_of_itself, parameter_twice, unlike_channels, bare_and_unknown, mixed_nametype, one_event_too_many, outputs, outputs_script};
 
 pub mod inference;
@@ -49,13 +51,14 @@ pub fn checked_is_not_refused()
 
 /// A tree without a refusal has its script, and so has one of which the first two passes refuse nothing.
 pub fn unrefused_tree_has_its_script()
-    ensures passes { (raw : RawScript) → ((f : KindFault) (p : Place) → ¬ IsKindRefusal raw f p) → PassesNames raw }
+    ensures passes { (raw : RawScript) → IsUnrefused raw → PassesNames raw }
     ensures script { (raw : RawScript) → PassesNames raw → (script : Script) × IsScriptOf raw script }
 {}
 
-/// A tree without a refusal is not unchecked. That kinds fit all of it is said in this weak way, since to find them one has to know the datatype of each constructor (`inference`).
+/// A tree without a refusal is not unchecked. That kinds fit all of it is said in this weak way, since to find them one
+/// has to know the datatype of each constructor (`inference`).
 pub fn unrefused_tree_is_not_unchecked()
-    ensures { (raw : RawScript) → ((f : KindFault) (p : Place) → ¬ IsKindRefusal raw f p) → ¬ ((s : Script) → ¬ IsCheckedTree raw s) }
+    ensures { (raw : RawScript) → IsUnrefused raw → ¬ ((s : Script) → ¬ IsCheckedTree raw s) }
 {}
 
 /// The script of a checked tree is well-kinded, by its values too.
@@ -66,7 +69,7 @@ pub fn checked_tree_has_checked_script()
 /// Where some kinds fit the sets so far, some fit those above, and those of a declaration's first fields.
 pub fn kinds_fit_from_above()
     ensures above { (types : Types) (above more : RawScript) → SomeFit types (above ++ more) → SomeFit types above }
-    ensures fields { (types : Types) (above : RawScript) (names : List RawName) (ds more : List RawDomain) → SomeFit types (above ++ RawChannels names (ds ++ more) ∷ []) → SomeFit types (above ++ RawChannels names ds ∷ []) }
+    ensures fields { (types : Types) (above : RawScript) → FirstFieldsFit types above }
 {}
 
 /// The refusals of small trees.

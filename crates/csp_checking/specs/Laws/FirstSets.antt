@@ -1,5 +1,5 @@
 -- Kinds for the sets of a tree's first declarations, and how their equations go on.
-use Rattle.std.specs.Prelude.{◌≡◌, ℕ, ◌+◌, ◌≤◌, List, [], ◌∷◌, ◌++◌, length, drop, slice_get, Some}
+use Rattle.std.specs.Prelude.{◌≡◌, ◌↔◌, ℕ, ◌+◌, ◌≤◌, List, [], ◌∷◌, ◌++◌, length, drop, slice_get, Some}
 use Rattle.csp_syntax.specs.Types.{Types}
 use Rattle.csp_semantics.specs.Kinds.Kind.{Kinds, BeginsInTurn}
 use Rattle.csp_text.specs.Raw.{RawName, RawDomain, RawDeclaration, RawNametype, RawChannels, RawScript}
@@ -23,6 +23,9 @@ AskForFirstSets types so_far o n es m = Ask n es m (λ a. FitFirstSets types so_
 abbrev pub AreForFirstSets : Types → RawScript → RawScript → List KindEquation → Type 0
 AreForFirstSets types raw so_far es =
     (o : Numbering) × (n : ℕ) × (m : ℕ) × AreNumbersFor raw n o × AskForFirstSets types so_far o n es m
+
+abbrev pub AreForABeginning : Types → RawScript → RawScript → List KindEquation → Type 0
+AreForABeginning types raw so_far es = IsBeginningOf raw so_far × AreForFirstSets types raw so_far es
 
 -- equations that ask for the sets so far, where these are all, ask for all sets
 abbrev pub FirstSetsAreAllSets : Types → RawScript → Numbering → Type 0
@@ -89,3 +92,8 @@ FitItsSets types above d kinds =
     BeginsInTurn (IsSetOf types kinds) (nametypes_declared above d) (drop (length (nametype_sets above)) kinds.nametypes)
     × BeginsInTurn (BeginsInTurn (IsSetOf types kinds)) (channels_declared above d)
     (drop (length (channel_sets above)) kinds.channels)
+
+-- kinds fit the sets up to a declaration just where they fit those above it and its own
+abbrev pub FirstSetsGoOn : Types → RawScript → RawDeclaration → Type 0
+FirstSetsGoOn types above d = (kinds : Kinds) →
+    FitFirstSets types (above ++ d ∷ []) kinds ↔ (FitFirstSets types above kinds × FitItsSets types above d kinds)

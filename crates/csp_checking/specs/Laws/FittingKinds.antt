@@ -33,6 +33,12 @@ abbrev pub AreForSets : Types → RawScript → List KindEquation → Type 0
 AreForSets types raw es =
     (o : Numbering) × (n : ℕ) × (m : ℕ) × AreNumbersFor raw n o × AskForSets types raw o n es m
 
+abbrev pub AreSolvable : List KindEquation → Type 0
+AreSolvable es = (t : State) × IsSolved nothing_known es t
+
+abbrev pub AreUnsolvable : List KindEquation → Type 0
+AreUnsolvable es = HasNoSolution nothing_known es
+
 -- ---- equations and assertions
 
 -- A tree and its script, with numbers for the tree and equations that ask for kinds of its sets, in which the numbers
@@ -64,7 +70,7 @@ abbrev pub IsSolvedFor : NumberedTree → List Item → State → Type 0
 IsSolvedFor tree xs t = IsSolved nothing_known (equations_with tree xs) t
 
 abbrev pub IsUnsolvedFor : NumberedTree → List Item → Type 0
-IsUnsolvedFor tree xs = HasNoSolution nothing_known (equations_with tree xs)
+IsUnsolvedFor tree xs = AreUnsolvable (equations_with tree xs)
 
 -- the kinds are those under an assignment that satisfies the state
 abbrev pub AreKindsOf : NumberedTree → State → Kinds → Type 0
