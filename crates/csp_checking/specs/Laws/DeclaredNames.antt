@@ -13,6 +13,7 @@ use Rattle.csp_checking.specs.Inference.Items.{owners_from}
 abbrev pub AreDeclaredOnce : List RawName → Type 0
 AreDeclaredOnce names = NoneRefused IsRedeclared names
 
+-- the tree declares no name twice
 abbrev pub DeclaresOnce : RawScript → Type 0
 DeclaresOnce raw = AreDeclaredOnce (all_declared raw)
 
@@ -26,8 +27,9 @@ IsFirstRepeated raw n =
     (before : List RawName) × (after : List RawName) × (all_declared raw ≡ before ++ n ∷ after)
     × AreDeclaredOnce before × (has_spelling (spellings before) n.spelling ≡ true)
 
--- ---- rows; the declarations above are the first of the tree
+-- ---- rows
 
+-- the rows of the names above, which are the first of the tree
 abbrev pub rows_above : RawScript → RawScript → List Row
 rows_above raw above = take (length (all_declared above)) (declared_rows raw)
 

@@ -24,6 +24,7 @@ abbrev pub AreForFirstSets : Types → RawScript → RawScript → List KindEqua
 AreForFirstSets types raw so_far es =
     (o : Numbering) × (n : ℕ) × (m : ℕ) × AreNumbersFor raw n o × AskForFirstSets types so_far o n es m
 
+-- and the declarations so far are a beginning of the tree
 abbrev pub AreForABeginning : Types → RawScript → RawScript → List KindEquation → Type 0
 AreForABeginning types raw so_far es = IsBeginningOf raw so_far × AreForFirstSets types raw so_far es
 
@@ -34,7 +35,7 @@ FirstSetsAreAllSets types raw o = (n m : ℕ) (es : List KindEquation) →
     AskForFirstSets types raw o n es m →
     AskForSets types raw o n es m
 
--- kinds for a declaration's first fields
+-- where some kinds fit a declaration's fields, some fit its first ones
 abbrev pub FirstFieldsFit : Types → RawScript → Type 0
 FirstFieldsFit types above = (names : List RawName) (ds more : List RawDomain) →
     SomeFit types (with_channels above names (ds ++ more)) →
@@ -54,9 +55,8 @@ NametypesAskForTheirSet types o =
     IsBelow n o →
     slice_get o.nametypes (length (nametype_sets above)) ≡ Some x →
     AskForFirstSets types above o n es m →
-    AskForFirstSets types (above ++ RawNametype name domain ∷ []) o n
-    (es ++ of_set types o m (set_expression above domain) x)
-    (behind_set m (set_expression above domain))
+    let e = set_expression above domain in
+    AskForFirstSets types (above ++ RawNametype name domain ∷ []) o n (es ++ of_set types o m e x) (behind_set m e)
 
 -- with one more field of channels those of its set, once for each channel
 abbrev pub FieldsAskForTheirSet : Types → Numbering → Type 0
@@ -67,9 +67,8 @@ FieldsAskForTheirSet types o =
     length ms ≡ length names →
     IsColumn (length before) ms (drop (length (channel_sets above)) o.channels) →
     AskForFirstSets types (with_channels above names before) o n es m →
-    AskForFirstSets types (with_channels above names (before ++ d ∷ [])) o n
-    (es ++ of_copies types o m (set_expression above d) ms)
-    (behind_copies m (set_expression above d) ms)
+    let e = set_expression above d in
+    AskForFirstSets types (with_channels above names (before ++ d ∷ [])) o n (es ++ of_copies types o m e ms) (behind_copies m e ms)
 
 -- with channels no equations before those of their fields
 abbrev pub HeadsAskForNothing : Types → Numbering → Type 0
@@ -90,8 +89,7 @@ OthersAskForNothing types o = (above : RawScript) (n m : ℕ) (es : List KindEqu
 abbrev pub FitItsSets : Types → RawScript → RawDeclaration → Kinds → Type 0
 FitItsSets types above d kinds =
     BeginsInTurn (IsSetOf types kinds) (nametypes_declared above d) (drop (length (nametype_sets above)) kinds.nametypes)
-    × BeginsInTurn (BeginsInTurn (IsSetOf types kinds)) (channels_declared above d)
-    (drop (length (channel_sets above)) kinds.channels)
+    × BeginsInTurn (BeginsInTurn (IsSetOf types kinds)) (channels_declared above d) (drop (length (channel_sets above)) kinds.channels)
 
 -- kinds fit the sets up to a declaration just where they fit those above it and its own
 abbrev pub FirstSetsGoOn : Types → RawScript → RawDeclaration → Type 0

@@ -25,6 +25,7 @@ of_tree types raw o n =
     of_sets types o n (nametype_sets raw) o.nametypes
     ++ of_rows types o (behind_sets n (nametype_sets raw)) (channel_sets raw) o.channels
 
+-- the first number behind them
 abbrev pub behind_tree : RawScript → ℕ → ℕ
 behind_tree raw n = behind_rows (behind_sets n (nametype_sets raw)) (channel_sets raw)
 
@@ -33,9 +34,11 @@ abbrev pub AreForSets : Types → RawScript → List KindEquation → Type 0
 AreForSets types raw es =
     (o : Numbering) × (n : ℕ) × (m : ℕ) × AreNumbersFor raw n o × AskForSets types raw o n es m
 
+-- some state says just what the equations say
 abbrev pub AreSolvable : List KindEquation → Type 0
 AreSolvable es = (t : State) × IsSolved nothing_known es t
 
+-- no assignment solves them
 abbrev pub AreUnsolvable : List KindEquation → Type 0
 AreUnsolvable es = HasNoSolution nothing_known es
 
@@ -58,17 +61,20 @@ pub record NumberedTree : Type 0 where
 abbrev pub equations_with : NumberedTree → List Item → List KindEquation
 equations_with tree xs = tree.equations ++ of_items tree.script tree.numbers tree.end xs
 
-abbrev pub AskForFit : NumberedTree → List Item → Type 0
-AskForFit tree xs =
-    Ask tree.start (equations_with tree xs) (behind_items tree.script tree.end xs)
-    (λ a. FitKinds tree.raw tree.script (kinds_under a tree.numbers) xs)
-
+-- the kinds fit all sets, and these equations and assertions
 abbrev pub Fit : NumberedTree → Kinds → List Item → Type 0
 Fit tree kinds xs = FitKinds tree.raw tree.script kinds xs
 
+-- the equations ask for kinds that do
+abbrev pub AskForFit : NumberedTree → List Item → Type 0
+AskForFit tree xs =
+    Ask tree.start (equations_with tree xs) (behind_items tree.script tree.end xs) (λ a. Fit tree (kinds_under a tree.numbers) xs)
+
+-- the state says just what these equations say
 abbrev pub IsSolvedFor : NumberedTree → List Item → State → Type 0
 IsSolvedFor tree xs t = IsSolved nothing_known (equations_with tree xs) t
 
+-- no assignment solves them
 abbrev pub IsUnsolvedFor : NumberedTree → List Item → Type 0
 IsUnsolvedFor tree xs = AreUnsolvable (equations_with tree xs)
 
@@ -76,6 +82,7 @@ IsUnsolvedFor tree xs = AreUnsolvable (equations_with tree xs)
 abbrev pub AreKindsOf : NumberedTree → State → Kinds → Type 0
 AreKindsOf tree t kinds = (a : Assignment) × Satisfies a t × (kinds_under a tree.numbers ≡ kinds)
 
+-- no kinds fit the item and those before it: it is refused with this fault
 abbrev pub IsMisfitOf : NumberedTree → List Item → Item → KindFault → Type 0
 IsMisfitOf tree before x f = IsMisfit tree.raw tree.script before x f
 
@@ -91,9 +98,11 @@ EquationsGoOn script o = (n : ℕ) (before : List Item) (x : Item) →
 abbrev pub AreOwnersIn : RawScript → List ℕ → Types → Type 0
 AreOwnersIn raw owners types = AreOwners types (numbers_of owners raw)
 
+-- some kinds fit all sets, or none do
 abbrev pub SetsAreDecided : Types → RawScript → Type 0
 SetsAreDecided types raw = SomeFit types raw ⊎ (¬ SomeFit types raw)
 
+-- and so it is with equations and assertions
 abbrev pub ItemsAreDecided : RawScript → Script → Type 0
 ItemsAreDecided raw script = (xs : List Item) →
     ((kinds : Kinds) × FitKinds raw script kinds xs) ⊎ ((kinds : Kinds) → ¬ FitKinds raw script kinds xs)

@@ -37,13 +37,9 @@ sequence_of_itself = (OpenEnd 0, SequenceOver (OpenEnd 0)) ∷ []
 -- `<1> == <>`
 abbrev pub sequences_compared : List KindEquation
 sequences_compared =
-    of_expression no_types no_numbers 0 []
-    (Combine Equals (SequenceOf (expression_and (num 1) no_expressions)) (SequenceOf no_expressions))
-    BoolEnd
+    of_expression no_types no_numbers 0 [] (Combine Equals (SequenceOf (expression_and (num 1) no_expressions)) (SequenceOf no_expressions)) BoolEnd
 
 -- `<1,true>`
 abbrev pub mixed_sequence : List KindEquation
 mixed_sequence =
-    of_expression no_types no_numbers 1 []
-    (SequenceOf (expression_and (num 1) (expression_and (Literal (Truth true)) no_expressions)))
-    (OpenEnd 0)
+    of_expression no_types no_numbers 1 [] (SequenceOf (expression_and (num 1) (expression_and (Literal (Truth true)) no_expressions))) (OpenEnd 0)

@@ -11,6 +11,7 @@ use Rattle.csp_checking.specs.Walks.{AllFine, IsStoppedAt}
 abbrev pub Walk : Type 0
 Walk = RawScript → RawDeclaration → List Site
 
+-- all sites of the tree are fine
 abbrev pub AllFineIn : Walk → RawScript → Type 0
 AllFineIn walk raw = AllFine (in_order walk raw)
 

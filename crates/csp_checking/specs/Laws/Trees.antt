@@ -32,12 +32,15 @@ declared_parameter = RawChannels (named (codes "n") 1 9 ∷ []) [] ∷ RawEquati
 
 -- `channel c` ;; `P = c`
 abbrev pub channel_as_process : RawScript
-channel_as_process = RawChannels (named (codes "c") 1 9 ∷ []) [] ∷ RawEquation (named (codes "P") 2 1) [] (RawCall (named (codes "c") 2 5) no_raw_expressions) ∷ []
+channel_as_process =
+    RawChannels (named (codes "c") 1 9 ∷ []) []
+    ∷ RawEquation (named (codes "P") 2 1) [] (RawCall (named (codes "c") 2 5) no_raw_expressions) ∷ []
 
 -- `P(n) = STOP` ;; `assert P [T= STOP`
 abbrev pub too_few_arguments : RawScript
 too_few_arguments =
-    RawEquation (named (codes "P") 1 1) (named (codes "n") 1 3 ∷ []) RawStop ∷ RawAssertion (at 2 1) Traces (RawCall (named (codes "P") 2 8) no_raw_expressions) RawStop ∷ []
+    RawEquation (named (codes "P") 1 1) (named (codes "n") 1 3 ∷ []) RawStop
+    ∷ RawAssertion (at 2 1) Traces (RawCall (named (codes "P") 2 8) no_raw_expressions) RawStop ∷ []
 
 -- `channel c : {}`
 abbrev pub empty_field_set : RawScript
@@ -50,7 +53,8 @@ channel_twice = RawChannels (named (codes "a") 1 9 ∷ []) [] ∷ RawChannels (n
 -- `P(n) = P(<n>)`
 abbrev pub growing_parameter : RawScript
 growing_parameter =
-    RawEquation (named (codes "P") 1 1) (named (codes "n") 1 3 ∷ []) (RawCall (named (codes "P") 1 8) (one (RawSequence (one (RawUse (named (codes "n") 1 11)))))) ∷ []
+    RawEquation (named (codes "P") 1 1) (named (codes "n") 1 3 ∷ [])
+    (RawCall (named (codes "P") 1 8) (one (RawSequence (one (RawUse (named (codes "n") 1 11)))))) ∷ []
 
 -- `channel c : {0..1023}.{0..4}`
 abbrev pub many_events : RawScript
@@ -75,7 +79,8 @@ bare spelling line column = record { channel = named spelling line column; field
 -- `channel c : {0}` ;; `channel d : {1}` ;; `P = STOP[[c <- d]]`
 abbrev pub unlike_channels : RawScript
 unlike_channels =
-    RawChannels (named (codes "c") 1 9 ∷ []) (domain 1 13 (RawSet (one (RawNumber 0))) ∷ []) ∷ RawChannels (named (codes "d") 2 9 ∷ []) (domain 2 13 (RawSet (one (RawNumber 1))) ∷ [])
+    RawChannels (named (codes "c") 1 9 ∷ []) (domain 1 13 (RawSet (one (RawNumber 0))) ∷ [])
+    ∷ RawChannels (named (codes "d") 2 9 ∷ []) (domain 2 13 (RawSet (one (RawNumber 1))) ∷ [])
     ∷ RawEquation (named (codes "P") 3 1) [] (RawRenaming RawStop (record { from = bare (codes "c") 3 11; to = bare (codes "d") 3 16 } ∷ [])) ∷ []
 
 -- `channel c : {0}` ;; `P = STOP[[c <- x]]`
@@ -91,15 +96,18 @@ mixed_nametype = RawNametype (named (codes "N") 1 10) (domain 1 14 (RawSet (raw_
 -- `channel c : {0..1023}` ;; `channel d : {0..1023}.{0..2}` ;; `channel e`
 abbrev pub one_event_too_many : RawScript
 one_event_too_many =
-    RawChannels (named (codes "c") 1 9 ∷ []) (domain 1 13 (up_to 1023) ∷ []) ∷ RawChannels (named (codes "d") 2 9 ∷ []) (domain 2 13 (up_to 1023) ∷ domain 2 23 (up_to 2) ∷ [])
+    RawChannels (named (codes "c") 1 9 ∷ []) (domain 1 13 (up_to 1023) ∷ [])
+    ∷ RawChannels (named (codes "d") 2 9 ∷ []) (domain 2 13 (up_to 1023) ∷ domain 2 23 (up_to 2) ∷ [])
     ∷ RawChannels (named (codes "e") 3 9 ∷ []) [] ∷ []
 
 -- `channel c : {0..1}` ;; `P(n) = c!n -> P(n)` ;; `assert P(0) [T= c?x -> STOP`
 abbrev pub outputs : RawScript
 outputs =
     RawChannels (named (codes "c") 1 9 ∷ []) (domain 1 13 (up_to 1) ∷ [])
-    ∷ RawEquation (named (codes "P") 2 1) (named (codes "n") 2 3 ∷ []) (RawPrefix (named (codes "c") 2 8) (RawGiven (RawUse (named (codes "n") 2 10)) ∷ []) (RawCall (named (codes "P") 2 15) (one (RawUse (named (codes "n") 2 17)))))
-    ∷ RawAssertion (at 3 1) Traces (RawCall (named (codes "P") 3 8) (one (RawNumber 0))) (RawPrefix (named (codes "c") 3 17) (RawInput (named (codes "x") 3 19) ∷ []) RawStop) ∷ []
+    ∷ RawEquation (named (codes "P") 2 1) (named (codes "n") 2 3 ∷ [])
+    (RawPrefix (named (codes "c") 2 8) (RawGiven (RawUse (named (codes "n") 2 10)) ∷ []) (RawCall (named (codes "P") 2 15) (one (RawUse (named (codes "n") 2 17)))))
+    ∷ RawAssertion (at 3 1) Traces (RawCall (named (codes "P") 3 8) (one (RawNumber 0)))
+    (RawPrefix (named (codes "c") 3 17) (RawInput (named (codes "x") 3 19) ∷ []) RawStop) ∷ []
 
 -- its script: `n` and `x` are the bound names 0 and 1
 abbrev pub outputs_script : Script
@@ -107,7 +115,11 @@ outputs_script = record {
   types = no_types;
   channels = (bits ∷ []) ∷ [];
   equations = record { parameters = 0 ∷ []; body = Prefix 0 (Given (Name 0) ∷ []) (Call 0 (expression_and (Name 0) no_expressions)) } ∷ [];
-  assertions = record { model = Traces; specification = Call 0 (expression_and (num 0) no_expressions); implementation = Prefix 0 (Input 1 ∷ []) Stop } ∷ [];
+  assertions = record {
+    model = Traces;
+    specification = Call 0 (expression_and (num 0) no_expressions);
+    implementation = Prefix 0 (Input 1 ∷ []) Stop;
+  } ∷ [];
   channel_names = codes "c" ∷ [];
   constructor_names = [];
 }

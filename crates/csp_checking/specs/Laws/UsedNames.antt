@@ -10,9 +10,11 @@ use Rattle.csp_checking.specs.Walks.{IsThere}
 
 -- ---- the class of a name
 
+-- the name is neither bound nor declared
 abbrev pub MeansNothing : Environment → RawName → Type 0
 MeansNothing env n = meaning env n ≡ None
 
+-- it is one or the other
 abbrev pub MeansSomething : Environment → RawName → Type 0
 MeansSomething env n = IsThere (meaning env n)
 
@@ -24,25 +26,31 @@ Suits env u n = (m : Meaning) × (meaning env n ≡ Some m) × (suits u m ≡ tr
 abbrev pub IsUnsuited : Environment → Use → RawName → Type 0
 IsUnsuited env u n = (m : Meaning) × (meaning env n ≡ Some m) × (suits u m ≡ false)
 
+-- the spelling is not declared
 abbrev pub IsUndeclared : Environment → RawName → Type 0
 IsUndeclared env n = declared_meaning env.declarations n.spelling ≡ None
 
+-- it is
 abbrev pub IsDeclared : Environment → RawName → Type 0
 IsDeclared env n = IsThere (declared_meaning env.declarations n.spelling)
 
 -- ---- a count that is there, compared with a number
 
+-- it is another one
 abbrev pub IsOtherThan : ℕ → Option ℕ → Type 0
 IsOtherThan k count = (p : ℕ) × (count ≡ Some p) × (p ≢ k)
 
+-- it is no less
 abbrev pub IsAtLeast : ℕ → Option ℕ → Type 0
 IsAtLeast k count = (p : ℕ) × (count ≡ Some p) × (k ≤ p)
 
+-- it is less
 abbrev pub IsLessThan : ℕ → Option ℕ → Type 0
 IsLessThan k count = (p : ℕ) × (count ≡ Some p) × (p < k)
 
 -- ---- two bare channels
 
+-- both have as many fields
 abbrev pub HaveEqualCounts : Environment → RawName → RawName → Type 0
 HaveEqualCounts env n other = (p : ℕ) × (field_count env n ≡ Some p) × (field_count env other ≡ Some p)
 
