@@ -118,7 +118,8 @@ production_along env (event {a} {b} {n} {es} h k) = named_along (Used env (AsPro
 lone : {a : List PlacedToken} (xs : List Site) → SitesAlong a xs → SitesAlong a (xs ++ [])
 lone {a} xs h = let P : List Site → Type 0 = SitesAlong a in subst P (sym (append-nil xs)) h
 
-pub events_along : (g : RawEvent → List Site) → ((a : List PlacedToken) (e : RawEvent) → IsEvent a e → SitesAlong a (g e)) → {a : List PlacedToken} {es : List RawEvent} → AreEvents a es → SitesAlong a (flat_map g es)
+pub events_along : (g : RawEvent → List Site) → ((a : List PlacedToken) (e : RawEvent) → IsEvent a e → SitesAlong a (g e)) →
+    {a : List PlacedToken} {es : List RawEvent} → AreEvents a es → SitesAlong a (flat_map g es)
 events_along g each (one_event {a} {e} h) = lone (g e) (each a e h)
 events_along g each (more_events {a} {b} {c} {e} {es} h w k) = both (g e) (flat_map g es) (before b (each a e h)) (events_along g each k)
 
@@ -126,15 +127,18 @@ pub event_set_along : (env : Environment) {a : List PlacedToken} {s : RawEventSe
 event_set_along env (no_events v w) = no_places
 event_set_along env (events {a} {b} {c} v h w) = before c (behind a (events_along (in_event env) (λ x e k. event_along env k) h))
 event_set_along env (productions {a} {b} {c} v h w) = before c (behind a (events_along (in_production env) (λ x e k. production_along env k) h))
-event_set_along env (of_sets {a} {b} {c} {d} {x} {y} {o} {s} {t} word u h v k w) = by word (before y (both (in_event_set env s) (in_event_set env t) (before d (behind (a ++ b) (event_set_along env h))) (event_set_along env k)))
+event_set_along env (of_sets {a} {b} {c} {d} {x} {y} {o} {s} {t} word u h v k w) =
+    by word (before y (both (in_event_set env s) (in_event_set env t) (before d (behind (a ++ b) (event_set_along env h))) (event_set_along env k)))
   where
-    by : {p : RawEventSet → RawEventSet → RawEventSet} → IsSetWord a p → SitesAlong (a ++ b ++ c ++ d ++ x ++ y) (in_event_set env s ++ in_event_set env t) → SitesAlong (a ++ b ++ c ++ d ++ x ++ y) (in_event_set env (p s t))
+    by : {p : RawEventSet → RawEventSet → RawEventSet} → IsSetWord a p → SitesAlong (a ++ b ++ c ++ d ++ x ++ y) (in_event_set env s ++ in_event_set env t) →
+        SitesAlong (a ++ b ++ c ++ d ++ x ++ y) (in_event_set env (p s t))
     by (union_of_sets z) h = h
     by (inter_of_sets z) h = h
     by (diff_of_sets z) h = h
 
 -- the channels of a pair, with or without fields
-pair_along : (env : Environment) {a : List PlacedToken} (b : List PlacedToken) {c : List PlacedToken} {e f : RawEvent} → IsEvent a e → IsEvent c f → SitesAlong (a ++ b ++ c) (in_pair env (record { from = e; to = f }))
+pair_along : (env : Environment) {a : List PlacedToken} (b : List PlacedToken) {c : List PlacedToken} {e f : RawEvent} → IsEvent a e → IsEvent c f →
+    SitesAlong (a ++ b ++ c) (in_pair env (record { from = e; to = f }))
 pair_along env {a} b {c} {e} {f} h k = go (has_no_fields e && has_no_fields f)
   where
     channel_along : {x : List PlacedToken} {g : RawEvent} → IsEvent x g → StandAlong x (g.channel.place ∷ [])
@@ -146,7 +150,8 @@ pair_along env {a} b {c} {e} {f} h k = go (has_no_fields e && has_no_fields f)
 
 pub pairs_along : (env : Environment) {a : List PlacedToken} {ps : List RawPair} → ArePairs a ps → SitesAlong a (flat_map (in_pair env) ps)
 pairs_along env (one_pair {a} {b} {c} {e} {f} h w k) = lone (in_pair env (record { from = e; to = f })) (pair_along env b h k)
-pairs_along env (more_pairs {a} {b} {c} {d} {x} {e} {f} {ps} h w k v rest) = both (in_pair env (record { from = e; to = f })) (flat_map (in_pair env) ps) (before d (pair_along env b h k)) (pairs_along env rest)
+pairs_along env (more_pairs {a} {b} {c} {d} {x} {e} {f} {ps} h w k v rest) =
+    both (in_pair env (record { from = e; to = f })) (flat_map (in_pair env) ps) (before d (pair_along env b h k)) (pairs_along env rest)
 
 -- ---- fields
 
@@ -155,7 +160,9 @@ later_fields_along env no_fields = no_places
 later_fields_along env (output {a} {b} {c} {e} {fs} w h k) = both (in_expression env e) (in_fields env fs) (behind a (atom_along env h)) (later_fields_along env k)
 later_fields_along env (input {a} {b} {c} {n} {fs} w h k) = named_along (BoundThere env n) (in_fields (binding env (n ∷ [])) fs) (behind a (name_along h)) (later_fields_along (binding env (n ∷ [])) k)
 later_fields_along env (input_from {a} {b} {c} {d} {x} {n} {e} {fs} w h v i k) =
-    both (BoundThere env n ∷ in_expression env e) (in_fields (binding env (n ∷ [])) fs) (named_along (BoundThere env n) (in_expression env e) (before c (behind a (name_along h))) (atom_along env i)) (later_fields_along (binding env (n ∷ [])) k)
+    both (BoundThere env n ∷ in_expression env e) (in_fields (binding env (n ∷ [])) fs)
+    (named_along (BoundThere env n) (in_expression env e) (before c (behind a (name_along h))) (atom_along env i))
+    (later_fields_along (binding env (n ∷ [])) k)
 
 pub fields_along : (env : Environment) {a : List PlacedToken} {fs : List RawField} → AreFields a fs → SitesAlong a (in_fields env fs)
 fields_along env (later_fields h) = later_fields_along env h
@@ -172,7 +179,8 @@ hiding_along env (hiding_part {a} {b} u h) = behind a (event_set_along env h)
 mutual
   pub process_along : (env : Environment) {a : List PlacedToken} {p : RawProcess} → IsProcess a p → SitesAlong a (in_process env p)
   process_along env (conditional {a} {b} {c} {d} {x} {y} {e} {p} {q} u h v i w k) =
-      both (in_expression env e ++ in_process env p) (in_process env q) (before x (both (in_expression env e) (in_process env p) (before c (behind a (expression_along env h))) (process_along env i))) (process_along env k)
+      both (in_expression env e ++ in_process env p) (in_process env q)
+      (before x (both (in_expression env e) (in_process env p) (before c (behind a (expression_along env h))) (process_along env i))) (process_along env k)
   process_along env (replicated {a} {b} {c} {d} {x} {y} {o} {n} {e} {p} u h v i w k) =
       both (BoundThere env n ∷ in_expression env e) (in_process (binding env (n ∷ [])) p)
       (before x (named_along (BoundThere env n) (in_expression env e) (before c (behind a (name_along h))) (atom_along env i))) (process_along (binding env (n ∷ [])) k)
@@ -181,10 +189,12 @@ mutual
   process_along env (operand h) = operand_along env h
   process_along env (chain h) = chain_along env h
   process_along env (generalised {a} {b} {c} {d} {x} {p} {q} {s} h u i v k) =
-      both (in_process env p ++ in_event_set env s) (in_process env q) (before d (both (in_process env p) (in_event_set env s) (before b (operand_along env h)) (event_set_along env i))) (operand_along env k)
+      both (in_process env p ++ in_event_set env s) (in_process env q)
+      (before d (both (in_process env p) (in_event_set env s) (before b (operand_along env h)) (event_set_along env i))) (operand_along env k)
   process_along env (alphabetised {a} {b} {c} {d} {x} {y} {z} {p} {q} {s} {t} h u i v j w k) =
       both (in_process env p ++ in_event_set env s ++ in_event_set env t) (in_process env q)
-      (before y (both (in_process env p ++ in_event_set env s) (in_event_set env t) (before d (both (in_process env p) (in_event_set env s) (before b (operand_along env h)) (event_set_along env i))) (event_set_along env j)))
+      (before y (both (in_process env p ++ in_event_set env s) (in_event_set env t)
+      (before d (both (in_process env p) (in_event_set env s) (before b (operand_along env h)) (event_set_along env i))) (event_set_along env j)))
       (operand_along env k)
 
   pub renamed_along : (env : Environment) {a : List PlacedToken} {p : RawProcess} → IsRenamed a p → SitesAlong a (in_process env p)
@@ -211,36 +221,46 @@ mutual
   base_along env (stop w) = no_places
   base_along env (skip w) = no_places
   base_along env (call {a} {n} h) = name_along h
-  base_along env (call_with {a} {b} {c} {d} {n} {es} h u k w) = before d (named_along (Used env (AsEquation (number_of es)) n) (in_expressions env es) (before b (name_along h)) (expressions_along env k))
+  base_along env (call_with {a} {b} {c} {d} {n} {es} h u k w) =
+      before d (named_along (Used env (AsEquation (number_of es)) n) (in_expressions env es) (before b (name_along h)) (expressions_along env k))
   base_along env (bracketed_process {a} {b} {c} u h w) = before c (behind a (process_along env h))
 
 -- ---- declarations
 
 pub parameters_along : (env : Environment) {a : List PlacedToken} {ns : List RawName} → AreNames a ns → SitesAlong a (in_parameters env ns)
 parameters_along env (one_name h) = name_along h
-parameters_along env (more_names {a} {b} {c} {n} {ns} h w k) = named_along (Parameter env n) (in_parameters (binding env (n ∷ [])) ns) (before b (name_along h)) (parameters_along (binding env (n ∷ [])) k)
+parameters_along env (more_names {a} {b} {c} {n} {ns} h w k) =
+    named_along (Parameter env n) (in_parameters (binding env (n ∷ [])) ns) (before b (name_along h)) (parameters_along (binding env (n ∷ [])) k)
 
 pub heads_along : (raw so_far : RawScript) (i : ℕ) {a : List PlacedToken} {ns : List RawName} → AreNames a ns → SitesAlong a (in_heads raw so_far i ns)
 heads_along raw so_far i (one_name h) = name_along h
 heads_along raw so_far i (more_names {a} {b} {c} {n} {ns} h w k) =
-    named_along (ChannelHead n (types_of raw) so_far (take i (channel_members raw)) (unwrap_or (slice_get (channel_members raw) i) None)) (in_heads raw so_far (suc i) ns) (before b (name_along h)) (heads_along raw so_far (suc i) k)
+    named_along (ChannelHead n (types_of raw) so_far (take i (channel_members raw)) (unwrap_or (slice_get (channel_members raw) i) None))
+    (in_heads raw so_far (suc i) ns) (before b (name_along h)) (heads_along raw so_far (suc i) k)
 
-pub domains_along : (raw above : RawScript) (names : List RawName) (done : List RawDomain) {a : List PlacedToken} {ds : List RawDomain} → AreDomains a ds → SitesAlong a (in_field_sets raw above names done ds)
+pub domains_along : (raw above : RawScript) (names : List RawName) (done : List RawDomain) {a : List PlacedToken} {ds : List RawDomain} → AreDomains a ds →
+    SitesAlong a (in_field_sets raw above names done ds)
 domains_along raw above names done (one_domain t ts {e} h) = here (lone (in_expression (environment_above above) e) (atom_along (environment_above above) h))
 domains_along raw above names done (more_domains t ts {b} {c} {e} {ds} h w k) =
-    both (FieldSet t.place (types_of raw) (above ++ RawChannels names (done ++ record { place = t.place; set = e } ∷ []) ∷ []) (set_expression above (record { place = t.place; set = e })) (field_members raw (set_expression above (record { place = t.place; set = e }))) ∷ in_expression (environment_above above) e)
-    (in_field_sets raw above names (done ++ record { place = t.place; set = e } ∷ []) ds) (before b (here (atom_along (environment_above above) h))) (domains_along raw above names (done ++ record { place = t.place; set = e } ∷ []) k)
+    both (FieldSet t.place (types_of raw) (above ++ RawChannels names (done ++ record { place = t.place; set = e } ∷ []) ∷ [])
+    (set_expression above (record { place = t.place; set = e }))
+    (field_members raw (set_expression above (record { place = t.place; set = e }))) ∷ in_expression (environment_above above) e)
+    (in_field_sets raw above names (done ++ record { place = t.place; set = e } ∷ []) ds) (before b (here (atom_along (environment_above above) h)))
+    (domains_along raw above names (done ++ record { place = t.place; set = e } ∷ []) k)
 
 pub declaration_along : (raw above : RawScript) {a : List PlacedToken} {d : RawDeclaration} → IsDeclaration a d → SitesAlong a (in_declaration raw above d)
 declaration_along raw above (datatype u h v k) = no_places
 declaration_along raw above (nametype t ts {a} {b} {c} {n} {e} u h v k) = behind (a ++ b ++ c) (here (expression_along (environment_above above) k))
-declaration_along raw above (bare_channels {a} {b} {ns} u h) = lone (in_heads raw (above ++ RawChannels ns [] ∷ []) (length (channel_sets above)) ns) (behind a (heads_along raw (above ++ RawChannels ns [] ∷ []) (length (channel_sets above)) h))
+declaration_along raw above (bare_channels {a} {b} {ns} u h) =
+    lone (in_heads raw (above ++ RawChannels ns [] ∷ []) (length (channel_sets above)) ns)
+    (behind a (heads_along raw (above ++ RawChannels ns [] ∷ []) (length (channel_sets above)) h))
 declaration_along raw above (channels {a} {b} {c} {d} {ns} {ds} u h v k) =
     both (in_heads raw (above ++ RawChannels ns ds ∷ []) (length (channel_sets above)) ns) (in_field_sets raw above ns [] ds)
     (before c (behind a (heads_along raw (above ++ RawChannels ns ds ∷ []) (length (channel_sets above)) h))) (domains_along raw above ns [] k)
 declaration_along raw above (equation {a} {b} {c} {n} {p} h u k) = behind (a ++ b) (process_along (environment_of raw) k)
 declaration_along raw above (equation_with {a} {b} {c} {d} {x} {y} {n} {ns} {p} h u k v w i) =
-    both (in_parameters (environment_of raw) ns) (in_process (binding (environment_of raw) ns) p) (before x (before d (behind (a ++ b) (parameters_along (environment_of raw) k)))) (process_along (binding (environment_of raw) ns) i)
+    both (in_parameters (environment_of raw) ns) (in_process (binding (environment_of raw) ns) p)
+    (before x (before d (behind (a ++ b) (parameters_along (environment_of raw) k)))) (process_along (binding (environment_of raw) ns) i)
 declaration_along raw above (assertion t {b} {c} {d} {m} {p} {q} u h v k) =
     further (both (in_process (environment_of raw) p) (in_process (environment_of raw) q) (before c (process_along (environment_of raw) h)) (process_along (environment_of raw) k))
 
@@ -293,7 +313,9 @@ item_along above (assertion t u h v k) = here no_places
 items_behind : (above : RawScript) {a : List PlacedToken} {ds : RawScript} → IsScript a ds → StandAlong a (map item_place (behind_each item_declared above ds))
 items_behind above no_declarations = no_places
 items_behind above (declarations {a} {b} {d} {ds} h k) =
-    let P : List Place → Type 0 = StandAlong (a ++ b) in subst P (sym (map-append item_place (item_declared above d) (behind_each item_declared (above ++ d ∷ []) ds))) (join (item_along above h) (items_behind (above ++ d ∷ []) k))
+    let P : List Place → Type 0 = StandAlong (a ++ b) in
+    subst P (sym (map-append item_place (item_declared above d) (behind_each item_declared (above ++ d ∷ []) ds)))
+    (join (item_along above h) (items_behind (above ++ d ∷ []) k))
 
 pub items_along : (ts : List PlacedToken) (raw : RawScript) → IsScript ts raw → StandAlong ts (map item_place (Fitting.items raw))
 items_along ts raw h = items_behind [] h

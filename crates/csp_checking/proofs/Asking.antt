@@ -68,7 +68,8 @@ ask_both n m p es fs D E g h hangs = record {
 }
 
 -- with more numbers of one's own
-pub ask_more : (n m p : ℕ) (es : List KindEquation) (D E : Assignment → Type 0) → n ≤ m → Ask m es p D → ((a : Assignment) → D a → E a) → ((a : Assignment) → E a → (b : Assignment) × AgreeBelow n a b × D b) → Ask n es p E
+pub ask_more : (n m p : ℕ) (es : List KindEquation) (D E : Assignment → Type 0) → n ≤ m → Ask m es p D → ((a : Assignment) → D a → E a) →
+    ((a : Assignment) → E a → (b : Assignment) × AgreeBelow n a b × D b) → Ask n es p E
 ask_more n m p es D E le g up down = record {
   rising = let lf : m ≤ p = g.rising in omega arith;
   settled = g.settled;
@@ -90,16 +91,20 @@ ask_never n p D le none = record {
   complete = λ a h. absurd (none a h);
 }
 
-pub ask_when : {A : Type 0} (n p : ℕ) (o : Option A) (f : A → List KindEquation) (D : Assignment → Type 0) → n ≤ p → ((x : A) → o ≡ Some x → Ask n (f x) p D) → (o ≡ None → (a : Assignment) → ¬ (D a)) → Ask n (when o f) p D
+pub ask_when : {A : Type 0} (n p : ℕ) (o : Option A) (f : A → List KindEquation) (D : Assignment → Type 0) → n ≤ p → ((x : A) → o ≡ Some x → Ask n (f x) p D) →
+    (o ≡ None → (a : Assignment) → ¬ (D a)) → Ask n (when o f) p D
 ask_when n p (Some x) f D le some none = some x refl
 ask_when n p None f D le some none = ask_never n p D le (none refl)
 
 -- a number of one's own, n, for what a kind F is made of
-pub ask_own : (n p : ℕ) (k w : Chain) (F : Kind → Kind) (es : List KindEquation) (I E : Assignment → Kind → Type 0) → ((a : Assignment) → kind_of a w ≡ F (a n)) → Fixed n (λ a. kind_of a k) → Ask (suc n) es p (λ a. I a (a n)) →
-    ((a b : Assignment) (j : Kind) → AgreeBelow n a b → I a j → I b j) → ((a : Assignment) (j : Kind) → I a j → E a (F j)) → ((a : Assignment) (i : Kind) → E a i → (j : Kind) × (F j ≡ i) × I a j) → Ask n ((w, k) ∷ es) p (λ a. E a (kind_of a k))
+pub ask_own : (n p : ℕ) (k w : Chain) (F : Kind → Kind) (es : List KindEquation) (I E : Assignment → Kind → Type 0) →
+    ((a : Assignment) → kind_of a w ≡ F (a n)) → Fixed n (λ a. kind_of a k) → Ask (suc n) es p (λ a. I a (a n)) →
+    ((a b : Assignment) (j : Kind) → AgreeBelow n a b → I a j → I b j) → ((a : Assignment) (j : Kind) → I a j → E a (F j)) →
+    ((a : Assignment) (i : Kind) → E a i → (j : Kind) × (F j ≡ i) × I a j) → Ask n ((w, k) ∷ es) p (λ a. E a (kind_of a k))
 ask_own n p k w F es I E is fixed inner hangs up down =
     ask_more n (suc n) p ((w, k) ∷ es) (λ a. (kind_of a w ≡ kind_of a k) × I a (a n)) (λ a. E a (kind_of a k)) (omega arith)
-    (ask_both (suc n) (suc n) p ((w, k) ∷ []) es (λ a. kind_of a w ≡ kind_of a k) (λ a. I a (a n)) (ask_equal (suc n) w k fixed_own (fixed_more n (suc n) (λ a. kind_of a k) (omega arith) fixed)) inner inner_hangs) sound complete
+    (ask_both (suc n) (suc n) p ((w, k) ∷ []) es (λ a. kind_of a w ≡ kind_of a k) (λ a. I a (a n))
+    (ask_equal (suc n) w k fixed_own (fixed_more n (suc n) (λ a. kind_of a k) (omega arith) fixed)) inner inner_hangs) sound complete
   where
     fixed_own : Fixed (suc n) (λ a. kind_of a w)
     fixed_own a b agree = is b ∙ ap F (agree n (omega arith)) ∙ sym (is a)

@@ -131,7 +131,8 @@ pub name_kind : (a : Assignment) (names : Numbered) (x : ℕ) → kind_of_name (
 name_kind a [] x = refl
 name_kind a (b ∷ names) x = by_test (nat_eq b.0 x) (name_kind a names x)
   where
-    by_test : (t : Bool) → kind_of_name (scope_under a names) x ≡ option_map a (number_of_name names x) → cond t (Some (a b.1)) (kind_of_name (scope_under a names) x) ≡ option_map a (cond t (Some b.1) (number_of_name names x))
+    by_test : (t : Bool) → kind_of_name (scope_under a names) x ≡ option_map a (number_of_name names x) →
+        cond t (Some (a b.1)) (kind_of_name (scope_under a names) x) ≡ option_map a (cond t (Some b.1) (number_of_name names x))
     by_test true e = refl
     by_test false e = e
 
@@ -181,16 +182,20 @@ module _ (types : Types) (o : Numbering) (owners : AreOwners types o) where
   mutual
     pub value_asks : (n : ℕ) (v : Value) (k : Chain) → Fixed n (λ a. kind_of a k) → Ask n (of_value o n v k) (behind_value n v) (λ a. IsValueOf types v (kind_of a k))
     value_asks n (Integer z) k fixed =
-        ask_same n n ((IntEnd, k) ∷ []) (λ a. IntKind ≡ kind_of a k) (λ a. IsValueOf types (Integer z) (kind_of a k)) (ask_equal n IntEnd k (λ a b agree. refl) fixed) (λ a e. subst (IsValueOf types (Integer z)) e tt) (λ a h. integer_only z (kind_of a k) h)
+        ask_same n n ((IntEnd, k) ∷ []) (λ a. IntKind ≡ kind_of a k) (λ a. IsValueOf types (Integer z) (kind_of a k))
+        (ask_equal n IntEnd k (λ a b agree. refl) fixed) (λ a e. subst (IsValueOf types (Integer z)) e tt) (λ a h. integer_only z (kind_of a k) h)
     value_asks n (Truth t) k fixed =
-        ask_same n n ((BoolEnd, k) ∷ []) (λ a. BoolKind ≡ kind_of a k) (λ a. IsValueOf types (Truth t) (kind_of a k)) (ask_equal n BoolEnd k (λ a b agree. refl) fixed) (λ a e. subst (IsValueOf types (Truth t)) e tt) (λ a h. truth_only t (kind_of a k) h)
+        ask_same n n ((BoolEnd, k) ∷ []) (λ a. BoolKind ≡ kind_of a k) (λ a. IsValueOf types (Truth t) (kind_of a k))
+        (ask_equal n BoolEnd k (λ a b agree. refl) fixed) (λ a e. subst (IsValueOf types (Truth t)) e tt) (λ a h. truth_only t (kind_of a k) h)
     value_asks n (Constructor c) k fixed = ask_when n n (slice_get o.owners c) (λ d. (DatatypeEnd d, k) ∷ []) (λ a. IsValueOf types (Constructor c) (kind_of a k)) (omega arith)
-        (λ d is. ask_same n n ((DatatypeEnd d, k) ∷ []) (λ a. DatatypeKind d ≡ kind_of a k) (λ a. IsValueOf types (Constructor c) (kind_of a k)) (ask_equal n (DatatypeEnd d) k (λ a b agree. refl) fixed)
+        (λ d is. ask_same n n ((DatatypeEnd d, k) ∷ []) (λ a. DatatypeKind d ≡ kind_of a k) (λ a. IsValueOf types (Constructor c) (kind_of a k))
+        (ask_equal n (DatatypeEnd d) k (λ a b agree. refl) fixed)
         (λ a e. subst (IsValueOf types (Constructor c)) e ((owners d c).1 is))
         (λ a h. let x = constructor_only c (kind_of a k) h in let same : x.0 ≡ d = cc (sym x.2 ∙ is) in ap DatatypeKind (sym same) ∙ x.1))
         (λ none a h. let x = constructor_only c (kind_of a k) h in cc (sym none ∙ x.2))
     value_asks n (Sequence vs) k fixed =
-        ask_own n (behind_values (suc n) vs) k (SequenceOver (OpenEnd n)) SequenceKind (of_values o (suc n) vs (OpenEnd n)) (λ a j. AreValuesOf types vs j) (λ a j. IsValueOf types (Sequence vs) j) (λ a. refl) fixed
+        ask_own n (behind_values (suc n) vs) k (SequenceOver (OpenEnd n)) SequenceKind (of_values o (suc n) vs (OpenEnd n)) (λ a j. AreValuesOf types vs j)
+        (λ a j. IsValueOf types (Sequence vs) j) (λ a. refl) fixed
         (values_asks (suc n) vs (OpenEnd n) (own_fixed n)) (λ a b j agree h. h) (λ a j h. h) (λ a i h. sequence_only vs i h)
     value_asks n (Set vs) k fixed =
         ask_own n (behind_values (suc n) vs) k (SetOver (OpenEnd n)) SetKind (of_values o (suc n) vs (OpenEnd n)) (λ a j. AreValuesOf types vs j) (λ a j. IsValueOf types (Set vs) j) (λ a. refl) fixed
@@ -199,12 +204,15 @@ module _ (types : Types) (o : Numbering) (owners : AreOwners types o) where
     pub values_asks : (n : ℕ) (vs : Values) (k : Chain) → Fixed n (λ a. kind_of a k) → Ask n (of_values o n vs k) (behind_values n vs) (λ a. AreValuesOf types vs (kind_of a k))
     values_asks n no_values k fixed = ask_nothing n
     values_asks n (value_and v vs) k fixed =
-        ask_both n (behind_value n v) (behind_values (behind_value n v) vs) (of_value o n v k) (of_values o (behind_value n v) vs k) (λ a. IsValueOf types v (kind_of a k)) (λ a. AreValuesOf types vs (kind_of a k)) (value_asks n v k fixed)
-        (values_asks (behind_value n v) vs k (fixed_more n (behind_value n v) (λ a. kind_of a k) (value_asks n v k fixed).rising fixed)) (λ a b agree h. subst (AreValuesOf types vs) (sym (fixed a b agree)) h)
+        ask_both n (behind_value n v) (behind_values (behind_value n v) vs) (of_value o n v k) (of_values o (behind_value n v) vs k)
+        (λ a. IsValueOf types v (kind_of a k)) (λ a. AreValuesOf types vs (kind_of a k)) (value_asks n v k fixed)
+        (values_asks (behind_value n v) vs k (fixed_more n (behind_value n v) (λ a. kind_of a k) (value_asks n v k fixed).rising fixed))
+        (λ a b agree h. subst (AreValuesOf types vs) (sym (fixed a b agree)) h)
 
   -- ---- expressions
 
-  range_only : (kinds : Kinds) (scope : Scope) (e f : Expression) (k : Kind) → HasKind types kinds scope (Range e f) k → (SetKind IntKind ≡ k) × (HasKind types kinds scope e IntKind × HasKind types kinds scope f IntKind)
+  range_only : (kinds : Kinds) (scope : Scope) (e f : Expression) (k : Kind) → HasKind types kinds scope (Range e f) k →
+      (SetKind IntKind ≡ k) × (HasKind types kinds scope e IntKind × HasKind types kinds scope f IntKind)
   range_only kinds scope e f (SetKind IntKind) h = (refl, h)
   range_only kinds scope e f _ h = absurd h
 
@@ -212,7 +220,8 @@ module _ (types : Types) (o : Numbering) (owners : AreOwners types o) where
   booleans_only kinds scope (SetKind BoolKind) h = refl
   booleans_only kinds scope _ h = absurd h
 
-  datatype_only : (kinds : Kinds) (scope : Scope) (d : ℕ) (k : Kind) → HasKind types kinds scope (Datatype d) k → (SetKind (DatatypeKind d) ≡ k) × ((cs : List ℕ) × (slice_get types.datatypes d ≡ Some cs))
+  datatype_only : (kinds : Kinds) (scope : Scope) (d : ℕ) (k : Kind) → HasKind types kinds scope (Datatype d) k →
+      (SetKind (DatatypeKind d) ≡ k) × ((cs : List ℕ) × (slice_get types.datatypes d ≡ Some cs))
   datatype_only kinds scope d (SetKind (DatatypeKind c)) h = (ap (λ x. SetKind (DatatypeKind x)) h.0, h.1)
   datatype_only kinds scope d _ h = absurd h
 
@@ -220,7 +229,8 @@ module _ (types : Types) (o : Numbering) (owners : AreOwners types o) where
   nametype_only kinds scope x (SetKind j) h = (j, refl, h)
   nametype_only kinds scope x _ h = absurd h
 
-  all_sequence_only : (kinds : Kinds) (scope : Scope) (es : Expressions) (k : Kind) → HasKind types kinds scope (SequenceOf es) k → (j : Kind) × (SequenceKind j ≡ k) × AllHaveKind types kinds scope es j
+  all_sequence_only : (kinds : Kinds) (scope : Scope) (es : Expressions) (k : Kind) → HasKind types kinds scope (SequenceOf es) k →
+      (j : Kind) × (SequenceKind j ≡ k) × AllHaveKind types kinds scope es j
   all_sequence_only kinds scope es (SequenceKind j) h = (j, refl, h)
   all_sequence_only kinds scope es _ h = absurd h
 
@@ -253,7 +263,8 @@ module _ (types : Types) (o : Numbering) (owners : AreOwners types o) where
     kinded_hangs n e k g fixed = hangs n names (λ K S j. HasKind types K S e j) (λ a. kind_of a k) g fixed
 
     -- the same kind under another assignment
-    moved : (n : ℕ) (e : Expression) (j : Kind) → InUse n names → (a b : Assignment) → AgreeBelow n a b → HasKind types (kinds_under a o) (scope_under a names) e j → HasKind types (kinds_under b o) (scope_under b names) e j
+    moved : (n : ℕ) (e : Expression) (j : Kind) → InUse n names → (a b : Assignment) → AgreeBelow n a b →
+        HasKind types (kinds_under a o) (scope_under a names) e j → HasKind types (kinds_under b o) (scope_under b names) e j
     moved n e j g a b agree h = hangs n names (λ K S i. HasKind types K S e i) (λ c. j) g (λ c d f. refl) a b agree h
 
     mutual
@@ -310,19 +321,26 @@ module _ (types : Types) (o : Numbering) (owners : AreOwners types o) where
             ),
           ))
       expression_asks n (SequenceOf es) k g fixed =
-          ask_own n (behind_expressions (suc n) es) k (SequenceOver (OpenEnd n)) SequenceKind (of_expressions types o (suc n) names es (OpenEnd n)) (λ a j. AllHaveKind types (kinds_under a o) (scope_under a names) es j)
-          (λ a j. HasKind types (kinds_under a o) (scope_under a names) (SequenceOf es) j) (λ a. refl) fixed (expressions_asks (suc n) es (OpenEnd n) (in_use_more n (suc n) names (omega arith) g) (own_fixed n))
-          (λ a b j agree h. hangs n names (λ K S i. AllHaveKind types K S es i) (λ c. j) g (λ c d f. refl) a b agree h) (λ a j h. h) (λ a i h. all_sequence_only (kinds_under a o) (scope_under a names) es i h)
+          ask_own n (behind_expressions (suc n) es) k (SequenceOver (OpenEnd n)) SequenceKind (of_expressions types o (suc n) names es (OpenEnd n))
+          (λ a j. AllHaveKind types (kinds_under a o) (scope_under a names) es j)
+          (λ a j. HasKind types (kinds_under a o) (scope_under a names) (SequenceOf es) j) (λ a. refl) fixed
+          (expressions_asks (suc n) es (OpenEnd n) (in_use_more n (suc n) names (omega arith) g) (own_fixed n))
+          (λ a b j agree h. hangs n names (λ K S i. AllHaveKind types K S es i) (λ c. j) g (λ c d f. refl) a b agree h) (λ a j h. h)
+          (λ a i h. all_sequence_only (kinds_under a o) (scope_under a names) es i h)
       expression_asks n (SetOf es) k g fixed =
-          ask_own n (behind_expressions (suc n) es) k (SetOver (OpenEnd n)) SetKind (of_expressions types o (suc n) names es (OpenEnd n)) (λ a j. AllHaveKind types (kinds_under a o) (scope_under a names) es j)
-          (λ a j. HasKind types (kinds_under a o) (scope_under a names) (SetOf es) j) (λ a. refl) fixed (expressions_asks (suc n) es (OpenEnd n) (in_use_more n (suc n) names (omega arith) g) (own_fixed n))
-          (λ a b j agree h. hangs n names (λ K S i. AllHaveKind types K S es i) (λ c. j) g (λ c d f. refl) a b agree h) (λ a j h. h) (λ a i h. all_set_only (kinds_under a o) (scope_under a names) es i h)
+          ask_own n (behind_expressions (suc n) es) k (SetOver (OpenEnd n)) SetKind (of_expressions types o (suc n) names es (OpenEnd n))
+          (λ a j. AllHaveKind types (kinds_under a o) (scope_under a names) es j)
+          (λ a j. HasKind types (kinds_under a o) (scope_under a names) (SetOf es) j) (λ a. refl) fixed
+          (expressions_asks (suc n) es (OpenEnd n) (in_use_more n (suc n) names (omega arith) g) (own_fixed n))
+          (λ a b j agree h. hangs n names (λ K S i. AllHaveKind types K S es i) (λ c. j) g (λ c d f. refl) a b agree h) (λ a j h. h)
+          (λ a i h. all_set_only (kinds_under a o) (scope_under a names) es i h)
       expression_asks n (Range e f) k g fixed =
           let p = behind_expression n e in
           let q = behind_expression p f in
           let first = expression_asks n e IntEnd g (λ a b agree. refl) in
           ask_same n q (of_expression types o n names (Range e f) k) (λ a. (SetKind IntKind ≡ kind_of a k) × (Kinded e IntEnd a × Kinded f IntEnd a)) (Kinded (Range e f) k)
-          (ask_both n n q ((SetOver IntEnd, k) ∷ []) (of_expression types o n names e IntEnd ++ of_expression types o p names f IntEnd) (λ a. SetKind IntKind ≡ kind_of a k) (λ a. Kinded e IntEnd a × Kinded f IntEnd a)
+          (ask_both n n q ((SetOver IntEnd, k) ∷ []) (of_expression types o n names e IntEnd ++ of_expression types o p names f IntEnd)
+          (λ a. SetKind IntKind ≡ kind_of a k) (λ a. Kinded e IntEnd a × Kinded f IntEnd a)
           (ask_equal n (SetOver IntEnd) k (λ a b agree. refl) fixed)
           (ask_both n p q (of_expression types o n names e IntEnd) (of_expression types o p names f IntEnd) (Kinded e IntEnd) (Kinded f IntEnd) first
           (expression_asks p f IntEnd (in_use_more n p names first.rising g) (λ a b agree. refl)) (kinded_hangs n f IntEnd g (λ a b agree. refl)))
@@ -332,7 +350,8 @@ module _ (types : Types) (o : Numbering) (owners : AreOwners types o) where
           ask_same n n ((SetOver BoolEnd, k) ∷ []) (λ a. SetKind BoolKind ≡ kind_of a k) (Kinded Booleans k) (ask_equal n (SetOver BoolEnd) k (λ a b agree. refl) fixed)
           (λ a e. subst (HasKind types (kinds_under a o) (scope_under a names) Booleans) e tt) (λ a h. booleans_only (kinds_under a o) (scope_under a names) (kind_of a k) h)
       expression_asks n (Datatype d) k g fixed = ask_when n n (slice_get types.datatypes d) (λ cs. (SetOver (DatatypeEnd d), k) ∷ []) (Kinded (Datatype d) k) (omega arith)
-          (λ cs is. ask_same n n ((SetOver (DatatypeEnd d), k) ∷ []) (λ a. SetKind (DatatypeKind d) ≡ kind_of a k) (Kinded (Datatype d) k) (ask_equal n (SetOver (DatatypeEnd d)) k (λ a b agree. refl) fixed)
+          (λ cs is. ask_same n n ((SetOver (DatatypeEnd d), k) ∷ []) (λ a. SetKind (DatatypeKind d) ≡ kind_of a k) (Kinded (Datatype d) k)
+          (ask_equal n (SetOver (DatatypeEnd d)) k (λ a b agree. refl) fixed)
           (λ a e. subst (HasKind types (kinds_under a o) (scope_under a names) (Datatype d)) e (refl, (cs, is))) (λ a h. (datatype_only (kinds_under a o) (scope_under a names) d (kind_of a k) h).0))
           (λ none a h. let x = datatype_only (kinds_under a o) (scope_under a names) d (kind_of a k) h in cc (sym none ∙ x.1.1))
       expression_asks n (Nametype x) k g fixed = ask_when n n (slice_get o.nametypes x) (λ m. (SetOver (OpenEnd m), k) ∷ []) (Kinded (Nametype x) k) (omega arith)
@@ -347,33 +366,41 @@ module _ (types : Types) (o : Numbering) (owners : AreOwners types o) where
           let y = nametype_only (kinds_under a o) (scope_under a names) x (kind_of a k) h in
           let e : None ≡ Some y.0 = sym (ap (option_map a) none) ∙ sym (slice_get-map a o.nametypes x) ∙ y.2 in cc e)
 
-      pub expressions_asks : (n : ℕ) (es : Expressions) (k : Chain) → InUse n names → Fixed n (λ a. kind_of a k) → Ask n (of_expressions types o n names es k) (behind_expressions n es) (AllKinded es k)
+      pub expressions_asks : (n : ℕ) (es : Expressions) (k : Chain) → InUse n names → Fixed n (λ a. kind_of a k) →
+          Ask n (of_expressions types o n names es k) (behind_expressions n es) (AllKinded es k)
       expressions_asks n no_expressions k g fixed = ask_nothing n
       expressions_asks n (expression_and e es) k g fixed =
           let p = behind_expression n e in
           let first = expression_asks n e k g fixed in
           ask_both n p (behind_expressions p es) (of_expression types o n names e k) (of_expressions types o p names es k) (Kinded e k) (AllKinded es k) first
-          (expressions_asks p es k (in_use_more n p names first.rising g) (fixed_more n p (λ a. kind_of a k) first.rising fixed)) (hangs n names (λ K S j. AllHaveKind types K S es j) (λ a. kind_of a k) g fixed)
+          (expressions_asks p es k (in_use_more n p names first.rising g) (fixed_more n p (λ a. kind_of a k) first.rising fixed))
+          (hangs n names (λ K S j. AllHaveKind types K S es j) (λ a. kind_of a k) g fixed)
 
     number_fixed : (n m : ℕ) → m < n → Fixed n (λ a. a m)
     number_fixed n m small a b agree = agree m small
 
     -- in turn
-    pub all_asks : (n : ℕ) (es : Expressions) (ms : List ℕ) → InUse n names → Each (λ m. m < n) ms → Ask n (of_all types o n names es ms) (behind_expressions n es) (λ a. HaveKinds types (kinds_under a o) (scope_under a names) es (map a ms))
+    pub all_asks : (n : ℕ) (es : Expressions) (ms : List ℕ) → InUse n names → Each (λ m. m < n) ms →
+        Ask n (of_all types o n names es ms) (behind_expressions n es) (λ a. HaveKinds types (kinds_under a o) (scope_under a names) es (map a ms))
     all_asks n no_expressions [] g small = ask_nothing n
     all_asks n no_expressions (m ∷ ms) g small = ask_never n n _ (omega arith) (λ a h. h)
     all_asks n (expression_and e es) [] g small = ask_never n (behind_expressions n (expression_and e es)) _ (expressions_asks n (expression_and e es) IntEnd g (λ a b agree. refl)).rising (λ a h. h)
     all_asks n (expression_and e es) (m ∷ ms) g small =
         let p = behind_expression n e in
         let first = expression_asks n e (OpenEnd m) g (number_fixed n m small.0) in
-        ask_both n p (behind_expressions p es) (of_expression types o n names e (OpenEnd m)) (of_all types o p names es ms) (Kinded e (OpenEnd m)) (λ a. HaveKinds types (kinds_under a o) (scope_under a names) es (map a ms)) first
-        (all_asks p es ms (in_use_more n p names first.rising g) (each_less n p ms first.rising small.1)) (hangs n names (λ K S ks. HaveKinds types K S es ks) (λ a. map a ms) g (fixed_numbers n ms small.1))
+        ask_both n p (behind_expressions p es) (of_expression types o n names e (OpenEnd m)) (of_all types o p names es ms) (Kinded e (OpenEnd m))
+        (λ a. HaveKinds types (kinds_under a o) (scope_under a names) es (map a ms)) first
+        (all_asks p es ms (in_use_more n p names first.rising g) (each_less n p ms first.rising small.1))
+        (hangs n names (λ K S ks. HaveKinds types K S es ks) (λ a. map a ms) g (fixed_numbers n ms small.1))
 
-    pub first_asks : (n : ℕ) (es : Expressions) (ms : List ℕ) → InUse n names → Each (λ m. m < n) ms → Ask n (of_first types o n names es ms) (behind_expressions n es) (λ a. HaveFirstKinds types (kinds_under a o) (scope_under a names) es (map a ms))
+    pub first_asks : (n : ℕ) (es : Expressions) (ms : List ℕ) → InUse n names → Each (λ m. m < n) ms →
+        Ask n (of_first types o n names es ms) (behind_expressions n es) (λ a. HaveFirstKinds types (kinds_under a o) (scope_under a names) es (map a ms))
     first_asks n no_expressions ms g small = ask_nothing n
     first_asks n (expression_and e es) [] g small = ask_never n (behind_expressions n (expression_and e es)) _ (expressions_asks n (expression_and e es) IntEnd g (λ a b agree. refl)).rising (λ a h. h)
     first_asks n (expression_and e es) (m ∷ ms) g small =
         let p = behind_expression n e in
         let first = expression_asks n e (OpenEnd m) g (number_fixed n m small.0) in
-        ask_both n p (behind_expressions p es) (of_expression types o n names e (OpenEnd m)) (of_first types o p names es ms) (Kinded e (OpenEnd m)) (λ a. HaveFirstKinds types (kinds_under a o) (scope_under a names) es (map a ms)) first
-        (first_asks p es ms (in_use_more n p names first.rising g) (each_less n p ms first.rising small.1)) (hangs n names (λ K S ks. HaveFirstKinds types K S es ks) (λ a. map a ms) g (fixed_numbers n ms small.1))
+        ask_both n p (behind_expressions p es) (of_expression types o n names e (OpenEnd m)) (of_first types o p names es ms) (Kinded e (OpenEnd m))
+        (λ a. HaveFirstKinds types (kinds_under a o) (scope_under a names) es (map a ms)) first
+        (first_asks p es ms (in_use_more n p names first.rising g) (each_less n p ms first.rising small.1))
+        (hangs n names (λ K S ks. HaveFirstKinds types K S es ks) (λ a. map a ms) g (fixed_numbers n ms small.1))

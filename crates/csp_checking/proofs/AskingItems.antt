@@ -55,15 +55,18 @@ module _ (types : Types) (o : Numbering) (owners : AreOwners types o) where
   kinds_hang : {X : Type 0} (n : ℕ) (P : Kinds → X → Type 0) (x : Assignment → X) → IsBelow n o → Fixed n x → Hangs n (λ a. P (kinds_under a o) (x a))
   kinds_hang n P x below fixed = hangs types o owners n [] (λ K S y. P K y) x (below, tt) fixed
 
-  pub sets_asked : (n : ℕ) (es : List (Option Expression)) (ms : List ℕ) → IsBelow n o → Each (λ m. m < n) ms → Ask n (of_sets types o n es ms) (behind_sets n es) (λ a. InTurn (IsSetOf types (kinds_under a o)) es (map a ms))
+  pub sets_asked : (n : ℕ) (es : List (Option Expression)) (ms : List ℕ) → IsBelow n o → Each (λ m. m < n) ms →
+      Ask n (of_sets types o n es ms) (behind_sets n es) (λ a. InTurn (IsSetOf types (kinds_under a o)) es (map a ms))
   sets_asked n [] [] below small = ask_nothing n
   sets_asked n [] (m ∷ ms) below small = ask_never n n _ (omega arith) (λ a h. h)
   sets_asked n (e ∷ es) [] below small = ask_never n (behind_sets n (e ∷ es)) _ (sets_rise n (e ∷ es) below) (λ a h. h)
   sets_asked n (e ∷ es) (m ∷ ms) below small =
       let p = behind_set n e in
       let first = set_asked n e m below small.0 in
-      ask_both n p (behind_sets p es) (of_set types o n e m) (of_sets types o p es ms) (λ a. IsSetOf types (kinds_under a o) e (a m)) (λ a. InTurn (IsSetOf types (kinds_under a o)) es (map a ms)) first
-      (sets_asked p es ms (below_more n p o first.rising below) (each_less n p ms first.rising small.1)) (kinds_hang n (λ K ks. InTurn (IsSetOf types K) es ks) (λ a. map a ms) below (fixed_numbers n ms small.1))
+      ask_both n p (behind_sets p es) (of_set types o n e m) (of_sets types o p es ms) (λ a. IsSetOf types (kinds_under a o) e (a m))
+      (λ a. InTurn (IsSetOf types (kinds_under a o)) es (map a ms)) first
+      (sets_asked p es ms (below_more n p o first.rising below) (each_less n p ms first.rising small.1))
+      (kinds_hang n (λ K ks. InTurn (IsSetOf types K) es ks) (λ a. map a ms) below (fixed_numbers n ms small.1))
 
   pub rows_asked : (n : ℕ) (rows : List (List (Option Expression))) (mss : List (List ℕ)) → IsBelow n o → Each (Each (λ m. m < n)) mss →
       Ask n (of_rows types o n rows mss) (behind_rows n rows) (λ a. InTurn (InTurn (IsSetOf types (kinds_under a o))) rows (map (map a) mss))
@@ -73,12 +76,15 @@ module _ (types : Types) (o : Numbering) (owners : AreOwners types o) where
   rows_asked n (es ∷ rows) (ms ∷ mss) below small =
       let p = behind_sets n es in
       let first = sets_asked n es ms below small.0 in
-      ask_both n p (behind_rows p rows) (of_sets types o n es ms) (of_rows types o p rows mss) (λ a. InTurn (IsSetOf types (kinds_under a o)) es (map a ms)) (λ a. InTurn (InTurn (IsSetOf types (kinds_under a o))) rows (map (map a) mss)) first
-      (rows_asked p rows mss (below_more n p o first.rising below) (rows_less n p mss first.rising small.1)) (kinds_hang n (λ K kss. InTurn (InTurn (IsSetOf types K)) rows kss) (λ a. map (map a) mss) below (fixed_rows n mss small.1))
+      ask_both n p (behind_rows p rows) (of_sets types o n es ms) (of_rows types o p rows mss) (λ a. InTurn (IsSetOf types (kinds_under a o)) es (map a ms))
+      (λ a. InTurn (InTurn (IsSetOf types (kinds_under a o))) rows (map (map a) mss)) first
+      (rows_asked p rows mss (below_more n p o first.rising below) (rows_less n p mss first.rising small.1))
+      (kinds_hang n (λ K kss. InTurn (InTurn (IsSetOf types K)) rows kss) (λ a. map (map a) mss) below (fixed_rows n mss small.1))
 
   -- all sets of a tree
   pub fit_sets_asked : (raw : RawScript) (n : ℕ) → IsBelow n o →
-      Ask n (of_sets types o n (nametype_sets raw) o.nametypes ++ of_rows types o (behind_sets n (nametype_sets raw)) (channel_sets raw) o.channels) (behind_rows (behind_sets n (nametype_sets raw)) (channel_sets raw))
+      Ask n (of_sets types o n (nametype_sets raw) o.nametypes ++ of_rows types o (behind_sets n (nametype_sets raw)) (channel_sets raw) o.channels)
+      (behind_rows (behind_sets n (nametype_sets raw)) (channel_sets raw))
       (λ a. FitSets types raw (kinds_under a o))
   fit_sets_asked raw n below =
       let p = behind_sets n (nametype_sets raw) in
@@ -86,8 +92,10 @@ module _ (types : Types) (o : Numbering) (owners : AreOwners types o) where
       let first = sets_asked n (nametype_sets raw) o.nametypes below below.nametypes in
       let more = below_more n p o first.rising below in
       ask_same n q (of_sets types o n (nametype_sets raw) o.nametypes ++ of_rows types o p (channel_sets raw) o.channels)
-      (λ a. InTurn (IsSetOf types (kinds_under a o)) (nametype_sets raw) (map a o.nametypes) × InTurn (InTurn (IsSetOf types (kinds_under a o))) (channel_sets raw) (map (map a) o.channels)) (λ a. FitSets types raw (kinds_under a o))
-      (ask_both n p q (of_sets types o n (nametype_sets raw) o.nametypes) (of_rows types o p (channel_sets raw) o.channels) (λ a. InTurn (IsSetOf types (kinds_under a o)) (nametype_sets raw) (map a o.nametypes))
+      (λ a. InTurn (IsSetOf types (kinds_under a o)) (nametype_sets raw) (map a o.nametypes)
+      × InTurn (InTurn (IsSetOf types (kinds_under a o))) (channel_sets raw) (map (map a) o.channels)) (λ a. FitSets types raw (kinds_under a o))
+      (ask_both n p q (of_sets types o n (nametype_sets raw) o.nametypes) (of_rows types o p (channel_sets raw) o.channels)
+      (λ a. InTurn (IsSetOf types (kinds_under a o)) (nametype_sets raw) (map a o.nametypes))
       (λ a. InTurn (InTurn (IsSetOf types (kinds_under a o))) (channel_sets raw) (map (map a) o.channels)) first (rows_asked p (channel_sets raw) o.channels more more.channels)
       (kinds_hang n (λ K kss. InTurn (InTurn (IsSetOf types K)) (channel_sets raw) kss) (λ a. map (map a) o.channels) below (fixed_rows n o.channels below.channels)))
       (λ a x. record { nametypes = x.0; channels = x.1 }) (λ a x. (x.nametypes, x.channels))
@@ -112,12 +120,14 @@ module _ (script : Script) (o : Numbering) (owners : AreOwners script.types o) w
   process_rises : (n : ℕ) (p : Process) → IsBelow n o → n ≤ behind_process n p
   process_rises n p below = (process_asks script o owners n [] p (below, tt)).rising
 
-  equation_asked : (n : ℕ) (q : Equation) (ms : List ℕ) → IsBelow n o → Each (λ m. m < n) ms → Ask n (of_equation script o n q ms) (behind_process n q.body) (λ a. IsWellKindedEquation script (kinds_under a o) q (map a ms))
+  equation_asked : (n : ℕ) (q : Equation) (ms : List ℕ) → IsBelow n o → Each (λ m. m < n) ms →
+      Ask n (of_equation script o n q ms) (behind_process n q.body) (λ a. IsWellKindedEquation script (kinds_under a o) q (map a ms))
   equation_asked n q ms below small = by_test (nat_eq (length q.parameters) (length ms)) refl
     where
       by_test : (t : Bool) → nat_eq (length q.parameters) (length ms) ≡ t →
           Ask n (cond t (of_process script o n (numbered q.parameters ms) q.body) never) (behind_process n q.body) (λ a. IsWellKindedEquation script (kinds_under a o) q (map a ms))
-      by_test true is = ask_same n (behind_process n q.body) (of_process script o n (numbered q.parameters ms) q.body) (Fits script o owners (numbered q.parameters ms) q.body) (λ a. IsWellKindedEquation script (kinds_under a o) q (map a ms))
+      by_test true is = ask_same n (behind_process n q.body) (of_process script o n (numbered q.parameters ms) q.body)
+          (Fits script o owners (numbered q.parameters ms) q.body) (λ a. IsWellKindedEquation script (kinds_under a o) q (map a ms))
           (process_asks script o owners n (numbered q.parameters ms) q.body (below, numbered_below n q.parameters ms small))
           (λ a h. record {
             parameters = eqb-true (length q.parameters) (length ms) is ∙ sym (length-map ms a);
@@ -127,7 +137,8 @@ module _ (script : Script) (o : Numbering) (owners : AreOwners script.types o) w
       by_test false is = ask_never n (behind_process n q.body) (λ a. IsWellKindedEquation script (kinds_under a o) q (map a ms)) (process_rises n q.body below)
           (λ a h. eqb-false (length q.parameters) (length ms) is (h.parameters ∙ length-map ms a))
 
-  assertion_asked : (n : ℕ) (x : Assertion) → IsBelow n o → Ask n (of_assertion script o n x) (behind_process (behind_process n x.specification) x.implementation) (λ a. IsWellKindedAssertion script (kinds_under a o) x)
+  assertion_asked : (n : ℕ) (x : Assertion) → IsBelow n o → Ask n (of_assertion script o n x)
+      (behind_process (behind_process n x.specification) x.implementation) (λ a. IsWellKindedAssertion script (kinds_under a o) x)
   assertion_asked n x below =
       let p = behind_process n x.specification in
       let q = behind_process p x.implementation in
@@ -142,7 +153,8 @@ module _ (script : Script) (o : Numbering) (owners : AreOwners script.types o) w
       (λ a. (q : Equation) × (ks : List Kind) × (slice_get script.equations m ≡ Some q) × (slice_get (map (map a) o.parameters) m ≡ Some ks) × IsWellKindedEquation script (kinds_under a o) q ks)
   equation_item n m None is below = ask_never n n _ (omega arith) (λ a h. let e : None ≡ Some h.0 = sym is ∙ h.2 in cc e)
   equation_item n m (Some q) is below =
-      ask_same n (behind_process n q.body) (when (slice_get o.parameters m) (of_equation script o n q)) (λ a. (ks : List Kind) × (slice_get (map (map a) o.parameters) m ≡ Some ks) × IsWellKindedEquation script (kinds_under a o) q ks)
+      ask_same n (behind_process n q.body) (when (slice_get o.parameters m) (of_equation script o n q))
+      (λ a. (ks : List Kind) × (slice_get (map (map a) o.parameters) m ≡ Some ks) × IsWellKindedEquation script (kinds_under a o) q ks)
       (λ a. (r : Equation) × (ks : List Kind) × (slice_get script.equations m ≡ Some r) × (slice_get (map (map a) o.parameters) m ≡ Some ks) × IsWellKindedEquation script (kinds_under a o) r ks)
       (ask_found n (behind_process n q.body) o.parameters m (of_equation script o n q) (λ a ks. IsWellKindedEquation script (kinds_under a o) q ks) (process_rises n q.body below)
       (λ ms got. equation_asked n q ms below (each_got (Each (λ i. i < n)) o.parameters m ms below.parameters got))) (λ a h. (q, h.0, is, h.1, h.2))
@@ -174,10 +186,13 @@ module _ (script : Script) (o : Numbering) (owners : AreOwners script.types o) w
       (items_asked p xs (below_more n p o first.rising below)) (named_hangs script.types o owners [] n (λ K S. Each (FitsItem script K) xs) (below, tt))
 
   module _ (raw : RawScript) (n m : ℕ) (es : List state.KindEquation) (xs : List Item) (sets : Ask n es m (λ a. FitSets (types_of raw) raw (kinds_under a o))) where
-    pub fit_asked : IsBelow n o → map length o.parameters ≡ flat_map parameters_declared raw → Ask n (es ++ of_items script o m xs) (behind_items script m xs) (λ a. FitKinds raw script (kinds_under a o) xs)
+    pub fit_asked : IsBelow n o → map length o.parameters ≡ flat_map parameters_declared raw →
+        Ask n (es ++ of_items script o m xs) (behind_items script m xs) (λ a. FitKinds raw script (kinds_under a o) xs)
     fit_asked below counted =
-        ask_same n (behind_items script m xs) (es ++ of_items script o m xs) (λ a. FitSets (types_of raw) raw (kinds_under a o) × Each (FitsItem script (kinds_under a o)) xs) (λ a. FitKinds raw script (kinds_under a o) xs)
-        (ask_both n m (behind_items script m xs) es (of_items script o m xs) (λ a. FitSets (types_of raw) raw (kinds_under a o)) (λ a. Each (FitsItem script (kinds_under a o)) xs) sets (items_asked m xs (below_more n m o sets.rising below))
+        ask_same n (behind_items script m xs) (es ++ of_items script o m xs)
+        (λ a. FitSets (types_of raw) raw (kinds_under a o) × Each (FitsItem script (kinds_under a o)) xs) (λ a. FitKinds raw script (kinds_under a o) xs)
+        (ask_both n m (behind_items script m xs) es (of_items script o m xs) (λ a. FitSets (types_of raw) raw (kinds_under a o))
+        (λ a. Each (FitsItem script (kinds_under a o)) xs) sets (items_asked m xs (below_more n m o sets.rising below))
         (named_hangs script.types o owners [] n (λ K S. Each (FitsItem script K) xs) (below, tt)))
         (λ a h. record { sets = h.0; parameters = rows_counted a o.parameters ∙ counted; each = h.1 }) (λ a h. (h.sets, h.each))
 
@@ -197,20 +212,26 @@ module _ (script : Script) (o : Numbering) (owners : AreOwners script.types o) w
     pub no_kinds_fit : AreNumbersFor raw n o → state.HasNoSolution state.nothing_known (es ++ of_items script o m xs) → (kinds : Kinds) → ¬ (FitKinds raw script kinds xs)
     no_kinds_fit numbers none kinds h =
         let c = numbers.cover kinds (shape_of kinds h) in
-        asked_none n (behind_items script m xs) (es ++ of_items script o m xs) (λ a. FitKinds raw script (kinds_under a o) xs) (fit_asked numbers.below numbers.parameters) none c.0 (subst (λ K. FitKinds raw script K xs) (sym c.1) h)
+        asked_none n (behind_items script m xs) (es ++ of_items script o m xs) (λ a. FitKinds raw script (kinds_under a o) xs)
+        (fit_asked numbers.below numbers.parameters) none c.0 (subst (λ K. FitKinds raw script K xs) (sym c.1) h)
 
     pub some_kinds_fit : AreNumbersFor raw n o → (t : state.State) → state.IsSolved state.nothing_known (es ++ of_items script o m xs) t → (kinds : Kinds) × FitKinds raw script kinds xs
     some_kinds_fit numbers t solved =
-        let x = asked_some n (behind_items script m xs) (es ++ of_items script o m xs) (λ a. FitKinds raw script (kinds_under a o) xs) (fit_asked numbers.below numbers.parameters) t solved in (kinds_under x.0 o, x.2)
+        let x = asked_some n (behind_items script m xs) (es ++ of_items script o m xs) (λ a. FitKinds raw script (kinds_under a o) xs)
+        (fit_asked numbers.below numbers.parameters) t solved in (kinds_under x.0 o, x.2)
 
-    pub kinds_of_state_fit : AreNumbersFor raw n o → (t : state.State) → state.IsSolved state.nothing_known (es ++ of_items script o m xs) t → (a : Assignment) → state.Satisfies a t → FitKinds raw script (kinds_under a o) xs
-    kinds_of_state_fit numbers t solved = asked_sound n (behind_items script m xs) (es ++ of_items script o m xs) (λ a. FitKinds raw script (kinds_under a o) xs) (fit_asked numbers.below numbers.parameters) t solved
+    pub kinds_of_state_fit : AreNumbersFor raw n o → (t : state.State) → state.IsSolved state.nothing_known (es ++ of_items script o m xs) t →
+        (a : Assignment) → state.Satisfies a t → FitKinds raw script (kinds_under a o) xs
+    kinds_of_state_fit numbers t solved =
+        asked_sound n (behind_items script m xs) (es ++ of_items script o m xs) (λ a. FitKinds raw script (kinds_under a o) xs)
+        (fit_asked numbers.below numbers.parameters) t solved
 
     pub fitting_kinds_satisfy : AreNumbersFor raw n o → (t : state.State) → state.IsSolved state.nothing_known (es ++ of_items script o m xs) t → (kinds : Kinds) → FitKinds raw script kinds xs →
         (a : Assignment) × state.Satisfies a t × (kinds_under a o ≡ kinds)
     fitting_kinds_satisfy numbers t solved kinds h =
         let c = numbers.cover kinds (shape_of kinds h) in
-        let x = asked_complete n (behind_items script m xs) (es ++ of_items script o m xs) (λ a. FitKinds raw script (kinds_under a o) xs) (fit_asked numbers.below numbers.parameters) t solved c.0 (subst (λ K. FitKinds raw script K xs) (sym c.1) h) in
+        let x = asked_complete n (behind_items script m xs) (es ++ of_items script o m xs) (λ a. FitKinds raw script (kinds_under a o) xs)
+        (fit_asked numbers.below numbers.parameters) t solved c.0 (subst (λ K. FitKinds raw script K xs) (sym c.1) h) in
         (x.0, x.2, fixed_kinds n o numbers.below c.0 x.0 x.1 ∙ c.1)
 
 -- ---- sets alone
@@ -244,16 +265,20 @@ with_parameters types raw fit = (
     parameters = repeated_rows (flat_map parameters_declared raw);
   },
   record {
-    nametypes = turn_map (IsSetOf types fit.0) (IsSetOf types (made_of fit.0.nametypes fit.0.channels (map repeated (flat_map parameters_declared raw)))) kept (nametype_sets raw) fit.0.nametypes fit.1.nametypes;
+    nametypes = turn_map (IsSetOf types fit.0) (IsSetOf types (made_of fit.0.nametypes fit.0.channels (map repeated (flat_map parameters_declared raw)))) kept
+        (nametype_sets raw) fit.0.nametypes fit.1.nametypes;
     channels = turn_map (InTurn (IsSetOf types fit.0)) (InTurn (IsSetOf types (made_of fit.0.nametypes fit.0.channels (map repeated (flat_map parameters_declared raw)))))
-        (λ es ks h. turn_map (IsSetOf types fit.0) (IsSetOf types (made_of fit.0.nametypes fit.0.channels (map repeated (flat_map parameters_declared raw)))) kept es ks h) (channel_sets raw) fit.0.channels fit.1.channels;
+        (λ es ks h. turn_map (IsSetOf types fit.0)
+        (IsSetOf types (made_of fit.0.nametypes fit.0.channels (map repeated (flat_map parameters_declared raw)))) kept es ks h)
+        (channel_sets raw) fit.0.channels fit.1.channels;
   },
 )
   where
     kept : (e : Option Expression) (k : Kind) → IsSetOf types fit.0 e k → IsSetOf types (made_of fit.0.nametypes fit.0.channels (map repeated (flat_map parameters_declared raw))) e k
     kept = set_kept types fit.0 (made_of fit.0.nametypes fit.0.channels (map repeated (flat_map parameters_declared raw))) refl
 
-module _ (types : Types) (raw : RawScript) (o : Numbering) (n m : ℕ) (es : List state.KindEquation) (numbers : AreNumbersFor raw n o) (sets : Ask n es m (λ a. FitSets types raw (kinds_under a o))) where
+module _ (types : Types) (raw : RawScript) (o : Numbering) (n m : ℕ) (es : List state.KindEquation) (numbers : AreNumbersFor raw n o)
+    (sets : Ask n es m (λ a. FitSets types raw (kinds_under a o))) where
   pub some_sets_fit : (t : state.State) → state.IsSolved state.nothing_known es t → SomeFit types raw
   some_sets_fit t solved = let x = asked_some n m es (λ a. FitSets types raw (kinds_under a o)) sets t solved in (kinds_under x.0 o, x.2)
 
@@ -265,7 +290,8 @@ module _ (types : Types) (raw : RawScript) (o : Numbering) (n m : ℕ) (es : Lis
 
 -- ---- one item more
 
-pub items_and_one : (script : Script) (o : Numbering) (n : ℕ) (before : List Item) (x : Item) → of_items script o n (before ++ x ∷ []) ≡ of_items script o n before ++ of_item script o (behind_items script n before) x
+pub items_and_one : (script : Script) (o : Numbering) (n : ℕ) (before : List Item) (x : Item) →
+    of_items script o n (before ++ x ∷ []) ≡ of_items script o n before ++ of_item script o (behind_items script n before) x
 items_and_one script o n [] x = append-nil (of_item script o n x)
 items_and_one script o n (y ∷ before) x =
     ap (λ z. of_item script o n y ++ z) (items_and_one script o (behind_item script n y) before x) ∙
@@ -330,7 +356,8 @@ pub row_numbers_for : (owners : List ℕ) (raw : RawScript) → AreNumbersFor ra
 row_numbers_for owners raw = record {
   below =
       let le : length (nametype_sets raw) ≤ behind_all (length (nametype_sets raw)) (map length (channel_sets raw)) = behind_rises (length (nametype_sets raw)) (map length (channel_sets raw)) in
-      let lf : behind_all (length (nametype_sets raw)) (map length (channel_sets raw)) ≤ next_number raw = behind_rises (behind_all (length (nametype_sets raw)) (map length (channel_sets raw))) (flat_map parameters_declared raw) in
+      let lf : behind_all (length (nametype_sets raw)) (map length (channel_sets raw)) ≤ next_number raw =
+      behind_rises (behind_all (length (nametype_sets raw)) (map length (channel_sets raw))) (flat_map parameters_declared raw) in
       record {
         nametypes = numbers_small 0 (length (nametype_sets raw)) (next_number raw) (omega arith);
         channels = rows_small (length (nametype_sets raw)) (next_number raw) (map length (channel_sets raw)) (omega arith);
@@ -343,14 +370,16 @@ row_numbers_for owners raw = record {
       let x = cover_all kinds in
       let y : Covered kinds (length (nametype_sets raw)) (map length (channel_sets raw)) (flat_map parameters_declared raw) x.0 =
       subst (λ k. Covered kinds k (map length (channel_sets raw)) (flat_map parameters_declared raw) x.0) shape.nametypes
-      (subst (λ ls. Covered kinds (length kinds.nametypes) ls (flat_map parameters_declared raw) x.0) shape.channels (subst (λ ps. Covered kinds (length kinds.nametypes) (map length kinds.channels) ps x.0) shape.parameters x.1)) in (
+      (subst (λ ls. Covered kinds (length kinds.nametypes) ls (flat_map parameters_declared raw) x.0) shape.channels
+      (subst (λ ps. Covered kinds (length kinds.nametypes) (map length kinds.channels) ps x.0) shape.parameters x.1)) in (
         x.0,
         same_record (map x.0 (numbers_from 0 (length (nametype_sets raw)))) kinds.nametypes (map (map x.0) (rows_from (length (nametype_sets raw)) (map length (channel_sets raw)))) kinds.channels
             (map (map x.0) (rows_from (behind_all (length (nametype_sets raw)) (map length (channel_sets raw))) (flat_map parameters_declared raw))) kinds.parameters y.0 y.1 y.2,
       );
 }
 
-pub not_misfit : (raw : RawScript) (script : Script) (before : List Item) (x : Item) (f : KindFault) → IsMisfit raw script before x f → (kinds : Kinds) × FitKinds raw script kinds (before ++ x ∷ []) → ⊥
+pub not_misfit : (raw : RawScript) (script : Script) (before : List Item) (x : Item) (f : KindFault) → IsMisfit raw script before x f →
+    (kinds : Kinds) × FitKinds raw script kinds (before ++ x ∷ []) → ⊥
 not_misfit raw script before x f (misfit none) fit = none fit.0 fit.1
 
 -- ---- it is decided whether kinds fit
@@ -368,12 +397,15 @@ sets_decided types raw owners right = by_answer (state.solve state.nothing_known
     asked = fit_sets_asked types o right raw (next_number raw) (row_numbers_for owners raw).below
 
     by_answer : (x : Option state.State) → IsRight state.nothing_known es x → SomeFit types raw ⊎ (¬ (SomeFit types raw))
-    by_answer (Some t) h = inl (some_sets_fit types raw o (next_number raw) (behind_rows (behind_sets (next_number raw) (nametype_sets raw)) (channel_sets raw)) es (row_numbers_for owners raw) asked t h)
+    by_answer (Some t) h =
+        inl (some_sets_fit types raw o (next_number raw) (behind_rows (behind_sets (next_number raw) (nametype_sets raw)) (channel_sets raw)) es
+        (row_numbers_for owners raw) asked t h)
     by_answer None h = inr (no_sets_fit types raw o (next_number raw) (behind_rows (behind_sets (next_number raw) (nametype_sets raw)) (channel_sets raw)) es (row_numbers_for owners raw) asked h)
 
 pub items_decided : (raw : RawScript) (script : Script) (owners : List ℕ) (xs : List Item) → AreOwners (types_of raw) (numbers_of owners raw) → AreOwners script.types (numbers_of owners raw) →
     ((kinds : Kinds) × FitKinds raw script kinds xs) ⊎ ((kinds : Kinds) → ¬ (FitKinds raw script kinds xs))
-items_decided raw script owners xs right good = by_answer (state.solve state.nothing_known (es ++ of_items script o m xs)) (solve_right state.nothing_known (es ++ of_items script o m xs) nothing_resolved)
+items_decided raw script owners xs right good =
+    by_answer (state.solve state.nothing_known (es ++ of_items script o m xs)) (solve_right state.nothing_known (es ++ of_items script o m xs) nothing_resolved)
   where
     o : Numbering
     o = numbers_of owners raw
@@ -387,6 +419,7 @@ items_decided raw script owners xs right good = by_answer (state.solve state.not
     asked : Ask (next_number raw) es m (λ a. FitSets (types_of raw) raw (kinds_under a o))
     asked = fit_sets_asked (types_of raw) o right raw (next_number raw) (row_numbers_for owners raw).below
 
-    by_answer : (x : Option state.State) → IsRight state.nothing_known (es ++ of_items script o m xs) x → ((kinds : Kinds) × FitKinds raw script kinds xs) ⊎ ((kinds : Kinds) → ¬ (FitKinds raw script kinds xs))
+    by_answer : (x : Option state.State) → IsRight state.nothing_known (es ++ of_items script o m xs) x →
+        ((kinds : Kinds) × FitKinds raw script kinds xs) ⊎ ((kinds : Kinds) → ¬ (FitKinds raw script kinds xs))
     by_answer (Some t) h = inl (some_kinds_fit script o good raw (next_number raw) m es xs asked (row_numbers_for owners raw) t h)
     by_answer None h = inr (no_kinds_fit script o good raw (next_number raw) m es xs asked (row_numbers_for owners raw) h)

@@ -28,7 +28,8 @@ use Rattle.csp_checking.proofs.AskingItems.{repeated, repeated_rows, rows_counte
 
 -- ---- from the first kinds of many to those of the sets so far
 
-begin_turn : {A B : Type 0} (R S : A → B → Type 0) (P : A → Type 0) → ((x : A) → P x → (y : B) → R x y → S x y) → (xs : List A) (ys : List B) → Each P xs → BeginsInTurn R xs ys → InTurn S xs (take (length xs) ys)
+begin_turn : {A B : Type 0} (R S : A → B → Type 0) (P : A → Type 0) → ((x : A) → P x → (y : B) → R x y → S x y) → (xs : List A) (ys : List B) → Each P xs →
+    BeginsInTurn R xs ys → InTurn S xs (take (length xs) ys)
 begin_turn R S P f [] ys each h = tt
 begin_turn R S P f (x ∷ xs) [] each h = absurd h
 begin_turn R S P f (x ∷ xs) (y ∷ ys) each h = (f x each.0 y h.0, begin_turn R S P f xs ys each.1 h.1)
@@ -39,7 +40,8 @@ cut_rows [] kss = []
 cut_rows (r ∷ rows) [] = []
 cut_rows (r ∷ rows) (ks ∷ kss) = take (length r) ks ∷ cut_rows rows kss
 
-begin_rows : {A B : Type 0} (R S : A → B → Type 0) (P : A → Type 0) → ((x : A) → P x → (y : B) → R x y → S x y) → (rows : List (List A)) (kss : List (List B)) → Each (Each P) rows → BeginsInTurn (BeginsInTurn R) rows kss →
+begin_rows : {A B : Type 0} (R S : A → B → Type 0) (P : A → Type 0) → ((x : A) → P x → (y : B) → R x y → S x y) →
+    (rows : List (List A)) (kss : List (List B)) → Each (Each P) rows → BeginsInTurn (BeginsInTurn R) rows kss →
     InTurn (InTurn S) rows (cut_rows rows kss)
 begin_rows R S P f [] kss each h = tt
 begin_rows R S P f (r ∷ rows) [] each h = absurd h
@@ -49,8 +51,10 @@ pub first_sets_fit : (types : Types) (so_far : RawScript) (kinds : Kinds) → Fi
 first_sets_fit types so_far kinds h = (
   cut,
   record {
-    nametypes = begin_turn (IsSetOf types kinds) (IsSetOf types cut) (SetWithin (length (nametype_sets so_far))) kept (nametype_sets so_far) kinds.nametypes (nametypes_within (length (nametype_sets so_far)) [] so_far enough) h.nametypes;
-    channels = begin_rows (IsSetOf types kinds) (IsSetOf types cut) (SetWithin (length (nametype_sets so_far))) kept (channel_sets so_far) kinds.channels (channels_within (length (nametype_sets so_far)) [] so_far enough) h.channels;
+    nametypes = begin_turn (IsSetOf types kinds) (IsSetOf types cut) (SetWithin (length (nametype_sets so_far))) kept (nametype_sets so_far) kinds.nametypes
+        (nametypes_within (length (nametype_sets so_far)) [] so_far enough) h.nametypes;
+    channels = begin_rows (IsSetOf types kinds) (IsSetOf types cut) (SetWithin (length (nametype_sets so_far))) kept (channel_sets so_far) kinds.channels
+        (channels_within (length (nametype_sets so_far)) [] so_far enough) h.channels;
   },
 )
   where
@@ -81,7 +85,8 @@ padded_found (j ∷ ks) zero i k le e = absurd (omega arith)
 padded_found (j ∷ ks) (suc n) zero k le e = e
 padded_found (j ∷ ks) (suc n) (suc i) k le e = padded_found ks n i k (omega arith) e
 
-padded_begins : {A : Type 0} (R S : A → Kind → Type 0) → ((x : A) (y : Kind) → R x y → S x y) → (xs : List A) (ks : List Kind) (n : ℕ) → length xs ≤ n → InTurn R xs ks → BeginsInTurn S xs (pad_row ks n)
+padded_begins : {A : Type 0} (R S : A → Kind → Type 0) → ((x : A) (y : Kind) → R x y → S x y) → (xs : List A) (ks : List Kind) (n : ℕ) → length xs ≤ n →
+    InTurn R xs ks → BeginsInTurn S xs (pad_row ks n)
 padded_begins R S f [] ks n le h = tt
 padded_begins R S f (x ∷ xs) [] n le h = absurd h
 padded_begins R S f (x ∷ xs) (k ∷ ks) zero le h = absurd (omega arith)
@@ -97,7 +102,9 @@ padded_lengths kss [] = refl
 padded_lengths [] (l ∷ ls) = ap₂ ◌∷◌ (padded_length [] l) (padded_lengths [] ls)
 padded_lengths (ks ∷ kss) (l ∷ ls) = ap₂ ◌∷◌ (padded_length ks l) (padded_lengths kss ls)
 
-padded_rows_begin : {A : Type 0} (R S : A → Kind → Type 0) → ((x : A) (y : Kind) → R x y → S x y) → (rows : List (List A)) (kss : List (List Kind)) (others : List (List A)) → BeginsInTurn (λ r s. length r ≤ length s) rows others → InTurn (InTurn R) rows kss →
+padded_rows_begin : {A : Type 0} (R S : A → Kind → Type 0) → ((x : A) (y : Kind) → R x y → S x y) →
+    (rows : List (List A)) (kss : List (List Kind)) (others : List (List A)) → BeginsInTurn (λ r s. length r ≤ length s) rows others →
+    InTurn (InTurn R) rows kss →
     BeginsInTurn (BeginsInTurn S) rows (pad_rows kss (map length others))
 padded_rows_begin R S f [] kss others le h = tt
 padded_rows_begin R S f (r ∷ rows) [] others le h = absurd h
@@ -119,7 +126,11 @@ padded types raw so_far begins fit = (
 )
   where
     full : Kinds
-    full = record { nametypes = pad_row fit.0.nametypes (length (nametype_sets raw)); channels = pad_rows fit.0.channels (map length (channel_sets raw)); parameters = map repeated (flat_map parameters_declared raw) }
+    full = record {
+      nametypes = pad_row fit.0.nametypes (length (nametype_sets raw));
+      channels = pad_rows fit.0.channels (map length (channel_sets raw));
+      parameters = map repeated (flat_map parameters_declared raw);
+    }
 
     small : length fit.0.nametypes ≤ length (nametype_sets raw)
     small =
@@ -136,7 +147,8 @@ padded types raw so_far begins fit = (
 
 -- ---- the equations so far
 
-module _ (types : Types) (raw so_far : RawScript) (o : Numbering) (n m : ℕ) (es : List KindEquation) (numbers : AreNumbersFor raw n o) (sets : Ask n es m (λ a. FitFirstSets types so_far (kinds_under a o))) where
+module _ (types : Types) (raw so_far : RawScript) (o : Numbering) (n m : ℕ) (es : List KindEquation) (numbers : AreNumbersFor raw n o)
+    (sets : Ask n es m (λ a. FitFirstSets types so_far (kinds_under a o))) where
   pub some_first_fit : (t : State) → IsSolved nothing_known es t → SomeFit types so_far
   some_first_fit t solved = let x = asked_some n m es (λ a. FitFirstSets types so_far (kinds_under a o)) sets t solved in first_sets_fit types so_far (kinds_under x.0 o) x.2
 
@@ -196,28 +208,38 @@ rows_front P [] (y ∷ ys) h = absurd h
 rows_front P (x ∷ xs) [] h = absurd h
 rows_front P (x ∷ xs) (y ∷ ys) h = (begins P x y h.0, rows_front P xs ys h.1)
 
-pub all_asked : (types : Types) (raw : RawScript) (o : Numbering) (n m : ℕ) (es : List KindEquation) → AreNumbersFor raw n o → Ask n es m (λ a. FitFirstSets types raw (kinds_under a o)) → Ask n es m (λ a. FitSets types raw (kinds_under a o))
+pub all_asked : (types : Types) (raw : RawScript) (o : Numbering) (n m : ℕ) (es : List KindEquation) → AreNumbersFor raw n o →
+    Ask n es m (λ a. FitFirstSets types raw (kinds_under a o)) → Ask n es m (λ a. FitSets types raw (kinds_under a o))
 all_asked types raw o n m es numbers h =
     ask_same n m es (λ a. FitFirstSets types raw (kinds_under a o)) (λ a. FitSets types raw (kinds_under a o)) h (λ a x. all_sets_fit types raw (kinds_under a o) (shape_under raw n o a numbers) x)
-    (λ a x. record { nametypes = begins (IsSetOf types (kinds_under a o)) (nametype_sets raw) (kinds_under a o).nametypes x.nametypes; channels = rows_front (IsSetOf types (kinds_under a o)) (channel_sets raw) (kinds_under a o).channels x.channels })
+    (λ a x. record {
+      nametypes = begins (IsSetOf types (kinds_under a o)) (nametype_sets raw) (kinds_under a o).nametypes x.nametypes;
+      channels =
+          rows_front (IsSetOf types (kinds_under a o)) (channel_sets raw) (kinds_under a o).channels x.channels;
+    })
 
 -- nothing is asked before the first declaration
 pub none_asked : (types : Types) (o : Numbering) (n : ℕ) → Ask n [] n (λ a. FitFirstSets types [] (kinds_under a o))
 none_asked types o n = ask_same n n [] (λ a. ⊤) (λ a. FitFirstSets types [] (kinds_under a o)) (ask_nothing n) (λ a x. record { nametypes = tt; channels = tt }) (λ a x. tt)
 
-pub nametype_asked : (types : Types) (above : RawScript) (o : Numbering) (n m x : ℕ) (es : List KindEquation) (name : RawName) (domain : RawDomain) → AreOwners types o → IsBelow n o → slice_get o.nametypes (length (nametype_sets above)) ≡ Some x →
+pub nametype_asked : (types : Types) (above : RawScript) (o : Numbering) (n m x : ℕ) (es : List KindEquation) (name : RawName) (domain : RawDomain) →
+    AreOwners types o → IsBelow n o → slice_get o.nametypes (length (nametype_sets above)) ≡ Some x →
     Ask n es m (λ a. FitFirstSets types above (kinds_under a o)) →
     Ask n (es ++ of_set types o m (set_expression above domain) x) (behind_set m (set_expression above domain)) (λ a. FitFirstSets types (above ++ RawNametype name domain ∷ []) (kinds_under a o))
 nametype_asked types above o n m x es name domain owners below found h =
     let e = set_expression above domain in
     let small : x < n = each_got (λ i. i < n) o.nametypes (length (nametype_sets above)) x below.nametypes found in
     let le : n ≤ m = h.rising in
-    ask_same n (behind_set m e) (es ++ of_set types o m e x) (λ a. FitFirstSets types above (kinds_under a o) × IsSetOf types (kinds_under a o) e (a x)) (λ a. FitFirstSets types (above ++ RawNametype name domain ∷ []) (kinds_under a o))
-    (ask_both n m (behind_set m e) es (of_set types o m e x) (λ a. FitFirstSets types above (kinds_under a o)) (λ a. IsSetOf types (kinds_under a o) e (a x)) h (set_asked types o owners m e x (below_more n m o le below) (omega arith)) (set_hangs_on types o owners n e x below small))
-    (λ a y. (one_declaration_more types above (RawNametype name domain) (kinds_under a o)).1 (y.0, subst (λ z. BeginsInTurn (IsSetOf types (kinds_under a o)) (e ∷ []) z) (sym (tail_of a)) (y.1, tt), tt))
+    ask_same n (behind_set m e) (es ++ of_set types o m e x) (λ a. FitFirstSets types above (kinds_under a o) × IsSetOf types (kinds_under a o) e (a x))
+    (λ a. FitFirstSets types (above ++ RawNametype name domain ∷ []) (kinds_under a o))
+    (ask_both n m (behind_set m e) es (of_set types o m e x) (λ a. FitFirstSets types above (kinds_under a o)) (λ a. IsSetOf types (kinds_under a o) e (a x)) h
+    (set_asked types o owners m e x (below_more n m o le below) (omega arith)) (set_hangs_on types o owners n e x below small))
+    (λ a y. (one_declaration_more types above (RawNametype name domain) (kinds_under a o)).1
+    (y.0, subst (λ z. BeginsInTurn (IsSetOf types (kinds_under a o)) (e ∷ []) z) (sym (tail_of a)) (y.1, tt), tt))
     (λ a y.
     let z = (one_declaration_more types above (RawNametype name domain) (kinds_under a o)).0 y in
-    let w : BeginsInTurn (IsSetOf types (kinds_under a o)) (e ∷ []) (a x ∷ drop (suc (length (nametype_sets above))) (map a o.nametypes)) = subst (λ z. BeginsInTurn (IsSetOf types (kinds_under a o)) (e ∷ []) z) (tail_of a) z.1 in (z.0, w.0))
+    let w : BeginsInTurn (IsSetOf types (kinds_under a o)) (e ∷ []) (a x ∷ drop (suc (length (nametype_sets above))) (map a o.nametypes)) =
+    subst (λ z. BeginsInTurn (IsSetOf types (kinds_under a o)) (e ∷ []) z) (tail_of a) z.1 in (z.0, w.0))
   where
     tail_of : (a : Assignment) → drop (length (nametype_sets above)) (map a o.nametypes) ≡ a x ∷ drop (suc (length (nametype_sets above))) (map a o.nametypes)
     tail_of a = drop_at (map a o.nametypes) (length (nametype_sets above)) (a x) (slice_get-map a o.nametypes (length (nametype_sets above)) ∙ ap (option_map a) found)
@@ -239,7 +261,8 @@ module _ (P : Option Expression → Kind → Type 0) (a : Assignment) (fs : List
       )
 
   rows_more : (names : List RawName) (ms : List ℕ) (rows : List (List ℕ)) → length ms ≡ length names → IsColumn (length fs) ms rows →
-      BeginsInTurn (BeginsInTurn P) (replicate (length names) (fs ++ e ∷ [])) (map (map a) rows) ↔ (BeginsInTurn (BeginsInTurn P) (replicate (length names) fs) (map (map a) rows) × Each (P e) (map a ms))
+      BeginsInTurn (BeginsInTurn P) (replicate (length names) (fs ++ e ∷ [])) (map (map a) rows)
+      ↔ (BeginsInTurn (BeginsInTurn P) (replicate (length names) fs) (map (map a) rows) × Each (P e) (map a ms))
   rows_more [] [] rows same column = (λ h. (tt, tt), λ h. tt)
   rows_more [] (m ∷ ms) rows same column = absurd (cc same)
   rows_more (x ∷ names) [] rows same column = absurd (cc same)
@@ -250,13 +273,16 @@ module _ (P : Option Expression → Kind → Type 0) (a : Assignment) (fs : List
       (λ h. let u = first.0 h.0 in let v = rest.0 h.1 in ((u.0, v.0), (u.1, v.1)), λ h. (first.1 (h.0.0, h.1.0), rest.1 (h.0.1, h.1.1)))
 
 module _ (types : Types) (o : Numbering) (owners : AreOwners types o) where
-  copies_asked : (n : ℕ) (e : Option Expression) (ms : List ℕ) → IsBelow n o → Each (λ m. m < n) ms → Ask n (of_copies types o n e ms) (behind_copies n e ms) (λ a. Each (IsSetOf types (kinds_under a o) e) (map a ms))
+  copies_asked : (n : ℕ) (e : Option Expression) (ms : List ℕ) → IsBelow n o → Each (λ m. m < n) ms →
+      Ask n (of_copies types o n e ms) (behind_copies n e ms) (λ a. Each (IsSetOf types (kinds_under a o) e) (map a ms))
   copies_asked n e [] below small = ask_nothing n
   copies_asked n e (m ∷ ms) below small =
       let p = behind_set n e in
       let first = set_asked types o owners n e m below small.0 in
-      ask_both n p (behind_copies p e ms) (of_set types o n e m) (of_copies types o p e ms) (λ a. IsSetOf types (kinds_under a o) e (a m)) (λ a. Each (IsSetOf types (kinds_under a o) e) (map a ms)) first
-      (copies_asked p e ms (below_more n p o first.rising below) (each_less n p ms first.rising small.1)) (hangs types o owners n [] (λ K S ks. Each (IsSetOf types K e) ks) (λ a. map a ms) (below, tt) (fixed_numbers n ms small.1))
+      ask_both n p (behind_copies p e ms) (of_set types o n e m) (of_copies types o p e ms) (λ a. IsSetOf types (kinds_under a o) e (a m))
+      (λ a. Each (IsSetOf types (kinds_under a o) e) (map a ms)) first
+      (copies_asked p e ms (below_more n p o first.rising below) (each_less n p ms first.rising small.1))
+      (hangs types o owners n [] (λ K S ks. Each (IsSetOf types K e) ks) (λ a. map a ms) (below, tt) (fixed_numbers n ms small.1))
 
   column_small : (n i : ℕ) (ms : List ℕ) (rows : List (List ℕ)) → Each (Each (λ m. m < n)) rows → IsColumn i ms rows → Each (λ m. m < n) ms
   column_small n i [] rows small h = tt
@@ -268,7 +294,8 @@ module _ (types : Types) (o : Numbering) (owners : AreOwners types o) where
   drop_each P (suc n) [] h = tt
   drop_each P (suc n) (x ∷ xs) h = drop_each P n xs h.1
 
-  module _ (above : RawScript) (names : List RawName) (ds : List RawDomain) (d : RawDomain) (ms : List ℕ) (same : length ms ≡ length names) (column : IsColumn (length ds) ms (drop (length (channel_sets above)) o.channels)) where
+  module _ (above : RawScript) (names : List RawName) (ds : List RawDomain) (d : RawDomain) (ms : List ℕ) (same : length ms ≡ length names)
+      (column : IsColumn (length ds) ms (drop (length (channel_sets above)) o.channels)) where
     -- one more field, for the kinds
     field_more : (a : Assignment) → FitFirstSets types (above ++ RawChannels names (ds ++ d ∷ []) ∷ []) (kinds_under a o) ↔
         (FitFirstSets types (above ++ RawChannels names ds ∷ []) (kinds_under a o) × Each (IsSetOf types (kinds_under a o) (set_expression above d)) (map a ms))
@@ -286,7 +313,8 @@ module _ (types : Types) (o : Numbering) (owners : AreOwners types o) where
           λ h.
               let x = long.0 h in
               let y : BeginsInTurn (BeginsInTurn (IsSetOf types K)) (replicate (length names) (fs ++ e ∷ [])) (map (map a) (drop c o.channels)) =
-              subst (λ z. BeginsInTurn (BeginsInTurn (IsSetOf types K)) (replicate (length names) (fs ++ e ∷ [])) z) away (subst (λ z. BeginsInTurn (BeginsInTurn (IsSetOf types K)) (replicate (length names) z) (drop c (map (map a) o.channels))) moved x.2) in
+              subst (λ z. BeginsInTurn (BeginsInTurn (IsSetOf types K)) (replicate (length names) (fs ++ e ∷ [])) z) away
+              (subst (λ z. BeginsInTurn (BeginsInTurn (IsSetOf types K)) (replicate (length names) z) (drop c (map (map a) o.channels))) moved x.2) in
               let w = more.0 y in (short.1 (x.0, tt, subst (λ z. BeginsInTurn (BeginsInTurn (IsSetOf types K)) (replicate (length names) fs) z) (sym away) w.0), w.1),
           λ h.
               let x = short.0 h.0 in
@@ -300,14 +328,18 @@ module _ (types : Types) (o : Numbering) (owners : AreOwners types o) where
         )
 
     pub field_asked : (n m : ℕ) (es : List KindEquation) → IsBelow n o → Ask n es m (λ a. FitFirstSets types (above ++ RawChannels names ds ∷ []) (kinds_under a o)) →
-        Ask n (es ++ of_copies types o m (set_expression above d) ms) (behind_copies m (set_expression above d) ms) (λ a. FitFirstSets types (above ++ RawChannels names (ds ++ d ∷ []) ∷ []) (kinds_under a o))
+        Ask n (es ++ of_copies types o m (set_expression above d) ms) (behind_copies m (set_expression above d) ms)
+        (λ a. FitFirstSets types (above ++ RawChannels names (ds ++ d ∷ []) ∷ []) (kinds_under a o))
     field_asked n m es below h =
         let e = set_expression above d in
         let small = column_small n (length ds) ms (drop (length (channel_sets above)) o.channels) (drop_each (Each (λ m. m < n)) (length (channel_sets above)) o.channels below.channels) column in
-        ask_same n (behind_copies m e ms) (es ++ of_copies types o m e ms) (λ a. FitFirstSets types (above ++ RawChannels names ds ∷ []) (kinds_under a o) × Each (IsSetOf types (kinds_under a o) e) (map a ms))
+        ask_same n (behind_copies m e ms) (es ++ of_copies types o m e ms)
+        (λ a. FitFirstSets types (above ++ RawChannels names ds ∷ []) (kinds_under a o) × Each (IsSetOf types (kinds_under a o) e) (map a ms))
         (λ a. FitFirstSets types (above ++ RawChannels names (ds ++ d ∷ []) ∷ []) (kinds_under a o))
-        (ask_both n m (behind_copies m e ms) es (of_copies types o m e ms) (λ a. FitFirstSets types (above ++ RawChannels names ds ∷ []) (kinds_under a o)) (λ a. Each (IsSetOf types (kinds_under a o) e) (map a ms)) h
-        (copies_asked m e ms (below_more n m o h.rising below) (each_less n m ms h.rising small)) (hangs types o owners n [] (λ K S ks. Each (IsSetOf types K e) ks) (λ a. map a ms) (below, tt) (fixed_numbers n ms small)))
+        (ask_both n m (behind_copies m e ms) es (of_copies types o m e ms) (λ a. FitFirstSets types (above ++ RawChannels names ds ∷ []) (kinds_under a o))
+        (λ a. Each (IsSetOf types (kinds_under a o) e) (map a ms)) h
+        (copies_asked m e ms (below_more n m o h.rising below) (each_less n m ms h.rising small))
+        (hangs types o owners n [] (λ K S ks. Each (IsSetOf types K e) ks) (λ a. map a ms) (below, tt) (fixed_numbers n ms small)))
         (λ a x. (field_more a).1 x) (λ a x. (field_more a).0 x)
 
 -- ---- declarations that ask for nothing
@@ -333,7 +365,8 @@ module _ (types : Types) (above : RawScript) (o : Numbering) (n m : ℕ) (es : L
       ))
       (λ a y. ((one_declaration_more types above d (kinds_under a o)).0 y).0)
 
-  pub heads_asked : (names : List RawName) → length (channel_sets above) + length names ≤ length o.channels → Ask n es m (λ a. FitFirstSets types (above ++ RawChannels names [] ∷ []) (kinds_under a o))
+  pub heads_asked : (names : List RawName) → length (channel_sets above) + length names ≤ length o.channels →
+      Ask n es m (λ a. FitFirstSets types (above ++ RawChannels names [] ∷ []) (kinds_under a o))
   heads_asked names le =
       ask_same n m es (λ a. FitFirstSets types above (kinds_under a o)) (λ a. FitFirstSets types (above ++ RawChannels names [] ∷ []) (kinds_under a o)) h
       (λ a x. (one_declaration_more types above (RawChannels names []) (kinds_under a o)).1 (x, tt, enough a))
@@ -360,14 +393,16 @@ copies_front (suc l) fs gs more = (no_longer fs gs, copies_front l fs gs more)
 
 pub beginning_above : (so_far more : RawScript) → IsBeginningOf (so_far ++ more) so_far
 beginning_above so_far more = record {
-  nametypes = subst (λ z. length (nametype_sets so_far) ≤ length z) (sym (behind-append nametypes_declared [] so_far more)) (no_longer (nametype_sets so_far) (behind_each nametypes_declared so_far more));
+  nametypes = subst (λ z. length (nametype_sets so_far) ≤ length z) (sym (behind-append nametypes_declared [] so_far more))
+      (no_longer (nametype_sets so_far) (behind_each nametypes_declared so_far more));
   channels =
       let R = same_front (channel_sets so_far) [] (behind_each channels_declared so_far more) tt in
       subst (λ z. BeginsInTurn (λ r s. length r ≤ length s) (channel_sets so_far) z) (sym (behind-append channels_declared [] so_far more))
       (subst (λ z. BeginsInTurn (λ r s. length r ≤ length s) z (channel_sets so_far ++ behind_each channels_declared so_far more)) (append-nil (channel_sets so_far)) R);
 }
 
-pub beginning_in_fields : (above : RawScript) (names : List RawName) (ds rest : List RawDomain) (below : RawScript) → IsBeginningOf (above ++ RawChannels names (ds ++ rest) ∷ below) (above ++ RawChannels names ds ∷ [])
+pub beginning_in_fields : (above : RawScript) (names : List RawName) (ds rest : List RawDomain) (below : RawScript) →
+    IsBeginningOf (above ++ RawChannels names (ds ++ rest) ∷ below) (above ++ RawChannels names ds ∷ [])
 beginning_in_fields above names ds rest below =
     let d = RawChannels names (ds ++ rest) in
     let fs = map (set_expression above) ds in
@@ -379,10 +414,12 @@ beginning_in_fields above names ds rest below =
       nametypes =
           let k = behind_one_more nametypes_declared above (RawChannels names ds) in
           subst (λ z. length z ≤ length (nametype_sets (above ++ d ∷ below))) (sym (k ∙ append-nil (nametype_sets above)))
-          (subst (λ z. length (nametype_sets above) ≤ length z) (sym (behind-append nametypes_declared [] above (d ∷ below))) (no_longer (nametype_sets above) (behind_each nametypes_declared above (d ∷ below))));
+          (subst (λ z. length (nametype_sets above) ≤ length z) (sym (behind-append nametypes_declared [] above (d ∷ below)))
+          (no_longer (nametype_sets above) (behind_each nametypes_declared above (d ∷ below))));
       channels =
           subst (λ z. BeginsInTurn (λ r s. length r ≤ length s) z (channel_sets (above ++ d ∷ below))) (sym e)
           (subst (λ z. BeginsInTurn (λ r s. length r ≤ length s) (channel_sets above ++ replicate (length names) fs) z) (sym f)
           (same_front (channel_sets above) (replicate (length names) fs) (replicate (length names) (map (set_expression above) (ds ++ rest)) ++ more)
-          (subst (λ z. BeginsInTurn (λ r s. length r ≤ length s) (replicate (length names) fs) (replicate (length names) z ++ more)) (sym moved) (copies_front (length names) fs (map (set_expression above) rest) more))));
+          (subst (λ z. BeginsInTurn (λ r s. length r ≤ length s) (replicate (length names) fs) (replicate (length names) z ++ more)) (sym moved)
+          (copies_front (length names) fs (map (set_expression above) rest) more))));
     }

@@ -26,7 +26,8 @@ pub new : (before : List RawName) (n : RawName) → has_spelling (spellings befo
 new before n e f (redeclared h) = absurd (let both : false ≡ true = sym e ∙ h in cc both)
 
 -- the first of all is refused
-pub at_once : {A : Type 0} (R : List A → A → KindFault → Type 0) (x : A) (more : List A) (f : KindFault) → R [] x f → ((g : KindFault) → R [] x g → fault_number f ≤ fault_number g) → IsFirstRefused R (x ∷ more) x f
+pub at_once : {A : Type 0} (R : List A → A → KindFault → Type 0) (x : A) (more : List A) (f : KindFault) → R [] x f →
+    ((g : KindFault) → R [] x g → fault_number f ≤ fault_number g) → IsFirstRefused R (x ∷ more) x f
 at_once R x more f refused lowest = record { before = []; after = more; stands = refl; refused = refused; lowest = lowest; none_before = none_refused R [] tt }
 
 -- the one behind the first
@@ -65,7 +66,8 @@ not_counted n types so_far f h = elim h [ ]
 pub parameter_row : IsKindRefusal declared_parameter DeclaredTwice (at 2 3)
 parameter_row = in_second_pass
     (none_refused IsRedeclared (all_declared declared_parameter) (new [] (named (codes "n") 1 9) refl, (new (named (codes "n") 1 9 ∷ []) (named (codes "P") 2 1) refl, tt)))
-    (behind_one IsRefusedAt (ChannelHead (named (codes "n") 1 9) (types_of declared_parameter) (take 1 declared_parameter) [] (Some [])) (Parameter (environment_of declared_parameter) (named (codes "n") 2 3)) [] DeclaredTwice
+    (behind_one IsRefusedAt (ChannelHead (named (codes "n") 1 9) (types_of declared_parameter) (take 1 declared_parameter) [] (Some []))
+    (Parameter (environment_of declared_parameter) (named (codes "n") 2 3)) [] DeclaredTwice
     (no_events (named (codes "n") 1 9) (types_of declared_parameter) (take 1 declared_parameter)) (parameter_declared refl) lowest)
   where
     lowest : (g : KindFault) → IsRefusedSite (Parameter (environment_of declared_parameter) (named (codes "n") 2 3)) g → 2 ≤ fault_number g
@@ -77,7 +79,8 @@ parameter_row = in_second_pass
 pub class_row : IsKindRefusal channel_as_process WrongKind (at 2 5)
 class_row = in_second_pass
     (none_refused IsRedeclared (all_declared channel_as_process) (new [] (named (codes "c") 1 9) refl, (new (named (codes "c") 1 9 ∷ []) (named (codes "P") 2 1) refl, tt)))
-    (behind_one IsRefusedAt (ChannelHead (named (codes "c") 1 9) (types_of channel_as_process) (take 1 channel_as_process) [] (Some [])) (Used (environment_of channel_as_process) (AsEquation 0) (named (codes "c") 2 5)) [] WrongKind
+    (behind_one IsRefusedAt (ChannelHead (named (codes "c") 1 9) (types_of channel_as_process) (take 1 channel_as_process) [] (Some []))
+    (Used (environment_of channel_as_process) (AsEquation 0) (named (codes "c") 2 5)) [] WrongKind
     (no_events (named (codes "c") 1 9) (types_of channel_as_process) (take 1 channel_as_process)) (wrong_class refl refl) lowest)
   where
     lowest : (g : KindFault) → IsRefusedSite (Used (environment_of channel_as_process) (AsEquation 0) (named (codes "c") 2 5)) g → 3 ≤ fault_number g
@@ -113,7 +116,8 @@ some_kinds cs = record { nametypes = []; channels = cs; parameters = [] }
 pub empty_row : IsKindRefusal empty_field_set BadFieldSet (at 1 13)
 empty_row = in_second_pass
     (none_refused IsRedeclared (all_declared empty_field_set) (new [] (named (codes "c") 1 9) refl, tt))
-    (behind_one IsRefusedAt (ChannelHead (named (codes "c") 1 9) (types_of empty_field_set) empty_field_set [] None) (FieldSet (at 1 13) (types_of empty_field_set) empty_field_set (Some (SetOf no_expressions)) None) [] BadFieldSet
+    (behind_one IsRefusedAt (ChannelHead (named (codes "c") 1 9) (types_of empty_field_set) empty_field_set [] None)
+    (FieldSet (at 1 13) (types_of empty_field_set) empty_field_set (Some (SetOf no_expressions)) None) [] BadFieldSet
     (not_counted (named (codes "c") 1 9) (types_of empty_field_set) empty_field_set) (no_member fit) lowest)
   where
     fit : SomeFit (types_of empty_field_set) empty_field_set
@@ -129,7 +133,8 @@ large = Range (Literal (Integer (pos 0))) (Literal (Integer (pos 1024)))
 pub large_row : IsKindRefusal large_field_set BadFieldSet (at 1 13)
 large_row = in_second_pass
     (none_refused IsRedeclared (all_declared large_field_set) (new [] (named (codes "c") 1 9) refl, tt))
-    (behind_one IsRefusedAt (ChannelHead (named (codes "c") 1 9) (types_of large_field_set) large_field_set [] None) (FieldSet (at 1 13) (types_of large_field_set) large_field_set (Some large) None) [] BadFieldSet
+    (behind_one IsRefusedAt (ChannelHead (named (codes "c") 1 9) (types_of large_field_set) large_field_set [] None)
+    (FieldSet (at 1 13) (types_of large_field_set) large_field_set (Some large) None) [] BadFieldSet
     (not_counted (named (codes "c") 1 9) (types_of large_field_set) large_field_set) (no_member fit) lowest)
   where
     fit : SomeFit (types_of large_field_set) large_field_set
@@ -155,7 +160,8 @@ many_members = numbers_from (pos 0) 1024 ∷ numbers_from (pos 0) 5 ∷ []
 pub events_row : IsKindRefusal many_events TooManyEvents (at 1 9)
 events_row = in_second_pass
     (none_refused IsRedeclared (all_declared many_events) (new [] (named (codes "c") 1 9) refl, tt))
-    (at_once IsRefusedAt (ChannelHead (named (codes "c") 1 9) (types_of many_events) many_events [] (Some many_members)) (tail_of_sites (sites many_events)) TooManyEvents (too_many_events fit (lt_true refl)) lowest)
+    (at_once IsRefusedAt (ChannelHead (named (codes "c") 1 9) (types_of many_events) many_events [] (Some many_members))
+    (tail_of_sites (sites many_events)) TooManyEvents (too_many_events fit (lt_true refl)) lowest)
   where
     fit : SomeFit (types_of many_events) many_events
     fit = (some_kinds ((IntKind ∷ IntKind ∷ []) ∷ []), record { nametypes = tt; channels = (((tt, tt), ((tt, tt), tt)), tt) })
@@ -212,7 +218,11 @@ misfits kinds fit = go fit.each.0
         no_kind kinds h.1 (subst Q those called.2)
 
 pub kinds_row : IsKindRefusal growing_parameter WrongKind (at 1 1)
-kinds_row = in_third_pass (record { once = none_refused IsRedeclared (all_declared growing_parameter) (new [] (named (codes "P") 1 1) refl, tt); fine = none_refused IsRefusedAt (sites growing_parameter) (parameter_fine, (call_fine, (use_fine, tt))) })
+kinds_row = in_third_pass (record {
+  once = none_refused IsRedeclared (all_declared growing_parameter) (new [] (named (codes "P") 1 1) refl, tt);
+  fine =
+      none_refused IsRefusedAt (sites growing_parameter) (parameter_fine, (call_fine, (use_fine, tt)));
+})
     growing_is (at_once (IsMisfit growing_parameter growing) (EquationItem (at 1 1) 0) [] WrongKind (misfit misfits) lowest)
   where
     parameter_fine : (g : KindFault) → ¬ (IsRefusedSite (Parameter (environment_of growing_parameter) (named (codes "n") 1 3)) g)

@@ -102,7 +102,9 @@ itself_row = in_second_pass (none_refused IsRedeclared (all_declared channel_of_
   stands = refl;
   refused = unknown refl;
   lowest = itself_row';
-  none_before = none_refused IsRefusedAt (ChannelHead (named (codes "c") 1 9) (types_of channel_of_itself) channel_of_itself [] None ∷ FieldSet (at 1 13) (types_of channel_of_itself) channel_of_itself None None ∷ [])
+  none_before = none_refused IsRefusedAt
+      (ChannelHead (named (codes "c") 1 9) (types_of channel_of_itself) channel_of_itself [] None ∷ FieldSet (at 1 13)
+      (types_of channel_of_itself) channel_of_itself None None ∷ [])
       (unmembered_fine (named (codes "c") 1 9) (types_of channel_of_itself) channel_of_itself [], (no_set, tt));
 })
   where
@@ -111,7 +113,8 @@ itself_row = in_second_pass (none_refused IsRedeclared (all_declared channel_of_
 
 pub again_row : IsKindRefusal parameter_twice DeclaredTwice (at 1 5)
 again_row = in_second_pass (none_refused IsRedeclared (all_declared parameter_twice) (new [] (named (codes "P") 1 1) refl, tt))
-    (behind_one IsRefusedAt (Parameter (environment_of parameter_twice) (named (codes "n") 1 3)) (Parameter (binding (environment_of parameter_twice) (named (codes "n") 1 3 ∷ [])) (named (codes "n") 1 5)) [] DeclaredTwice
+    (behind_one IsRefusedAt (Parameter (environment_of parameter_twice) (named (codes "n") 1 3))
+    (Parameter (binding (environment_of parameter_twice) (named (codes "n") 1 3 ∷ [])) (named (codes "n") 1 5)) [] DeclaredTwice
     (parameter_fine (environment_of parameter_twice) (named (codes "n") 1 3) refl refl) (parameter_again refl) lowest)
   where
     lowest : (g : KindFault) → IsRefusedSite (Parameter (binding (environment_of parameter_twice) (named (codes "n") 1 3 ∷ [])) (named (codes "n") 1 5)) g → 2 ≤ fault_number g
@@ -162,8 +165,10 @@ unlike_right : HasFieldSets unlike_channels 1 (only 1 ∷ [])
 unlike_right = record { members = refl; so_far = take 2 unlike_channels; below = drop 2 unlike_channels; stands = refl; declared = ltb-true 1 2 refl; fit = unlike_two }
 
 abbrev before_unlike : List Site
-before_unlike = ChannelHead (named (codes "c") 1 9) (types_of unlike_channels) (take 1 unlike_channels) [] (Some (only 0 ∷ [])) ∷ FieldSet (at 1 13) (types_of unlike_channels) (take 1 unlike_channels) (Some (just 0)) (Some (only 0))
-    ∷ ChannelHead (named (codes "d") 2 9) (types_of unlike_channels) (take 2 unlike_channels) (Some (only 0 ∷ []) ∷ []) (Some (only 1 ∷ [])) ∷ FieldSet (at 2 13) (types_of unlike_channels) (take 2 unlike_channels) (Some (just 1)) (Some (only 1))
+before_unlike = ChannelHead (named (codes "c") 1 9) (types_of unlike_channels) (take 1 unlike_channels) [] (Some (only 0 ∷ [])) ∷ FieldSet (at 1 13)
+    (types_of unlike_channels) (take 1 unlike_channels) (Some (just 0)) (Some (only 0))
+    ∷ ChannelHead (named (codes "d") 2 9) (types_of unlike_channels) (take 2 unlike_channels) (Some (only 0 ∷ []) ∷ []) (Some (only 1 ∷ [])) ∷ FieldSet
+    (at 2 13) (types_of unlike_channels) (take 2 unlike_channels) (Some (just 1)) (Some (only 1))
     ∷ Used (environment_of unlike_channels) (AsBareLeft (named (codes "d") 3 16)) (named (codes "c") 3 11) ∷ []
 
 pub unlike_row : IsKindRefusal unlike_channels WrongKind (at 3 16)
@@ -203,7 +208,8 @@ unlike_row = in_second_pass
     lowest g (other_sets a b c d e f) = omega arith
 
 abbrev before_bare : List Site
-before_bare = ChannelHead (named (codes "c") 1 9) (types_of bare_and_unknown) (take 1 bare_and_unknown) [] (Some (only 0 ∷ [])) ∷ FieldSet (at 1 13) (types_of bare_and_unknown) (take 1 bare_and_unknown) (Some (just 0)) (Some (only 0)) ∷ []
+before_bare = ChannelHead (named (codes "c") 1 9) (types_of bare_and_unknown) (take 1 bare_and_unknown) [] (Some (only 0 ∷ [])) ∷ FieldSet (at 1 13)
+    (types_of bare_and_unknown) (take 1 bare_and_unknown) (Some (just 0)) (Some (only 0)) ∷ []
 
 pub bare_row : IsKindRefusal bare_and_unknown WrongCount (at 2 11)
 bare_row = in_second_pass
@@ -216,7 +222,11 @@ bare_row = in_second_pass
       lowest = lowest;
       none_before = none_refused IsRefusedAt before_bare (
         head_fine (named (codes "c") 1 9) (types_of bare_and_unknown) (take 1 bare_and_unknown) [] (only 0 ∷ []) refl,
-        (field_fine (at 1 13) (types_of bare_and_unknown) (take 1 bare_and_unknown) (Some (just 0)) (only 0) (some_kinds ((IntKind ∷ []) ∷ []), record { nametypes = tt; channels = (((tt, tt), tt), tt) }), tt),
+        (
+          field_fine (at 1 13) (types_of bare_and_unknown) (take 1 bare_and_unknown) (Some (just 0)) (only 0)
+              (some_kinds ((IntKind ∷ []) ∷ []), record { nametypes = tt; channels = (((tt, tt), tt), tt) }),
+          tt,
+        ),
       );
     })
   where
@@ -249,9 +259,12 @@ many_all : SomeFit (types_of one_event_too_many) one_event_too_many
 many_all = (some_kinds ((IntKind ∷ []) ∷ (IntKind ∷ IntKind ∷ []) ∷ [] ∷ []), record { nametypes = tt; channels = (((tt, tt), tt), (((tt, tt), ((tt, tt), tt)), (tt, tt))) })
 
 abbrev before_many : List Site
-before_many = ChannelHead (named (codes "c") 1 9) (types_of one_event_too_many) (take 1 one_event_too_many) [] (Some (numbers 1024 ∷ [])) ∷ FieldSet (at 1 13) (types_of one_event_too_many) (take 1 one_event_too_many) (Some (numbers_to 1023)) (Some (numbers 1024))
+before_many = ChannelHead (named (codes "c") 1 9) (types_of one_event_too_many) (take 1 one_event_too_many) [] (Some (numbers 1024 ∷ [])) ∷ FieldSet (at 1 13)
+    (types_of one_event_too_many) (take 1 one_event_too_many) (Some (numbers_to 1023)) (Some (numbers 1024))
     ∷ ChannelHead (named (codes "d") 2 9) (types_of one_event_too_many) (take 2 one_event_too_many) (Some (numbers 1024 ∷ []) ∷ []) (Some (numbers 1024 ∷ numbers 3 ∷ []))
-    ∷ FieldSet (at 2 13) (types_of one_event_too_many) (take 1 one_event_too_many ++ RawChannels (named (codes "d") 2 9 ∷ []) (domain 2 13 (up_to 1023) ∷ []) ∷ []) (Some (numbers_to 1023)) (Some (numbers 1024))
+    ∷ FieldSet (at 2 13) (types_of one_event_too_many)
+    (take 1 one_event_too_many ++ RawChannels (named (codes "d") 2 9 ∷ []) (domain 2 13 (up_to 1023) ∷ []) ∷ []) (Some (numbers_to 1023))
+    (Some (numbers 1024))
     ∷ FieldSet (at 2 23) (types_of one_event_too_many) (take 2 one_event_too_many) (Some (numbers_to 2)) (Some (numbers 3)) ∷ []
 
 pub many_row : IsKindRefusal one_event_too_many TooManyEvents (at 3 9)
@@ -276,7 +289,9 @@ many_row = in_second_pass
           (
             head_fine (named (codes "d") 2 9) (types_of one_event_too_many) (take 2 one_event_too_many) (Some (numbers 1024 ∷ []) ∷ []) (numbers 1024 ∷ numbers 3 ∷ []) refl,
             (
-              field_fine (at 2 13) (types_of one_event_too_many) (take 1 one_event_too_many ++ RawChannels (named (codes "d") 2 9 ∷ []) (domain 2 13 (up_to 1023) ∷ []) ∷ []) (Some (numbers_to 1023)) (numbers 1024) many_part,
+              field_fine (at 2 13) (types_of one_event_too_many)
+                  (take 1 one_event_too_many ++ RawChannels (named (codes "d") 2 9 ∷ []) (domain 2 13 (up_to 1023) ∷ []) ∷ []) (Some (numbers_to 1023))
+                  (numbers 1024) many_part,
               (field_fine (at 2 23) (types_of one_event_too_many) (take 2 one_event_too_many) (Some (numbers_to 2)) (numbers 3) many_two, tt),
             ),
           ),
@@ -284,5 +299,7 @@ many_row = in_second_pass
       );
     })
   where
-    lowest : (g : KindFault) → IsRefusedSite (ChannelHead (named (codes "e") 3 9) (types_of one_event_too_many) one_event_too_many (Some (numbers 1024 ∷ []) ∷ Some (numbers 1024 ∷ numbers 3 ∷ []) ∷ []) (Some [])) g → 6 ≤ fault_number g
+    lowest : (g : KindFault) →
+        IsRefusedSite (ChannelHead (named (codes "e") 3 9) (types_of one_event_too_many) one_event_too_many
+        (Some (numbers 1024 ∷ []) ∷ Some (numbers 1024 ∷ numbers 3 ∷ []) ∷ []) (Some [])) g → 6 ≤ fault_number g
     lowest g (too_many_events h m) = omega arith

@@ -25,7 +25,8 @@ numbers_between : (ss cs ts : List (List ℕ)) → EachOnce (ss ++ (cs ++ ts)) �
 numbers_between ss [] ts once = refl
 numbers_between ss (c ∷ cs) ts once =
     let P : List (List ℕ) → Type 0 = EachOnce in
-    first ∙ ap (λ ns. length ss ∷ ns) (ap (λ all. filter_map (number_in all) cs) (sym again) ∙ numbers_between (ss ++ c ∷ []) cs ts (subst P (sym again) once) ∙ ap (λ n. numbers_from n (length cs)) more)
+    first ∙ ap (λ ns. length ss ∷ ns) (ap (λ all. filter_map (number_in all) cs) (sym again) ∙ numbers_between (ss ++ c ∷ []) cs ts (subst P (sym again) once)
+    ∙ ap (λ n. numbers_from n (length cs)) more)
   where
     again : (ss ++ c ∷ []) ++ (cs ++ ts) ≡ ss ++ (c ∷ (cs ++ ts))
     again = append_assoc ss (c ∷ []) (cs ++ ts)
@@ -48,7 +49,8 @@ datatypes_behind raw ss (RawChannels names domains ∷ ds) once is = datatypes_b
 datatypes_behind raw ss (RawEquation name ns p ∷ ds) once is = datatypes_behind raw ss ds once is
 datatypes_behind raw ss (RawAssertion place m p q ∷ ds) once is = datatypes_behind raw ss ds once is
 datatypes_behind raw ss (RawDatatype name cs ∷ ds) once is =
-    ap (λ r. r ∷ flat_map (datatype_of raw) ds) row ∙ ap (λ rows. numbers_from (length ss) (length cs) ∷ rows) (datatypes_behind raw (ss ++ spellings cs) ds once again ∙ ap (λ n. rows_from n (constructor_counts ds)) count)
+    ap (λ r. r ∷ flat_map (datatype_of raw) ds) row ∙ ap (λ rows. numbers_from (length ss) (length cs) ∷ rows)
+    (datatypes_behind raw (ss ++ spellings cs) ds once again ∙ ap (λ n. rows_from n (constructor_counts ds)) count)
   where
     parts : names_of ConstructorName raw ≡ ss ++ (spellings cs ++ names_of ConstructorName ds)
     parts = is ∙ ap (λ zs. ss ++ zs) (map-append (λ n. n.spelling) cs (flat_map (declared_as ConstructorName) ds))
@@ -56,7 +58,8 @@ datatypes_behind raw ss (RawDatatype name cs ∷ ds) once is =
     row : filter_map (number_in (names_of ConstructorName raw)) (spellings cs) ≡ numbers_from (length ss) (length cs)
     row =
         let P : List (List ℕ) → Type 0 = EachOnce in
-        ap (λ all. filter_map (number_in all) (spellings cs)) parts ∙ numbers_between ss (spellings cs) (names_of ConstructorName ds) (subst P parts once) ∙ ap (numbers_from (length ss)) (length-map cs (λ n. n.spelling))
+        ap (λ all. filter_map (number_in all) (spellings cs)) parts ∙ numbers_between ss (spellings cs) (names_of ConstructorName ds) (subst P parts once)
+        ∙ ap (numbers_from (length ss)) (length-map cs (λ n. n.spelling))
 
     again : names_of ConstructorName raw ≡ (ss ++ spellings cs) ++ names_of ConstructorName ds
     again = parts ∙ sym (append_assoc ss (spellings cs) (names_of ConstructorName ds))
@@ -78,7 +81,8 @@ script_types_in_rows raw script none is = is.datatypes ∙ datatypes_in_rows raw
 pub owners_of_tree : (raw : RawScript) (o : Numbering) → NoneRefused IsRedeclared (all_declared raw) → o.owners ≡ owners_from 0 (constructor_counts raw) → AreOwners (types_of raw) o
 owners_of_tree raw o none owners = rows_have_owners (types_of raw) o (constructor_counts raw) (types_in_rows raw none) owners
 
-pub owners_of_script : (raw : RawScript) (script : Script) (o : Numbering) → NoneRefused IsRedeclared (all_declared raw) → IsScriptOf raw script → o.owners ≡ owners_from 0 (constructor_counts raw) → AreOwners script.types o
+pub owners_of_script : (raw : RawScript) (script : Script) (o : Numbering) → NoneRefused IsRedeclared (all_declared raw) → IsScriptOf raw script →
+    o.owners ≡ owners_from 0 (constructor_counts raw) → AreOwners script.types o
 owners_of_script raw script o none is owners = rows_have_owners script.types o (constructor_counts raw) (script_types_in_rows raw script none is) owners
 
 -- ---- one more declaration
@@ -94,13 +98,15 @@ pub owners_with_one_more : (d : ℕ) (ks : List ℕ) (k : ℕ) → owners_from d
 owners_with_one_more d [] k = let e : d ≡ d + 0 = omega arith in append-nil (replicate k d) ∙ ap (replicate k) e
 owners_with_one_more d (j ∷ ks) k =
     let e : suc d + length ks ≡ d + suc (length ks) = omega arith in
-    ap (λ zs. replicate j d ++ zs) (owners_with_one_more (suc d) ks k ∙ ap (λ n. owners_from (suc d) ks ++ replicate k n) e) ∙ sym (append_assoc (replicate j d) (owners_from (suc d) ks) (replicate k (d + suc (length ks))))
+    ap (λ zs. replicate j d ++ zs) (owners_with_one_more (suc d) ks k ∙ ap (λ n. owners_from (suc d) ks ++ replicate k n) e)
+    ∙ sym (append_assoc (replicate j d) (owners_from (suc d) ks) (replicate k (d + suc (length ks))))
 
 -- As many owners as constructors are declared, and as many rows as datatypes.
 pub owners_counted : (d : ℕ) (raw : RawScript) → length (owners_from d (constructor_counts raw)) ≡ length (names_of ConstructorName raw)
 owners_counted d [] = refl
 owners_counted d (RawDatatype name cs ∷ ds) =
-    length-append (replicate (length cs) d) (owners_from (suc d) (constructor_counts ds)) ∙ ap (λ n. n + length (owners_from (suc d) (constructor_counts ds))) (length-replicate (length cs) d ∙ sym (length-map cs (λ n. n.spelling)))
+    length-append (replicate (length cs) d) (owners_from (suc d) (constructor_counts ds))
+    ∙ ap (λ n. n + length (owners_from (suc d) (constructor_counts ds))) (length-replicate (length cs) d ∙ sym (length-map cs (λ n. n.spelling)))
     ∙ ap (λ n. length (spellings cs) + n) (owners_counted (suc d) ds) ∙ sym (length-append (spellings cs) (names_of ConstructorName ds))
     ∙ sym (ap length (map-append (λ n. n.spelling) cs (flat_map (declared_as ConstructorName) ds)))
 owners_counted d (RawNametype name domain ∷ ds) = owners_counted d ds
@@ -113,7 +119,8 @@ constructors_counted n [] = omega arith
 constructors_counted n (RawDatatype name cs ∷ ds) =
     let rest : behind_all (n + length cs) (constructor_counts ds) ≡ n + length cs + length (names_of ConstructorName ds) = constructors_counted (n + length cs) ds in
     let count : length (names_of ConstructorName (RawDatatype name cs ∷ ds)) ≡ length cs + length (names_of ConstructorName ds) =
-    ap length (map-append (λ n. n.spelling) cs (flat_map (declared_as ConstructorName) ds)) ∙ length-append (spellings cs) (names_of ConstructorName ds) ∙ ap (λ k. k + length (names_of ConstructorName ds)) (length-map cs (λ n. n.spelling)) in
+    ap length (map-append (λ n. n.spelling) cs (flat_map (declared_as ConstructorName) ds)) ∙ length-append (spellings cs) (names_of ConstructorName ds)
+    ∙ ap (λ k. k + length (names_of ConstructorName ds)) (length-map cs (λ n. n.spelling)) in
     omega (arith, rest, count)
 constructors_counted n (RawNametype name domain ∷ ds) = constructors_counted n ds
 constructors_counted n (RawChannels names domains ∷ ds) = constructors_counted n ds

@@ -22,9 +22,12 @@ length-replicate (suc n) x = ap suc (length-replicate n x)
 length-spellings : (ns : List RawName) → length (spellings ns) ≡ length ns
 length-spellings ns = length-map ns (λ n. n.spelling)
 
-counted : {A : Type 0} (class : Class) (f : RawDeclaration → List A) → ((d : RawDeclaration) → length (f d) ≡ length (declared_as class d)) → (ds : RawScript) → length (flat_map f ds) ≡ length (flat_map (declared_as class) ds)
+counted : {A : Type 0} (class : Class) (f : RawDeclaration → List A) → ((d : RawDeclaration) → length (f d) ≡ length (declared_as class d)) →
+    (ds : RawScript) → length (flat_map f ds) ≡ length (flat_map (declared_as class) ds)
 counted class f each [] = refl
-counted class f each (d ∷ ds) = length-append (f d) (flat_map f ds) ∙ ap (λ n. n + length (flat_map f ds)) (each d) ∙ ap (λ n. length (declared_as class d) + n) (counted class f each ds) ∙ sym (length-append (declared_as class d) (flat_map (declared_as class) ds))
+counted class f each (d ∷ ds) =
+    length-append (f d) (flat_map f ds) ∙ ap (λ n. n + length (flat_map f ds)) (each d) ∙ ap (λ n. length (declared_as class d) + n) (counted class f each ds)
+    ∙ sym (length-append (declared_as class d) (flat_map (declared_as class) ds))
 
 pub channels_counted : (raw : RawScript) → length (flat_map fields_declared raw) ≡ length (names_of ChannelName raw)
 channels_counted raw = counted ChannelName fields_declared each raw ∙ sym (length-spellings (flat_map (declared_as ChannelName) raw))
@@ -51,12 +54,14 @@ equations_counted raw = counted EquationName parameters_declared each raw ∙ sy
 -- a meaning as a name of a class is a number in that class
 pub class_number : (raw : RawScript) (s : List ℕ) (class : Class) (k : ℕ) → declared_meaning raw s ≡ Some (Declared class k) → number_in (names_of class raw) s ≡ Some k
 class_number raw s class k e =
-    by (number_in (names_of DatatypeName raw) s) (number_in (names_of ConstructorName raw) s) (number_in (names_of NametypeName raw) s) (number_in (names_of ChannelName raw) s) (number_in (names_of EquationName raw) s) refl refl refl refl refl e
+    by (number_in (names_of DatatypeName raw) s) (number_in (names_of ConstructorName raw) s) (number_in (names_of NametypeName raw) s)
+    (number_in (names_of ChannelName raw) s) (number_in (names_of EquationName raw) s) refl refl refl refl refl e
   where
     told : (c : Class) (x : ℕ) → Some (Declared c x) ≡ Some (Declared class k) → number_in (names_of c raw) s ≡ Some x → number_in (names_of class raw) s ≡ Some k
     told c x is h = let same : c ≡ class = cc is in let number : x ≡ k = cc is in ap (λ z. number_in (names_of z raw) s) (sym same) ∙ h ∙ ap Some number
 
-    by : (d c t h q : Option ℕ) → number_in (names_of DatatypeName raw) s ≡ d → number_in (names_of ConstructorName raw) s ≡ c → number_in (names_of NametypeName raw) s ≡ t → number_in (names_of ChannelName raw) s ≡ h →
+    by : (d c t h q : Option ℕ) → number_in (names_of DatatypeName raw) s ≡ d → number_in (names_of ConstructorName raw) s ≡ c →
+        number_in (names_of NametypeName raw) s ≡ t → number_in (names_of ChannelName raw) s ≡ h →
         number_in (names_of EquationName raw) s ≡ q →
         option_or (option_map (Declared DatatypeName) d) (option_or (option_map (Declared ConstructorName) c) (option_or (option_map (Declared NametypeName) t)
         (option_or (option_map (Declared ChannelName) h) (option_map (Declared EquationName) q)))) ≡ Some (Declared class k) → number_in (names_of class raw) s ≡ Some k
@@ -71,7 +76,8 @@ class_number raw s class k e =
 pub meant_number : (env : Environment) (n : RawName) (class : Class) (k : ℕ) → meaning env n ≡ Some (Declared class k) → number_in (names_of class env.declarations) n.spelling ≡ Some k
 meant_number env n class k e = go (has_spelling env.bound n.spelling) (number_in env.numbered n.spelling) e
   where
-    go : (b : Bool) (o : Option ℕ) → cond b (option_map Bound o) (declared_meaning env.declarations n.spelling) ≡ Some (Declared class k) → number_in (names_of class env.declarations) n.spelling ≡ Some k
+    go : (b : Bool) (o : Option ℕ) → cond b (option_map Bound o) (declared_meaning env.declarations n.spelling) ≡ Some (Declared class k) →
+        number_in (names_of class env.declarations) n.spelling ≡ Some k
     go true (Some x) i = absurd (let f : Bound x ≡ Declared class k = cc i in cc f)
     go true None i = absurd (cc i)
     go false o i = class_number env.declarations n.spelling class k i
@@ -122,7 +128,8 @@ every_length {A} {B} f (x ∷ xs) ys e = go (f x) (every f xs) (λ zs g. every_l
 -- a channel has as many fields as it has field sets
 pub fields_of_sets : (raw : RawScript) (c : ℕ) (sets : List (List Value)) → HasFieldSets raw c sets → slice_get (flat_map fields_declared raw) c ≡ Some (length sets)
 fields_of_sets raw c sets h =
-    ap (λ zs. slice_get zs c) (sym (sizes_of_channels raw)) ∙ slice_get-map length (channel_sets raw) c ∙ go (slice_get (channel_sets raw) c) (sym (slice_get-map (every (field_members raw)) (channel_sets raw) c) ∙ h.members)
+    ap (λ zs. slice_get zs c) (sym (sizes_of_channels raw)) ∙ slice_get-map length (channel_sets raw) c
+    ∙ go (slice_get (channel_sets raw) c) (sym (slice_get-map (every (field_members raw)) (channel_sets raw) c) ∙ h.members)
   where
     go : (o : Option (List (Option Expression))) → option_map (every (field_members raw)) o ≡ Some (Some sets) → option_map length o ≡ Some (length sets)
     go (Some es) e = let is : every (field_members raw) es ≡ Some sets = cc e in ap Some (every_length (field_members raw) es sets is)

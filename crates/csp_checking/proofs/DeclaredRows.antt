@@ -54,7 +54,8 @@ rows_go_on above more = behind-append rows_declared [] above more
 
 pub first_rows : (above more : RawScript) → take (length (all_declared above)) (declared_rows (above ++ more)) ≡ declared_rows above
 first_rows above more =
-    ap (λ n. take n (declared_rows (above ++ more))) (sym (rows_counted above)) ∙ ap (take (length (declared_rows above))) (rows_go_on above more) ∙ take-append_seam (declared_rows above) (behind_each rows_declared above more)
+    ap (λ n. take n (declared_rows (above ++ more))) (sym (rows_counted above)) ∙ ap (take (length (declared_rows above))) (rows_go_on above more)
+    ∙ take-append_seam (declared_rows above) (behind_each rows_declared above more)
 
 pub declared_go_on : (above more : RawScript) → all_declared (above ++ more) ≡ all_declared above ++ all_declared more
 declared_go_on above more = flat_map-append declared above more
@@ -62,11 +63,13 @@ declared_go_on above more = flat_map-append declared above more
 -- ---- names that are declared once
 
 -- where a spelling has a number, a name of that spelling stands
-found : (s : List ℕ) (xs : List RawName) (k : ℕ) → number_in (spellings xs) s ≡ Some k → (before : List RawName) × (x : RawName) × (after : List RawName) × (xs ≡ before ++ x ∷ after) × (x.spelling ≡ s)
+found : (s : List ℕ) (xs : List RawName) (k : ℕ) → number_in (spellings xs) s ≡ Some k →
+    (before : List RawName) × (x : RawName) × (after : List RawName) × (xs ≡ before ++ x ∷ after) × (x.spelling ≡ s)
 found s [] k e = absurd (cc e)
 found s (x ∷ xs) k e = go (bytes_eq x.spelling s) (number_in (spellings xs) s) refl (λ j f. found s xs j f) e
   where
-    go : (b : Bool) (o : Option ℕ) → bytes_eq x.spelling s ≡ b → ((j : ℕ) → o ≡ Some j → (before : List RawName) × (y : RawName) × (after : List RawName) × (xs ≡ before ++ y ∷ after) × (y.spelling ≡ s)) →
+    go : (b : Bool) (o : Option ℕ) → bytes_eq x.spelling s ≡ b →
+        ((j : ℕ) → o ≡ Some j → (before : List RawName) × (y : RawName) × (after : List RawName) × (xs ≡ before ++ y ∷ after) × (y.spelling ≡ s)) →
         cond b (Some 0) (option_map suc o) ≡ Some k → (before : List RawName) × (y : RawName) × (after : List RawName) × (x ∷ xs ≡ before ++ y ∷ after) × (y.spelling ≡ s)
     go true o same rest i = ([], x, xs, refl, (bytes_eq-Decides x.spelling s).0 same)
     go false (Some j) same rest i = let h = rest j refl in (x ∷ h.0, h.1, h.2, ap (λ z. x ∷ z) h.3, h.4)
@@ -85,7 +88,8 @@ once_behind done (x ∷ xs) none = (
         let h = found x.spelling xs k e in
         let stands : done ++ x ∷ xs ≡ (done ++ x ∷ h.0) ++ h.1 ∷ h.2 = ap (λ z. done ++ x ∷ z) h.3 ∙ sym (append_assoc done (x ∷ h.0) (h.1 ∷ h.2)) in
         let before : has_spelling (spellings (done ++ x ∷ h.0)) h.1.spelling ≡ true =
-        ap (λ z. has_spelling z h.1.spelling) (map-append (λ n. n.spelling) done (x ∷ h.0)) ∙ ap (has_spelling (spellings done ++ x.spelling ∷ spellings h.0)) h.4 ∙ has_there (spellings done) (spellings h.0) x.spelling in
+        ap (λ z. has_spelling z h.1.spelling) (map-append (λ n. n.spelling) done (x ∷ h.0))
+        ∙ ap (has_spelling (spellings done ++ x.spelling ∷ spellings h.0)) h.4 ∙ has_there (spellings done) (spellings h.0) x.spelling in
         absurd (none (done ++ x ∷ h.0) h.2 h.1 DeclaredTwice stands (redeclared before))
 
 pub declared_once : (raw : RawScript) → NoneRefused IsRedeclared (all_declared raw) → EachOnce (spellings (all_declared raw))
@@ -113,13 +117,15 @@ pub once_with_one_more : (before : List RawName) (n : RawName) → NoneRefused I
 once_with_one_more before n none e =
     none_refused IsRedeclared (before ++ n ∷ []) (each_join IsRedeclared [] before (n ∷ []) (each_of_none IsRedeclared [] before none) (not_redeclared before n e, tt))
 
-pub redeclared_first : (before after : List RawName) (n : RawName) → NoneRefused IsRedeclared before → has_spelling (spellings before) n.spelling ≡ true → IsFirstRefused IsRedeclared (before ++ n ∷ after) n DeclaredTwice
+pub redeclared_first : (before after : List RawName) (n : RawName) → NoneRefused IsRedeclared before → has_spelling (spellings before) n.spelling ≡ true →
+    IsFirstRefused IsRedeclared (before ++ n ∷ after) n DeclaredTwice
 redeclared_first before after n none e = record { before = before; after = after; stands = refl; refused = redeclared e; lowest = lowest; none_before = none }
   where
     lowest : (g : KindFault) → IsRedeclared before n g → 2 ≤ fault_number g
     lowest g (redeclared h) = omega arith
 
-pub redeclared_is_refusal : (raw : RawScript) (before after : List RawName) (n : RawName) → all_declared raw ≡ before ++ n ∷ after → NoneRefused IsRedeclared before → has_spelling (spellings before) n.spelling ≡ true →
+pub redeclared_is_refusal : (raw : RawScript) (before after : List RawName) (n : RawName) → all_declared raw ≡ before ++ n ∷ after →
+    NoneRefused IsRedeclared before → has_spelling (spellings before) n.spelling ≡ true →
     IsKindRefusal raw DeclaredTwice n.place
 redeclared_is_refusal raw before after n is none e =
     let P : List RawName → Type 0 = λ all. IsFirstRefused IsRedeclared all n DeclaredTwice in in_first_pass (subst P (sym is) (redeclared_first before after n none e))
@@ -139,4 +145,5 @@ names_of_one_more class above d =
 
 pub class_counts : (class : Class) (above : RawScript) (d : RawDeclaration) → length (names_of class (above ++ d ∷ [])) ≡ length (names_of class above) + length (declared_as class d)
 class_counts class above d =
-    ap length (names_of_one_more class above d) ∙ length-append (names_of class above) (spellings (declared_as class d)) ∙ ap (λ k. length (names_of class above) + k) (length-map (declared_as class d) (λ n. n.spelling))
+    ap length (names_of_one_more class above d) ∙ length-append (names_of class above) (spellings (declared_as class d))
+    ∙ ap (λ k. length (names_of class above) + k) (length-map (declared_as class d) (λ n. n.spelling))

@@ -29,7 +29,8 @@ pub expression_fine : (env : Environment) (n : RawName) (m : Meaning) → meanin
 expression_fine env n m e s f (unknown h) = missing h e
 expression_fine env n m e s f (wrong_class h r) = not_unsuited AsExpression e s h r
 
-pub equation_fine : (env : Environment) (k : ℕ) (n : RawName) (m : Meaning) → meaning env n ≡ Some m → suits (AsEquation k) m ≡ true → parameter_count env n ≡ Some k → IsFine (Used env (AsEquation k) n)
+pub equation_fine : (env : Environment) (k : ℕ) (n : RawName) (m : Meaning) → meaning env n ≡ Some m → suits (AsEquation k) m ≡ true →
+    parameter_count env n ≡ Some k → IsFine (Used env (AsEquation k) n)
 equation_fine env k n m e s c f (unknown h) = missing h e
 equation_fine env k n m e s c f (wrong_class h r) = not_unsuited (AsEquation k) e s h r
 equation_fine env k n m e s c f (arguments h r) = r (same_there h c)
@@ -40,7 +41,8 @@ event_fine env k n m e s c f (wrong_class h r) = not_unsuited (AsEvent k) e s h 
 event_fine env k n m e s c f (fields h r) = r (same_there h c)
 
 -- the left channel of a renaming of two bare ones with equal numbers of fields
-pub left_fine : (env : Environment) (n other : RawName) (m : Meaning) (p : ℕ) → meaning env n ≡ Some m → suits (AsBareLeft other) m ≡ true → field_count env n ≡ Some p → field_count env other ≡ Some p → IsFine (Used env (AsBareLeft other) n)
+pub left_fine : (env : Environment) (n other : RawName) (m : Meaning) (p : ℕ) → meaning env n ≡ Some m → suits (AsBareLeft other) m ≡ true →
+    field_count env n ≡ Some p → field_count env other ≡ Some p → IsFine (Used env (AsBareLeft other) n)
 left_fine env n other m p e s c d f (unknown h) = missing h e
 left_fine env n other m p e s c d f (wrong_class h r) = not_unsuited (AsBareLeft other) e s h r
 left_fine env n other m p e s c d f (left_fields h r q) = q (d ∙ ap Some (same_there c h))
@@ -55,7 +57,8 @@ bound_fine env n e f (bound_declared h) = not_both (ap is_some e) h
 pub field_fine : (p : Place) (types : Types) (so_far : RawScript) (e : Option Expression) (ms : List Value) → SomeFit types so_far → IsFine (FieldSet p types so_far e (Some ms))
 field_fine p types so_far e ms fit f (field_kind h) = h fit
 
-pub head_fine : (n : RawName) (types : Types) (so_far : RawScript) (before : List (Option (List (List Value)))) (sets : List (List Value)) → nat_lt most_events (number_of_events (Some sets ∷ before)) ≡ false → IsFine (ChannelHead n types so_far before (Some sets))
+pub head_fine : (n : RawName) (types : Types) (so_far : RawScript) (before : List (Option (List (List Value)))) (sets : List (List Value)) →
+    nat_lt most_events (number_of_events (Some sets ∷ before)) ≡ false → IsFine (ChannelHead n types so_far before (Some sets))
 head_fine n types so_far before sets few f (too_many_events fit many) = not_both few (lt-ltb most_events (number_of_events (Some sets ∷ before)) many)
 
 pub unmembered_fine : (n : RawName) (types : Types) (so_far : RawScript) (before : List (Option (List (List Value)))) → IsFine (ChannelHead n types so_far before None)

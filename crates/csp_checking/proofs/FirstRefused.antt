@@ -112,7 +112,8 @@ one_script raw s t a b =
     types_same : (u v : Types) → u.datatypes ≡ v.datatypes → u.nametypes ≡ v.nametypes → u ≡ v
     types_same u v d n = ap (λ x. record { datatypes = x; nametypes = u.nametypes }) d ∙ ap (λ y. record { datatypes = v.datatypes; nametypes = y }) n
 
-    scripts_same : (u v : Script) → u.types ≡ v.types → u.channels ≡ v.channels → u.equations ≡ v.equations → u.assertions ≡ v.assertions → u.channel_names ≡ v.channel_names → u.constructor_names ≡ v.constructor_names → u ≡ v
+    scripts_same : (u v : Script) → u.types ≡ v.types → u.channels ≡ v.channels → u.equations ≡ v.equations → u.assertions ≡ v.assertions →
+        u.channel_names ≡ v.channel_names → u.constructor_names ≡ v.constructor_names → u ≡ v
     scripts_same u v a b c d e f =
         ap (λ x. record { types = x; channels = u.channels; equations = u.equations; assertions = u.assertions; channel_names = u.channel_names; constructor_names = u.constructor_names }) a ∙
         ap (λ x. record { types = v.types; channels = x; equations = u.equations; assertions = u.assertions; channel_names = u.channel_names; constructor_names = u.constructor_names }) b ∙
@@ -172,7 +173,8 @@ each_begins : {A : Type 0} (P : A → Type 0) (xs ys : List A) (x : A) → Each 
 each_begins P [] ys x h = (h.0, tt)
 each_begins P (z ∷ xs) ys x h = (h.0, each_begins P xs ys x h.1)
 
-fits_before : (raw : RawScript) (s : Script) (kinds : Kinds) (before after : List Item) (x : Item) → items raw ≡ before ++ x ∷ after → FitKinds raw s kinds (items raw) → FitKinds raw s kinds (before ++ x ∷ [])
+fits_before : (raw : RawScript) (s : Script) (kinds : Kinds) (before after : List Item) (x : Item) → items raw ≡ before ++ x ∷ after →
+    FitKinds raw s kinds (items raw) → FitKinds raw s kinds (before ++ x ∷ [])
 fits_before raw s kinds before after x stands fit =
     let P : List Item → Type 0 = λ all. Each (FitsItem s kinds) all in
     record { sets = fit.sets; parameters = fit.parameters; each = each_begins (FitsItem s kinds) before after x (subst P stands fit.each) }

@@ -47,7 +47,8 @@ moved m e f same h = let P : Expression → Type 0 = λ x. Within m (nametypes_i
 
 use_within : (above : RawScript) (n : RawName) (e : Expression) → as_expression (meaning (environment_above above) n) ≡ Some e → Within (length (names_of NametypeName above)) (nametypes_in e)
 use_within above n e is =
-    by (number_in (names_of DatatypeName above) n.spelling) (number_in (names_of ConstructorName above) n.spelling) (number_in (names_of NametypeName above) n.spelling) (number_in (names_of ChannelName above) n.spelling)
+    by (number_in (names_of DatatypeName above) n.spelling) (number_in (names_of ConstructorName above) n.spelling)
+    (number_in (names_of NametypeName above) n.spelling) (number_in (names_of ChannelName above) n.spelling)
     (number_in (names_of EquationName above) n.spelling) (λ k f. number_within (names_of NametypeName above) n.spelling k f) is
   where
     by : (d c t h q : Option ℕ) → ((k : ℕ) → t ≡ Some k → k < length (names_of NametypeName above)) →
@@ -76,17 +77,22 @@ module _ (above : RawScript) where
         let p = some_mapped _ (expression_of (environment_above above) r) e is in moved (length (names_of NametypeName above)) _ e p.2 (expression_within r p.0 p.1)
     expression_within (RawCombine op r s) e is =
         let p = parts _ (expression_of (environment_above above) r) (expression_of (environment_above above) s) e is in
-        moved (length (names_of NametypeName above)) _ e p.4 (within_append (length (names_of NametypeName above)) (nametypes_in p.0) (nametypes_in p.1) (expression_within r p.0 p.2) (expression_within s p.1 p.3))
+        moved (length (names_of NametypeName above)) _ e p.4
+        (within_append (length (names_of NametypeName above)) (nametypes_in p.0) (nametypes_in p.1) (expression_within r p.0 p.2)
+        (expression_within s p.1 p.3))
     expression_within (RawSequence rs) e is =
         let p = some_mapped _ (expressions_of (environment_above above) rs) e is in moved (length (names_of NametypeName above)) _ e p.2 (expressions_within rs p.0 p.1)
     expression_within (RawSet rs) e is =
         let p = some_mapped _ (expressions_of (environment_above above) rs) e is in moved (length (names_of NametypeName above)) _ e p.2 (expressions_within rs p.0 p.1)
     expression_within (RawRange r s) e is =
         let p = parts _ (expression_of (environment_above above) r) (expression_of (environment_above above) s) e is in
-        moved (length (names_of NametypeName above)) _ e p.4 (within_append (length (names_of NametypeName above)) (nametypes_in p.0) (nametypes_in p.1) (expression_within r p.0 p.2) (expression_within s p.1 p.3))
+        moved (length (names_of NametypeName above)) _ e p.4
+        (within_append (length (names_of NametypeName above)) (nametypes_in p.0) (nametypes_in p.1) (expression_within r p.0 p.2)
+        (expression_within s p.1 p.3))
 
     pub expressions_within : (rs : RawExpressions) (es : Expressions) → expressions_of (environment_above above) rs ≡ Some es → Within (length (names_of NametypeName above)) (nametypes_in_all es)
-    expressions_within no_raw_expressions es is = let P : Expressions → Type 0 = λ x. Within (length (names_of NametypeName above)) (nametypes_in_all x) in let none : no_expressions ≡ es = cc is in subst P none tt
+    expressions_within no_raw_expressions es is = let P : Expressions → Type 0 = λ x. Within (length (names_of NametypeName above)) (nametypes_in_all x) in
+        let none : no_expressions ≡ es = cc is in subst P none tt
     expressions_within (raw_expression_and r rs) es is =
         let p = parts _ (expression_of (environment_above above) r) (expressions_of (environment_above above) rs) es is in
         let P : Expressions → Type 0 = λ x. Within (length (names_of NametypeName above)) (nametypes_in_all x) in
@@ -106,7 +112,8 @@ set_within above d m le = go (set_expression above d) refl
 
 names_more : (above : RawScript) (d : RawDeclaration) → length (names_of NametypeName (above ++ d ∷ [])) ≡ length (names_of NametypeName above) + length (names_of NametypeName (d ∷ []))
 names_more above d =
-    ap length (ap (map (λ n. n.spelling)) (flat_map-append (declared_as NametypeName) above (d ∷ [])) ∙ map-append (λ n. n.spelling) (flat_map (declared_as NametypeName) above) (flat_map (declared_as NametypeName) (d ∷ [])))
+    ap length (ap (map (λ n. n.spelling)) (flat_map-append (declared_as NametypeName) above (d ∷ []))
+    ∙ map-append (λ n. n.spelling) (flat_map (declared_as NametypeName) above) (flat_map (declared_as NametypeName) (d ∷ [])))
     ∙ length-append (names_of NametypeName above) (names_of NametypeName (d ∷ []))
 
 -- as many as there are nametypes
@@ -124,13 +131,17 @@ nametypes_within m above (RawNametype name domain ∷ ds) le =
     let more : length (names_of NametypeName (above ++ RawNametype name domain ∷ [])) ≡ length (names_of NametypeName above) + 1 = names_more above (RawNametype name domain) in
     (set_within above domain m (omega arith), nametypes_within m (above ++ RawNametype name domain ∷ []) ds (omega arith))
 nametypes_within m above (RawDatatype name cs ∷ ds) le =
-    let more : length (names_of NametypeName (above ++ RawDatatype name cs ∷ [])) ≡ length (names_of NametypeName above) + 0 = names_more above (RawDatatype name cs) in nametypes_within m (above ++ RawDatatype name cs ∷ []) ds (omega arith)
+    let more : length (names_of NametypeName (above ++ RawDatatype name cs ∷ [])) ≡ length (names_of NametypeName above) + 0 =
+    names_more above (RawDatatype name cs) in nametypes_within m (above ++ RawDatatype name cs ∷ []) ds (omega arith)
 nametypes_within m above (RawChannels names domains ∷ ds) le =
-    let more : length (names_of NametypeName (above ++ RawChannels names domains ∷ [])) ≡ length (names_of NametypeName above) + 0 = names_more above (RawChannels names domains) in nametypes_within m (above ++ RawChannels names domains ∷ []) ds (omega arith)
+    let more : length (names_of NametypeName (above ++ RawChannels names domains ∷ [])) ≡ length (names_of NametypeName above) + 0 =
+    names_more above (RawChannels names domains) in nametypes_within m (above ++ RawChannels names domains ∷ []) ds (omega arith)
 nametypes_within m above (RawEquation name ns p ∷ ds) le =
-    let more : length (names_of NametypeName (above ++ RawEquation name ns p ∷ [])) ≡ length (names_of NametypeName above) + 0 = names_more above (RawEquation name ns p) in nametypes_within m (above ++ RawEquation name ns p ∷ []) ds (omega arith)
+    let more : length (names_of NametypeName (above ++ RawEquation name ns p ∷ [])) ≡ length (names_of NametypeName above) + 0 =
+    names_more above (RawEquation name ns p) in nametypes_within m (above ++ RawEquation name ns p ∷ []) ds (omega arith)
 nametypes_within m above (RawAssertion place model p q ∷ ds) le =
-    let more : length (names_of NametypeName (above ++ RawAssertion place model p q ∷ [])) ≡ length (names_of NametypeName above) + 0 = names_more above (RawAssertion place model p q) in nametypes_within m (above ++ RawAssertion place model p q ∷ []) ds (omega arith)
+    let more : length (names_of NametypeName (above ++ RawAssertion place model p q ∷ [])) ≡ length (names_of NametypeName above) + 0 =
+    names_more above (RawAssertion place model p q) in nametypes_within m (above ++ RawAssertion place model p q ∷ []) ds (omega arith)
 
 fields_within : (m : ℕ) (above : RawScript) (domains : List RawDomain) → length (names_of NametypeName above) ≤ m → Each (SetWithin m) (map (set_expression above) domains)
 fields_within m above [] le = tt
@@ -147,13 +158,17 @@ channels_within m above (RawChannels names domains ∷ ds) le =
     each_append (Each (SetWithin m)) (replicate (length names) (map (set_expression above) domains)) (behind_each channels_declared (above ++ RawChannels names domains ∷ []) ds)
     (copies_within m (map (set_expression above) domains) names (fields_within m above domains (omega arith))) (channels_within m (above ++ RawChannels names domains ∷ []) ds (omega arith))
 channels_within m above (RawNametype name domain ∷ ds) le =
-    let more : length (names_of NametypeName (above ++ RawNametype name domain ∷ [])) ≡ length (names_of NametypeName above) + 1 = names_more above (RawNametype name domain) in channels_within m (above ++ RawNametype name domain ∷ []) ds (omega arith)
+    let more : length (names_of NametypeName (above ++ RawNametype name domain ∷ [])) ≡ length (names_of NametypeName above) + 1 =
+    names_more above (RawNametype name domain) in channels_within m (above ++ RawNametype name domain ∷ []) ds (omega arith)
 channels_within m above (RawDatatype name cs ∷ ds) le =
-    let more : length (names_of NametypeName (above ++ RawDatatype name cs ∷ [])) ≡ length (names_of NametypeName above) + 0 = names_more above (RawDatatype name cs) in channels_within m (above ++ RawDatatype name cs ∷ []) ds (omega arith)
+    let more : length (names_of NametypeName (above ++ RawDatatype name cs ∷ [])) ≡ length (names_of NametypeName above) + 0 =
+    names_more above (RawDatatype name cs) in channels_within m (above ++ RawDatatype name cs ∷ []) ds (omega arith)
 channels_within m above (RawEquation name ns p ∷ ds) le =
-    let more : length (names_of NametypeName (above ++ RawEquation name ns p ∷ [])) ≡ length (names_of NametypeName above) + 0 = names_more above (RawEquation name ns p) in channels_within m (above ++ RawEquation name ns p ∷ []) ds (omega arith)
+    let more : length (names_of NametypeName (above ++ RawEquation name ns p ∷ [])) ≡ length (names_of NametypeName above) + 0 =
+    names_more above (RawEquation name ns p) in channels_within m (above ++ RawEquation name ns p ∷ []) ds (omega arith)
 channels_within m above (RawAssertion place model p q ∷ ds) le =
-    let more : length (names_of NametypeName (above ++ RawAssertion place model p q ∷ [])) ≡ length (names_of NametypeName above) + 0 = names_more above (RawAssertion place model p q) in channels_within m (above ++ RawAssertion place model p q ∷ []) ds (omega arith)
+    let more : length (names_of NametypeName (above ++ RawAssertion place model p q ∷ [])) ≡ length (names_of NametypeName above) + 0 =
+    names_more above (RawAssertion place model p q) in channels_within m (above ++ RawAssertion place model p q ∷ []) ds (omega arith)
 
 -- ---- the first kinds suffice
 
@@ -172,7 +187,8 @@ cut_kept types a b m cut (Some e) within k h = expression_moves types types (λ 
     agree (n ∷ ns) w = (λ j e. ap (λ z. slice_get z n) cut ∙ taken_front a.nametypes m n j w.0 e, agree ns w.1)
 
 -- the first of the sets, with the first of the kinds
-turn_front : {A : Type 0} {B : Type 0} (R S : A → B → Type 0) (P : A → Type 0) → ((x : A) → P x → (y : B) → R x y → S x y) → (xs more : List A) (ys : List B) → Each P xs → InTurn R (xs ++ more) ys → InTurn S xs (take (length xs) ys)
+turn_front : {A : Type 0} {B : Type 0} (R S : A → B → Type 0) (P : A → Type 0) → ((x : A) → P x → (y : B) → R x y → S x y) → (xs more : List A) (ys : List B) →
+    Each P xs → InTurn R (xs ++ more) ys → InTurn S xs (take (length xs) ys)
 turn_front R S P f [] more ys each h = tt
 turn_front R S P f (x ∷ xs) more (y ∷ ys) each h = (f x each.0 y h.0, turn_front R S P f xs more ys each.1 h.1)
 turn_front R S P f (x ∷ xs) more [] each h = absurd h
@@ -204,8 +220,10 @@ fit_above types above more fit = (cut, record { nametypes = nametypes; channels 
     channels : InTurn (InTurn (IsSetOf types cut)) (channel_sets above) (take (length (channel_sets above)) fit.0.channels)
     channels =
         let P : List (List (Option Expression)) → Type 0 = λ es. InTurn (InTurn (IsSetOf types fit.0)) es fit.0.channels in
-        turn_front (InTurn (IsSetOf types fit.0)) (InTurn (IsSetOf types cut)) (Each (SetWithin (length (nametype_sets above)))) (λ es within ks h. turn_same (IsSetOf types fit.0) (IsSetOf types cut) (SetWithin (length (nametype_sets above))) kept es ks within h)
-        (channel_sets above) (behind_each channels_declared ([] ++ above) more) fit.0.channels (channels_within (length (nametype_sets above)) [] above enough) (subst P (behind-append channels_declared [] above more) fit.1.channels)
+        turn_front (InTurn (IsSetOf types fit.0)) (InTurn (IsSetOf types cut)) (Each (SetWithin (length (nametype_sets above))))
+        (λ es within ks h. turn_same (IsSetOf types fit.0) (IsSetOf types cut) (SetWithin (length (nametype_sets above))) kept es ks within h)
+        (channel_sets above) (behind_each channels_declared ([] ++ above) more) fit.0.channels (channels_within (length (nametype_sets above)) [] above enough)
+        (subst P (behind-append channels_declared [] above more) fit.1.channels)
 
 -- ---- within a declaration of channels
 
@@ -220,21 +238,24 @@ turn_take R [] ys ks h = tt
 turn_take R (x ∷ xs) ys (k ∷ ks) h = (h.0, turn_take R xs ys ks h.1)
 turn_take R (x ∷ xs) ys [] h = absurd h
 
-turn_copies : {A : Type 0} (R : A → Kind → Type 0) (xs ys : List A) (names : List RawName) (kss : List (List Kind)) → InTurn (InTurn R) (replicate (length names) (xs ++ ys)) kss → InTurn (InTurn R) (replicate (length names) xs) (cut_after 0 (length xs) kss)
+turn_copies : {A : Type 0} (R : A → Kind → Type 0) (xs ys : List A) (names : List RawName) (kss : List (List Kind)) →
+    InTurn (InTurn R) (replicate (length names) (xs ++ ys)) kss → InTurn (InTurn R) (replicate (length names) xs) (cut_after 0 (length xs) kss)
 unfolding cut_after
 turn_copies R xs ys [] [] h = tt
 turn_copies R xs ys [] (ks ∷ kss) h = absurd h
 turn_copies R xs ys (n ∷ ns) [] h = absurd h
 turn_copies R xs ys (n ∷ ns) (ks ∷ kss) h = (turn_take R xs ys ks h.0, turn_copies R xs ys ns kss h.1)
 
-turn_cut : {A : Type 0} (R : A → Kind → Type 0) (front : List (List A)) (xs ys : List A) (names : List RawName) (kss : List (List Kind)) → InTurn (InTurn R) (front ++ replicate (length names) (xs ++ ys)) kss →
+turn_cut : {A : Type 0} (R : A → Kind → Type 0) (front : List (List A)) (xs ys : List A) (names : List RawName) (kss : List (List Kind)) →
+    InTurn (InTurn R) (front ++ replicate (length names) (xs ++ ys)) kss →
     InTurn (InTurn R) (front ++ replicate (length names) xs) (cut_after (length front) (length xs) kss)
 unfolding cut_after
 turn_cut R [] xs ys names kss h = turn_copies R xs ys names kss h
 turn_cut R (f ∷ front) xs ys names [] h = absurd h
 turn_cut R (f ∷ front) xs ys names (ks ∷ kss) h = (h.0, turn_cut R front xs ys names kss h.1)
 
-pub fit_fewer : (types : Types) (above : RawScript) (names : List RawName) (ds more : List RawDomain) → SomeFit types (above ++ RawChannels names (ds ++ more) ∷ []) → SomeFit types (above ++ RawChannels names ds ∷ [])
+pub fit_fewer : (types : Types) (above : RawScript) (names : List RawName) (ds more : List RawDomain) →
+    SomeFit types (above ++ RawChannels names (ds ++ more) ∷ []) → SomeFit types (above ++ RawChannels names ds ∷ [])
 fit_fewer types above names ds more fit = (cut, record { nametypes = nametypes; channels = channels })
   where
     cut : Kinds
@@ -252,11 +273,15 @@ fit_fewer types above names ds more fit = (cut, record { nametypes = nametypes; 
     before : InTurn (InTurn (IsSetOf types fit.0)) (channel_sets above ++ replicate (length names) (map (set_expression above) ds ++ map (set_expression above) more)) fit.0.channels
     before =
         let P : List (List (Option Expression)) → Type 0 = λ es. InTurn (InTurn (IsSetOf types fit.0)) es fit.0.channels in
-        subst P (behind_one_more channels_declared above (RawChannels names (ds ++ more)) ∙ ap (λ z. channel_sets above ++ replicate (length names) z) (map-append (set_expression above) ds more)) fit.1.channels
+        subst P (behind_one_more channels_declared above (RawChannels names (ds ++ more))
+        ∙ ap (λ z. channel_sets above ++ replicate (length names) z) (map-append (set_expression above) ds more)) fit.1.channels
 
     channels : InTurn (InTurn (IsSetOf types cut)) (channel_sets (above ++ RawChannels names ds ∷ [])) (cut_after (length (channel_sets above)) (length (map (set_expression above) ds)) fit.0.channels)
     channels =
-        let P : List (List (Option Expression)) → Type 0 = λ es. InTurn (InTurn (IsSetOf types cut)) es (cut_after (length (channel_sets above)) (length (map (set_expression above) ds)) fit.0.channels) in
+        let P : List (List (Option Expression)) → Type 0 =
+        λ es. InTurn (InTurn (IsSetOf types cut)) es (cut_after (length (channel_sets above)) (length (map (set_expression above) ds)) fit.0.channels) in
         subst P (sym (behind_one_more channels_declared above (RawChannels names ds)))
-        (turn_map (InTurn (IsSetOf types fit.0)) (InTurn (IsSetOf types cut)) kept (channel_sets above ++ replicate (length names) (map (set_expression above) ds)) (cut_after (length (channel_sets above)) (length (map (set_expression above) ds)) fit.0.channels)
+        (turn_map (InTurn (IsSetOf types fit.0)) (InTurn (IsSetOf types cut)) kept
+        (channel_sets above ++ replicate (length names) (map (set_expression above) ds))
+        (cut_after (length (channel_sets above)) (length (map (set_expression above) ds)) fit.0.channels)
         (turn_cut (IsSetOf types fit.0) (channel_sets above) (map (set_expression above) ds) (map (set_expression above) more) names fit.0.channels before))

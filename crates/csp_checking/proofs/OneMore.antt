@@ -35,7 +35,9 @@ in_more_parameters env (m ∷ ms) ns = ap (λ xs. Parameter env m ∷ xs) (in_mo
 
 pub in_more_fields : (env : Environment) (fs gs : List RawField) → in_fields env (fs ++ gs) ≡ in_fields env fs ++ in_fields (binding env (bound_by_fields fs)) gs
 in_more_fields env [] gs = refl
-in_more_fields env (RawGiven e ∷ fs) gs = ap (λ xs. in_expression env e ++ xs) (in_more_fields env fs gs) ∙ sym (append_assoc (in_expression env e) (in_fields env fs) (in_fields (binding env (bound_by_fields fs)) gs))
+in_more_fields env (RawGiven e ∷ fs) gs =
+    ap (λ xs. in_expression env e ++ xs) (in_more_fields env fs gs)
+    ∙ sym (append_assoc (in_expression env e) (in_fields env fs) (in_fields (binding env (bound_by_fields fs)) gs))
 in_more_fields env (RawInput n ∷ fs) gs = ap (λ xs. BoundThere env n ∷ xs) (in_more_fields (binding env (n ∷ [])) fs gs)
 in_more_fields env (RawInputFrom n e ∷ fs) gs =
     ap (λ xs. BoundThere env n ∷ xs) (ap (λ xs. in_expression env e ++ xs) (in_more_fields (binding env (n ∷ [])) fs gs)
@@ -48,15 +50,19 @@ in_more_heads raw so_far c (m ∷ ms) ns =
     ap (λ xs. ChannelHead m (types_of raw) so_far (take c (channel_members raw)) (unwrap_or (slice_get (channel_members raw) c) None) ∷ xs)
     (in_more_heads raw so_far (suc c) ms ns ∙ ap (λ k. in_heads raw so_far (suc c) ms ++ in_heads raw so_far k ns) e)
 
-pub in_more_field_sets : (raw above : RawScript) (names : List RawName) (before ds es : List RawDomain) → in_field_sets raw above names before (ds ++ es) ≡ in_field_sets raw above names before ds ++ in_field_sets raw above names (before ++ ds) es
+pub in_more_field_sets : (raw above : RawScript) (names : List RawName) (before ds es : List RawDomain) →
+    in_field_sets raw above names before (ds ++ es) ≡ in_field_sets raw above names before ds ++ in_field_sets raw above names (before ++ ds) es
 in_more_field_sets raw above names before [] es = ap (λ zs. in_field_sets raw above names zs es) (sym (append-nil before))
 in_more_field_sets raw above names before (d ∷ ds) es =
     ap (λ xs. FieldSet d.place (types_of raw) (above ++ RawChannels names (before ++ d ∷ []) ∷ []) (set_expression above d) (field_members raw (set_expression above d)) ∷ xs)
-    (ap (λ xs. in_expression (environment_above above) d.set ++ xs) (in_more_field_sets raw above names (before ++ d ∷ []) ds es ∙ ap (λ zs. in_field_sets raw above names (before ++ d ∷ []) ds ++ in_field_sets raw above names zs es) (append_assoc before (d ∷ []) ds))
+    (ap (λ xs. in_expression (environment_above above) d.set ++ xs)
+    (in_more_field_sets raw above names (before ++ d ∷ []) ds es
+    ∙ ap (λ zs. in_field_sets raw above names (before ++ d ∷ []) ds ++ in_field_sets raw above names zs es) (append_assoc before (d ∷ []) ds))
     ∙ sym (append_assoc (in_expression (environment_above above) d.set) (in_field_sets raw above names (before ++ d ∷ []) ds) (in_field_sets raw above names (before ++ (d ∷ ds)) es)))
 
 -- a pair of two bare channels, and any other pair
-pub in_bare_pair : (env : Environment) (r : RawPair) → has_no_fields r.from ≡ true → has_no_fields r.to ≡ true → in_pair env r ≡ Used env (AsBareLeft r.to.channel) r.from.channel ∷ Used env (AsBareRight r.from.channel) r.to.channel ∷ []
+pub in_bare_pair : (env : Environment) (r : RawPair) → has_no_fields r.from ≡ true → has_no_fields r.to ≡ true →
+    in_pair env r ≡ Used env (AsBareLeft r.to.channel) r.from.channel ∷ Used env (AsBareRight r.from.channel) r.to.channel ∷ []
 in_bare_pair env r e f =
     ap (λ b. cond b (Used env (AsBareLeft r.to.channel) r.from.channel ∷ Used env (AsBareRight r.from.channel) r.to.channel ∷ []) (in_event env r.from ++ in_event env r.to))
     (ap (λ a. a && has_no_fields r.to) e ∙ ap (λ b. true && b) f)
@@ -90,7 +96,8 @@ every_more {A} {B} f (x ∷ xs) ys = go (f x) (every_more f xs ys)
 pub every_one_more : {A B : Type 0} (f : A → Option B) (xs : List A) (x : A) (ys : List B) (y : B) → every f xs ≡ Some ys → f x ≡ Some y → every f (xs ++ x ∷ []) ≡ Some (ys ++ y ∷ [])
 every_one_more f xs x ys y e h = every_more f xs (x ∷ []) ∙ rw (e, h) refl
 
-pub fields_of_more : (env : Environment) (fs gs : List RawField) (xs ys : List Field) → fields_of env fs ≡ Some xs → fields_of (binding env (bound_by_fields fs)) gs ≡ Some ys → fields_of env (fs ++ gs) ≡ Some (xs ++ ys)
+pub fields_of_more : (env : Environment) (fs gs : List RawField) (xs ys : List Field) → fields_of env fs ≡ Some xs →
+    fields_of (binding env (bound_by_fields fs)) gs ≡ Some ys → fields_of env (fs ++ gs) ≡ Some (xs ++ ys)
 fields_of_more env [] gs xs ys e h = let is : [] ≡ xs = cc e in h ∙ ap (λ zs. Some (zs ++ ys)) is
 fields_of_more env (RawGiven v ∷ fs) gs xs ys e h = go (expression_of env v) (fields_of env fs) (λ zs f. fields_of_more env fs gs zs ys f h) e
   where
@@ -101,14 +108,18 @@ fields_of_more env (RawGiven v ∷ fs) gs xs ys e h = go (expression_of env v) (
     go None p rest f = absurd (cc f)
 fields_of_more env (RawInput n ∷ fs) gs xs ys e h = go (bound_number env n) (fields_of (binding env (n ∷ [])) fs) (λ zs f. fields_of_more (binding env (n ∷ [])) fs gs zs ys f h) e
   where
-    go : (o : Option ℕ) (p : Option (List Field)) → ((zs : List Field) → p ≡ Some zs → fields_of (binding env (n ∷ [])) (fs ++ gs) ≡ Some (zs ++ ys)) → of_two (λ w rest. Input w ∷ rest) o p ≡ Some xs →
+    go : (o : Option ℕ) (p : Option (List Field)) → ((zs : List Field) → p ≡ Some zs → fields_of (binding env (n ∷ [])) (fs ++ gs) ≡ Some (zs ++ ys)) →
+        of_two (λ w rest. Input w ∷ rest) o p ≡ Some xs →
         of_two (λ w rest. Input w ∷ rest) o (fields_of (binding env (n ∷ [])) (fs ++ gs)) ≡ Some (xs ++ ys)
     go (Some w) (Some zs) rest f = let is : Input w ∷ zs ≡ xs = cc f in ap (of_two (λ u more. Input u ∷ more) (Some w)) (rest zs refl) ∙ ap (λ us. Some (us ++ ys)) is
     go (Some w) None rest f = absurd (cc f)
     go None p rest f = absurd (cc f)
-fields_of_more env (RawInputFrom n v ∷ fs) gs xs ys e h = go (bound_number env n) (expression_of env v) (fields_of (binding env (n ∷ [])) fs) (λ zs f. fields_of_more (binding env (n ∷ [])) fs gs zs ys f h) e
+fields_of_more env (RawInputFrom n v ∷ fs) gs xs ys e h =
+    go (bound_number env n) (expression_of env v) (fields_of (binding env (n ∷ [])) fs) (λ zs f. fields_of_more (binding env (n ∷ [])) fs gs zs ys f h) e
   where
-    go : (o : Option ℕ) (s : Option Expression) (p : Option (List Field)) → ((zs : List Field) → p ≡ Some zs → fields_of (binding env (n ∷ [])) (fs ++ gs) ≡ Some (zs ++ ys)) → of_three (λ w t rest. InputFrom w t ∷ rest) o s p ≡ Some xs →
+    go : (o : Option ℕ) (s : Option Expression) (p : Option (List Field)) →
+        ((zs : List Field) → p ≡ Some zs → fields_of (binding env (n ∷ [])) (fs ++ gs) ≡ Some (zs ++ ys)) →
+        of_three (λ w t rest. InputFrom w t ∷ rest) o s p ≡ Some xs →
         of_three (λ w t rest. InputFrom w t ∷ rest) o s (fields_of (binding env (n ∷ [])) (fs ++ gs)) ≡ Some (xs ++ ys)
     go (Some w) (Some t) (Some zs) rest f = let is : InputFrom w t ∷ zs ≡ xs = cc f in ap (of_three (λ u r more. InputFrom u r ∷ more) (Some w) (Some t)) (rest zs refl) ∙ ap (λ us. Some (us ++ ys)) is
     go (Some w) (Some t) None rest f = absurd (cc f)

@@ -142,16 +142,19 @@ mutual
   expression_there env (RawUse n) fine = expression_named env n fine.0
   expression_there env (RawApply op e) fine = there_map _ (expression_of env e) (expression_there env e fine)
   expression_there env (RawCombine op e f) fine =
-      there_two _ (expression_of env e) (expression_of env f) (expression_there env e (fine_left (in_expression env e) (in_expression env f) fine)) (expression_there env f (fine_right (in_expression env e) (in_expression env f) fine))
+      there_two _ (expression_of env e) (expression_of env f) (expression_there env e (fine_left (in_expression env e) (in_expression env f) fine))
+      (expression_there env f (fine_right (in_expression env e) (in_expression env f) fine))
   expression_there env (RawSequence es) fine = there_map _ (expressions_of env es) (expressions_there env es fine)
   expression_there env (RawSet es) fine = there_map _ (expressions_of env es) (expressions_there env es fine)
   expression_there env (RawRange e f) fine =
-      there_two _ (expression_of env e) (expression_of env f) (expression_there env e (fine_left (in_expression env e) (in_expression env f) fine)) (expression_there env f (fine_right (in_expression env e) (in_expression env f) fine))
+      there_two _ (expression_of env e) (expression_of env f) (expression_there env e (fine_left (in_expression env e) (in_expression env f) fine))
+      (expression_there env f (fine_right (in_expression env e) (in_expression env f) fine))
 
   pub expressions_there : (env : Environment) (es : RawExpressions) → AllFine (in_expressions env es) → IsThere (expressions_of env es)
   expressions_there env no_raw_expressions fine = (_, refl)
   expressions_there env (raw_expression_and e es) fine =
-      there_two _ (expression_of env e) (expressions_of env es) (expression_there env e (fine_left (in_expression env e) (in_expressions env es) fine)) (expressions_there env es (fine_right (in_expression env e) (in_expressions env es) fine))
+      there_two _ (expression_of env e) (expressions_of env es) (expression_there env e (fine_left (in_expression env e) (in_expressions env es) fine))
+      (expressions_there env es (fine_right (in_expression env e) (in_expressions env es) fine))
 
 -- ---- events
 
@@ -171,11 +174,14 @@ pub event_set_there : (env : Environment) (a : RawEventSet) → AllFine (in_even
 event_set_there env (RawEnumeration es) fine = there_map _ (every (event_of env) es) (every_there (event_of env) (in_event env) (event_there env) es fine)
 event_set_there env (RawProductions es) fine = there_map _ (every (event_of env) es) (every_there (event_of env) (in_production env) (production_there env) es fine)
 event_set_there env (RawEventUnion a b) fine =
-    there_two _ (event_set_of env a) (event_set_of env b) (event_set_there env a (fine_left (in_event_set env a) (in_event_set env b) fine)) (event_set_there env b (fine_right (in_event_set env a) (in_event_set env b) fine))
+    there_two _ (event_set_of env a) (event_set_of env b) (event_set_there env a (fine_left (in_event_set env a) (in_event_set env b) fine))
+    (event_set_there env b (fine_right (in_event_set env a) (in_event_set env b) fine))
 event_set_there env (RawEventIntersection a b) fine =
-    there_two _ (event_set_of env a) (event_set_of env b) (event_set_there env a (fine_left (in_event_set env a) (in_event_set env b) fine)) (event_set_there env b (fine_right (in_event_set env a) (in_event_set env b) fine))
+    there_two _ (event_set_of env a) (event_set_of env b) (event_set_there env a (fine_left (in_event_set env a) (in_event_set env b) fine))
+    (event_set_there env b (fine_right (in_event_set env a) (in_event_set env b) fine))
 event_set_there env (RawEventDifference a b) fine =
-    there_two _ (event_set_of env a) (event_set_of env b) (event_set_there env a (fine_left (in_event_set env a) (in_event_set env b) fine)) (event_set_there env b (fine_right (in_event_set env a) (in_event_set env b) fine))
+    there_two _ (event_set_of env a) (event_set_of env b) (event_set_there env a (fine_left (in_event_set env a) (in_event_set env b) fine))
+    (event_set_there env b (fine_right (in_event_set env a) (in_event_set env b) fine))
 
 -- a bare event has its channel alone
 bare_there : (env : Environment) (e : RawEvent) → has_no_fields e ≡ true → IsThere (as_channel (meaning env e.channel)) → IsThere (event_of env e)
@@ -195,7 +201,8 @@ pair_there env r fine = go (has_no_fields r.from) (has_no_fields r.to) refl refl
     whole = in_event env r.from ++ in_event env r.to
 
     two : AllFine whole → IsThere (pair_of env r)
-    two h = there_two _ (event_of env r.from) (event_of env r.to) (event_there env r.from (fine_left (in_event env r.from) (in_event env r.to) h)) (event_there env r.to (fine_right (in_event env r.from) (in_event env r.to) h))
+    two h = there_two _ (event_of env r.from) (event_of env r.to) (event_there env r.from (fine_left (in_event env r.from) (in_event env r.to) h))
+        (event_there env r.to (fine_right (in_event env r.from) (in_event env r.to) h))
 
     at : (b : Bool) → (b ≡ (has_no_fields r.from && has_no_fields r.to)) → AllFine (cond b bare whole)
     at b e = let P : Bool → Type 0 = λ x. AllFine (cond x bare whole) in subst P (sym e) fine
@@ -203,7 +210,8 @@ pair_there env r fine = go (has_no_fields r.from) (has_no_fields r.to) refl refl
     go : (b c : Bool) → has_no_fields r.from ≡ b → has_no_fields r.to ≡ c → IsThere (pair_of env r)
     go true true e f =
         let h : AllFine bare = at true (rw (e, f) refl) in
-        there_two _ (event_of env r.from) (event_of env r.to) (bare_there env r.from e (channel_named env (AsBareLeft r.to.channel) r.from.channel tt h.0)) (bare_there env r.to f (channel_named env (AsBareRight r.from.channel) r.to.channel tt h.1.0))
+        there_two _ (event_of env r.from) (event_of env r.to) (bare_there env r.from e (channel_named env (AsBareLeft r.to.channel) r.from.channel tt h.0))
+        (bare_there env r.to f (channel_named env (AsBareRight r.from.channel) r.to.channel tt h.1.0))
     go true false e f = two (at false (rw (e, f) refl))
     go false c e f = two (at false (rw e refl))
 
@@ -224,7 +232,8 @@ same_table env (n ∷ ns) = same_table (record { declarations = env.declarations
 pub fields_there : (env : Environment) (fs : List RawField) → AllFine (in_fields env fs) → AreNumbered env.numbered (bound_by_fields fs) → IsThere (fields_of env fs)
 fields_there env [] fine numbered = (_, refl)
 fields_there env (RawGiven e ∷ fs) fine numbered =
-    there_two _ (expression_of env e) (fields_of env fs) (expression_there env e (fine_left (in_expression env e) (in_fields env fs) fine)) (fields_there env fs (fine_right (in_expression env e) (in_fields env fs) fine) numbered)
+    there_two _ (expression_of env e) (fields_of env fs) (expression_there env e (fine_left (in_expression env e) (in_fields env fs) fine))
+    (fields_there env fs (fine_right (in_expression env e) (in_fields env fs) fine) numbered)
 fields_there env (RawInput n ∷ fs) fine numbered =
     there_two _ (bound_number env n) (fields_of (binding env (n ∷ [])) fs) numbered.0 (fields_there (binding env (n ∷ [])) fs fine.1 numbered.1)
 fields_there env (RawInputFrom n e ∷ fs) fine numbered =
@@ -251,7 +260,8 @@ process_there env (RawPrefix c fs p) fine numbered =
     (process_there (binding env (bound_by_fields fs)) p (fine_right (in_fields env fs) (in_process (binding env (bound_by_fields fs)) p) fine.1)
     (subst P (sym (same_table env (bound_by_fields fs))) (numbered_right env.numbered (bound_by_fields fs) (bound_in p) numbered)))
 process_there env (RawGuard e p) fine numbered =
-    there_two _ (expression_of env e) (process_of env p) (expression_there env e (fine_left (in_expression env e) (in_process env p) fine)) (process_there env p (fine_right (in_expression env e) (in_process env p) fine) numbered)
+    there_two _ (expression_of env e) (process_of env p) (expression_there env e (fine_left (in_expression env e) (in_process env p) fine))
+    (process_there env p (fine_right (in_expression env e) (in_process env p) fine) numbered)
 process_there env (RawIf e p q) fine numbered =
     let first = fine_left (in_expression env e ++ in_process env p) (in_process env q) fine in
     there_three _ (expression_of env e) (process_of env p) (process_of env q) (expression_there env e (fine_left (in_expression env e) (in_process env p) first))
@@ -276,7 +286,8 @@ process_there env (RawAlphabetisedParallel p a b q) fine numbered =
     (event_set_there env b (fine_right (in_process env p ++ in_event_set env a) (in_event_set env b) three))
     (process_there env q (fine_right (in_process env p ++ in_event_set env a ++ in_event_set env b) (in_process env q) fine) (numbered_right env.numbered (bound_in p) (bound_in q) numbered))
 process_there env (RawHiding p a) fine numbered =
-    there_two _ (process_of env p) (event_set_of env a) (process_there env p (fine_left (in_process env p) (in_event_set env a) fine) numbered) (event_set_there env a (fine_right (in_process env p) (in_event_set env a) fine))
+    there_two _ (process_of env p) (event_set_of env a) (process_there env p (fine_left (in_process env p) (in_event_set env a) fine) numbered)
+    (event_set_there env a (fine_right (in_process env p) (in_event_set env a) fine))
 process_there env (RawRenaming p rs) fine numbered =
     there_two _ (process_of env p) (every (pair_of env) rs) (process_there env p (fine_left (in_process env p) (flat_map (in_pair env) rs) fine) numbered)
     (every_there (pair_of env) (in_pair env) (pair_there env) rs (fine_right (in_process env p) (flat_map (in_pair env) rs) fine))
@@ -287,13 +298,16 @@ process_there env (RawReplicated op n e p) fine numbered =
 
 -- ---- equations and assertions
 
-pub equation_there : (env : Environment) (ns : List RawName) (p : RawProcess) → AllFine (in_parameters env ns ++ in_process (binding env ns) p) → AreNumbered env.numbered (ns ++ bound_in p) → IsThere (equation_of env ns p)
+pub equation_there : (env : Environment) (ns : List RawName) (p : RawProcess) → AllFine (in_parameters env ns ++ in_process (binding env ns) p) →
+    AreNumbered env.numbered (ns ++ bound_in p) → IsThere (equation_of env ns p)
 equation_there env ns p fine numbered =
     let P : List (List ℕ) → Type 0 = λ table. AreNumbered table (bound_in p) in
     there_two _ (every (bound_number env) ns) (process_of (binding env ns) p) (parameters_there env ns (numbered_left env.numbered ns (bound_in p) numbered))
-    (process_there (binding env ns) p (fine_right (in_parameters env ns) (in_process (binding env ns) p) fine) (subst P (sym (same_table env ns)) (numbered_right env.numbered ns (bound_in p) numbered)))
+    (process_there (binding env ns) p (fine_right (in_parameters env ns) (in_process (binding env ns) p) fine)
+    (subst P (sym (same_table env ns)) (numbered_right env.numbered ns (bound_in p) numbered)))
 
-pub assertion_there : (env : Environment) (m : Model) (p q : RawProcess) → AllFine (in_process env p ++ in_process env q) → AreNumbered env.numbered (bound_in p ++ bound_in q) → IsThere (assertion_of env m p q)
+pub assertion_there : (env : Environment) (m : Model) (p q : RawProcess) → AllFine (in_process env p ++ in_process env q) →
+    AreNumbered env.numbered (bound_in p ++ bound_in q) → IsThere (assertion_of env m p q)
 assertion_there env m p q fine numbered =
     there_two _ (process_of env p) (process_of env q)
     (process_there env p (fine_left (in_process env p) (in_process env q) fine) (numbered_left env.numbered (bound_in p) (bound_in q) numbered))
@@ -320,7 +334,8 @@ still_there (r ∷ ss) s t h = go (λ k. still_there ss s t k) (bytes_eq r s) h
     there (Some n) k = (n, refl)
     there None k = absurd (let e = k.1 in cc e)
 
-    go : (IsThere (number_in ss s) → IsThere (number_in (ss ++ t ∷ []) s)) → (b : Bool) → IsThere (cond b (Some 0) (option_map suc (number_in ss s))) → IsThere (cond b (Some 0) (option_map suc (number_in (ss ++ t ∷ []) s)))
+    go : (IsThere (number_in ss s) → IsThere (number_in (ss ++ t ∷ []) s)) → (b : Bool) → IsThere (cond b (Some 0) (option_map suc (number_in ss s))) →
+        IsThere (cond b (Some 0) (option_map suc (number_in (ss ++ t ∷ []) s)))
     go rest true k = (0, refl)
     go rest false k = there_map suc (number_in (ss ++ t ∷ []) s) (rest (there (number_in ss s) k))
 

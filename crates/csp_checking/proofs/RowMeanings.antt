@@ -61,7 +61,8 @@ of_numbered class c n [] = go (same_class class c)
     go false = refl
 of_numbered class c n (x ∷ xs) = go (same_class class c) (of_numbered class c (suc n) xs)
   where
-    go : (b : Bool) → of_class class (numbered_rows c (suc n) xs) ≡ cond b (spellings xs) [] → cond b (x.spelling ∷ of_class class (numbered_rows c (suc n) xs)) (of_class class (numbered_rows c (suc n) xs)) ≡ cond b (spellings (x ∷ xs)) []
+    go : (b : Bool) → of_class class (numbered_rows c (suc n) xs) ≡ cond b (spellings xs) [] →
+        cond b (x.spelling ∷ of_class class (numbered_rows c (suc n) xs)) (of_class class (numbered_rows c (suc n) xs)) ≡ cond b (spellings (x ∷ xs)) []
     go true e = ap (λ ss. x.spelling ∷ ss) e
     go false e = e
 
@@ -136,7 +137,10 @@ declared_counted above (RawDatatype name cs) =
     let head : Row = (name.spelling, Declared DatatypeName (length (names_of DatatypeName above))) in (
       class_count DatatypeName above,
       numbered_counted ConstructorName (length (names_of ConstructorName above)) cs (declared_rows above ++ (name.spelling, Declared DatatypeName (length (names_of DatatypeName above))) ∷ [])
-          (class_count ConstructorName above ∙ sym (ap length (of_class_append ConstructorName (declared_rows above) ((name.spelling, Declared DatatypeName (length (names_of DatatypeName above))) ∷ []) ∙ append-nil (of_class ConstructorName (declared_rows above))))),
+          (class_count ConstructorName above
+          ∙ sym (ap length (of_class_append ConstructorName (declared_rows above)
+          ((name.spelling, Declared DatatypeName (length (names_of DatatypeName above))) ∷ [])
+          ∙ append-nil (of_class ConstructorName (declared_rows above))))),
     )
 declared_counted above (RawNametype name domain) = (class_count NametypeName above, tt)
 declared_counted above (RawChannels names domains) = numbered_counted ChannelName (length (names_of ChannelName above)) names (declared_rows above) (class_count ChannelName above)
@@ -154,7 +158,8 @@ behind_counted above (d ∷ ds) =
 -- a meaning by the number in each class
 abbrev means_by : (Class → Option ℕ) → Option Meaning
 means_by g =
-    option_or (option_map (Declared DatatypeName) (g DatatypeName)) (option_or (option_map (Declared ConstructorName) (g ConstructorName)) (option_or (option_map (Declared NametypeName) (g NametypeName))
+    option_or (option_map (Declared DatatypeName) (g DatatypeName))
+    (option_or (option_map (Declared ConstructorName) (g ConstructorName)) (option_or (option_map (Declared NametypeName) (g NametypeName))
     (option_or (option_map (Declared ChannelName) (g ChannelName)) (option_map (Declared EquationName) (g EquationName)))))
 
 means_same : (g h : Class → Option ℕ) → ((c : Class) → g c ≡ h c) → means_by g ≡ means_by h
@@ -183,7 +188,8 @@ none_of_class class (r ∷ rows) s e = go (bytes_eq r.0 s) (number_in (row_spell
         pick true = rw (differ, none) refl
         pick false = none
 
-    go : (b : Bool) (o : Option ℕ) → bytes_eq r.0 s ≡ b → (o ≡ None → number_in (of_class class rows) s ≡ None) → cond b (Some 0) (option_map suc o) ≡ None → number_in (chosen class r.1 r.0 (of_class class rows)) s ≡ None
+    go : (b : Bool) (o : Option ℕ) → bytes_eq r.0 s ≡ b → (o ≡ None → number_in (of_class class rows) s ≡ None) → cond b (Some 0) (option_map suc o) ≡ None →
+        number_in (chosen class r.1 r.0 (of_class class rows)) s ≡ None
     go true o differ rest i = absurd (cc i)
     go false (Some k) differ rest i = absurd (cc i)
     go false None differ rest i = by r.1 differ (rest refl)
@@ -215,15 +221,20 @@ row_says before (r ∷ rows) s counted once absent = go (bytes_eq r.0 s) refl (�
             ∙ ap Some e
 
         other : (c : Class) → same_class c d ≡ false → number_in (of_class c before ++ cond (same_class c d) (r.0 ∷ of_class c rows) (of_class c rows)) s ≡ None
-        other c unlike = ap (λ b. number_in (of_class c before ++ cond b (r.0 ∷ of_class c rows) (of_class c rows)) s) unlike ∙ none_in_append (of_class c before) (of_class c rows) s (absent c) (none c)
+        other c unlike = ap (λ b. number_in (of_class c before ++ cond b (r.0 ∷ of_class c rows) (of_class c rows)) s) unlike
+            ∙ none_in_append (of_class c before) (of_class c rows) s (absent c) (none c)
 
     still : bytes_eq r.0 s ≡ false → (c : Class) → number_in (of_class c (before ++ r ∷ [])) s ≡ None
-    still differ c = ap (λ zs. number_in zs s) (of_class_append c before (r ∷ [])) ∙ none_in_append (of_class c before) (of_class c (r ∷ [])) s (absent c) (none_of_class c (r ∷ []) s (none_in_one r.0 s differ))
+    still differ c = ap (λ zs. number_in zs s) (of_class_append c before (r ∷ []))
+        ∙ none_in_append (of_class c before) (of_class c (r ∷ [])) s (absent c) (none_of_class c (r ∷ []) s (none_in_one r.0 s differ))
 
-    go : (b : Bool) → bytes_eq r.0 s ≡ b → (((c : Class) → number_in (of_class c (before ++ r ∷ [])) s ≡ None) → means_by (λ c. number_in (of_class c ((before ++ r ∷ []) ++ rows)) s) ≡ meaning_in rows s) →
+    go : (b : Bool) → bytes_eq r.0 s ≡ b →
+        (((c : Class) → number_in (of_class c (before ++ r ∷ [])) s ≡ None) →
+        means_by (λ c. number_in (of_class c ((before ++ r ∷ []) ++ rows)) s) ≡ meaning_in rows s) →
         means_by (λ c. number_in (of_class c (before ++ r ∷ rows)) s) ≡ cond b (Some r.1) (meaning_in rows s)
     go true same rest =
-        means_same (λ c. number_in (of_class c (before ++ r ∷ rows)) s) (λ c. number_in (of_class c before ++ chosen c r.1 r.0 (of_class c rows)) s) (λ c. ap (λ zs. number_in zs s) (at c)) ∙ said r.1 same counted.0
+        means_same (λ c. number_in (of_class c (before ++ r ∷ rows)) s) (λ c. number_in (of_class c before ++ chosen c r.1 r.0 (of_class c rows)) s)
+        (λ c. ap (λ zs. number_in zs s) (at c)) ∙ said r.1 same counted.0
     go false differ rest = ap (λ zs. means_by (λ c. number_in (of_class c zs) s)) (sym (append_assoc before (r ∷ []) rows)) ∙ rest (still differ)
 
 -- What a declared name means is what its row says.
@@ -233,20 +244,24 @@ meaning_is_row raw s none =
     ∙ row_says [] (declared_rows raw) s (behind_counted [] raw) (rows_once raw none) (λ c. refl)
 
 -- For the declarations above it is what the first rows say.
-pub meaning_above_is_row : (raw above more : RawScript) (s : List ℕ) → NoneRefused IsRedeclared (all_declared raw) → raw ≡ above ++ more → declared_meaning above s ≡ meaning_in (take (length (all_declared above)) (declared_rows raw)) s
+pub meaning_above_is_row : (raw above more : RawScript) (s : List ℕ) → NoneRefused IsRedeclared (all_declared raw) → raw ≡ above ++ more →
+    declared_meaning above s ≡ meaning_in (take (length (all_declared above)) (declared_rows raw)) s
 meaning_above_is_row raw above more s none is =
     let P : RawScript → Type 0 = λ ds. NoneRefused IsRedeclared (all_declared ds) in
-    meaning_is_row above s (none_redeclared_above above more (subst P is none)) ∙ ap (λ rows. meaning_in rows s) (sym (first_rows above more) ∙ ap (λ ds. take (length (all_declared above)) (declared_rows ds)) (sym is))
+    meaning_is_row above s (none_redeclared_above above more (subst P is none))
+    ∙ ap (λ rows. meaning_in rows s) (sym (first_rows above more) ∙ ap (λ ds. take (length (all_declared above)) (declared_rows ds)) (sym is))
 
 -- A spelling that is nowhere declared has no meaning as a declared one.
 pub undeclared_means_nothing : (raw : RawScript) (s : List ℕ) → number_in (spellings (all_declared raw)) s ≡ None → declared_meaning raw s ≡ None
 undeclared_means_nothing raw s e =
-    means_none (λ c. number_in (names_of c raw) s) (λ c. ap (λ zs. number_in zs s) (sym (of_rows c raw)) ∙ none_of_class c (declared_rows raw) s (ap (λ zs. number_in zs s) (rows_have_spellings raw) ∙ e))
+    means_none (λ c. number_in (names_of c raw) s)
+    (λ c. ap (λ zs. number_in zs s) (sym (of_rows c raw)) ∙ none_of_class c (declared_rows raw) s (ap (λ zs. number_in zs s) (rows_have_spellings raw) ∙ e))
 
 -- ---- where a row stands
 
 -- what the first n rows say of a spelling, by the place of its first row
-pub meaning_by_place : (rows : List Row) (n : ℕ) (s : List ℕ) → meaning_in (take n rows) s ≡ option_and_then (λ i. cond (nat_lt i n) (option_map (λ r. r.1) (slice_get rows i)) None) (number_in (row_spellings rows) s)
+pub meaning_by_place : (rows : List Row) (n : ℕ) (s : List ℕ) →
+    meaning_in (take n rows) s ≡ option_and_then (λ i. cond (nat_lt i n) (option_map (λ r. r.1) (slice_get rows i)) None) (number_in (row_spellings rows) s)
 meaning_by_place rows zero s = go (number_in (row_spellings rows) s)
   where
     go : (o : Option ℕ) → None ≡ option_and_then (λ i. cond (nat_lt i 0) (option_map (λ r. r.1) (slice_get rows i)) None) o
@@ -296,7 +311,8 @@ module _ (raw above more : RawScript) (once : NoneRefused IsRedeclared (all_decl
   by_place : (i : ℕ) (s : List ℕ) (m : Meaning) → slice_get (declared_rows raw) i ≡ Some (s, m) → declared_meaning above s ≡ cond (nat_lt i (length (all_declared above))) (Some m) None
   by_place i s m e =
       meaning_above_is_row raw above more s once is ∙ meaning_by_place (declared_rows raw) (length (all_declared above)) s
-      ∙ ap (option_and_then (λ j. cond (nat_lt j (length (all_declared above))) (option_map (λ r. r.1) (slice_get (declared_rows raw) j)) None)) (place_of_row (declared_rows raw) i s m (rows_once raw once) e)
+      ∙ ap (option_and_then (λ j. cond (nat_lt j (length (all_declared above))) (option_map (λ r. r.1) (slice_get (declared_rows raw) j)) None))
+      (place_of_row (declared_rows raw) i s m (rows_once raw once) e)
       ∙ ap (λ o. cond (nat_lt i (length (all_declared above))) (option_map (λ r. r.1) o) None) e
 
   -- A row among those of the declarations above tells what its spelling means there, and one behind them tells that it means nothing there.

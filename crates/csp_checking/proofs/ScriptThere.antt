@@ -37,7 +37,8 @@ joined os ps h k = (h.0 ++ k.0, rw (map-append, h.1, k.1) refl)
 
 -- ---- equations and assertions
 
-pub equations_there : (raw above ds : RawScript) → AllFine (behind_each (in_declaration raw) above ds) → AreNumbered (bound_spellings raw) (flat_map bound_in_declaration ds) → AllThere (flat_map (equation_declared raw) ds)
+pub equations_there : (raw above ds : RawScript) → AllFine (behind_each (in_declaration raw) above ds) →
+    AreNumbered (bound_spellings raw) (flat_map bound_in_declaration ds) → AllThere (flat_map (equation_declared raw) ds)
 equations_there raw above [] fine numbered = none_more
 equations_there raw above (RawEquation name ns p ∷ ds) fine numbered =
     one_more (equation_of (environment_of raw) ns p) (flat_map (equation_declared raw) ds)
@@ -53,11 +54,16 @@ equations_there raw above (RawAssertion place m p q ∷ ds) fine numbered =
     (numbered_right (bound_spellings raw) (bound_in p ++ bound_in q) (flat_map bound_in_declaration ds) numbered)
 equations_there raw above (RawDatatype name cs ∷ ds) fine numbered = equations_there raw (above ++ RawDatatype name cs ∷ []) ds fine numbered
 equations_there raw above (RawNametype name domain ∷ ds) fine numbered =
-    equations_there raw (above ++ RawNametype name domain ∷ []) ds (fine_right (in_declaration raw above (RawNametype name domain)) (behind_each (in_declaration raw) (above ++ RawNametype name domain ∷ []) ds) fine) numbered
+    equations_there raw (above ++ RawNametype name domain ∷ []) ds
+    (fine_right (in_declaration raw above (RawNametype name domain))
+    (behind_each (in_declaration raw) (above ++ RawNametype name domain ∷ []) ds) fine) numbered
 equations_there raw above (RawChannels names domains ∷ ds) fine numbered =
-    equations_there raw (above ++ RawChannels names domains ∷ []) ds (fine_right (in_declaration raw above (RawChannels names domains)) (behind_each (in_declaration raw) (above ++ RawChannels names domains ∷ []) ds) fine) numbered
+    equations_there raw (above ++ RawChannels names domains ∷ []) ds
+    (fine_right (in_declaration raw above (RawChannels names domains))
+    (behind_each (in_declaration raw) (above ++ RawChannels names domains ∷ []) ds) fine) numbered
 
-pub assertions_there : (raw above ds : RawScript) → AllFine (behind_each (in_declaration raw) above ds) → AreNumbered (bound_spellings raw) (flat_map bound_in_declaration ds) → AllThere (flat_map (assertion_declared raw) ds)
+pub assertions_there : (raw above ds : RawScript) → AllFine (behind_each (in_declaration raw) above ds) →
+    AreNumbered (bound_spellings raw) (flat_map bound_in_declaration ds) → AllThere (flat_map (assertion_declared raw) ds)
 assertions_there raw above [] fine numbered = none_more
 assertions_there raw above (RawAssertion place m p q ∷ ds) fine numbered =
     one_more (assertion_of (environment_of raw) m p q) (flat_map (assertion_declared raw) ds)
@@ -73,13 +79,18 @@ assertions_there raw above (RawEquation name ns p ∷ ds) fine numbered =
     (numbered_right (bound_spellings raw) (ns ++ bound_in p) (flat_map bound_in_declaration ds) numbered)
 assertions_there raw above (RawDatatype name cs ∷ ds) fine numbered = assertions_there raw (above ++ RawDatatype name cs ∷ []) ds fine numbered
 assertions_there raw above (RawNametype name domain ∷ ds) fine numbered =
-    assertions_there raw (above ++ RawNametype name domain ∷ []) ds (fine_right (in_declaration raw above (RawNametype name domain)) (behind_each (in_declaration raw) (above ++ RawNametype name domain ∷ []) ds) fine) numbered
+    assertions_there raw (above ++ RawNametype name domain ∷ []) ds
+    (fine_right (in_declaration raw above (RawNametype name domain))
+    (behind_each (in_declaration raw) (above ++ RawNametype name domain ∷ []) ds) fine) numbered
 assertions_there raw above (RawChannels names domains ∷ ds) fine numbered =
-    assertions_there raw (above ++ RawChannels names domains ∷ []) ds (fine_right (in_declaration raw above (RawChannels names domains)) (behind_each (in_declaration raw) (above ++ RawChannels names domains ∷ []) ds) fine) numbered
+    assertions_there raw (above ++ RawChannels names domains ∷ []) ds
+    (fine_right (in_declaration raw above (RawChannels names domains))
+    (behind_each (in_declaration raw) (above ++ RawChannels names domains ∷ []) ds) fine) numbered
 
 -- ---- the sets of fields
 
-pub field_there : (raw above : RawScript) (names : List RawName) (before : List RawDomain) (d : RawDomain) (ds : List RawDomain) → AllFine (in_field_sets raw above names before (d ∷ ds)) → IsThere (field_members raw (set_expression above d))
+pub field_there : (raw above : RawScript) (names : List RawName) (before : List RawDomain) (d : RawDomain) (ds : List RawDomain) →
+    AllFine (in_field_sets raw above names before (d ∷ ds)) → IsThere (field_members raw (set_expression above d))
 field_there raw above names before d ds fine = go (set_expression above d) (field_members raw (set_expression above d)) refl refl
   where
     so_far : RawScript
@@ -97,7 +108,8 @@ field_there raw above names before d ds fine = go (set_expression above d) (fiel
         let Q : Option (List Value) → Type 0 = λ x. ¬ (IsRefusedSite (FieldSet d.place (types_of raw) so_far (Some e) x) f) in subst Q members (subst P is (fine.0 f)) in
         absurd (here WrongKind (field_kind (λ some. here BadFieldSet (no_member some))))
 
-pub fields_there : (raw above : RawScript) (names : List RawName) (before ds : List RawDomain) → AllFine (in_field_sets raw above names before ds) → IsThere (every (field_members raw) (map (set_expression above) ds))
+pub fields_there : (raw above : RawScript) (names : List RawName) (before ds : List RawDomain) → AllFine (in_field_sets raw above names before ds) →
+    IsThere (every (field_members raw) (map (set_expression above) ds))
 fields_there raw above names before [] fine = (_, refl)
 fields_there raw above names before (d ∷ ds) fine =
     there_two _ (field_members raw (set_expression above d)) (every (field_members raw) (map (set_expression above) ds)) (field_there raw above names before d ds fine)
@@ -114,17 +126,23 @@ channels_there raw above (RawChannels names domains ∷ ds) fine =
     let own = fine_left (in_declaration raw above (RawChannels names domains)) (behind_each (in_declaration raw) (above ++ RawChannels names domains ∷ []) ds) fine in
     let P : List (Option (List (List Value))) → Type 0 = AllThere in
     subst P (sym (map-append (every (field_members raw)) (replicate (length names) (map (set_expression above) domains)) (behind_each channels_declared (above ++ RawChannels names domains ∷ []) ds)))
-    (joined (map (every (field_members raw)) (replicate (length names) (map (set_expression above) domains))) (map (every (field_members raw)) (behind_each channels_declared (above ++ RawChannels names domains ∷ []) ds))
+    (joined (map (every (field_members raw)) (replicate (length names) (map (set_expression above) domains)))
+    (map (every (field_members raw)) (behind_each channels_declared (above ++ RawChannels names domains ∷ []) ds))
     (copies_there (every (field_members raw)) (map (set_expression above) domains) names
     (fields_there raw above names [] domains (fine_right (in_heads raw (above ++ RawChannels names domains ∷ []) (length (channel_sets above)) names) (in_field_sets raw above names [] domains) own)))
-    (channels_there raw (above ++ RawChannels names domains ∷ []) ds (fine_right (in_declaration raw above (RawChannels names domains)) (behind_each (in_declaration raw) (above ++ RawChannels names domains ∷ []) ds) fine)))
+    (channels_there raw (above ++ RawChannels names domains ∷ []) ds
+    (fine_right (in_declaration raw above (RawChannels names domains))
+    (behind_each (in_declaration raw) (above ++ RawChannels names domains ∷ []) ds) fine)))
 channels_there raw above (RawDatatype name cs ∷ ds) fine = channels_there raw (above ++ RawDatatype name cs ∷ []) ds fine
 channels_there raw above (RawNametype name domain ∷ ds) fine =
-    channels_there raw (above ++ RawNametype name domain ∷ []) ds (fine_right (in_declaration raw above (RawNametype name domain)) (behind_each (in_declaration raw) (above ++ RawNametype name domain ∷ []) ds) fine)
+    channels_there raw (above ++ RawNametype name domain ∷ []) ds
+    (fine_right (in_declaration raw above (RawNametype name domain)) (behind_each (in_declaration raw) (above ++ RawNametype name domain ∷ []) ds) fine)
 channels_there raw above (RawEquation name ns p ∷ ds) fine =
-    channels_there raw (above ++ RawEquation name ns p ∷ []) ds (fine_right (in_declaration raw above (RawEquation name ns p)) (behind_each (in_declaration raw) (above ++ RawEquation name ns p ∷ []) ds) fine)
+    channels_there raw (above ++ RawEquation name ns p ∷ []) ds
+    (fine_right (in_declaration raw above (RawEquation name ns p)) (behind_each (in_declaration raw) (above ++ RawEquation name ns p ∷ []) ds) fine)
 channels_there raw above (RawAssertion place m p q ∷ ds) fine =
-    channels_there raw (above ++ RawAssertion place m p q ∷ []) ds (fine_right (in_declaration raw above (RawAssertion place m p q)) (behind_each (in_declaration raw) (above ++ RawAssertion place m p q ∷ []) ds) fine)
+    channels_there raw (above ++ RawAssertion place m p q ∷ []) ds
+    (fine_right (in_declaration raw above (RawAssertion place m p q)) (behind_each (in_declaration raw) (above ++ RawAssertion place m p q ∷ []) ds) fine)
 
 -- ---- the sets of nametypes
 
@@ -154,40 +172,51 @@ pub in_table : (dts : List (List ℕ)) (ms : Members) (e : Option Expression) (e
 in_table dts ms e es = let begins = table_begins dts (ms ++ option_and_then (members_with dts ms) e ∷ []) es in
     ap (λ t. slice_get t (length ms)) (begins.1 ∙ append_assoc ms (option_and_then (members_with dts ms) e ∷ []) begins.0) ∙ at_its_place ms begins.0 (option_and_then (members_with dts ms) e)
 
-pub nametype_there : (p : Place) (types : Types) (so_far : RawScript) (e : Option Expression) (ms : Option (List Value)) → IsThere e → ((f : KindFault) → ¬ (IsRefusedSite (NametypeSet p types so_far e ms) f)) → IsThere ms
+pub nametype_there : (p : Place) (types : Types) (so_far : RawScript) (e : Option Expression) (ms : Option (List Value)) → IsThere e →
+    ((f : KindFault) → ¬ (IsRefusedSite (NametypeSet p types so_far e ms) f)) → IsThere ms
 nametype_there p types so_far e (Some vs) set fine = (vs, refl)
 nametype_there p types so_far None None set fine = absurd (let both = set.1 in cc both)
 nametype_there p types so_far (Some e) None set fine = absurd (fine WrongKind (nametype_kind (λ some. fine BadFieldSet (no_value some))))
 
-pub nametypes_there : (raw above ds : RawScript) (ms : Members) → AllThere ms → length ms ≡ length (nametype_sets above) → nametype_members raw ≡ with_members (datatypes_of raw) ms (behind_each nametypes_declared above ds) →
+pub nametypes_there : (raw above ds : RawScript) (ms : Members) → AllThere ms → length ms ≡ length (nametype_sets above) →
+    nametype_members raw ≡ with_members (datatypes_of raw) ms (behind_each nametypes_declared above ds) →
     AllFine (behind_each (in_declaration raw) above ds) → AllThere (nametype_members raw)
 nametypes_there raw above [] ms all size table fine = (all.0, all.1 ∙ sym table)
 nametypes_there raw above (RawNametype name domain ∷ ds) ms all size table fine =
     let x = option_and_then (members_with (datatypes_of raw) ms) (set_expression above domain) in
     let next = above ++ RawNametype name domain ∷ [] in
     let here : unwrap_or (slice_get (nametype_members raw) (length (nametype_sets above))) None ≡ option_and_then (members_with (datatypes_of raw) ms) (set_expression above domain) =
-    ap (λ o. unwrap_or o None) (ap (λ t. slice_get t (length (nametype_sets above))) table ∙ ap (λ n. slice_get (with_members (datatypes_of raw) ms (set_expression above domain ∷ behind_each nametypes_declared (above ++ RawNametype name domain ∷ []) ds)) n) (sym size)
+    ap (λ o. unwrap_or o None) (ap (λ t. slice_get t (length (nametype_sets above))) table
+    ∙ ap (λ n. slice_get (with_members (datatypes_of raw) ms
+    (set_expression above domain ∷ behind_each nametypes_declared (above ++ RawNametype name domain ∷ []) ds)) n) (sym size)
     ∙ in_table (datatypes_of raw) ms (set_expression above domain) (behind_each nametypes_declared (above ++ RawNametype name domain ∷ []) ds)) in
     let P : Option (List Value) → Type 0 = IsThere in
     let set : IsThere (set_expression above domain) =
-    expression_there (environment_above above) domain.set (fine_left (in_expression (environment_above above) domain.set) (behind_each (in_declaration raw) (above ++ RawNametype name domain ∷ []) ds) fine.1) in
+    expression_there (environment_above above) domain.set
+    (fine_left (in_expression (environment_above above) domain.set) (behind_each (in_declaration raw) (above ++ RawNametype name domain ∷ []) ds) fine.1) in
     let there : IsThere (option_and_then (members_with (datatypes_of raw) ms) (set_expression above domain)) =
-    subst P here (nametype_there domain.place (types_of raw) (above ++ RawNametype name domain ∷ []) (set_expression above domain) (unwrap_or (slice_get (nametype_members raw) (length (nametype_sets above))) None) set fine.0) in
+    subst P here (nametype_there domain.place (types_of raw) (above ++ RawNametype name domain ∷ []) (set_expression above domain)
+    (unwrap_or (slice_get (nametype_members raw) (length (nametype_sets above))) None) set fine.0) in
     nametypes_there raw (above ++ RawNametype name domain ∷ []) ds (ms ++ option_and_then (members_with (datatypes_of raw) ms) (set_expression above domain) ∷ [])
-    (joined ms (option_and_then (members_with (datatypes_of raw) ms) (set_expression above domain) ∷ []) all (one_more (option_and_then (members_with (datatypes_of raw) ms) (set_expression above domain)) [] there none_more))
+    (joined ms (option_and_then (members_with (datatypes_of raw) ms) (set_expression above domain) ∷ []) all
+    (one_more (option_and_then (members_with (datatypes_of raw) ms) (set_expression above domain)) [] there none_more))
     (length-append ms (option_and_then (members_with (datatypes_of raw) ms) (set_expression above domain) ∷ []) ∙ ap (λ n. n + 1) size
     ∙ sym (length-append (nametype_sets above) (set_expression above domain ∷ [])) ∙ sym (ap length (behind_one_more nametypes_declared above (RawNametype name domain))))
     table (fine_right (in_expression (environment_above above) domain.set) (behind_each (in_declaration raw) (above ++ RawNametype name domain ∷ []) ds) fine.1)
 nametypes_there raw above (RawDatatype name cs ∷ ds) ms all size table fine =
-    nametypes_there raw (above ++ RawDatatype name cs ∷ []) ds ms all (size ∙ sym (ap length (behind_one_more nametypes_declared above (RawDatatype name cs) ∙ append-nil (nametype_sets above)))) table fine
+    nametypes_there raw (above ++ RawDatatype name cs ∷ []) ds ms all
+    (size ∙ sym (ap length (behind_one_more nametypes_declared above (RawDatatype name cs) ∙ append-nil (nametype_sets above)))) table fine
 nametypes_there raw above (RawChannels names domains ∷ ds) ms all size table fine =
-    nametypes_there raw (above ++ RawChannels names domains ∷ []) ds ms all (size ∙ sym (ap length (behind_one_more nametypes_declared above (RawChannels names domains) ∙ append-nil (nametype_sets above)))) table
+    nametypes_there raw (above ++ RawChannels names domains ∷ []) ds ms all
+    (size ∙ sym (ap length (behind_one_more nametypes_declared above (RawChannels names domains) ∙ append-nil (nametype_sets above)))) table
     (fine_right (in_declaration raw above (RawChannels names domains)) (behind_each (in_declaration raw) (above ++ RawChannels names domains ∷ []) ds) fine)
 nametypes_there raw above (RawEquation name ns p ∷ ds) ms all size table fine =
-    nametypes_there raw (above ++ RawEquation name ns p ∷ []) ds ms all (size ∙ sym (ap length (behind_one_more nametypes_declared above (RawEquation name ns p) ∙ append-nil (nametype_sets above)))) table
+    nametypes_there raw (above ++ RawEquation name ns p ∷ []) ds ms all
+    (size ∙ sym (ap length (behind_one_more nametypes_declared above (RawEquation name ns p) ∙ append-nil (nametype_sets above)))) table
     (fine_right (in_declaration raw above (RawEquation name ns p)) (behind_each (in_declaration raw) (above ++ RawEquation name ns p ∷ []) ds) fine)
 nametypes_there raw above (RawAssertion place m p q ∷ ds) ms all size table fine =
-    nametypes_there raw (above ++ RawAssertion place m p q ∷ []) ds ms all (size ∙ sym (ap length (behind_one_more nametypes_declared above (RawAssertion place m p q) ∙ append-nil (nametype_sets above)))) table
+    nametypes_there raw (above ++ RawAssertion place m p q ∷ []) ds ms all
+    (size ∙ sym (ap length (behind_one_more nametypes_declared above (RawAssertion place m p q) ∙ append-nil (nametype_sets above)))) table
     (fine_right (in_declaration raw above (RawAssertion place m p q)) (behind_each (in_declaration raw) (above ++ RawAssertion place m p q ∷ []) ds) fine)
 
 -- ---- the script

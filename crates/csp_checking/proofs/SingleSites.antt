@@ -60,7 +60,8 @@ class_stops env u n m e s = stopped_here (Used env u n) [] WrongKind (wrong_clas
 
 -- ---- K04: another number of arguments or fields
 
-pub arguments_stop : (env : Environment) (k : ℕ) (n : RawName) (m : Meaning) (p : ℕ) → meaning env n ≡ Some m → suits (AsEquation k) m ≡ true → parameter_count env n ≡ Some p → p ≢ k → IsStoppedAt (Used env (AsEquation k) n ∷ []) WrongCount n.place
+pub arguments_stop : (env : Environment) (k : ℕ) (n : RawName) (m : Meaning) (p : ℕ) → meaning env n ≡ Some m → suits (AsEquation k) m ≡ true →
+    parameter_count env n ≡ Some p → p ≢ k → IsStoppedAt (Used env (AsEquation k) n ∷ []) WrongCount n.place
 arguments_stop env k n m p e s c other = stopped_here (Used env (AsEquation k) n) [] WrongCount (arguments c other) lowest
   where
     lowest : (g : KindFault) → IsRefusedSite (Used env (AsEquation k) n) g → 4 ≤ fault_number g
@@ -68,7 +69,8 @@ arguments_stop env k n m p e s c other = stopped_here (Used env (AsEquation k) n
     lowest g (wrong_class h r) = absurd (unsuited (AsEquation k) e s h r)
     lowest g (arguments h r) = omega arith
 
-pub fields_stop : (env : Environment) (k : ℕ) (n : RawName) (m : Meaning) (p : ℕ) → meaning env n ≡ Some m → suits (AsEvent k) m ≡ true → field_count env n ≡ Some p → p ≢ k → IsStoppedAt (Used env (AsEvent k) n ∷ []) WrongCount n.place
+pub fields_stop : (env : Environment) (k : ℕ) (n : RawName) (m : Meaning) (p : ℕ) → meaning env n ≡ Some m → suits (AsEvent k) m ≡ true →
+    field_count env n ≡ Some p → p ≢ k → IsStoppedAt (Used env (AsEvent k) n ∷ []) WrongCount n.place
 fields_stop env k n m p e s c other = stopped_here (Used env (AsEvent k) n) [] WrongCount (fields c other) lowest
   where
     lowest : (g : KindFault) → IsRefusedSite (Used env (AsEvent k) n) g → 4 ≤ fault_number g
@@ -76,7 +78,8 @@ fields_stop env k n m p e s c other = stopped_here (Used env (AsEvent k) n) [] W
     lowest g (wrong_class h r) = absurd (unsuited (AsEvent k) e s h r)
     lowest g (fields h r) = omega arith
 
-pub productions_stop : (env : Environment) (k : ℕ) (n : RawName) (m : Meaning) (p : ℕ) → meaning env n ≡ Some m → suits (AsProductions k) m ≡ true → field_count env n ≡ Some p → p < k → IsStoppedAt (Used env (AsProductions k) n ∷ []) WrongCount n.place
+pub productions_stop : (env : Environment) (k : ℕ) (n : RawName) (m : Meaning) (p : ℕ) → meaning env n ≡ Some m → suits (AsProductions k) m ≡ true →
+    field_count env n ≡ Some p → p < k → IsStoppedAt (Used env (AsProductions k) n ∷ []) WrongCount n.place
 productions_stop env k n m p e s c more = stopped_here (Used env (AsProductions k) n) [] WrongCount (too_many_fields c more) lowest
   where
     lowest : (g : KindFault) → IsRefusedSite (Used env (AsProductions k) n) g → 4 ≤ fault_number g
@@ -84,19 +87,22 @@ productions_stop env k n m p e s c more = stopped_here (Used env (AsProductions 
     lowest g (wrong_class h r) = absurd (unsuited (AsProductions k) e s h r)
     lowest g (too_many_fields h r) = omega arith
 
-pub productions_fine : (env : Environment) (k : ℕ) (n : RawName) (m : Meaning) (p : ℕ) → meaning env n ≡ Some m → suits (AsProductions k) m ≡ true → field_count env n ≡ Some p → k ≤ p → IsFine (Used env (AsProductions k) n)
+pub productions_fine : (env : Environment) (k : ℕ) (n : RawName) (m : Meaning) (p : ℕ) → meaning env n ≡ Some m → suits (AsProductions k) m ≡ true →
+    field_count env n ≡ Some p → k ≤ p → IsFine (Used env (AsProductions k) n)
 productions_fine env k n m p e s c few f (unknown h) = missing h e
 productions_fine env k n m p e s c few f (wrong_class h r) = unsuited (AsProductions k) e s h r
 productions_fine env k n m p e s c few f (too_many_fields {p = q} h r) = let same : p ≡ q = same_there c h in let more : q < k = r in absurd (omega arith)
 
 -- ---- a renaming of two bare channels
 
-pub left_without_fields : (env : Environment) (n other : RawName) (m : Meaning) → meaning env n ≡ Some m → suits (AsBareLeft other) m ≡ true → field_count env n ≡ Some 0 → IsFine (Used env (AsBareLeft other) n)
+pub left_without_fields : (env : Environment) (n other : RawName) (m : Meaning) → meaning env n ≡ Some m → suits (AsBareLeft other) m ≡ true →
+    field_count env n ≡ Some 0 → IsFine (Used env (AsBareLeft other) n)
 left_without_fields env n other m e s c f (unknown h) = missing h e
 left_without_fields env n other m e s c f (wrong_class h r) = unsuited (AsBareLeft other) e s h r
 left_without_fields env n other m e s c f (left_fields h r q) = r (same_there h c)
 
-pub left_stops : (env : Environment) (n other : RawName) (m : Meaning) (p : ℕ) → meaning env n ≡ Some m → suits (AsBareLeft other) m ≡ true → field_count env n ≡ Some p → p ≢ 0 → field_count env other ≢ Some p →
+pub left_stops : (env : Environment) (n other : RawName) (m : Meaning) (p : ℕ) → meaning env n ≡ Some m → suits (AsBareLeft other) m ≡ true →
+    field_count env n ≡ Some p → p ≢ 0 → field_count env other ≢ Some p →
     IsStoppedAt (Used env (AsBareLeft other) n ∷ []) WrongCount n.place
 left_stops env n other m p e s c some unlike = stopped_here (Used env (AsBareLeft other) n) [] WrongCount (left_fields c some unlike) lowest
   where
@@ -117,21 +123,25 @@ no_members [] e = refl
 no_members (x ∷ xs) e = absurd (omega arith)
 
 -- The right channel is fine where it has as many fields as the left one, or none, and rows of field sets of the two are equal.
-pub right_fine : (env : Environment) (n left : RawName) (m : Meaning) (p : ℕ) → meaning env n ≡ Some m → suits (AsBareRight left) m ≡ true → field_count env n ≡ Some p → field_count env left ≡ Some p →
-    ((c d : ℕ) (s t : List (List Value)) → as_channel (meaning env left) ≡ Some c → as_channel (meaning env n) ≡ Some d → HasFieldSets env.declarations c s → HasFieldSets env.declarations d t → s ≡ t) → IsFine (Used env (AsBareRight left) n)
+pub right_fine : (env : Environment) (n left : RawName) (m : Meaning) (p : ℕ) → meaning env n ≡ Some m → suits (AsBareRight left) m ≡ true →
+    field_count env n ≡ Some p → field_count env left ≡ Some p →
+    ((c d : ℕ) (s t : List (List Value)) → as_channel (meaning env left) ≡ Some c → as_channel (meaning env n) ≡ Some d → HasFieldSets env.declarations c s →
+    HasFieldSets env.declarations d t → s ≡ t) → IsFine (Used env (AsBareRight left) n)
 right_fine env n left m p e s c d equal f (unknown h) = missing h e
 right_fine env n left m p e s c d equal f (wrong_class h r) = unsuited (AsBareRight left) e s h r
 right_fine env n left m p e s c d equal f (right_fields h r q) = q (d ∙ ap Some (same_there c h))
 right_fine env n left m p e s c d equal f (other_sets {c = i} {d = j} {s = vs} {t = ws} is_left is_right has_left has_right like unlike) = unlike (equal i j vs ws is_left is_right has_left has_right)
 
-pub right_without_fields : (env : Environment) (n left : RawName) (m : Meaning) → meaning env n ≡ Some m → suits (AsBareRight left) m ≡ true → field_count env n ≡ Some 0 → IsFine (Used env (AsBareRight left) n)
+pub right_without_fields : (env : Environment) (n left : RawName) (m : Meaning) → meaning env n ≡ Some m → suits (AsBareRight left) m ≡ true →
+    field_count env n ≡ Some 0 → IsFine (Used env (AsBareRight left) n)
 right_without_fields env n left m e s c f (unknown h) = missing h e
 right_without_fields env n left m e s c f (wrong_class h r) = unsuited (AsBareRight left) e s h r
 right_without_fields env n left m e s c f (right_fields h r q) = r (same_there h c)
 right_without_fields env n left m e s c f (other_sets {d = j} {s = vs} {t = ws} is_left is_right has_left has_right like unlike) =
     let none : length ws ≡ 0 = same_there (sets_counted env n j ws is_right has_right) c in unlike (no_members vs (like ∙ none) ∙ sym (no_members ws none))
 
-pub right_counts_stop : (env : Environment) (n left : RawName) (m : Meaning) (p : ℕ) → meaning env n ≡ Some m → suits (AsBareRight left) m ≡ true → field_count env n ≡ Some p → p ≢ 0 → field_count env left ≢ Some p →
+pub right_counts_stop : (env : Environment) (n left : RawName) (m : Meaning) (p : ℕ) → meaning env n ≡ Some m → suits (AsBareRight left) m ≡ true →
+    field_count env n ≡ Some p → p ≢ 0 → field_count env left ≢ Some p →
     IsStoppedAt (Used env (AsBareRight left) n ∷ []) WrongCount n.place
 right_counts_stop env n left m p e s c some unlike_counts = stopped_here (Used env (AsBareRight left) n) [] WrongCount (right_fields c some unlike_counts) lowest
   where
@@ -143,24 +153,30 @@ right_counts_stop env n left m p e s c some unlike_counts = stopped_here (Used e
         let right_count : length ws ≡ p = same_there (sets_counted env n j ws is_right has_right) c in
         absurd (unlike_counts (sets_counted env left i vs is_left has_left ∙ ap Some (like ∙ right_count)))
 
-pub right_sets_stop : (env : Environment) (n left : RawName) (m : Meaning) (c d : ℕ) (vs ws : List (List Value)) → meaning env n ≡ Some m → as_channel (meaning env left) ≡ Some c → as_channel (meaning env n) ≡ Some d →
+pub right_sets_stop : (env : Environment) (n left : RawName) (m : Meaning) (c d : ℕ) (vs ws : List (List Value)) → meaning env n ≡ Some m →
+    as_channel (meaning env left) ≡ Some c → as_channel (meaning env n) ≡ Some d →
     HasFieldSets env.declarations c vs → HasFieldSets env.declarations d ws → length vs ≡ length ws → vs ≢ ws → IsStoppedAt (Used env (AsBareRight left) n ∷ []) WrongKind n.place
 right_sets_stop env n left m c d vs ws e is_left is_right has_left has_right like unlike =
     stopped_here (Used env (AsBareRight left) n) [] WrongKind (other_sets is_left is_right has_left has_right like unlike) (from_three env (AsBareRight left) n m e)
 
 -- equal numbers of fields are equal lengths of the rows
-pub rows_as_long : (env : Environment) (n left : RawName) (p c d : ℕ) (vs ws : List (List Value)) → field_count env n ≡ Some p → field_count env left ≡ Some p → as_channel (meaning env left) ≡ Some c → as_channel (meaning env n) ≡ Some d →
+pub rows_as_long : (env : Environment) (n left : RawName) (p c d : ℕ) (vs ws : List (List Value)) → field_count env n ≡ Some p →
+    field_count env left ≡ Some p → as_channel (meaning env left) ≡ Some c → as_channel (meaning env n) ≡ Some d →
     HasFieldSets env.declarations c vs → HasFieldSets env.declarations d ws → length vs ≡ length ws
-rows_as_long env n left p c d vs ws fields_right fields_left is_left is_right has_left has_right = same_there (sets_counted env left c vs is_left has_left) fields_left ∙ sym (same_there (sets_counted env n d ws is_right has_right) fields_right)
+rows_as_long env n left p c d vs ws fields_right fields_left is_left is_right has_left has_right =
+    same_there (sets_counted env left c vs is_left has_left) fields_left ∙ sym (same_there (sets_counted env n d ws is_right has_right) fields_right)
 
--- By a table that has the field sets of each channel of which no rule refuses one: two channels with equal numbers of fields are fine where one has no row there or the rows are equal, and are else refused.
-module _ (env : Environment) (n left : RawName) (m : Meaning) (p c d : ℕ) (table : List (Option (List (List Value)))) (knows : (i : ℕ) (sets : List (List Value)) → (slice_get table i ≡ Some (Some sets)) ↔ HasFieldSets env.declarations i sets)
+-- By a table that has the field sets of each channel of which no rule refuses one: two channels with equal numbers of
+-- fields are fine where one has no row there or the rows are equal, and are else refused.
+module _ (env : Environment) (n left : RawName) (m : Meaning) (p c d : ℕ) (table : List (Option (List (List Value))))
+    (knows : (i : ℕ) (sets : List (List Value)) → (slice_get table i ≡ Some (Some sets)) ↔ HasFieldSets env.declarations i sets)
     (means : meaning env n ≡ Some m) (fits : suits (AsBareRight left) m ≡ true) (fields_right : field_count env n ≡ Some p) (fields_left : field_count env left ≡ Some p)
     (is_left : as_channel (meaning env left) ≡ Some c) (is_right : as_channel (meaning env n) ≡ Some d) where
   by_rows : ((vs ws : List (List Value)) → slice_get table c ≡ Some (Some vs) → slice_get table d ≡ Some (Some ws) → vs ≡ ws) → IsFine (Used env (AsBareRight left) n)
   by_rows equal = right_fine env n left m p means fits fields_right fields_left rows
     where
-      rows : (i j : ℕ) (vs ws : List (List Value)) → as_channel (meaning env left) ≡ Some i → as_channel (meaning env n) ≡ Some j → HasFieldSets env.declarations i vs → HasFieldSets env.declarations j ws → vs ≡ ws
+      rows : (i j : ℕ) (vs ws : List (List Value)) → as_channel (meaning env left) ≡ Some i → as_channel (meaning env n) ≡ Some j →
+          HasFieldSets env.declarations i vs → HasFieldSets env.declarations j ws → vs ≡ ws
       rows i j vs ws e f has_left has_right =
           equal vs ws (ap (slice_get table) (same_there is_left e) ∙ (knows i vs).1 has_left) (ap (slice_get table) (same_there is_right f) ∙ (knows j ws).1 has_right)
 
@@ -180,7 +196,8 @@ module _ (env : Environment) (n left : RawName) (m : Meaning) (p c d : ℕ) (tab
   pub unknown_right_fine : ((ws : List (List Value)) → slice_get table d ≢ Some (Some ws)) → IsFine (Used env (AsBareRight left) n)
   unknown_right_fine none = by_rows (λ vs ws e f. absurd (none ws f))
 
-  pub unlike_rows_stop : (vs ws : List (List Value)) → slice_get table c ≡ Some (Some vs) → slice_get table d ≡ Some (Some ws) → vs ≢ ws → IsStoppedAt (Used env (AsBareRight left) n ∷ []) WrongKind n.place
+  pub unlike_rows_stop : (vs ws : List (List Value)) → slice_get table c ≡ Some (Some vs) → slice_get table d ≡ Some (Some ws) → vs ≢ ws →
+      IsStoppedAt (Used env (AsBareRight left) n ∷ []) WrongKind n.place
   unlike_rows_stop vs ws e f unlike =
       let has_left = (knows c vs).0 e in
       let has_right = (knows d ws).0 f in
@@ -209,7 +226,8 @@ parameter_again_stops env n e = stopped_here (Parameter env n) [] DeclaredTwice 
 pub refused_nametype_fine : (p : Place) (types : Types) (so_far : RawScript) (ms : Option (List Value)) → IsFine (NametypeSet p types so_far None ms)
 refused_nametype_fine p types so_far ms f h = elim h [ ]
 
-pub nametype_kind_stops : (p : Place) (types : Types) (so_far : RawScript) (e : Expression) (ms : Option (List Value)) → ¬ (SomeFit types so_far) → IsStoppedAt (NametypeSet p types so_far (Some e) ms ∷ []) WrongKind p
+pub nametype_kind_stops : (p : Place) (types : Types) (so_far : RawScript) (e : Expression) (ms : Option (List Value)) → ¬ (SomeFit types so_far) →
+    IsStoppedAt (NametypeSet p types so_far (Some e) ms ∷ []) WrongKind p
 nametype_kind_stops p types so_far e ms none = stopped_here (NametypeSet p types so_far (Some e) ms) [] WrongKind (nametype_kind none) (lowest ms)
   where
     lowest : (vs : Option (List Value)) (g : KindFault) → IsRefusedSite (NametypeSet p types so_far (Some e) vs) g → 3 ≤ fault_number g
@@ -229,7 +247,8 @@ nametype_fine p types so_far e ms fit f (nametype_kind h) = h fit
 pub refused_field_fine : (p : Place) (types : Types) (so_far : RawScript) (ms : Option (List Value)) → IsFine (FieldSet p types so_far None ms)
 refused_field_fine p types so_far ms f h = elim h [ ]
 
-pub field_kind_stops : (p : Place) (types : Types) (so_far : RawScript) (e : Expression) (ms : Option (List Value)) → ¬ (SomeFit types so_far) → IsStoppedAt (FieldSet p types so_far (Some e) ms ∷ []) WrongKind p
+pub field_kind_stops : (p : Place) (types : Types) (so_far : RawScript) (e : Expression) (ms : Option (List Value)) → ¬ (SomeFit types so_far) →
+    IsStoppedAt (FieldSet p types so_far (Some e) ms ∷ []) WrongKind p
 field_kind_stops p types so_far e ms none = stopped_here (FieldSet p types so_far (Some e) ms) [] WrongKind (field_kind none) (lowest ms)
   where
     lowest : (vs : Option (List Value)) (g : KindFault) → IsRefusedSite (FieldSet p types so_far (Some e) vs) g → 3 ≤ fault_number g
@@ -245,12 +264,14 @@ no_member_stops p types so_far e some = stopped_here (FieldSet p types so_far (S
 
 -- ---- K06: a channel with which there are too many events
 
-pub head_stops : (n : RawName) (types : Types) (so_far : RawScript) (before : List (Option (List (List Value)))) (sets : List (List Value)) → SomeFit types so_far → most_events < number_of_events (Some sets ∷ before) →
+pub head_stops : (n : RawName) (types : Types) (so_far : RawScript) (before : List (Option (List (List Value)))) (sets : List (List Value)) →
+    SomeFit types so_far → most_events < number_of_events (Some sets ∷ before) →
     IsStoppedAt (ChannelHead n types so_far before (Some sets) ∷ []) TooManyEvents n.place
 head_stops n types so_far before sets fit many = stopped_here (ChannelHead n types so_far before (Some sets)) [] TooManyEvents (too_many_events fit many) lowest
   where
     lowest : (g : KindFault) → IsRefusedSite (ChannelHead n types so_far before (Some sets)) g → 6 ≤ fault_number g
     lowest g (too_many_events h k) = omega arith
 
-pub misfit_head_fine : (n : RawName) (types : Types) (so_far : RawScript) (before : List (Option (List (List Value)))) (own : Option (List (List Value))) → ¬ (SomeFit types so_far) → IsFine (ChannelHead n types so_far before own)
+pub misfit_head_fine : (n : RawName) (types : Types) (so_far : RawScript) (before : List (Option (List (List Value)))) (own : Option (List (List Value))) →
+    ¬ (SomeFit types so_far) → IsFine (ChannelHead n types so_far before own)
 misfit_head_fine n types so_far before own none f (too_many_events fit many) = none fit

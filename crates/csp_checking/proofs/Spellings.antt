@@ -100,7 +100,8 @@ spelling_at_place (t ∷ ss) s i e = go (bytes_eq t s) (number_in ss s) refl (λ
     go false None same rest f = absurd (cc f)
 
 -- The first place at which a test passes is the number, where the test is that of the spelling.
-pub place_by_test : {K : Type 0} (p : K → Bool) (spelling : K → List ℕ) (ks : List K) (s : List ℕ) → ((i : ℕ) (k : K) → slice_get ks i ≡ Some k → p k ≡ bytes_eq (spelling k) s) → position p ks ≡ number_in (map spelling ks) s
+pub place_by_test : {K : Type 0} (p : K → Bool) (spelling : K → List ℕ) (ks : List K) (s : List ℕ) →
+    ((i : ℕ) (k : K) → slice_get ks i ≡ Some k → p k ≡ bytes_eq (spelling k) s) → position p ks ≡ number_in (map spelling ks) s
 place_by_test {K} p spelling ks s tells = position_from-zero p ks ∙ from 0 ks tells ∙ plain (number_in (map spelling ks) s)
   where
     plain : (o : Option ℕ) → option_map (λ k. 0 + k) o ≡ o
@@ -142,7 +143,8 @@ pub number_stays : (ss ts : List (List ℕ)) (s : List ℕ) (k : ℕ) → number
 number_stays [] ts s k e = absurd (cc e)
 number_stays (r ∷ ss) ts s k e = go (bytes_eq r s) (number_in ss s) (λ j f. number_stays ss ts s j f) e
   where
-    go : (b : Bool) (o : Option ℕ) → ((j : ℕ) → o ≡ Some j → number_in (ss ++ ts) s ≡ Some j) → cond b (Some 0) (option_map suc o) ≡ Some k → cond b (Some 0) (option_map suc (number_in (ss ++ ts) s)) ≡ Some k
+    go : (b : Bool) (o : Option ℕ) → ((j : ℕ) → o ≡ Some j → number_in (ss ++ ts) s ≡ Some j) → cond b (Some 0) (option_map suc o) ≡ Some k →
+        cond b (Some 0) (option_map suc (number_in (ss ++ ts) s)) ≡ Some k
     go true o rest f = f
     go false (Some j) rest f = ap (option_map suc) (rest j refl) ∙ f
     go false None rest f = absurd (cc f)
@@ -171,7 +173,8 @@ once_with_new (s ∷ ss) t once none = go (bytes_eq s t) refl (number_in ss t) r
     turned differ false e = e
     turned differ true e = let both : false ≡ true = sym differ ∙ (bytes_eq-Decides s t).1 (sym ((bytes_eq-Decides t s).0 e)) in absurd (cc both)
 
-    go : (b : Bool) → bytes_eq s t ≡ b → (o : Option ℕ) → number_in ss t ≡ o → (number_in ss t ≡ None → EachOnce (ss ++ t ∷ [])) → cond b (Some 0) (option_map suc o) ≡ None → EachOnce ((s ∷ ss) ++ t ∷ [])
+    go : (b : Bool) → bytes_eq s t ≡ b → (o : Option ℕ) → number_in ss t ≡ o → (number_in ss t ≡ None → EachOnce (ss ++ t ∷ [])) →
+        cond b (Some 0) (option_map suc o) ≡ None → EachOnce ((s ∷ ss) ++ t ∷ [])
     go true same o is rest f = absurd (cc f)
     go false differ (Some k) is rest f = absurd (cc f)
     go false differ None is rest f = (none_in_append ss (t ∷ []) s once.0 (none_in_one t s (turned differ (bytes_eq t s) refl)), rest is)
@@ -190,7 +193,8 @@ pub bound_once : (raw : RawScript) → EachOnce (bound_spellings raw)
 bound_once raw = once_with_spellings [] (spellings (flat_map bound_in_declaration raw)) tt
 
 -- the number of a name that is met stays its number in the tree
-pub number_stays_in_tree : (raw : RawScript) (met more : List RawName) (s : List ℕ) (k : ℕ) → flat_map bound_in_declaration raw ≡ met ++ more → number_in (with_spellings [] (spellings met)) s ≡ Some k → number_in (bound_spellings raw) s ≡ Some k
+pub number_stays_in_tree : (raw : RawScript) (met more : List RawName) (s : List ℕ) (k : ℕ) → flat_map bound_in_declaration raw ≡ met ++ more →
+    number_in (with_spellings [] (spellings met)) s ≡ Some k → number_in (bound_spellings raw) s ≡ Some k
 number_stays_in_tree raw met more s k is e =
     ap (λ zs. number_in zs s) (ap (λ ns. with_spellings [] (spellings ns)) is ∙ ap (with_spellings []) (map-append (λ n. n.spelling) met more) ∙ with_more [] (spellings met) (spellings more))
     ∙ number_stays_with (with_spellings [] (spellings met)) (spellings more) s k e
@@ -221,7 +225,8 @@ has_both (r ∷ ss) ts s = go (bytes_eq r s) (number_in ss s) (number_in (ss ++ 
 pub has_reversed : (ss : List (List ℕ)) (s : List ℕ) → has_spelling (reverse ss) s ≡ has_spelling ss s
 has_reversed [] s = refl
 has_reversed (r ∷ ss) s =
-    ap (λ zs. has_spelling zs s) (reverse-append (r ∷ []) ss) ∙ has_both (reverse ss) (r ∷ []) s ∙ ap (λ b. b || has_spelling (r ∷ []) s) (has_reversed ss s) ∙ turned (has_spelling ss s) (has_spelling (r ∷ []) s) ∙ sym (has_both (r ∷ []) ss s)
+    ap (λ zs. has_spelling zs s) (reverse-append (r ∷ []) ss) ∙ has_both (reverse ss) (r ∷ []) s ∙ ap (λ b. b || has_spelling (r ∷ []) s) (has_reversed ss s)
+    ∙ turned (has_spelling ss s) (has_spelling (r ∷ []) s) ∙ sym (has_both (r ∷ []) ss s)
   where
     turned : (a b : Bool) → (a || b) ≡ (b || a)
     turned true true = refl

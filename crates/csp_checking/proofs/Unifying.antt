@@ -75,7 +75,8 @@ chosen s a resolved = (b, satisfied, λ n e. ap (λ o. kind_of a (unwrap_or o (O
 
     satisfied : Satisfies (λ n. kind_of a (looked_up s n)) s
     satisfied n c e =
-        ap (λ o. kind_of a (unwrap_or o (OpenEnd n))) e ∙ same_kind a (λ m. kind_of a (looked_up s m)) c (map_end (λ m. s m ≡ None) (λ m. a m ≡ kind_of a (looked_up s m)) (open_end c) (λ m same. free m) (resolved n c e))
+        ap (λ o. kind_of a (unwrap_or o (OpenEnd n))) e ∙ same_kind a (λ m. kind_of a (looked_up s m)) c
+        (map_end (λ m. s m ≡ None) (λ m. a m ≡ kind_of a (looked_up s m)) (open_end c) (λ m same. free m) (resolved n c e))
 
 -- ---- an open end is bound
 
@@ -100,7 +101,10 @@ module _ (s : State) (n : ℕ) (c : Chain) (resolved : IsResolved s) (free : s n
       by_old None is f = absurd (cc f)
       by_old (Some x) is f =
           let same : with_ends (in_place_of n c) x ≡ d = cc f in
-          subst (IsOpenIn (bound_to s n c)) same (ends_of_ends (λ k. bound_to s n c k ≡ None) (in_place_of n c) x (map_end (λ k. s k ≡ None) (λ k. IsOpenIn (bound_to s n c) (in_place_of n c k)) (open_end x) (λ k _ h. by_end k (nat_eq n k) refl h) (resolved m x is)))
+          subst (IsOpenIn (bound_to s n c)) same
+          (ends_of_ends (λ k. bound_to s n c k ≡ None) (in_place_of n c) x
+          (map_end (λ k. s k ≡ None) (λ k. IsOpenIn (bound_to s n c) (in_place_of n c k)) (open_end x) (λ k _ h. by_end k (nat_eq n k) refl h)
+          (resolved m x is)))
 
       by_number : (t : Bool) → nat_eq n m ≡ t → cond t (Some c) (option_map (with_ends (in_place_of n c)) (s m)) ≡ Some d → IsOpenIn (bound_to s n c) d
       by_number true is f = let same : c ≡ d = cc f in subst (IsOpenIn (bound_to s n c)) same chain_open
@@ -124,7 +128,9 @@ module _ (s : State) (n : ℕ) (c : Chain) (resolved : IsResolved s) (free : s n
         by_number : (t : Bool) → nat_eq n m ≡ t → a m ≡ kind_of a d
         by_number true is = absurd (cc (sym free ∙ ap s (eqb-true n m is) ∙ e))
         by_number false is =
-            sat m (with_ends (in_place_of n c) d) (cond-false (nat_eq n m) (Some c) (option_map (with_ends (in_place_of n c)) (s m)) is ∙ ap (option_map (with_ends (in_place_of n c))) e) ∙ placed (here sat) d
+            sat m (with_ends (in_place_of n c) d)
+            (cond-false (nat_eq n m) (Some c) (option_map (with_ends (in_place_of n c)) (s m)) is ∙ ap (option_map (with_ends (in_place_of n c))) e)
+            ∙ placed (here sat) d
 
     after : Satisfies a s → a n ≡ kind_of a c → Satisfies a (bound_to s n c)
     after sat same m d e = by_number (nat_eq n m) refl e
@@ -165,7 +171,8 @@ IsRight s es None = HasNoSolution s es
 IsRight s es (Some t) = IsSolved s es t
 
 -- equations that say the same
-right_same : (s : State) (es fs : List KindEquation) (o : Option State) → ((a : Assignment) → Satisfies a s → Solves a es → Solves a fs) → ((a : Assignment) → Satisfies a s → Solves a fs → Solves a es) → IsRight s es o → IsRight s fs o
+right_same : (s : State) (es fs : List KindEquation) (o : Option State) → ((a : Assignment) → Satisfies a s → Solves a es → Solves a fs) →
+    ((a : Assignment) → Satisfies a s → Solves a fs → Solves a es) → IsRight s es o → IsRight s fs o
 right_same s es fs None f g h = λ a sat solves. h a sat (g a sat solves)
 right_same s es fs (Some t) f g h = record {
   resolved = h.resolved;
@@ -176,7 +183,8 @@ pub nothing_done : (s : State) (es : List KindEquation) → IsResolved s → ((a
 nothing_done s es resolved h = record { resolved = resolved; just = λ a. (λ sat. (sat, h a sat), λ x. x.0) }
 
 module _ (s : State) (resolved : IsResolved s) where
-  longer : (n : ℕ) (c : Chain) → ((a : Assignment) → open_end c ≡ Some n → a n ≢ kind_of a c) → s n ≡ None → IsOpenIn s c → IsRight s ((OpenEnd n, c) ∷ []) (cond (ends_in n c) None (Some (bound_to s n c)))
+  longer : (n : ℕ) (c : Chain) → ((a : Assignment) → open_end c ≡ Some n → a n ≢ kind_of a c) → s n ≡ None → IsOpenIn s c →
+      IsRight s ((OpenEnd n, c) ∷ []) (cond (ends_in n c) None (Some (bound_to s n c)))
   longer n c misfit free unbound = by_test (ends_in n c) refl
     where
       found : (o : Option ℕ) → elim o [ Some m ↦ nat_eq n m | None ↦ false ] ≡ true → o ≡ Some n
@@ -229,7 +237,8 @@ module _ (s : State) (resolved : IsResolved s) where
 
   pub made_one : (c d : Chain) → IsRight s ((c, d) ∷ []) (unify s c d)
   made_one c d =
-      right_same s ((resolve s c, resolve s d) ∷ []) ((c, d) ∷ []) (unify s c d) (λ a sat e. (sym (resolve_kind s a c sat) ∙ e.0 ∙ resolve_kind s a d sat, tt)) (λ a sat e. (resolve_kind s a c sat ∙ e.0 ∙ sym (resolve_kind s a d sat), tt))
+      right_same s ((resolve s c, resolve s d) ∷ []) ((c, d) ∷ []) (unify s c d) (λ a sat e. (sym (resolve_kind s a c sat) ∙ e.0 ∙ resolve_kind s a d sat, tt))
+      (λ a sat e. (resolve_kind s a c sat ∙ e.0 ∙ sym (resolve_kind s a d sat), tt))
       (unify_right (resolve s c) (resolve s d) (resolve_open s c resolved) (resolve_open s d resolved))
 
 -- ---- equations in turn
@@ -289,7 +298,8 @@ turned s c d o h = right_same s ((c, d) ∷ []) ((d, c) ∷ []) o (λ a sat e. (
 
 pub from_resolved : (s : State) (c d : Chain) (o : Option State) → IsRight s ((resolve s c, resolve s d) ∷ []) o → IsRight s ((c, d) ∷ []) o
 from_resolved s c d o h =
-    right_same s ((resolve s c, resolve s d) ∷ []) ((c, d) ∷ []) o (λ a sat e. (sym (resolve_kind s a c sat) ∙ e.0 ∙ resolve_kind s a d sat, tt)) (λ a sat e. (resolve_kind s a c sat ∙ e.0 ∙ sym (resolve_kind s a d sat), tt)) h
+    right_same s ((resolve s c, resolve s d) ∷ []) ((c, d) ∷ []) o (λ a sat e. (sym (resolve_kind s a c sat) ∙ e.0 ∙ resolve_kind s a d sat, tt))
+    (λ a sat e. (resolve_kind s a c sat ∙ e.0 ∙ sym (resolve_kind s a d sat), tt)) h
 
 larger : (k j : Kind) → kind_size k ≤ kind_size j → k ≢ SequenceKind j
 larger k j le e = let is : kind_size k ≡ suc (kind_size j) = ap kind_size e in omega arith
@@ -353,7 +363,8 @@ both_suc n m = by_test (nat_eq n m) refl
     by_test true is = eq-eqb (suc n) (suc m) (ap suc (eqb-true n m is)) ∙ sym is
     by_test false is = ne_eqb (suc n) (suc m) (λ e. eqb-false n m is (cc e)) ∙ sym is
 
-pub bound_list : (f : Option Chain → Option Chain) (x : Option Chain) (cs : List (Option Chain)) (n m : ℕ) → f None ≡ None → n < length cs → state_of (set (map f cs) n x) m ≡ cond (nat_eq n m) x (f (state_of cs m))
+pub bound_list : (f : Option Chain → Option Chain) (x : Option Chain) (cs : List (Option Chain)) (n m : ℕ) → f None ≡ None → n < length cs →
+    state_of (set (map f cs) n x) m ≡ cond (nat_eq n m) x (f (state_of cs m))
 bound_list f x [] n m e small = absurd (omega arith)
 bound_list f x (c ∷ cs) zero zero e small = refl
 bound_list f x (c ∷ cs) zero (suc m) e small = state_mapped f cs m e ∙ sym (cond-false (nat_eq zero (suc m)) x (f (state_of cs m)) (zero_differs m))

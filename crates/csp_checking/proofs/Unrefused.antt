@@ -66,14 +66,16 @@ module _ (types : Types) (a : Kinds) (n : ℕ) where
       let Q : List (List (Option Expression)) → Type 0 = λ es. InTurn (InTurn (IsSetOf types longer)) es (a.channels ++ replicate n []) in (
         longer,
         record {
-          nametypes = subst P (sym (behind_one_more nametypes_declared above d ∙ ap (λ z. nametype_sets above ++ z) none ∙ append-nil (nametype_sets above))) (kept (nametype_sets above) a.nametypes fit.nametypes);
+          nametypes = subst P (sym (behind_one_more nametypes_declared above d ∙ ap (λ z. nametype_sets above ++ z) none ∙ append-nil (nametype_sets above)))
+              (kept (nametype_sets above) a.nametypes fit.nametypes);
           channels = subst Q (sym (behind_one_more channels_declared above d ∙ ap (λ z. channel_sets above ++ z) bare))
               (turn_append (InTurn (IsSetOf types longer)) (channel_sets above) a.channels (replicate n []) (replicate n [])
               (turn_map (InTurn (IsSetOf types a)) (InTurn (IsSetOf types longer)) kept (channel_sets above) a.channels fit.channels) (all_bare n));
         },
       )
 
-fit_kept : (types : Types) (above : RawScript) (d : RawDeclaration) (n : ℕ) → nametypes_declared above d ≡ [] → channels_declared above d ≡ replicate n [] → SomeFit types above → SomeFit types (above ++ d ∷ [])
+fit_kept : (types : Types) (above : RawScript) (d : RawDeclaration) (n : ℕ) → nametypes_declared above d ≡ [] → channels_declared above d ≡ replicate n [] →
+    SomeFit types above → SomeFit types (above ++ d ∷ [])
 fit_kept types above d n none bare fit = longer_fits types fit.0 n above d none bare fit.1
 
 -- ---- kinds fit all sets, though they are not written down
@@ -81,11 +83,13 @@ fit_kept types above d n none bare fit = longer_fits types fit.0 n above d none 
 abbrev NotNone : Type 0 → Type 0
 NotNone A = ¬ (¬ A)
 
-set_fits : (p : Place) (types : Types) (so_far : RawScript) (e : Option Expression) (ms : Option (List Value)) → IsThere e → ((f : KindFault) → ¬ (IsRefusedSite (NametypeSet p types so_far e ms) f)) → NotNone (SomeFit types so_far)
+set_fits : (p : Place) (types : Types) (so_far : RawScript) (e : Option Expression) (ms : Option (List Value)) → IsThere e →
+    ((f : KindFault) → ¬ (IsRefusedSite (NametypeSet p types so_far e ms) f)) → NotNone (SomeFit types so_far)
 set_fits p types so_far (Some e) ms there fine = λ none. fine WrongKind (nametype_kind none)
 set_fits p types so_far None ms there fine = absurd (let e = there.1 in cc e)
 
-field_fits : (p : Place) (types : Types) (so_far : RawScript) (e : Option Expression) (ms : Option (List Value)) → IsThere e → ((f : KindFault) → ¬ (IsRefusedSite (FieldSet p types so_far e ms) f)) → NotNone (SomeFit types so_far)
+field_fits : (p : Place) (types : Types) (so_far : RawScript) (e : Option Expression) (ms : Option (List Value)) → IsThere e →
+    ((f : KindFault) → ¬ (IsRefusedSite (FieldSet p types so_far e ms) f)) → NotNone (SomeFit types so_far)
 field_fits p types so_far (Some e) ms there fine = λ none. fine WrongKind (field_kind none)
 field_fits p types so_far None ms there fine = absurd (let e = there.1 in cc e)
 
@@ -154,7 +158,8 @@ without_parameters raw fit = (b fit.0, record { nametypes = moved_sets; channels
     moved_sets = turn_map (IsSetOf (types_of raw) fit.0) (IsSetOf (types_of raw) (b fit.0)) one (nametype_sets raw) fit.0.nametypes fit.1.nametypes
 
     moved_channels : InTurn (InTurn (IsSetOf (types_of raw) (b fit.0))) (channel_sets raw) fit.0.channels
-    moved_channels = turn_map (InTurn (IsSetOf (types_of raw) fit.0)) (InTurn (IsSetOf (types_of raw) (b fit.0))) (λ es ks h. turn_map (IsSetOf (types_of raw) fit.0) (IsSetOf (types_of raw) (b fit.0)) one es ks h) (channel_sets raw) fit.0.channels fit.1.channels
+    moved_channels = turn_map (InTurn (IsSetOf (types_of raw) fit.0)) (InTurn (IsSetOf (types_of raw) (b fit.0)))
+        (λ es ks h. turn_map (IsSetOf (types_of raw) fit.0) (IsSetOf (types_of raw) (b fit.0)) one es ks h) (channel_sets raw) fit.0.channels fit.1.channels
 
 pub not_unchecked : (raw : RawScript) → ((f : KindFault) (p : Place) → ¬ (IsKindRefusal raw f p)) → ¬ ((s : Script) → ¬ (IsCheckedTree raw s))
 not_unchecked raw unrefused unchecked = by_end (ends (items raw))
@@ -172,7 +177,8 @@ not_unchecked raw unrefused unchecked = by_end (ends (items raw))
     no_misfits = none_at_all (IsMisfit raw has.0) (items raw) (λ x f first. unrefused f (item_place x) (in_third_pass passes has.1 first))
 
     by_end : (items raw ≡ []) ⊎ ((before : List Item) × (x : Item) × (items raw ≡ before ++ x ∷ [])) → ⊥
-    by_end (inl e) = all_fit raw [] raw (all_fine [] (sites raw) (each_of_none IsRefusedAt [] (sites raw) passes.fine)) (λ none. none (record { nametypes = []; channels = []; parameters = [] }, record { nametypes = tt; channels = tt })) (λ fit.
+    by_end (inl e) = all_fit raw [] raw (all_fine [] (sites raw) (each_of_none IsRefusedAt [] (sites raw) passes.fine))
+        (λ none. none (record { nametypes = []; channels = []; parameters = [] }, record { nametypes = tt; channels = tt })) (λ fit.
         let some = without_parameters raw fit in
         let P : List Item → Type 0 = λ all. Each (FitsItem has.0 some.0) all in
         none_fits some.0 (record { sets = some.1; parameters = ap (map length) some.2 ∙ sym (no_parameters [] raw e); each = subst P (sym e) tt }))

@@ -93,7 +93,8 @@ fine_one_more g xs x h k =
     let P : List Site → Type 0 = AllFine in
     subst P (sym (flat_map-append g xs (x ∷ []) ∙ ap (λ zs. flat_map g xs ++ zs) (append-nil (g x)))) (fine_both (flat_map g xs) (g x) h k)
 
-pub stopped_in_one : {A : Type 0} {f : KindFault} {p : Place} (g : A → List Site) (xs ys : List A) (x : A) → AllFine (flat_map g xs) → IsStoppedAt (g x) f p → IsStoppedAt (flat_map g (xs ++ x ∷ ys)) f p
+pub stopped_in_one : {A : Type 0} {f : KindFault} {p : Place} (g : A → List Site) (xs ys : List A) (x : A) → AllFine (flat_map g xs) → IsStoppedAt (g x) f p →
+    IsStoppedAt (flat_map g (xs ++ x ∷ ys)) f p
 stopped_in_one {A} {f} {p} g xs ys x h k =
     let P : List Site → Type 0 = λ zs. IsStoppedAt zs f p in
     subst P (sym (flat_map-append g xs (x ∷ ys))) (stopped_behind (flat_map g xs) (g x ++ flat_map g ys) h (stopped_in_first (g x) (flat_map g ys) k))
@@ -102,13 +103,17 @@ stopped_in_one {A} {f} {p} g xs ys x h k =
 pub fine_next : (g : RawScript → RawDeclaration → List Site) (above : RawScript) (d : RawDeclaration) → AllFine (in_order g above) → AllFine (g above d) → AllFine (in_order g (above ++ d ∷ []))
 fine_next g above d h k = let P : List Site → Type 0 = AllFine in subst P (sym (behind_one_more g above d)) (fine_both (in_order g above) (g above d) h k)
 
-pub stopped_in_next : {f : KindFault} {p : Place} (g : RawScript → RawDeclaration → List Site) (above below : RawScript) (d : RawDeclaration) → AllFine (in_order g above) → IsStoppedAt (g above d) f p → IsStoppedAt (in_order g (above ++ d ∷ below)) f p
+pub stopped_in_next : {f : KindFault} {p : Place} (g : RawScript → RawDeclaration → List Site) (above below : RawScript) (d : RawDeclaration) →
+    AllFine (in_order g above) → IsStoppedAt (g above d) f p → IsStoppedAt (in_order g (above ++ d ∷ below)) f p
 stopped_in_next {f} {p} g above below d h k =
     let P : List Site → Type 0 = λ zs. IsStoppedAt zs f p in
-    subst P (sym (behind-append g [] above (d ∷ below))) (stopped_behind (in_order g above) (g above d ++ behind_each g (above ++ d ∷ []) below) h (stopped_in_first (g above d) (behind_each g (above ++ d ∷ []) below) k))
+    subst P (sym (behind-append g [] above (d ∷ below)))
+    (stopped_behind (in_order g above) (g above d ++ behind_each g (above ++ d ∷ []) below) h
+    (stopped_in_first (g above d) (behind_each g (above ++ d ∷ []) below) k))
 
 -- In a script's sites: what stands above is fine, and the walk stops in this declaration.
-pub stopped_in_declaration : {f : KindFault} {p : Place} (raw above below : RawScript) (d : RawDeclaration) → raw ≡ above ++ d ∷ below → AllFine (in_order (in_declaration raw) above) → IsStoppedAt (in_declaration raw above d) f p → IsStoppedAt (sites raw) f p
+pub stopped_in_declaration : {f : KindFault} {p : Place} (raw above below : RawScript) (d : RawDeclaration) → raw ≡ above ++ d ∷ below →
+    AllFine (in_order (in_declaration raw) above) → IsStoppedAt (in_declaration raw above d) f p → IsStoppedAt (sites raw) f p
 stopped_in_declaration {f} {p} raw above below d is h k =
     let P : RawScript → Type 0 = λ ds. IsStoppedAt (in_order (in_declaration raw) ds) f p in
     subst P (sym is) (stopped_in_next (in_declaration raw) above below d h k)

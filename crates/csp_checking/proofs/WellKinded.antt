@@ -73,8 +73,13 @@ module _ (t u : Types) (within : (d : ℕ) (cs : List ℕ) → slice_get t.datat
     expression_moves a b (Literal v) k agree h = value_moves v k h
     expression_moves a b (Name n) k agree h = h
     expression_moves a b (Apply op e) k agree h = (h.0, h.1, expression_moves a b e h.0 agree h.2)
-    expression_moves a b (Combine op e f) k agree h =
-        (h.0, h.1, h.2, expression_moves a b e h.0 (agree_left a b (nametypes_in e) (nametypes_in f) agree) h.3, expression_moves a b f h.1 (agree_right a b (nametypes_in e) (nametypes_in f) agree) h.4)
+    expression_moves a b (Combine op e f) k agree h = (
+      h.0,
+      h.1,
+      h.2,
+      expression_moves a b e h.0 (agree_left a b (nametypes_in e) (nametypes_in f) agree) h.3,
+      expression_moves a b f h.1 (agree_right a b (nametypes_in e) (nametypes_in f) agree) h.4,
+    )
     expression_moves a b (SequenceOf es) (SequenceKind k) agree h = expressions_move a b es k agree h
     expression_moves a b (SetOf es) (SetKind k) agree h = expressions_move a b es k agree h
     expression_moves a b (Range e f) (SetKind IntKind) agree h =
@@ -103,7 +108,8 @@ elements_kind types kinds sets e k vs has is = go (value types e) (value_kind ty
     go (Ok (Sequence ws)) g e = absurd g
     go (Err c) g e = absurd (cc e)
 
-pub members_are : (dts : List (List ℕ)) (ms : Members) (e : Expression) (vs : List Value) → members_with dts ms e ≡ Some vs → (list_all (has_members ms) (nametypes_in e) ≡ true) × (elements (types_with dts ms) e ≡ Ok vs)
+pub members_are : (dts : List (List ℕ)) (ms : Members) (e : Expression) (vs : List Value) → members_with dts ms e ≡ Some vs →
+    (list_all (has_members ms) (nametypes_in e) ≡ true) × (elements (types_with dts ms) e ≡ Ok vs)
 members_are dts ms e vs is = go (list_all (has_members ms) (nametypes_in e)) (elements (types_with dts ms) e) refl refl is
   where
     go : (b : Bool) (r : Result (List Value) Cause) → list_all (has_members ms) (nametypes_in e) ≡ b → elements (types_with dts ms) e ≡ r → cond b (result_ok r) None ≡ Some vs →
@@ -171,8 +177,11 @@ module _ (t : Types) (kinds : Kinds) where
       let are = members_are t.datatypes ms e vs is in
       let size : length ms ≡ length done = sym (length-map ms (λ m. unwrap_or m [])) ∙ in_turn_length (MembersHaveKind t) (lists_of ms) done sets in
       let agree = agreement ms kinds (before_it done) (k ∷ rest) split size (nametypes_in e) (each_of_all (has_members ms) (nametypes_in e) are.0) in
-      let has : HasKind (types_with t.datatypes ms) (before_it done) [] e (SetKind k) = expression_moves t (types_with t.datatypes ms) (λ d cs is. is) kinds (before_it done) e (SetKind k) agree fits in
-      members_move (types_with t.datatypes ms) t (λ d cs is. is) vs k (elements_kind (types_with t.datatypes ms) (before_it done) (sets_move t (types_with t.datatypes ms) (λ d cs is. is) (lists_of ms) done sets) e k vs has are.1)
+      let has : HasKind (types_with t.datatypes ms) (before_it done) [] e (SetKind k) =
+      expression_moves t (types_with t.datatypes ms) (λ d cs is. is) kinds (before_it done) e (SetKind k) agree fits in
+      members_move (types_with t.datatypes ms) t (λ d cs is. is) vs k
+      (elements_kind (types_with t.datatypes ms) (before_it done)
+      (sets_move t (types_with t.datatypes ms) (λ d cs is. is) (lists_of ms) done sets) e k vs has are.1)
 
   pub nametypes_kinded : (ms : Members) (all : List (List Value)) (done rest : List Kind) (es : List (Option Expression)) → kinds.nametypes ≡ done ++ rest → InTurn (IsSetOf t kinds) es rest →
       map Some all ≡ with_members t.datatypes ms es → InTurn (MembersHaveKind t) (lists_of ms) done → InTurn (MembersHaveKind t) (lists_of (with_members t.datatypes ms es)) (done ++ rest)
@@ -218,7 +227,8 @@ module _ (raw : RawScript) (kinds : Kinds) (sets : InTurn (MembersHaveKind (type
   parts_there f None p z e = absurd (cc e)
   parts_there f (Some x) None z e = absurd (cc e)
 
-  fields_kinded : (es : List (Option Expression)) (ks : List Kind) (vss : List (List Value)) → InTurn (IsSetOf (types_of raw) kinds) es ks → every (field_members raw) es ≡ Some vss → InTurn (MembersHaveKind (types_of raw)) vss ks
+  fields_kinded : (es : List (Option Expression)) (ks : List Kind) (vss : List (List Value)) → InTurn (IsSetOf (types_of raw) kinds) es ks →
+      every (field_members raw) es ≡ Some vss → InTurn (MembersHaveKind (types_of raw)) vss ks
   fields_kinded [] [] vss fits is = let same : [] ≡ vss = cc is in let P : List (List Value) → Type 0 = λ z. InTurn (MembersHaveKind (types_of raw)) z [] in subst P same tt
   fields_kinded [] (k ∷ ks) vss fits is = absurd fits
   fields_kinded (e ∷ es) [] vss fits is = absurd fits
@@ -248,7 +258,8 @@ assertions_in ds = length (flat_map one_assertion ds)
 
 equations_more : (above : RawScript) (d : RawDeclaration) → equations_in (above ++ d ∷ []) ≡ equations_in above + equations_in (d ∷ [])
 equations_more above d =
-    ap length (ap (map (λ n. n.spelling)) (flat_map-append (declared_as EquationName) above (d ∷ [])) ∙ map-append (λ n. n.spelling) (flat_map (declared_as EquationName) above) (flat_map (declared_as EquationName) (d ∷ [])))
+    ap length (ap (map (λ n. n.spelling)) (flat_map-append (declared_as EquationName) above (d ∷ []))
+    ∙ map-append (λ n. n.spelling) (flat_map (declared_as EquationName) above) (flat_map (declared_as EquationName) (d ∷ [])))
     ∙ length-append (names_of EquationName above) (names_of EquationName (d ∷ []))
 
 assertions_more : (above : RawScript) (d : RawDeclaration) → assertions_in (above ++ d ∷ []) ≡ assertions_in above + assertions_in (d ∷ [])
@@ -339,7 +350,8 @@ many_assertions raw (RawNametype name domain ∷ ds) = many_assertions raw ds
 many_assertions raw (RawChannels names domains ∷ ds) = many_assertions raw ds
 many_assertions raw (RawEquation name ns p ∷ ds) = many_assertions raw ds
 
-in_turn_at : {A B : Type 0} (R : A → B → Type 0) (xs : List A) (ys : List B) → length xs ≡ length ys → ((n : ℕ) (x : A) (y : B) → slice_get xs n ≡ Some x → slice_get ys n ≡ Some y → R x y) → InTurn R xs ys
+in_turn_at : {A B : Type 0} (R : A → B → Type 0) (xs : List A) (ys : List B) → length xs ≡ length ys →
+    ((n : ℕ) (x : A) (y : B) → slice_get xs n ≡ Some x → slice_get ys n ≡ Some y → R x y) → InTurn R xs ys
 in_turn_at R [] [] size at = tt
 in_turn_at R (x ∷ xs) (y ∷ ys) size at = (at 0 x y refl refl, in_turn_at R xs ys (omega arith) (λ n v w e f. at (suc n) v w e f))
 in_turn_at R [] (y ∷ ys) size at = absurd (cc size)
@@ -405,7 +417,11 @@ module _ (raw : RawScript) (s : Script) (is : IsScriptOf raw s) (kinds : Kinds) 
   sets_kinded =
       let P : Types → Type 0 = λ t. InTurn (MembersHaveKind t) t.nametypes kinds.nametypes in
       let Q : Types → Type 0 = λ t. InTurn (InTurn (MembersHaveKind t)) s.channels kinds.channels in
-      record { nametypes = subst P types_are nametypes_at_all; channels = subst Q types_are (channels_kinded raw kinds nametypes_at_all (channel_sets raw) kinds.channels s.channels fit.sets.channels is.channels) }
+      record {
+        nametypes = subst P types_are nametypes_at_all;
+        channels =
+            subst Q types_are (channels_kinded raw kinds nametypes_at_all (channel_sets raw) kinds.channels s.channels fit.sets.channels is.channels);
+      }
 
   pub well_kinded : IsWellKindedScript s kinds
   well_kinded = record { sets = sets_kinded; equations = equations_kinded; assertions = assertions_kinded }
