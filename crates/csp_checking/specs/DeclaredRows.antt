@@ -17,7 +17,8 @@ numbered_rows class n (x ∷ xs) = (x.spelling, Declared class n) ∷ numbered_r
 -- the rows of a declaration's names, whose numbers go on behind those of the names above
 abbrev pub rows_declared : RawScript → RawDeclaration → List Row
 rows_declared above (RawDatatype name constructors) =
-    (name.spelling, Declared DatatypeName (length (names_of DatatypeName above))) ∷ numbered_rows ConstructorName (length (names_of ConstructorName above)) constructors
+    (name.spelling, Declared DatatypeName (length (names_of DatatypeName above)))
+    ∷ numbered_rows ConstructorName (length (names_of ConstructorName above)) constructors
 rows_declared above (RawNametype name domain) = (name.spelling, Declared NametypeName (length (names_of NametypeName above))) ∷ []
 rows_declared above (RawChannels names domains) = numbered_rows ChannelName (length (names_of ChannelName above)) names
 rows_declared above (RawEquation name parameters body) = (name.spelling, Declared EquationName (length (names_of EquationName above))) ∷ []

@@ -33,7 +33,8 @@ items raw = in_order item_declared raw
 
 abbrev pub FitsItem : Script → Kinds → Item → Type 0
 FitsItem script kinds (EquationItem p n) =
-    (q : Equation) × (ks : List Kind) × (slice_get script.equations n ≡ Some q) × (slice_get kinds.parameters n ≡ Some ks) × IsWellKindedEquation script kinds q ks
+    (q : Equation) × (ks : List Kind) × (slice_get script.equations n ≡ Some q) × (slice_get kinds.parameters n ≡ Some ks)
+    × IsWellKindedEquation script kinds q ks
 FitsItem script kinds (AssertionItem p n) = (a : Assertion) × (slice_get script.assertions n ≡ Some a) × IsWellKindedAssertion script kinds a
 
 -- The kinds fit these equations and assertions, together with all datatypes, nametypes and channels. Each parameter of each equation has one.

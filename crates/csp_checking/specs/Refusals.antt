@@ -19,5 +19,7 @@ pub record PassesNames (raw : RawScript) : Type 0 where
 
 pub data IsKindRefusal (raw : RawScript) : KindFault → Place → Type 0 where
   in_first_pass : {n : RawName} {f : KindFault} → IsFirstRefused IsRedeclared (all_declared raw) n f → IsKindRefusal raw f n.place
-  in_second_pass : {x : Site} {f : KindFault} → NoneRefused IsRedeclared (all_declared raw) → IsFirstRefused IsRefusedAt (sites raw) x f → IsKindRefusal raw f (site_place x)
-  in_third_pass : {x : Item} {f : KindFault} {script : Script} → PassesNames raw → IsScriptOf raw script → IsFirstRefused (IsMisfit raw script) (items raw) x f → IsKindRefusal raw f (item_place x)
+  in_second_pass : {x : Site} {f : KindFault} →
+      NoneRefused IsRedeclared (all_declared raw) → IsFirstRefused IsRefusedAt (sites raw) x f → IsKindRefusal raw f (site_place x)
+  in_third_pass : {x : Item} {f : KindFault} {script : Script} →
+      PassesNames raw → IsScriptOf raw script → IsFirstRefused (IsMisfit raw script) (items raw) x f → IsKindRefusal raw f (item_place x)

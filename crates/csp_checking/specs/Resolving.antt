@@ -65,7 +65,8 @@ abbrev pub fields_of : Environment → List RawField → Option (List Field)
 fields_of env [] = Some []
 fields_of env (RawGiven e ∷ fs) = of_two (λ v rest. Given v ∷ rest) (expression_of env e) (fields_of env fs)
 fields_of env (RawInput n ∷ fs) = of_two (λ x rest. Input x ∷ rest) (bound_number env n) (fields_of (binding env (n ∷ [])) fs)
-fields_of env (RawInputFrom n e ∷ fs) = of_three (λ x s rest. InputFrom x s ∷ rest) (bound_number env n) (expression_of env e) (fields_of (binding env (n ∷ [])) fs)
+fields_of env (RawInputFrom n e ∷ fs) =
+    of_three (λ x s rest. InputFrom x s ∷ rest) (bound_number env n) (expression_of env e) (fields_of (binding env (n ∷ [])) fs)
 
 abbrev pub event_of : Environment → RawEvent → Option EventExpression
 event_of env e = of_two (λ c es. record { channel = c; fields = es }) (as_channel (meaning env e.channel)) (expressions_of env e.fields)

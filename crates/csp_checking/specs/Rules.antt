@@ -78,25 +78,37 @@ pub data IsRefusedSite : Site → KindFault → Type 0 where
   -- and at a parameter named twice in one head
   parameter_again : {env : Environment} {n : RawName} → IsTrue (has_spelling env.bound n.spelling) → IsRefusedSite (Parameter env n) DeclaredTwice
   -- K03 at a name of the wrong class
-  wrong_class : {env : Environment} {u : Use} {n : RawName} {m : Meaning} → meaning env n ≡ Some m → IsFalse (suits u m) → IsRefusedSite (Used env u n) WrongKind
+  wrong_class : {env : Environment} {u : Use} {n : RawName} {m : Meaning} →
+      meaning env n ≡ Some m → IsFalse (suits u m) → IsRefusedSite (Used env u n) WrongKind
   -- K04 at the name of an equation called with another number of arguments than it has parameters
   arguments : {env : Environment} {k : ℕ} {n : RawName} {p : ℕ} → parameter_count env n ≡ Some p → p ≢ k → IsRefusedSite (Used env (AsEquation k) n) WrongCount
   -- at the channel's name of a prefix, of an event in `{..}` or of a side of a renaming with another number of fields than the channel has
   fields : {env : Environment} {k : ℕ} {n : RawName} {p : ℕ} → field_count env n ≡ Some p → p ≢ k → IsRefusedSite (Used env (AsEvent k) n) WrongCount
   -- (where a renaming may also name both channels bare, with equal numbers of fields)
-  left_fields : {env : Environment} {n other : RawName} {p : ℕ} → field_count env n ≡ Some p → p ≢ 0 → field_count env other ≢ Some p → IsRefusedSite (Used env (AsBareLeft other) n) WrongCount
-  right_fields : {env : Environment} {n other : RawName} {p : ℕ} → field_count env n ≡ Some p → p ≢ 0 → field_count env other ≢ Some p → IsRefusedSite (Used env (AsBareRight other) n) WrongCount
+  left_fields : {env : Environment} {n other : RawName} {p : ℕ} →
+      field_count env n ≡ Some p → p ≢ 0 → field_count env other ≢ Some p → IsRefusedSite (Used env (AsBareLeft other) n) WrongCount
+  right_fields : {env : Environment} {n other : RawName} {p : ℕ} →
+      field_count env n ≡ Some p → p ≢ 0 → field_count env other ≢ Some p → IsRefusedSite (Used env (AsBareRight other) n) WrongCount
   -- at the channel's name in `{| |}` with more fields than the channel has
-  too_many_fields : {env : Environment} {k : ℕ} {n : RawName} {p : ℕ} → field_count env n ≡ Some p → p < k → IsRefusedSite (Used env (AsProductions k) n) WrongCount
-  -- K03 at the right channel's name of a renaming of two bare channels whose field sets are not equal in turn, where no rule refuses one of these sets or a name in it
-  other_sets : {env : Environment} {n left : RawName} {c d : ℕ} {s t : List (List Value)} → as_channel (meaning env left) ≡ Some c → as_channel (meaning env n) ≡ Some d →
-      HasFieldSets env.declarations c s → HasFieldSets env.declarations d t → length s ≡ length t → s ≢ t → IsRefusedSite (Used env (AsBareRight left) n) WrongKind
+  too_many_fields : {env : Environment} {k : ℕ} {n : RawName} {p : ℕ} →
+      field_count env n ≡ Some p → p < k → IsRefusedSite (Used env (AsProductions k) n) WrongCount
+  -- K03 at the right channel's name of a renaming of two bare channels whose field sets are not equal in turn, where no
+  -- rule refuses one of these sets or a name in it
+  other_sets : {env : Environment} {n left : RawName} {c d : ℕ} {s t : List (List Value)} →
+      as_channel (meaning env left) ≡ Some c → as_channel (meaning env n) ≡ Some d →
+      HasFieldSets env.declarations c s → HasFieldSets env.declarations d t → length s ≡ length t → s ≢ t →
+      IsRefusedSite (Used env (AsBareRight left) n) WrongKind
   -- For a set in which no name is refused: K03 at its first token where no kinds fit the sets so far or it is no set,
-  nametype_kind : {p : Place} {types : Types} {so_far : RawScript} {e : Expression} {ms : Option (List Value)} → ¬ (SomeFit types so_far) → IsRefusedSite (NametypeSet p types so_far (Some e) ms) WrongKind
-  field_kind : {p : Place} {types : Types} {so_far : RawScript} {e : Expression} {ms : Option (List Value)} → ¬ (SomeFit types so_far) → IsRefusedSite (FieldSet p types so_far (Some e) ms) WrongKind
+  nametype_kind : {p : Place} {types : Types} {so_far : RawScript} {e : Expression} {ms : Option (List Value)} →
+      ¬ (SomeFit types so_far) → IsRefusedSite (NametypeSet p types so_far (Some e) ms) WrongKind
+  field_kind : {p : Place} {types : Types} {so_far : RawScript} {e : Expression} {ms : Option (List Value)} →
+      ¬ (SomeFit types so_far) → IsRefusedSite (FieldSet p types so_far (Some e) ms) WrongKind
   -- else K05 where it has no value, and, for a field, where it has no member
-  no_value : {p : Place} {types : Types} {so_far : RawScript} {e : Expression} → SomeFit types so_far → IsRefusedSite (NametypeSet p types so_far (Some e) None) BadFieldSet
-  no_member : {p : Place} {types : Types} {so_far : RawScript} {e : Expression} → SomeFit types so_far → IsRefusedSite (FieldSet p types so_far (Some e) None) BadFieldSet
+  no_value : {p : Place} {types : Types} {so_far : RawScript} {e : Expression} →
+      SomeFit types so_far → IsRefusedSite (NametypeSet p types so_far (Some e) None) BadFieldSet
+  no_member : {p : Place} {types : Types} {so_far : RawScript} {e : Expression} →
+      SomeFit types so_far → IsRefusedSite (FieldSet p types so_far (Some e) None) BadFieldSet
   -- K06 at the name of the channel with which all channels so far have too many events, where no rule refuses one of its sets or a name in it
-  too_many_events : {n : RawName} {types : Types} {so_far : RawScript} {before : List (Option (List (List Value)))} {sets : List (List Value)} → SomeFit types so_far →
+  too_many_events : {n : RawName} {types : Types} {so_far : RawScript} {before : List (Option (List (List Value)))} {sets : List (List Value)} →
+      SomeFit types so_far →
       most_events < number_of_events (Some sets ∷ before) → IsRefusedSite (ChannelHead n types so_far before (Some sets)) TooManyEvents

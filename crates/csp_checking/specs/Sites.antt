@@ -30,7 +30,8 @@ pub data Site : Type 0 where
   -- one up to this set), its expression, unless a name in it is refused, and its members, if it has some that count.
   NametypeSet : (place : Place) (types : Types) (so_far : RawScript) (set : Option Expression) (members : Option (List Value)) → Site
   FieldSet : (place : Place) (types : Types) (so_far : RawScript) (set : Option Expression) (members : Option (List Value)) → Site
-  -- the name of a channel, with the script's types, the declarations up to its own one, and the members of the field sets of the channels before it and of its own
+  -- the name of a channel, with the script's types, the declarations up to its own one, and the members of the field
+  -- sets of the channels before it and of its own
   ChannelHead : (name : RawName) (types : Types) (so_far : RawScript) (before : List (Option (List (List Value)))) (own : Option (List (List Value))) → Site
 
 abbrev pub site_place : Site → Place
@@ -86,7 +87,8 @@ has_no_fields e = elim e.fields [ no_raw_expressions ↦ true | raw_expression_a
 
 abbrev pub in_pair : Environment → RawPair → List Site
 in_pair env r =
-    cond (has_no_fields r.from && has_no_fields r.to) (Used env (AsBareLeft r.to.channel) r.from.channel ∷ Used env (AsBareRight r.from.channel) r.to.channel ∷ [])
+    cond (has_no_fields r.from && has_no_fields r.to)
+    (Used env (AsBareLeft r.to.channel) r.from.channel ∷ Used env (AsBareRight r.from.channel) r.to.channel ∷ [])
     (in_event env r.from ++ in_event env r.to)
 
 abbrev pub in_process : Environment → RawProcess → List Site
@@ -110,20 +112,25 @@ in_parameters env (n ∷ ns) = Parameter env n ∷ in_parameters (binding env (n
 -- The names of channels, of which the first has this number, with the declarations up to their own one.
 abbrev pub in_heads : RawScript → RawScript → ℕ → List RawName → List Site
 in_heads raw so_far c [] = []
-in_heads raw so_far c (n ∷ ns) = ChannelHead n (types_of raw) so_far (take c (channel_members raw)) (unwrap_or (slice_get (channel_members raw) c) None) ∷ in_heads raw so_far (suc c) ns
+in_heads raw so_far c (n ∷ ns) =
+    ChannelHead n (types_of raw) so_far (take c (channel_members raw)) (unwrap_or (slice_get (channel_members raw) c) None)
+    ∷ in_heads raw so_far (suc c) ns
 
 -- the field sets of channels with these names, where some stand before them in the declaration
 abbrev pub in_field_sets : RawScript → RawScript → List RawName → List RawDomain → List RawDomain → List Site
 in_field_sets raw above names before [] = []
 in_field_sets raw above names before (d ∷ ds) =
-    FieldSet d.place (types_of raw) (above ++ RawChannels names (before ++ d ∷ []) ∷ []) (set_expression above d) (field_members raw (set_expression above d)) ∷ in_expression (environment_above above) d.set
+    FieldSet d.place (types_of raw) (above ++ RawChannels names (before ++ d ∷ []) ∷ []) (set_expression above d)
+    (field_members raw (set_expression above d))
+    ∷ in_expression (environment_above above) d.set
     ++ in_field_sets raw above names (before ++ d ∷ []) ds
 
 -- in a declaration of the script, below others
 abbrev pub in_declaration : RawScript → RawScript → RawDeclaration → List Site
 in_declaration raw above (RawDatatype name constructors) = []
 in_declaration raw above (RawNametype name domain) =
-    NametypeSet domain.place (types_of raw) (above ++ RawNametype name domain ∷ []) (set_expression above domain) (unwrap_or (slice_get (nametype_members raw) (length (nametype_sets above))) None)
+    NametypeSet domain.place (types_of raw) (above ++ RawNametype name domain ∷ []) (set_expression above domain)
+    (unwrap_or (slice_get (nametype_members raw) (length (nametype_sets above))) None)
     ∷ in_expression (environment_above above) domain.set
 in_declaration raw above (RawChannels names domains) =
     in_heads raw (above ++ RawChannels names domains ∷ []) (length (channel_sets above)) names ++ in_field_sets raw above names [] domains

@@ -121,10 +121,12 @@ abbrev mutual
   of_expression types o n names (Name x) k = when (number_of_name names x) (λ m. (OpenEnd m, k) ∷ [])
   of_expression types o n names (Apply op e) k = (unary_value op n, k) ∷ of_expression types o (behind_unary op n) names e (operand op n)
   of_expression types o n names (Combine op e f) k =
-      (binary_value op n, k) ∷ of_expression types o (behind_binary op n) names e (left_operand op n) ++ of_expression types o (behind_expression (behind_binary op n) e) names f (right_operand op n)
+      (binary_value op n, k) ∷ of_expression types o (behind_binary op n) names e (left_operand op n)
+      ++ of_expression types o (behind_expression (behind_binary op n) e) names f (right_operand op n)
   of_expression types o n names (SequenceOf es) k = (SequenceOver (OpenEnd n), k) ∷ of_expressions types o (suc n) names es (OpenEnd n)
   of_expression types o n names (SetOf es) k = (SetOver (OpenEnd n), k) ∷ of_expressions types o (suc n) names es (OpenEnd n)
-  of_expression types o n names (Range e f) k = (SetOver IntEnd, k) ∷ of_expression types o n names e IntEnd ++ of_expression types o (behind_expression n e) names f IntEnd
+  of_expression types o n names (Range e f) k =
+      (SetOver IntEnd, k) ∷ of_expression types o n names e IntEnd ++ of_expression types o (behind_expression n e) names f IntEnd
   of_expression types o n names Booleans k = (SetOver BoolEnd, k) ∷ []
   of_expression types o n names (Datatype d) k = when (slice_get types.datatypes d) (λ cs. (SetOver (DatatypeEnd d), k) ∷ [])
   of_expression types o n names (Nametype x) k = when (slice_get o.nametypes x) (λ m. (SetOver (OpenEnd m), k) ∷ [])

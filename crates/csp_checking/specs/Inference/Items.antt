@@ -66,7 +66,10 @@ of_assertion script o n a = of_process script o n [] a.specification ++ of_proce
 
 abbrev pub behind_item : Script → ℕ → Item → ℕ
 behind_item script n (EquationItem p m) = elim (slice_get script.equations m) [ Some q ↦ behind_process n q.body | None ↦ n ]
-behind_item script n (AssertionItem p m) = elim (slice_get script.assertions m) [ Some a ↦ behind_process (behind_process n a.specification) a.implementation | None ↦ n ]
+behind_item script n (AssertionItem p m) = elim (slice_get script.assertions m) [
+  | Some a ↦ behind_process (behind_process n a.specification) a.implementation
+  | None ↦ n
+]
 
 abbrev pub of_item : Script → Numbering → ℕ → Item → List state.KindEquation
 of_item script o n (EquationItem p m) = when (slice_get script.equations m) (λ q. when (slice_get o.parameters m) (of_equation script o n q))

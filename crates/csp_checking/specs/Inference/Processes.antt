@@ -64,7 +64,8 @@ abbrev pub of_fields : Types → Numbering → ℕ → Numbered → List Field �
 of_fields types o n names [] [] = []
 of_fields types o n names (Given e ∷ fs) (m ∷ ms) = of_expression types o n names e (OpenEnd m) ++ of_fields types o (behind_expression n e) names fs ms
 of_fields types o n names (Input x ∷ fs) (m ∷ ms) = of_fields types o n ((x, m) ∷ names) fs ms
-of_fields types o n names (InputFrom x e ∷ fs) (m ∷ ms) = of_expression types o n names e (SetOver (OpenEnd m)) ++ of_fields types o (behind_expression n e) ((x, m) ∷ names) fs ms
+of_fields types o n names (InputFrom x e ∷ fs) (m ∷ ms) =
+    of_expression types o n names e (SetOver (OpenEnd m)) ++ of_fields types o (behind_expression n e) ((x, m) ∷ names) fs ms
 of_fields types o n names fs ms = never
 
 -- the names behind the inputs of a prefix
@@ -104,7 +105,8 @@ abbrev pub are_bare_alike : Script → RenamingPair → Bool
 are_bare_alike script r = is_bare r.from && is_bare r.to && are_same_sets (slice_get script.channels r.from.channel) (slice_get script.channels r.to.channel)
 
 abbrev pub of_pair : Script → Numbering → ℕ → Numbered → RenamingPair → List KindEquation
-of_pair script o n names r = cond (are_bare_alike script r) [] (of_event script.types o n names r.from ++ of_event script.types o (behind_event n r.from) names r.to)
+of_pair script o n names r =
+    cond (are_bare_alike script r) [] (of_event script.types o n names r.from ++ of_event script.types o (behind_event n r.from) names r.to)
 
 abbrev pub of_pairs : Script → Numbering → ℕ → Numbered → List RenamingPair → List KindEquation
 of_pairs script o n names [] = []
@@ -119,19 +121,25 @@ of_process script o n names (Prefix c fs p) =
     when (slice_get o.channels c) (λ ms. of_fields script.types o n names fs ms ++ of_process script o (behind_fields n fs) (names_behind names fs ms) p)
 of_process script o n names (Guard e p) = of_expression script.types o n names e BoolEnd ++ of_process script o (behind_expression n e) names p
 of_process script o n names (If e p q) =
-    of_expression script.types o n names e BoolEnd ++ of_process script o (behind_expression n e) names p ++ of_process script o (behind_process (behind_expression n e) p) names q
+    of_expression script.types o n names e BoolEnd ++ of_process script o (behind_expression n e) names p
+    ++ of_process script o (behind_process (behind_expression n e) p) names q
 of_process script o n names (ExternalChoice p q) = of_process script o n names p ++ of_process script o (behind_process n p) names q
 of_process script o n names (InternalChoice p q) = of_process script o n names p ++ of_process script o (behind_process n p) names q
 of_process script o n names (Sequential p q) = of_process script o n names p ++ of_process script o (behind_process n p) names q
 of_process script o n names (Interleaving p q) = of_process script o n names p ++ of_process script o (behind_process n p) names q
 of_process script o n names (Interrupt p q) = of_process script o n names p ++ of_process script o (behind_process n p) names q
 of_process script o n names (GeneralisedParallel p a q) =
-    of_process script o n names p ++ of_event_set script.types o (behind_process n p) names a ++ of_process script o (behind_event_set (behind_process n p) a) names q
+    of_process script o n names p ++ of_event_set script.types o (behind_process n p) names a
+    ++ of_process script o (behind_event_set (behind_process n p) a) names q
 of_process script o n names (AlphabetisedParallel p a b q) =
-    of_process script o n names p ++ of_event_set script.types o (behind_process n p) names a ++ of_event_set script.types o (behind_event_set (behind_process n p) a) names b
+    of_process script o n names p ++ of_event_set script.types o (behind_process n p) names a
+    ++ of_event_set script.types o (behind_event_set (behind_process n p) a) names b
     ++ of_process script o (behind_event_set (behind_event_set (behind_process n p) a) b) names q
 of_process script o n names (Hiding p a) = of_process script o n names p ++ of_event_set script.types o (behind_process n p) names a
 of_process script o n names (Renaming p rs) = of_process script o n names p ++ of_pairs script o (behind_process n p) names rs
-of_process script o n names (ReplicatedExternalChoice x e p) = of_expression script.types o (suc n) names e (SetOver (OpenEnd n)) ++ of_process script o (behind_expression (suc n) e) ((x, n) ∷ names) p
-of_process script o n names (ReplicatedInternalChoice x e p) = of_expression script.types o (suc n) names e (SetOver (OpenEnd n)) ++ of_process script o (behind_expression (suc n) e) ((x, n) ∷ names) p
-of_process script o n names (ReplicatedInterleaving x e p) = of_expression script.types o (suc n) names e (SetOver (OpenEnd n)) ++ of_process script o (behind_expression (suc n) e) ((x, n) ∷ names) p
+of_process script o n names (ReplicatedExternalChoice x e p) =
+    of_expression script.types o (suc n) names e (SetOver (OpenEnd n)) ++ of_process script o (behind_expression (suc n) e) ((x, n) ∷ names) p
+of_process script o n names (ReplicatedInternalChoice x e p) =
+    of_expression script.types o (suc n) names e (SetOver (OpenEnd n)) ++ of_process script o (behind_expression (suc n) e) ((x, n) ∷ names) p
+of_process script o n names (ReplicatedInterleaving x e p) =
+    of_expression script.types o (suc n) names e (SetOver (OpenEnd n)) ++ of_process script o (behind_expression (suc n) e) ((x, n) ∷ names) p

@@ -105,7 +105,8 @@ abbrev pub outputs : RawScript
 outputs =
     RawChannels (named (codes "c") 1 9 ∷ []) (domain 1 13 (up_to 1) ∷ [])
     ∷ RawEquation (named (codes "P") 2 1) (named (codes "n") 2 3 ∷ [])
-    (RawPrefix (named (codes "c") 2 8) (RawGiven (RawUse (named (codes "n") 2 10)) ∷ []) (RawCall (named (codes "P") 2 15) (one (RawUse (named (codes "n") 2 17)))))
+    (RawPrefix (named (codes "c") 2 8) (RawGiven (RawUse (named (codes "n") 2 10)) ∷ [])
+    (RawCall (named (codes "P") 2 15) (one (RawUse (named (codes "n") 2 17)))))
     ∷ RawAssertion (at 3 1) Traces (RawCall (named (codes "P") 3 8) (one (RawNumber 0)))
     (RawPrefix (named (codes "c") 3 17) (RawInput (named (codes "x") 3 19) ∷ []) RawStop) ∷ []
 
