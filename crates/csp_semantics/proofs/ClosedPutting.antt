@@ -85,7 +85,8 @@ module _ (types : Types) (kinds : Kinds) where
       ap₂ (λ f gs. InputFrom n f ∷ gs) (kept_expression bs scope leaves e (SetKind k) h.0) (kept_fields (without n bs) ((n, k) ∷ scope) fs ks (leaves_under bs scope n k leaves) h.1)
   kept_fields bs scope _ _ leaves h = absurd h
 
-  leaves_behind : (bs : Bindings) (scope : Scope) (fs : List Field) (ks : List Kind) → LeavesNames bs scope → FieldsHaveKinds types kinds scope fs ks → LeavesNames (behind bs fs) (scope_behind scope fs ks)
+  leaves_behind : (bs : Bindings) (scope : Scope) (fs : List Field) (ks : List Kind) → LeavesNames bs scope → FieldsHaveKinds types kinds scope fs ks →
+      LeavesNames (behind bs fs) (scope_behind scope fs ks)
   leaves_behind bs scope [] [] leaves h = leaves
   leaves_behind bs scope (Given e ∷ fs) (k ∷ ks) leaves h = leaves_behind bs scope fs ks leaves h.1
   leaves_behind bs scope (Input n ∷ fs) (k ∷ ks) leaves h = leaves_behind (without n bs) ((n, k) ∷ scope) fs ks (leaves_under bs scope n k leaves) h
@@ -109,7 +110,8 @@ module _ (script : Script) (kinds : Kinds) where
   kept bs scope (Prefix c fs p) leaves h =
       ap₂ (Prefix c) (kept_fields script.types kinds bs scope fs h.0 leaves h.2) (kept (behind bs fs) (scope_behind scope fs h.0) p (leaves_behind script.types kinds bs scope fs h.0 leaves h.2) h.3)
   kept bs scope (Guard e p) leaves h = ap₂ Guard (kept_expression script.types kinds bs scope leaves e BoolKind h.0) (kept bs scope p leaves h.1)
-  kept bs scope (If e p q) leaves h = let f = kept_expression script.types kinds bs scope leaves e BoolKind h.0 in let g = kept bs scope p leaves h.1 in let i = kept bs scope q leaves h.2 in λ j. If (f j) (g j) (i j)
+  kept bs scope (If e p q) leaves h = let f = kept_expression script.types kinds bs scope leaves e BoolKind h.0 in let g = kept bs scope p leaves h.1 in
+      let i = kept bs scope q leaves h.2 in λ j. If (f j) (g j) (i j)
   kept bs scope (ExternalChoice p q) leaves h = ap₂ ExternalChoice (kept bs scope p leaves h.0) (kept bs scope q leaves h.1)
   kept bs scope (InternalChoice p q) leaves h = ap₂ InternalChoice (kept bs scope p leaves h.0) (kept bs scope q leaves h.1)
   kept bs scope (Sequential p q) leaves h = ap₂ Sequential (kept bs scope p leaves h.0) (kept bs scope q leaves h.1)

@@ -45,7 +45,8 @@ module _ (script : Script) (kinds : Kinds) (good : IsWellKindedScript script kin
   pub goes_on : (t : Process) → IsClosedTerm script kinds t → IsNotStuck script t ⊎ (((c : Cause) × IsFaulty script t c × (c ≢ IllKinded)) ⊎ IsLarge script t)
   goes_on t h = by_size (cases_Bool (fits t))
     where
-      by_steps : fits t ≡ true → cause_in script t ≡ None → ((x : Action) (u : Process) → IsOneOf (rule_steps script t) x u → IsTrue (fits u)) ⊎ ((x : Action) × (u : Process) × IsOneOf (rule_steps script t) x u × IsFalse (fits u)) →
+      by_steps : fits t ≡ true → cause_in script t ≡ None → ((x : Action) (u : Process) → IsOneOf (rule_steps script t) x u → IsTrue (fits u)) ⊎
+          ((x : Action) × (u : Process) × IsOneOf (rule_steps script t) x u × IsFalse (fits u)) →
           IsNotStuck script t ⊎ (((c : Cause) × IsFaulty script t c × (c ≢ IllKinded)) ⊎ IsLarge script t)
       by_steps within none (inl all) = inl (record { within = within; no_cause = none; targets = λ x u step. all x u ((exact script t x u).0 step) })
       by_steps within none (inr some) = inr (inr (by_step none (some.0, some.1, (exact script t some.0 some.1).1 some.2, some.3)))

@@ -32,11 +32,13 @@ bound_without n m (b ∷ bs) = by_hidden (nat_eq b.0 n) refl (bound_without n m 
     by_name true rest = rest
     by_name false rest = rest
 
-    by_found : (t : Bool) → nat_eq b.0 n ≡ false → nat_eq b.0 m ≡ t → bound (without n bs) m ≡ cond (nat_eq n m) None (bound bs m) → cond t (Some b.1) (bound (without n bs) m) ≡ cond (nat_eq n m) None (cond t (Some b.1) (bound bs m))
+    by_found : (t : Bool) → nat_eq b.0 n ≡ false → nat_eq b.0 m ≡ t → bound (without n bs) m ≡ cond (nat_eq n m) None (bound bs m) →
+        cond t (Some b.1) (bound (without n bs) m) ≡ cond (nat_eq n m) None (cond t (Some b.1) (bound bs m))
     by_found true differs same rest = ap (λ t. cond t None (Some b.1)) (sym (other_name b.0 n m differs same))
     by_found false differs same rest = rest
 
-    by_hidden : (t : Bool) → nat_eq b.0 n ≡ t → bound (without n bs) m ≡ cond (nat_eq n m) None (bound bs m) → bound (cond t (without n bs) (b ∷ without n bs)) m ≡ cond (nat_eq n m) None (bound (b ∷ bs) m)
+    by_hidden : (t : Bool) → nat_eq b.0 n ≡ t → bound (without n bs) m ≡ cond (nat_eq n m) None (bound bs m) →
+        bound (cond t (without n bs) (b ∷ without n bs)) m ≡ cond (nat_eq n m) None (bound (b ∷ bs) m)
     by_hidden true is rest =
         let same : nat_eq b.0 m ≡ nat_eq n m = ap (λ k. nat_eq k m) (eqb-true b.0 n is) in
         by_name (nat_eq n m) rest ∙ ap (λ t. cond (nat_eq n m) None (cond t (Some b.1) (bound bs m))) (sym same)
@@ -57,7 +59,8 @@ module _ (types : Types) (kinds : Kinds) where
       by_test false is f = under_value left n m k j (bound bs m) is (fit m j f)
 
   -- with a value for one more name
-  pub fit_bind : (bs : Bindings) (scope left : Scope) (n : ℕ) (v : Value) (k : Kind) → IsValueOf types v k → BindingsFit types kinds bs scope left → BindingsFit types kinds (bind n v bs) ((n, k) ∷ scope) left
+  pub fit_bind : (bs : Bindings) (scope left : Scope) (n : ℕ) (v : Value) (k : Kind) → IsValueOf types v k → BindingsFit types kinds bs scope left →
+      BindingsFit types kinds (bind n v bs) ((n, k) ∷ scope) left
   fit_bind bs scope left n v k h fit m j e = by_test (nat_eq n m) refl e
     where
       by_test : (t : Bool) → nat_eq n m ≡ t → cond t (Some k) (kind_of_name scope m) ≡ Some j → HasKind types kinds left (name_or (cond t (Some v) (bound (without n bs) m)) m) j
@@ -70,7 +73,8 @@ module _ (types : Types) (kinds : Kinds) where
   fit_nothing scope n k e = e
 
   -- the same, where no value is hidden
-  pub fit_more : (bs : Bindings) (scope left : Scope) (n : ℕ) (v : Value) (k : Kind) → IsValueOf types v k → BindingsFit types kinds bs scope left → BindingsFit types kinds ((n, v) ∷ bs) ((n, k) ∷ scope) left
+  pub fit_more : (bs : Bindings) (scope left : Scope) (n : ℕ) (v : Value) (k : Kind) → IsValueOf types v k → BindingsFit types kinds bs scope left →
+      BindingsFit types kinds ((n, v) ∷ bs) ((n, k) ∷ scope) left
   fit_more bs scope left n v k h fit m j e = by_test (nat_eq n m) e
     where
       by_test : (t : Bool) → cond t (Some k) (kind_of_name scope m) ≡ Some j → HasKind types kinds left (name_or (cond t (Some v) (bound bs m)) m) j
@@ -159,11 +163,13 @@ bare_put bs e = by_fields e.fields
     by_fields (expression_and f fs) = refl
 
 module _ (script : Script) (kinds : Kinds) where
-  put_is_pair : (bs : Bindings) (scope left : Scope) → BindingsFit script.types kinds bs scope left → (r : RenamingPair) → IsPair script kinds scope r → IsPair script kinds left (record { from = put_event bs r.from; to = put_event bs r.to })
+  put_is_pair : (bs : Bindings) (scope left : Scope) → BindingsFit script.types kinds bs scope left → (r : RenamingPair) → IsPair script kinds scope r →
+      IsPair script kinds left (record { from = put_event bs r.from; to = put_event bs r.to })
   put_is_pair bs scope left fit r (inl h) = inl (put_is_event script.types kinds bs scope left fit r.from h.0, put_is_event script.types kinds bs scope left fit r.to h.1)
   put_is_pair bs scope left fit r (inr h) = inr (bare_put bs r.from ∙ h.0, bare_put bs r.to ∙ h.1, h.2)
 
-  pub put_all_pairs : (bs : Bindings) (scope left : Scope) → BindingsFit script.types kinds bs scope left → (rs : List RenamingPair) → Each (IsPair script kinds scope) rs → Each (IsPair script kinds left) (put_pairs bs rs)
+  pub put_all_pairs : (bs : Bindings) (scope left : Scope) → BindingsFit script.types kinds bs scope left → (rs : List RenamingPair) →
+      Each (IsPair script kinds scope) rs → Each (IsPair script kinds left) (put_pairs bs rs)
   put_all_pairs bs scope left fit [] h = tt
   put_all_pairs bs scope left fit (r ∷ rs) h = (put_is_pair bs scope left fit r h.0, put_all_pairs bs scope left fit rs h.1)
 

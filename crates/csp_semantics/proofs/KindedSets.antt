@@ -89,7 +89,8 @@ decided_or b v r = elim b [ true ↦ Ok v | false ↦ r ]
 
 module _ (types : Types) (kinds : Kinds) (sets : NametypesHaveFirstKinds types kinds) where
   nametype_ok : (n : ℕ) (k : Kind) (v : Value) (o : Option (List Value)) → slice_get types.nametypes n ≡ o → slice_get kinds.nametypes n ≡ Some k → set_at o ≡ Ok v → IsValueOf types v (SetKind k)
-  nametype_ok n k v (Some vs) e f is = gives_value (λ w. IsValueOf types w (SetKind k)) (set_of vs) v (set_kind types vs k (begins_get (MembersHaveKind types) types.nametypes kinds.nametypes n vs k sets e f)) is
+  nametype_ok n k v (Some vs) e f is = gives_value (λ w. IsValueOf types w (SetKind k)) (set_of vs) v
+      (set_kind types vs k (begins_get (MembersHaveKind types) types.nametypes kinds.nametypes n vs k sets e f)) is
   nametype_ok n k v None e f is = absurd (cc is)
 
   decide_ok : (k : Kind) (b : Bool) (v w : Value) (r : Result Value Cause) → (b ≡ true → IsValueOf types v k) → (r ≡ Ok w → IsValueOf types w k) → decided_or b v r ≡ Ok w → IsValueOf types w k
@@ -115,14 +116,18 @@ module _ (types : Types) (kinds : Kinds) (sets : NametypesHaveFirstKinds types k
         gives_value (λ u. IsValueOf types u (SequenceKind k)) (sequence left.0) v (sequence_kind types left.0 k (values_ok es k left.0 h left.1)) left.2
     value_ok (SetOf es) (SetKind k) v h is =
         let left = then_ok (values types es) (λ vs. set_of (sorted_values vs)) v is in
-        gives_value (λ u. IsValueOf types u (SetKind k)) (set_of (sorted_values left.0)) v (set_kind types (sorted_values left.0) k (inserts_kind types k left.0 [] (values_ok es k left.0 h left.1) tt)) left.2
+        gives_value (λ u. IsValueOf types u (SetKind k)) (set_of (sorted_values left.0)) v
+        (set_kind types (sorted_values left.0) k (inserts_kind types k left.0 [] (values_ok es k left.0 h left.1) tt)) left.2
     value_ok (Range e f) (SetKind IntKind) v h is =
         let left = then_ok (value types e) (λ w. value types f and_then λ u. range_of w u) v is in
         let right = then_ok (value types f) (λ u. range_of left.0 u) v left.2 in
-        gives_value (λ u. IsValueOf types u (SetKind IntKind)) (range_of left.0 right.0) v (range_of_kind types left.0 right.0 (value_ok e IntKind left.0 h.0 left.1) (value_ok f IntKind right.0 h.1 right.1)) right.2
-    value_ok Booleans (SetKind BoolKind) v h is = gives_value (λ u. IsValueOf types u (SetKind BoolKind)) (set_of (Truth false ∷ Truth true ∷ [])) v (set_kind types (Truth false ∷ Truth true ∷ []) BoolKind (tt, (tt, tt))) is
+        gives_value (λ u. IsValueOf types u (SetKind IntKind)) (range_of left.0 right.0) v
+        (range_of_kind types left.0 right.0 (value_ok e IntKind left.0 h.0 left.1) (value_ok f IntKind right.0 h.1 right.1)) right.2
+    value_ok Booleans (SetKind BoolKind) v h is = gives_value (λ u. IsValueOf types u (SetKind BoolKind)) (set_of (Truth false ∷ Truth true ∷ [])) v
+        (set_kind types (Truth false ∷ Truth true ∷ []) BoolKind (tt, (tt, tt))) is
     value_ok (Datatype d) (SetKind (DatatypeKind c)) v h is =
-        subst (λ b. IsValueOf types v (SetKind (DatatypeKind b))) h.0 (gives_value (λ u. IsValueOf types u (SetKind (DatatypeKind d))) (datatype_set (slice_get types.datatypes d)) v (datatype_kind types d h.1.0 h.1.1) is)
+        subst (λ b. IsValueOf types v (SetKind (DatatypeKind b))) h.0
+        (gives_value (λ u. IsValueOf types u (SetKind (DatatypeKind d))) (datatype_set (slice_get types.datatypes d)) v (datatype_kind types d h.1.0 h.1.1) is)
     value_ok (Nametype n) (SetKind k) v h is = nametype_ok n k v (slice_get types.nametypes n) refl h is
     value_ok _ _ v h is = absurd h
 
@@ -141,7 +146,8 @@ module _ (types : Types) (kinds : Kinds) (sets : NametypesHaveFirstKinds types k
   pub elements_ok : (e : Expression) (k : Kind) (vs : List Value) → HasKind types kinds [] e (SetKind k) → elements types e ≡ Ok vs → MembersHaveKind types vs k
   elements_ok e k vs h is = let whole = then_ok (value types e) (λ v. members_of v) vs is in members_ok k whole.0 vs (value_ok e (SetKind k) whole.0 h whole.1) whole.2
 
-  pub next_set : (vs : List Value) (k : Kind) → slice_get kinds.nametypes (length types.nametypes) ≡ Some k → MembersHaveKind types vs k → NametypesHaveFirstKinds (record { datatypes = types.datatypes; nametypes = types.nametypes ++ vs ∷ [] }) kinds
+  pub next_set : (vs : List Value) (k : Kind) → slice_get kinds.nametypes (length types.nametypes) ≡ Some k → MembersHaveKind types vs k →
+      NametypesHaveFirstKinds (record { datatypes = types.datatypes; nametypes = types.nametypes ++ vs ∷ [] }) kinds
   next_set vs k e h =
       let longer : Types = record { datatypes = types.datatypes; nametypes = types.nametypes ++ vs ∷ [] } in
       begins_map (MembersHaveKind types) (MembersHaveKind longer) (types.nametypes ++ vs ∷ []) kinds.nametypes (λ us j. same_members types longer refl us j)

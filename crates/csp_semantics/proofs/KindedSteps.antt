@@ -30,16 +30,19 @@ branch_proper (Ok true) a b h f g = f
 branch_proper (Ok false) a b h f g = g
 branch_proper (Err c) a b h f g = h
 
-instances_proper : (P : List Value → Type 0) (r : Result (List Value) Cause) (look : List Value → Option Cause) → Gives P r → ((vs : List Value) → P vs → IsProperOrNone (look vs)) → IsProperOrNone (in_instances r look)
+instances_proper : (P : List Value → Type 0) (r : Result (List Value) Cause) (look : List Value → Option Cause) → Gives P r →
+    ((vs : List Value) → P vs → IsProperOrNone (look vs)) → IsProperOrNone (in_instances r look)
 instances_proper P (Ok vs) look h g = g vs h
 instances_proper P (Err c) look h g = h
 
 module _ (script : Script) (kinds : Kinds) (sets : SetsHaveKinds script kinds) (equations : InTurn (IsWellKindedEquation script kinds) script.equations kinds.parameters) where
-  first_proper : (look : Process → Option Cause) (ps : List Process) → ((p : Process) → IsClosedTerm script kinds p → IsProperOrNone (look p)) → Each (IsClosedTerm script kinds) ps → IsProperOrNone (first_cause look ps)
+  first_proper : (look : Process → Option Cause) (ps : List Process) → ((p : Process) → IsClosedTerm script kinds p → IsProperOrNone (look p)) →
+      Each (IsClosedTerm script kinds) ps → IsProperOrNone (first_cause look ps)
   first_proper look [] f h = tt
   first_proper look (p ∷ ps) f h = or_proper (look p) (first_cause look ps) (f p h.0) (first_proper look ps f h.1)
 
-  internal_proper : (look : Process → Option Cause) (ps : List Process) → ((p : Process) → IsClosedTerm script kinds p → IsProperOrNone (look p)) → Each (IsClosedTerm script kinds) ps → IsProperOrNone (in_internal_chain look ps)
+  internal_proper : (look : Process → Option Cause) (ps : List Process) → ((p : Process) → IsClosedTerm script kinds p → IsProperOrNone (look p)) →
+      Each (IsClosedTerm script kinds) ps → IsProperOrNone (in_internal_chain look ps)
   internal_proper look [] f h = tt
   internal_proper look (p ∷ []) f h = f p h.0
   internal_proper look (p ∷ q ∷ qs) f h = tt
@@ -52,7 +55,8 @@ module _ (script : Script) (kinds : Kinds) (sets : SetsHaveKinds script kinds) (
   proper_within (suc n) (Call k es) h = err_proper (IsClosedTerm script kinds) (called script k es) (called_closed script kinds sets equations k es h.0 h.1 h.2)
   proper_within (suc n) (Prefix c fs p) h = err_proper _ (prefix_communications script c fs) (prefix_fit script kinds sets c fs h.0 h.1 h.2)
   proper_within (suc n) (Guard e p) h = branch_proper (condition script.types e) (cause_within n script p) None (condition_any script kinds sets e h.0) (proper_within n p h.1) tt
-  proper_within (suc n) (If e p q) h = branch_proper (condition script.types e) (cause_within n script p) (cause_within n script q) (condition_any script kinds sets e h.0) (proper_within n p h.1) (proper_within n q h.2)
+  proper_within (suc n) (If e p q) h = branch_proper (condition script.types e) (cause_within n script p) (cause_within n script q)
+      (condition_any script kinds sets e h.0) (proper_within n p h.1) (proper_within n q h.2)
   proper_within (suc n) (ExternalChoice p q) h = or_proper (cause_within n script p) (cause_within n script q) (proper_within n p h.0) (proper_within n q h.1)
   proper_within (suc n) (InternalChoice p q) h = tt
   proper_within (suc n) (Sequential p q) h = proper_within n p h.0
@@ -62,11 +66,14 @@ module _ (script : Script) (kinds : Kinds) (sets : SetsHaveKinds script kinds) (
       or_proper (result_err (event_test script a)) (option_or (cause_within n script p) (cause_within n script q)) (err_proper (λ f. ⊤) (event_test script a) (event_test_any script kinds sets a h.1))
       (or_proper (cause_within n script p) (cause_within n script q) (proper_within n p h.0) (proper_within n q h.2))
   proper_within (suc n) (AlphabetisedParallel p a b q) h =
-      or_proper (result_err (event_test script a)) (option_or (result_err (event_test script b)) (option_or (cause_within n script p) (cause_within n script q))) (err_proper (λ f. ⊤) (event_test script a) (event_test_any script kinds sets a h.1))
+      or_proper (result_err (event_test script a)) (option_or (result_err (event_test script b)) (option_or (cause_within n script p) (cause_within n script q)))
+      (err_proper (λ f. ⊤) (event_test script a) (event_test_any script kinds sets a h.1))
       (or_proper (result_err (event_test script b)) (option_or (cause_within n script p) (cause_within n script q)) (err_proper (λ f. ⊤) (event_test script b) (event_test_any script kinds sets b h.2))
       (or_proper (cause_within n script p) (cause_within n script q) (proper_within n p h.0) (proper_within n q h.3)))
-  proper_within (suc n) (Hiding p a) h = or_proper (result_err (event_test script a)) (cause_within n script p) (err_proper (λ f. ⊤) (event_test script a) (event_test_any script kinds sets a h.1)) (proper_within n p h.0)
-  proper_within (suc n) (Renaming p rs) h = or_proper (result_err (renaming script rs)) (cause_within n script p) (err_proper (λ f. ⊤) (renaming script rs) (renaming_any script kinds sets rs h.1)) (proper_within n p h.0)
+  proper_within (suc n) (Hiding p a) h = or_proper (result_err (event_test script a)) (cause_within n script p)
+      (err_proper (λ f. ⊤) (event_test script a) (event_test_any script kinds sets a h.1)) (proper_within n p h.0)
+  proper_within (suc n) (Renaming p rs) h = or_proper (result_err (renaming script rs)) (cause_within n script p)
+      (err_proper (λ f. ⊤) (renaming script rs) (renaming_any script kinds sets rs h.1)) (proper_within n p h.0)
   proper_within (suc n) (ReplicatedExternalChoice x e p) h =
       instances_proper (λ vs. MembersHaveKind script.types vs h.0) (elements script.types e) _ (elements_kind script kinds sets e h.0 h.1)
       (λ vs g. first_proper (cause_within n script) (instances x p vs) (proper_within n) (instances_closed script kinds sets x p h.0 vs h.2 g))
@@ -89,9 +96,11 @@ module _ (script : Script) (kinds : Kinds) (sets : SetsHaveKinds script kinds) (
   chain_closed op f empty [] g h = g
   chain_closed op f empty (p ∷ ps) g h = grouped_closed op f p ps h.0 h.1
 
-  instances_of : (n : ℕ) (e : Expression) (p : Process) (k : Kind) (vs : List Value) → HasKind script.types kinds [] e (SetKind k) → IsWellKinded script kinds ((n, k) ∷ []) p → elements script.types e ≡ Ok vs →
+  instances_of : (n : ℕ) (e : Expression) (p : Process) (k : Kind) (vs : List Value) → HasKind script.types kinds [] e (SetKind k) →
+      IsWellKinded script kinds ((n, k) ∷ []) p → elements script.types e ≡ Ok vs →
       Each (IsClosedTerm script kinds) (instances n p vs)
-  instances_of n e p k vs h g is = instances_closed script kinds sets n p k vs g (gives_value (λ vs. MembersHaveKind script.types vs k) (elements script.types e) vs (elements_kind script kinds sets e k h) is)
+  instances_of n e p k vs h g is = instances_closed script kinds sets n p k vs g
+      (gives_value (λ vs. MembersHaveKind script.types vs k) (elements script.types e) vs (elements_kind script kinds sets e k h) is)
 
   pub step_closed : (t : Process) (x : Action) (u : Process) → RuleStep script t x u → IsClosedTerm script kinds t → IsClosedTerm script kinds u
   step_closed t x u skip h = tt

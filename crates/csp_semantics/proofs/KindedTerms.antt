@@ -59,7 +59,8 @@ module _ (script : Script) (kinds : Kinds) (sets : SetsHaveKinds script kinds) w
 
   pub elements_kind : (e : Expression) (k : Kind) → HasKind script.types kinds [] e (SetKind k) → Gives (λ vs. MembersHaveKind script.types vs k) (elements script.types e)
   elements_kind e k h =
-      gives_then (λ v. IsValueOf script.types v (SetKind k)) (λ vs. MembersHaveKind script.types vs k) (value script.types e) _ (value_kind script.types kinds sets.nametypes e (SetKind k) h) (members_kind k)
+      gives_then (λ v. IsValueOf script.types v (SetKind k)) (λ vs. MembersHaveKind script.types vs k) (value script.types e) _
+      (value_kind script.types kinds sets.nametypes e (SetKind k) h) (members_kind k)
 
   pub in_turn_values : (es : Expressions) (ks : List Kind) → HaveKinds script.types kinds [] es ks → Gives (λ vs. InTurn (IsValueOf script.types) vs ks) (values script.types es)
   in_turn_values no_expressions [] h = tt
@@ -79,7 +80,8 @@ module _ (script : Script) (kinds : Kinds) (sets : SetsHaveKinds script kinds) w
   in_set_any : (set : List Value) (v : Value) → GivesAny (in_field_set set v)
   in_set_any set v = gives_cond (λ w. ⊤) (has_value set v) v OutOfRange tt tt
 
-  pub communications_fit : (bs : Bindings) (scope : Scope) (fs : List Field) (s : List (List Value)) (ks : List Kind) → BindingsFit script.types kinds bs scope [] → FieldsHaveKinds script.types kinds scope fs ks →
+  pub communications_fit : (bs : Bindings) (scope : Scope) (fs : List Field) (s : List (List Value)) (ks : List Kind) → BindingsFit script.types kinds bs scope [] →
+      FieldsHaveKinds script.types kinds scope fs ks →
       InTurn (MembersHaveKind script.types) s ks → Gives (Each (λ m. BindingsFit script.types kinds m.bindings (scope_behind scope fs ks) [])) (communications script.types bs fs s)
   communications_fit bs scope [] [] [] fit h g = (fit, tt)
   communications_fit bs scope (Given e ∷ fs) (set ∷ s) (k ∷ ks) fit h g =
@@ -92,14 +94,16 @@ module _ (script : Script) (kinds : Kinds) (sets : SetsHaveKinds script kinds) w
   communications_fit bs scope (Input n ∷ fs) (set ∷ s) (k ∷ ks) fit h g =
       let Q : Communication → Type 0 = λ m. BindingsFit script.types kinds m.bindings (scope_behind ((n, k) ∷ scope) fs ks) [] in
       gives_each_list (λ v. IsValueOf script.types v k) Q _ set g.0 (λ v i.
-      gives_then (Each Q) (Each Q) (communications script.types (bind n v bs) fs s) _ (communications_fit (bind n v bs) ((n, k) ∷ scope) fs s ks (fit_bind script.types kinds bs scope [] n v k i fit) h g.1) (λ ms all.
+      gives_then (Each Q) (Each Q) (communications script.types (bind n v bs) fs s) _
+      (communications_fit (bind n v bs) ((n, k) ∷ scope) fs s ks (fit_bind script.types kinds bs scope [] n v k i fit) h g.1) (λ ms all.
       with_each (λ b. BindingsFit script.types kinds b (scope_behind ((n, k) ∷ scope) fs ks) []) v ms all))
   communications_fit bs scope (InputFrom n e ∷ fs) (set ∷ s) (k ∷ ks) fit h g =
       let Q : Communication → Type 0 = λ m. BindingsFit script.types kinds m.bindings (scope_behind ((n, k) ∷ scope) fs ks) [] in
       gives_then (λ vs. MembersHaveKind script.types vs k) (Each Q) (elements script.types (put_expression bs e)) _
       (elements_kind (put_expression bs e) k (put_expression_kind script.types kinds bs scope [] fit e (SetKind k) h.0)) (λ vs all.
       gives_each_list (λ v. IsValueOf script.types v k) Q _ (filter (λ v. has_value set v) vs) (each_filter (λ v. IsValueOf script.types v k) (λ v. has_value set v) vs all) (λ v i.
-      gives_then (Each Q) (Each Q) (communications script.types (bind n v bs) fs s) _ (communications_fit (bind n v bs) ((n, k) ∷ scope) fs s ks (fit_bind script.types kinds bs scope [] n v k i fit) h.1 g.1) (λ ms all.
+      gives_then (Each Q) (Each Q) (communications script.types (bind n v bs) fs s) _
+      (communications_fit (bind n v bs) ((n, k) ∷ scope) fs s ks (fit_bind script.types kinds bs scope [] n v k i fit) h.1 g.1) (λ ms all.
       with_each (λ b. BindingsFit script.types kinds b (scope_behind ((n, k) ∷ scope) fs ks) []) v ms all)))
   communications_fit bs scope _ _ _ fit h g = grind arith
 
@@ -125,8 +129,10 @@ module _ (script : Script) (kinds : Kinds) (sets : SetsHaveKinds script kinds) w
   pub event_any : (e : EventExpression) → IsEvent script.types kinds [] e → GivesAny (event_of script e)
   event_any e h =
       gives_then (λ s. InTurn (MembersHaveKind script.types) s h.0) (λ f. ⊤) (field_sets script e.channel) _ (field_sets_kinds e.channel h.0 h.1) (λ s g.
-      gives_then (λ vs. length vs ≡ length (expressions_list e.fields)) (λ f. ⊤) (given_values script.types e.fields s) _ (given_length e.fields s h.0 (begins (HasKind script.types kinds []) (expressions_list e.fields) h.0 h.2) g) (λ vs same.
-      any_cond (nat_eq (length vs) (length s)) (record { channel = e.channel; fields = vs }) IllKinded (eq-eqb (length vs) (length s) (same ∙ in_turn_length (HasKind script.types kinds []) (expressions_list e.fields) h.0 h.2 ∙ sym (in_turn_length (MembersHaveKind script.types) s h.0 g)))))
+      gives_then (λ vs. length vs ≡ length (expressions_list e.fields)) (λ f. ⊤) (given_values script.types e.fields s) _
+      (given_length e.fields s h.0 (begins (HasKind script.types kinds []) (expressions_list e.fields) h.0 h.2) g) (λ vs same.
+      any_cond (nat_eq (length vs) (length s)) (record { channel = e.channel; fields = vs }) IllKinded
+      (eq-eqb (length vs) (length s) (same ∙ in_turn_length (HasKind script.types kinds []) (expressions_list e.fields) h.0 h.2 ∙ sym (in_turn_length (MembersHaveKind script.types) s h.0 g)))))
 
   pub beginning_any : (e : EventExpression) → IsBeginning script.types kinds [] e → GivesAny (beginning_of script e)
   beginning_any e h =
@@ -134,11 +140,16 @@ module _ (script : Script) (kinds : Kinds) (sets : SetsHaveKinds script kinds) w
       gives_then (λ vs. length vs ≡ length (expressions_list e.fields)) (λ f. ⊤) (given_values script.types e.fields s) _ (given_length e.fields s h.0 h.2 g) (λ vs same. tt))
 
   pub event_test_any : (a : EventSet) → IsEventSet script.types kinds [] a → GivesAny (event_test script a)
-  event_test_any (Enumeration es) h = gives_then (Each (λ e. ⊤)) (λ f. ⊤) (each (event_of script) es) _ (gives_each (IsEvent script.types kinds []) (λ e. ⊤) (event_of script) es h event_any) (λ all g. tt)
-  event_test_any (Productions es) h = gives_then (Each (λ e. ⊤)) (λ f. ⊤) (each (beginning_of script) es) _ (gives_each (IsBeginning script.types kinds []) (λ e. ⊤) (beginning_of script) es h beginning_any) (λ all g. tt)
-  event_test_any (EventUnion a b) h = gives_then (λ f. ⊤) (λ f. ⊤) (event_test script a) _ (event_test_any a h.0) (λ f i. gives_then (λ g. ⊤) (λ f. ⊤) (event_test script b) _ (event_test_any b h.1) (λ g j. tt))
-  event_test_any (EventIntersection a b) h = gives_then (λ f. ⊤) (λ f. ⊤) (event_test script a) _ (event_test_any a h.0) (λ f i. gives_then (λ g. ⊤) (λ f. ⊤) (event_test script b) _ (event_test_any b h.1) (λ g j. tt))
-  event_test_any (EventDifference a b) h = gives_then (λ f. ⊤) (λ f. ⊤) (event_test script a) _ (event_test_any a h.0) (λ f i. gives_then (λ g. ⊤) (λ f. ⊤) (event_test script b) _ (event_test_any b h.1) (λ g j. tt))
+  event_test_any (Enumeration es) h = gives_then (Each (λ e. ⊤)) (λ f. ⊤) (each (event_of script) es) _
+      (gives_each (IsEvent script.types kinds []) (λ e. ⊤) (event_of script) es h event_any) (λ all g. tt)
+  event_test_any (Productions es) h = gives_then (Each (λ e. ⊤)) (λ f. ⊤) (each (beginning_of script) es) _
+      (gives_each (IsBeginning script.types kinds []) (λ e. ⊤) (beginning_of script) es h beginning_any) (λ all g. tt)
+  event_test_any (EventUnion a b) h = gives_then (λ f. ⊤) (λ f. ⊤) (event_test script a) _ (event_test_any a h.0)
+      (λ f i. gives_then (λ g. ⊤) (λ f. ⊤) (event_test script b) _ (event_test_any b h.1) (λ g j. tt))
+  event_test_any (EventIntersection a b) h = gives_then (λ f. ⊤) (λ f. ⊤) (event_test script a) _ (event_test_any a h.0)
+      (λ f i. gives_then (λ g. ⊤) (λ f. ⊤) (event_test script b) _ (event_test_any b h.1) (λ g j. tt))
+  event_test_any (EventDifference a b) h = gives_then (λ f. ⊤) (λ f. ⊤) (event_test script a) _ (event_test_any a h.0)
+      (λ f i. gives_then (λ g. ⊤) (λ f. ⊤) (event_test script b) _ (event_test_any b h.1) (λ g j. tt))
 
   channel_images_any : (c d : ℕ) → HaveSameSets script c d → GivesAny (channel_images script c d)
   channel_images_any c d h =
@@ -148,7 +159,8 @@ module _ (script : Script) (kinds : Kinds) (sets : SetsHaveKinds script kinds) w
   event_images_any c d g h = gives_then (λ f. ⊤) (λ f. ⊤) (event_of script c) _ (event_any c g) (λ f i. gives_then (λ f. ⊤) (λ f. ⊤) (event_of script d) _ (event_any d h) (λ f j. tt))
 
   -- a bare event is one of a channel without fields
-  bare_sets : (c : ℕ) (es : Expressions) (ks : List Kind) → is_bare (record { channel = c; fields = es }) ≡ true → slice_get kinds.channels c ≡ Some ks → HaveKinds script.types kinds [] es ks → slice_get script.channels c ≡ Some []
+  bare_sets : (c : ℕ) (es : Expressions) (ks : List Kind) → is_bare (record { channel = c; fields = es }) ≡ true → slice_get kinds.channels c ≡ Some ks →
+      HaveKinds script.types kinds [] es ks → slice_get script.channels c ≡ Some []
   bare_sets c no_expressions [] bare e h =
       let found = in_turn_get (InTurn (MembersHaveKind script.types)) script.channels kinds.channels c [] sets.channels e in
       found.1 ∙ ap Some (none found.0 found.2)
@@ -163,7 +175,8 @@ module _ (script : Script) (kinds : Kinds) (sets : SetsHaveKinds script kinds) w
   and_parts true b e = (refl, e)
   and_parts false b e = absurd (cc e)
 
-  pair_by : (r : RenamingPair) (b : Bool) → is_bare r.from && is_bare r.to ≡ b → IsPair script kinds [] r → GivesAny (elim b [ true ↦ channel_images script r.from.channel r.to.channel | false ↦ event_images script r.from r.to ])
+  pair_by : (r : RenamingPair) (b : Bool) → is_bare r.from && is_bare r.to ≡ b → IsPair script kinds [] r →
+      GivesAny (elim b [ true ↦ channel_images script r.from.channel r.to.channel | false ↦ event_images script r.from r.to ])
   pair_by r true e (inl h) =
       let bare = and_parts (is_bare r.from) (is_bare r.to) e in
       channel_images_any r.from.channel r.to.channel ([], bare_sets r.from.channel r.from.fields h.0.0 bare.0 h.0.1 h.0.2, bare_sets r.to.channel r.to.fields h.1.0 bare.1 h.1.1 h.1.2)
@@ -174,30 +187,36 @@ module _ (script : Script) (kinds : Kinds) (sets : SetsHaveKinds script kinds) w
   pub renaming_any : (rs : List RenamingPair) → Each (IsPair script kinds []) rs → GivesAny (renaming script rs)
   renaming_any [] h = tt
   renaming_any (r ∷ rs) h =
-      gives_then (λ f. ⊤) (λ f. ⊤) (pair_images script r) _ (pair_by r (is_bare r.from && is_bare r.to) refl h.0) (λ f i. gives_then (λ f. ⊤) (λ f. ⊤) (renaming script rs) _ (renaming_any rs h.1) (λ g j. tt))
+      gives_then (λ f. ⊤) (λ f. ⊤) (pair_images script r) _ (pair_by r (is_bare r.from && is_bare r.to) refl h.0)
+      (λ f i. gives_then (λ f. ⊤) (λ f. ⊤) (renaming script rs) _ (renaming_any rs h.1) (λ g j. tt))
 
   -- ---- instances and calls
 
-  pub instances_closed : (n : ℕ) (p : Process) (k : Kind) (vs : List Value) → IsWellKinded script kinds ((n, k) ∷ []) p → MembersHaveKind script.types vs k → Each (IsClosedTerm script kinds) (instances n p vs)
+  pub instances_closed : (n : ℕ) (p : Process) (k : Kind) (vs : List Value) → IsWellKinded script kinds ((n, k) ∷ []) p → MembersHaveKind script.types vs k →
+      Each (IsClosedTerm script kinds) (instances n p vs)
   instances_closed n p k [] h g = tt
   instances_closed n p k (v ∷ vs) h g = (
     put_kinded script kinds ((n, v) ∷ []) ((n, k) ∷ []) [] p (fit_more script.types kinds [] [] [] n v k g.0 (fit_nothing script.types kinds [])) h,
     instances_closed n p k vs h g.1,
   )
 
-  parameters_fit : (ns : List ℕ) (vs : List Value) (ks : List Kind) → length ns ≡ length ks → InTurn (IsValueOf script.types) vs ks → Gives (λ bs. BindingsFit script.types kinds bs (scope_of ns ks) []) (parameter_bindings ns vs)
+  parameters_fit : (ns : List ℕ) (vs : List Value) (ks : List Kind) → length ns ≡ length ks → InTurn (IsValueOf script.types) vs ks →
+      Gives (λ bs. BindingsFit script.types kinds bs (scope_of ns ks) []) (parameter_bindings ns vs)
   parameters_fit [] [] [] same h = fit_nothing script.types kinds []
   parameters_fit (n ∷ ns) (v ∷ vs) (k ∷ ks) same h =
-      gives_then (λ bs. BindingsFit script.types kinds bs (scope_of ns ks) []) (λ bs. BindingsFit script.types kinds bs ((n, k) ∷ scope_of ns ks) []) (parameter_bindings ns vs) _ (parameters_fit ns vs ks (omega (arith, same)) h.1)
+      gives_then (λ bs. BindingsFit script.types kinds bs (scope_of ns ks) []) (λ bs. BindingsFit script.types kinds bs ((n, k) ∷ scope_of ns ks) [])
+      (parameter_bindings ns vs) _ (parameters_fit ns vs ks (omega (arith, same)) h.1)
       (λ bs fit. fit_more script.types kinds bs (scope_of ns ks) [] n v k h.0 fit)
   parameters_fit _ _ _ same h = grind arith
 
-  pub called_closed : InTurn (IsWellKindedEquation script kinds) script.equations kinds.parameters → (n : ℕ) (es : Expressions) (ks : List Kind) → slice_get kinds.parameters n ≡ Some ks → HaveKinds script.types kinds [] es ks →
+  pub called_closed : InTurn (IsWellKindedEquation script kinds) script.equations kinds.parameters → (n : ℕ) (es : Expressions) (ks : List Kind) →
+      slice_get kinds.parameters n ≡ Some ks → HaveKinds script.types kinds [] es ks →
       Gives (IsClosedTerm script kinds) (called script n es)
   called_closed equations n es ks e h =
       gives_then (λ vs. InTurn (IsValueOf script.types) vs ks) (IsClosedTerm script kinds) (values script.types es) _ (in_turn_values es ks h) (λ vs g.
       let found = in_turn_get (IsWellKindedEquation script kinds) script.equations kinds.parameters n ks equations e in
       let equation = found.0 in
       rw (found.1)
-      (gives_then (λ bs. BindingsFit script.types kinds bs (scope_of equation.parameters ks) []) (IsClosedTerm script kinds) (parameter_bindings equation.parameters vs) _ (parameters_fit equation.parameters vs ks found.2.parameters g)
+      (gives_then (λ bs. BindingsFit script.types kinds bs (scope_of equation.parameters ks) []) (IsClosedTerm script kinds) (parameter_bindings equation.parameters vs) _
+      (parameters_fit equation.parameters vs ks found.2.parameters g)
       (λ bs fit. put_kinded script kinds bs (scope_of equation.parameters ks) [] equation.body fit found.2.body)))

@@ -148,7 +148,8 @@ module _ (types : Types) where
       value_kind (SequenceOf es) (SequenceKind k) h =
           gives_then (λ vs. MembersHaveKind types vs k) (λ v. IsValueOf types v (SequenceKind k)) (values types es) _ (values_kind es k h) (λ vs g. sequence_kind vs k g)
       value_kind (SetOf es) (SetKind k) h =
-          gives_then (λ vs. MembersHaveKind types vs k) (λ v. IsValueOf types v (SetKind k)) (values types es) _ (values_kind es k h) (λ vs g. set_kind (sorted_values vs) k (inserts_kind k vs [] g tt))
+          gives_then (λ vs. MembersHaveKind types vs k) (λ v. IsValueOf types v (SetKind k)) (values types es) _ (values_kind es k h)
+          (λ vs g. set_kind (sorted_values vs) k (inserts_kind k vs [] g tt))
       value_kind (Range e f) (SetKind IntKind) h =
           gives_then (λ v. IsValueOf types v IntKind) (λ v. IsValueOf types v (SetKind IntKind)) (value types e) _ (value_kind e IntKind h.0) (λ v g.
           gives_then (λ w. IsValueOf types w IntKind) (λ w. IsValueOf types w (SetKind IntKind)) (value types f) _ (value_kind f IntKind h.1) (λ w i. range_of_kind v w g i))

@@ -62,7 +62,8 @@ pub each_map : {A : Type 0} (P Q : A → Type 0) (xs : List A) → ((x : A) → 
 each_map P Q [] f h = tt
 each_map P Q (x ∷ xs) f h = (f x h.0, each_map P Q xs f h.1)
 
-pub gives_each_list : {A B : Type 0} (P : A → Type 0) (Q : B → Type 0) (f : A → Result (List B) Cause) (xs : List A) → Each P xs → ((x : A) → P x → Gives (Each Q) (f x)) → Gives (Each Q) (each_list f xs)
+pub gives_each_list : {A B : Type 0} (P : A → Type 0) (Q : B → Type 0) (f : A → Result (List B) Cause) (xs : List A) → Each P xs →
+    ((x : A) → P x → Gives (Each Q) (f x)) → Gives (Each Q) (each_list f xs)
 gives_each_list P Q f [] h g = tt
 gives_each_list P Q f (x ∷ xs) h g =
     gives_then (Each Q) (Each Q) (f x) _ (g x h.0) (λ ys qs. gives_then (Each Q) (Each Q) (each_list f xs) _ (gives_each_list P Q f xs h.1 g) (λ zs rs. each_append Q ys zs qs rs))

@@ -60,11 +60,13 @@ module _ {X : Type 0} (R : X → X → Ordering) (total : IsTotalOrder R) where
   rising_same (x ∷ xs) (y ∷ ys) rx ry to back =
       let e = same_first x y xs ys rx ry (to x (0, refl)) (back y (0, refl)) in
       ap₂ (λ w ws. w ∷ ws) e
-      (rising_same xs ys (rises_behind R x xs rx) (rises_behind R y ys ry) (λ z at. same_rest x y xs ys rx e z at (to z (suc at.0, at.1))) (λ z at. same_rest y x ys xs ry (sym e) z at (back z (suc at.0, at.1))))
+      (rising_same xs ys (rises_behind R x xs rx) (rises_behind R y ys ry) (λ z at. same_rest x y xs ys rx e z at (to z (suc at.0, at.1)))
+      (λ z at. same_rest y x ys xs ry (sym e) z at (back z (suc at.0, at.1))))
 
 -- ---- a test for a member that compares it with each in turn
 
-module _ {X : Type 0} (eq : X → X → Bool) (same : (x y : X) → eq x y ≡ true → x ≡ y) (has : List X → X → Bool) (none : (x : X) → has [] x ≡ true → ⊥) (more : (y : X) (ys : List X) (x : X) → has (y ∷ ys) x ≡ eq x y || has ys x) where
+module _ {X : Type 0} (eq : X → X → Bool) (same : (x y : X) → eq x y ≡ true → x ≡ y) (has : List X → X → Bool) (none : (x : X) → has [] x ≡ true → ⊥)
+    (more : (y : X) (ys : List X) (x : X) → has (y ∷ ys) x ≡ eq x y || has ys x) where
   -- what the test finds stands in the list
   pub told_stands : (xs : List X) (x : X) → has xs x ≡ true → Stands xs x
   told_stands [] x e = absurd (none x e)
