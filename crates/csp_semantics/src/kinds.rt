@@ -6,11 +6,11 @@ ghost use Rattle.csp_syntax.specs.Value.{Value, Action, Truth};
 ghost use Rattle.csp_syntax.specs.Expression.{Unary, Binary, Literal, SequenceOf, no_expressions};
 ghost use Rattle.csp_syntax.specs.Process.{Assertion, Enumeration, Productions, Process, Stop, Script};
 ghost use Rattle.csp_syntax.specs.Types.{Types};
-ghost use Rattle.csp_semantics.specs.Meaning.Evaluation.{Cause, IllKinded, range_of};
+ghost use Rattle.csp_semantics.specs.Meaning.Evaluation.{IllKinded, range_of};
 ghost use Rattle.csp_semantics.specs.Meaning.Substitution.{Bindings, put};
 ghost use Rattle.csp_semantics.specs.Meaning.Faults.{cause_in};
-ghost use Rattle.csp_semantics.specs.Meaning.Transitions.{RuleStep, IsFaulty};
-ghost use Rattle.csp_semantics.specs.Meaning.Runs.{Run, SomeReachable};
+ghost use Rattle.csp_semantics.specs.Meaning.Transitions.{RuleStep};
+ghost use Rattle.csp_semantics.specs.Meaning.Runs.{Run};
 ghost use Rattle.csp_semantics.specs.Kinds.Kind.{Kind, IntKind, BoolKind, SequenceKind, Kinds};
 ghost use Rattle.csp_semantics.specs.Kinds.Values.{IsValueOf};
 ghost use Rattle.csp_semantics.specs.Kinds.Expressions.{UnaryKinds, BinaryKinds, HasKind};
@@ -24,7 +24,7 @@ ghost use Rattle.csp_semantics.specs.Laws.Values.{UnaryGives, BinaryGives, Unary
 ghost use Rattle.csp_semantics.specs.Laws.Putting.{ExpressionsStayKinded, FieldsStayKinded, EventSetsStayKinded, PairsStayKinded, ProcessesStayKinded, OneValueCloses};
 ghost use Rattle.csp_semantics.specs.Laws.Misfits.{ConditionsAreNoMisfits, ElementsAreNoMisfits, FieldsAreNoMisfits, OpenFieldsAreNoMisfits, EventsAreNoMisfits};
 ghost use Rattle.csp_semantics.specs.Laws.Misfits.{BeginningsAreNoMisfits, EventSetsAreNoMisfits, RenamingsAreNoMisfits, ArgumentsAreNoMisfits, CallsAreNoMisfits};
-ghost use Rattle.csp_semantics.specs.Laws.ClosedTerms.{BodiesAreClosed, InstancesAreClosed, PrefixesLeadToClosed, SidesAreTerms};
+ghost use Rattle.csp_semantics.specs.Laws.ClosedTerms.{FaultsAreNoMisfits, BodiesAreClosed, InstancesAreClosed, PrefixesLeadToClosed, SidesAreTerms};
 ghost use Rattle.csp_semantics.specs.Laws.ClosedTerms.{ClosedTermsAreNoMisfits, StepsKeepTermsClosed, RunsKeepTermsClosed, ClosedTermsHaveTheirSteps};
 
 /// `<>` is of every kind of sequences and `<1,true>` of none; with `c` of `{0..1}`, `c?x -> c!x -> STOP` is a closed
@@ -145,5 +145,5 @@ pub fn terms_of_checked_scripts()
     ensures step { (script : Script) (t : Process) (x : Action) (u : Process) → IsTermOf script t → RuleStep script t x u → IsTermOf script u }
     ensures run { (script : Script) (t : Process) (path : List Action) (u : Process) → IsTermOf script t → Run script t path u → IsTermOf script u }
     ensures no_misfit { (script : Script) (t : Process) → IsTermOf script t → cause_in script t ≢ Some IllKinded }
-    ensures faults { (script : Script) (t : Process) (c : Cause) → IsTermOf script t → SomeReachable script t (λ u. IsFaulty script u c) → c ≢ IllKinded }
+    ensures faults { (script : Script) (t : Process) → IsTermOf script t → FaultsAreNoMisfits script t }
 {}

@@ -10,17 +10,17 @@ use Rattle.csp_semantics.specs.Meaning.Faults.{first_cause, in_instances, in_int
 use Rattle.csp_semantics.specs.Meaning.Transitions.{chain}
 
 -- the first cause of the sets of a parallel operator, else of its left side, else of its right one
-abbrev pub first_in_parallel : Script → List EventSet → Process → Process → Option Cause
-first_in_parallel s [] p q = option_or (cause_in s p) (cause_in s q)
-first_in_parallel s (a ∷ sets) p q = option_or (result_err (event_test s a)) (first_in_parallel s sets p q)
+abbrev pub parallel_cause : Script → List EventSet → Process → Process → Option Cause
+parallel_cause s [] p q = option_or (cause_in s p) (cause_in s q)
+parallel_cause s (a ∷ sets) p q = option_or (result_err (event_test s a)) (parallel_cause s sets p q)
 
 -- the cause of the set of a replicated form, else the first one of its instances
-abbrev pub of_instances : Script → ℕ → Expression → Process → Option Cause
-of_instances s x e p = in_instances (elements s.types e) (λ vs. first_cause (cause_in s) (instances x p vs))
+abbrev pub parts_cause : Script → ℕ → Expression → Process → Option Cause
+parts_cause s x e p = in_instances (elements s.types e) (λ vs. first_cause (cause_in s) (instances x p vs))
 
 -- the same in an internal choice: none is a cause, one is looked at, and of more none is
-abbrev pub of_one_instance : Script → ℕ → Expression → Process → Option Cause
-of_one_instance s x e p = in_instances (elements s.types e) (λ vs. in_internal_chain (cause_in s) (instances x p vs))
+abbrev pub chain_cause : Script → ℕ → Expression → Process → Option Cause
+chain_cause s x e p = in_instances (elements s.types e) (λ vs. in_internal_chain (cause_in s) (instances x p vs))
 
 -- the internal choice of some processes
 abbrev pub internal_chain : List Process → Process

@@ -8,7 +8,7 @@ use Rattle.csp_semantics.specs.Meaning.Substitution.{put}
 use Rattle.csp_semantics.specs.Meaning.Events.{Communication, elements, prefix_communications, called, instances}
 use Rattle.csp_semantics.specs.Meaning.Faults.{cause_in}
 use Rattle.csp_semantics.specs.Meaning.Transitions.{RuleStep, IsFaulty, IsLarge, IsNotStuck}
-use Rattle.csp_semantics.specs.Meaning.Runs.{Run}
+use Rattle.csp_semantics.specs.Meaning.Runs.{Run, SomeReachable}
 use Rattle.csp_semantics.specs.Kinds.Kind.{Kind, SetKind, Kinds, Each}
 use Rattle.csp_semantics.specs.Kinds.Expressions.{HasKind, HaveKinds}
 use Rattle.csp_semantics.specs.Kinds.Processes.{IsWellKinded, IsClosedTerm}
@@ -61,6 +61,10 @@ abbrev pub ClosedTermsHaveTheirSteps : Script → Kinds → Type 0
 ClosedTermsHaveTheirSteps script kinds =
     (t : Process) → IsClosedTerm script kinds t →
     IsNotStuck script t ⊎ (((c : Cause) × IsFaulty script t c × (c ≢ IllKinded)) ⊎ IsLarge script t)
+
+-- no cause of a term that it reaches is a misfit
+abbrev pub FaultsAreNoMisfits : Script → Process → Type 0
+FaultsAreNoMisfits script t = (c : Cause) → SomeReachable script t (λ u. IsFaulty script u c) → c ≢ IllKinded
 
 -- ---- assertions
 

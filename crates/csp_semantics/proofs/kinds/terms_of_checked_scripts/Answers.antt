@@ -18,4 +18,4 @@ pub returns-clause-no_misfit : goal.returns-clause-no_misfit
 returns-clause-no_misfit c = λ script t h. no_misfit script h.0 h.1 t h.2
 
 pub returns-clause-faults : goal.returns-clause-faults
-returns-clause-faults c = λ script t why h some. reached_no_misfit script h.0 h.1 t why h.2 some
+returns-clause-faults c = λ script t h why some. reached_no_misfit script h.0 h.1 t why h.2 some
