@@ -3,6 +3,7 @@ use Rattle.std.specs.Prelude.{List, [], ◌∷◌}
 use Rattle.csp_checking.specs.Inference.Chain as pure
 use Rattle.csp_inference.specs.declared.chain.End.{End}
 use Rattle.csp_inference.specs.declared.chain.End.TheVariants as ending
+use Rattle.csp_inference.specs.declared.chain.KindNumber.{KindNumber}
 use Rattle.csp_inference.specs.declared.chain.Layer.{Layer}
 use Rattle.csp_inference.specs.declared.chain.Layer.TheVariants as layer
 use Rattle.csp_inference.specs.declared.chain.Demand.{Demand}
@@ -29,5 +30,13 @@ abbrev pub over_all : List Layer → pure.Chain → pure.Chain
 over_all [] c = c
 over_all (l ∷ ls) c = over l (over_all ls c)
 
+-- the chain of these layers and this end
+abbrev pub chain_over : List Layer → End → pure.Chain
+chain_over layers end = over_all layers (end_of end)
+
 abbrev pub chain_of : {A : Type 0} → Chain A → pure.Chain
-chain_of c = over_all c.layers.items (end_of c.end)
+chain_of c = chain_over c.layers.items c.end
+
+-- the chain with the layers and the end in the place of its own end, if that is the number
+abbrev pub going_on_at : KindNumber → List Layer → End → pure.Chain → pure.Chain
+going_on_at number layers end = pure.with_ends (pure.in_place_of number.0 (chain_over layers end))

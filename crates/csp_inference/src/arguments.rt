@@ -1,12 +1,8 @@
 //! What expressions in the places of fields and parameters ask for.
 
-ghost use Rattle.std.specs.Prelude.{◌≤◌, IfOk, length, map};
-ghost use Rattle.csp_syntax.specs.Expression.{to_expressions};
-ghost use Rattle.csp_checking.specs.Inference.Expressions.{behind_expressions, of_all, of_first};
-ghost use Rattle.csp_expression.specs.Evaluation.{table_of};
-ghost use Rattle.csp_expression.specs.Expression.{expressions_of};
-ghost use Rattle.csp_inference.specs.Equations.{Adds, Asks};
-ghost use Rattle.csp_inference.specs.Numbering.{names_of, numbering_of};
+ghost use Rattle.std.specs.Prelude.{◌≤◌, IfOk, length};
+ghost use Rattle.csp_inference.specs.Question.{AddsQuestion, AsksQuestion};
+ghost use Rattle.csp_inference.specs.Questions.Arguments.{arguments_question, leading_arguments_question};
 
 use crate::chain::{Demand, End, KindNumber};
 use crate::equations::Equations;
@@ -26,7 +22,7 @@ impl<A: Allocator + Copy> Equations<A> {
         expressions: &[Expr<A>],
         numbers: &[KindNumber],
     ) -> Result<(), Memory>
-        ensures { IfOk result (λ _. Asks self.old self.new (of_all (table_of types.now) (numbering_of numbering.now) self.old.next (names_of names.now) (to_expressions (expressions_of expressions.now)) (map (λ n. n.0) numbers.now)) (behind_expressions self.old.next (to_expressions (expressions_of expressions.now)))) }
+        ensures { IfOk result (λ _. AsksQuestion self.old self.new (arguments_question types.now numbering.now names.now expressions.now numbers.now)) }
     {
         if expressions.len() != numbers.len() {
             self.push_never()?;
@@ -45,7 +41,7 @@ impl<A: Allocator + Copy> Equations<A> {
         expressions: &[Expr<A>],
         numbers: &[KindNumber],
     ) -> Result<(), Memory>
-        ensures { IfOk result (λ _. Asks self.old self.new (of_first (table_of types.now) (numbering_of numbering.now) self.old.next (names_of names.now) (to_expressions (expressions_of expressions.now)) (map (λ n. n.0) numbers.now)) (behind_expressions self.old.next (to_expressions (expressions_of expressions.now)))) }
+        ensures { IfOk result (λ _. AsksQuestion self.old self.new (leading_arguments_question types.now numbering.now names.now expressions.now numbers.now)) }
     {
         if numbers.len() < expressions.len() {
             self.push_never()?;
@@ -65,7 +61,7 @@ impl<A: Allocator + Copy> Equations<A> {
         numbers: &[KindNumber],
     ) -> Result<(), Memory>
         requires { length expressions.now ≤ length numbers.now }
-        ensures { IfOk result (λ _. Adds self.old self.new (of_first (table_of types.now) (numbering_of numbering.now) self.old.next (names_of names.now) (to_expressions (expressions_of expressions.now)) (map (λ n. n.0) numbers.now)) (behind_expressions self.old.next (to_expressions (expressions_of expressions.now)))) }
+        ensures { IfOk result (λ _. AddsQuestion self.old self.new (leading_arguments_question types.now numbering.now names.now expressions.now numbers.now)) }
     {
         for (index, expression) in expressions.iter().enumerate() {
             let kind = Demand::Plain(End::Open(numbers[index]));

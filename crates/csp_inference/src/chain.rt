@@ -1,8 +1,7 @@
 //! Kinds with open ends.
 
 ghost use Rattle.std.specs.Prelude.{◌≡◌, IfOk};
-ghost use Rattle.csp_checking.specs.Inference.Chain.{in_place_of, with_ends};
-ghost use Rattle.csp_inference.specs.Chain.{chain_of, demand_of, end_of, over, over_all};
+ghost use Rattle.csp_inference.specs.Chain.{chain_of, chain_over, demand_of, end_of, going_on_at, over, over_all};
 
 use csp_expression::DatatypeId;
 use csp_value::Memory;
@@ -79,7 +78,7 @@ impl<A: Allocator + Copy> Chain<A> {
     /// room.
     #[tactic(auto, using(crate::proofs::Layers::over_append))]
     pub(crate) fn go_on(&mut self, layers: &[Layer], end: End) -> Result<(), Memory>
-        ensures { IfOk result (λ _. chain_of self.new ≡ over_all self.old.layers.items (over_all layers.now (end_of end))) }
+        ensures { IfOk result (λ _. chain_of self.new ≡ over_all self.old.layers.items (chain_over layers.now end)) }
     {
         self.layers.extend_from_slice(layers)?;
         self.end = end;
@@ -93,7 +92,7 @@ impl<A: Allocator + Copy> Chain<A> {
         layers: &[Layer],
         end: End,
     ) -> Result<(), Memory>
-        ensures { IfOk result (λ _. chain_of self.new ≡ with_ends (in_place_of number.0 (over_all layers.now (end_of end))) (chain_of self.old)) }
+        ensures { IfOk result (λ _. chain_of self.new ≡ going_on_at number layers.now end (chain_of self.old)) }
     {
         if self.end != End::Open(number) {
             return Ok(());

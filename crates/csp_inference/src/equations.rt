@@ -2,9 +2,10 @@
 
 ghost use Rattle.std.specs.Prelude.{◌≡◌, ◌∷◌, [], suc, IfOk};
 ghost use Rattle.csp_checking.specs.Inference.Equations.{never};
-ghost use Rattle.csp_checking.specs.Inference.Chain.{OpenEnd, SequenceOver, SetOver};
 ghost use Rattle.csp_inference.specs.Chain.{demand_of};
 ghost use Rattle.csp_inference.specs.Equations.{Adds, equations_of};
+ghost use Rattle.csp_inference.specs.Question.{AddsQuestion};
+ghost use Rattle.csp_inference.specs.Questions.Operators.{sequence_kind_question, set_kind_question};
 
 use crate::chain::{Demand, End, KindNumber};
 use csp_value::Memory;
@@ -88,7 +89,7 @@ impl<A: Allocator + Copy> Equations<A> {
     /// The number of a new kind, of which the given one is the sequences.
     pub(crate) fn push_sequence(&mut self, kind: Demand) -> Result<KindNumber, Memory>
         ensures number { IfOk result (λ n. n.0 ≡ self.old.next) }
-        ensures behind { IfOk result (λ _. Adds self.old self.new ((SequenceOver (OpenEnd self.old.next), demand_of kind) ∷ []) (suc self.old.next)) }
+        ensures behind { IfOk result (λ _. AddsQuestion self.old self.new (sequence_kind_question kind)) }
     {
         let number = self.fresh()?;
         self.push(Demand::SequenceOf(End::Open(number)), kind)?;
@@ -98,7 +99,7 @@ impl<A: Allocator + Copy> Equations<A> {
     /// The number of a new kind, of which the given one is the sets.
     pub(crate) fn push_set(&mut self, kind: Demand) -> Result<KindNumber, Memory>
         ensures number { IfOk result (λ n. n.0 ≡ self.old.next) }
-        ensures behind { IfOk result (λ _. Adds self.old self.new ((SetOver (OpenEnd self.old.next), demand_of kind) ∷ []) (suc self.old.next)) }
+        ensures behind { IfOk result (λ _. AddsQuestion self.old self.new (set_kind_question kind)) }
     {
         let number = self.fresh()?;
         self.push(Demand::SetOf(End::Open(number)), kind)?;

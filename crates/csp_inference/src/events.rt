@@ -1,11 +1,8 @@
 //! What events and sets of events ask for.
 
 ghost use Rattle.std.specs.Prelude.{IfOk};
-ghost use Rattle.csp_checking.specs.Inference.Processes.{behind_event, behind_event_set, behind_events, of_beginning, of_beginnings, of_event, of_event_set, of_events};
-ghost use Rattle.csp_event_sets.specs.Events.{event_expression_of, event_expressions_of, event_set_of};
-ghost use Rattle.csp_expression.specs.Evaluation.{table_of};
-ghost use Rattle.csp_inference.specs.Equations.{Asks};
-ghost use Rattle.csp_inference.specs.Numbering.{names_of, numbering_of};
+ghost use Rattle.csp_inference.specs.Question.{AsksQuestion};
+ghost use Rattle.csp_inference.specs.Questions.Events.{beginning_question, beginnings_question, event_question, event_set_question, events_question};
 
 use crate::equations::Equations;
 use crate::numbering::{NumberedName, Numbering};
@@ -24,7 +21,7 @@ impl<A: Allocator + Copy> Equations<A> {
         names: &[NumberedName],
         event: &EventExpression<A>,
     ) -> Result<(), Memory>
-        ensures { IfOk result (λ _. Asks self.old self.new (of_event (table_of types.now) (numbering_of numbering.now) self.old.next (names_of names.now) (event_expression_of event.now)) (behind_event self.old.next (event_expression_of event.now))) }
+        ensures { IfOk result (λ _. AsksQuestion self.old self.new (event_question types.now numbering.now names.now event.now)) }
     {
         let Some(numbers) = numbering.channels.get(event.channel.0 as usize) else {
             self.push_never()?;
@@ -42,7 +39,7 @@ impl<A: Allocator + Copy> Equations<A> {
         names: &[NumberedName],
         event: &EventExpression<A>,
     ) -> Result<(), Memory>
-        ensures { IfOk result (λ _. Asks self.old self.new (of_beginning (table_of types.now) (numbering_of numbering.now) self.old.next (names_of names.now) (event_expression_of event.now)) (behind_event self.old.next (event_expression_of event.now))) }
+        ensures { IfOk result (λ _. AsksQuestion self.old self.new (beginning_question types.now numbering.now names.now event.now)) }
     {
         let Some(numbers) = numbering.channels.get(event.channel.0 as usize) else {
             self.push_never()?;
@@ -60,7 +57,7 @@ impl<A: Allocator + Copy> Equations<A> {
         names: &[NumberedName],
         events: &[EventExpression<A>],
     ) -> Result<(), Memory>
-        ensures { IfOk result (λ _. Asks self.old self.new (of_events (table_of types.now) (numbering_of numbering.now) self.old.next (names_of names.now) (event_expressions_of events.now)) (behind_events self.old.next (event_expressions_of events.now))) }
+        ensures { IfOk result (λ _. AsksQuestion self.old self.new (events_question types.now numbering.now names.now events.now)) }
     {
         for event in events {
             self.ask_event(types, numbering, names, event)?;
@@ -76,7 +73,7 @@ impl<A: Allocator + Copy> Equations<A> {
         names: &[NumberedName],
         events: &[EventExpression<A>],
     ) -> Result<(), Memory>
-        ensures { IfOk result (λ _. Asks self.old self.new (of_beginnings (table_of types.now) (numbering_of numbering.now) self.old.next (names_of names.now) (event_expressions_of events.now)) (behind_events self.old.next (event_expressions_of events.now))) }
+        ensures { IfOk result (λ _. AsksQuestion self.old self.new (beginnings_question types.now numbering.now names.now events.now)) }
     {
         for event in events {
             self.ask_beginning(types, numbering, names, event)?;
@@ -92,7 +89,7 @@ impl<A: Allocator + Copy> Equations<A> {
         names: &[NumberedName],
         set: &EventSet<A>,
     ) -> Result<(), Memory>
-        ensures { IfOk result (λ _. Asks self.old self.new (of_event_set (table_of types.now) (numbering_of numbering.now) self.old.next (names_of names.now) (event_set_of set.now)) (behind_event_set self.old.next (event_set_of set.now))) }
+        ensures { IfOk result (λ _. AsksQuestion self.old self.new (event_set_question types.now numbering.now names.now set.now)) }
     {
         match set {
             EventSet::Enumeration(events) => self.ask_events(types, numbering, names, events),

@@ -1,15 +1,8 @@
 //! What expressions ask for.
 
-ghost use Rattle.std.specs.Prelude.{IfOk, length, map, slice_get, ◌∷◌, []};
-ghost use Rattle.csp_syntax.specs.Expression.{to_expressions};
-ghost use Rattle.csp_checking.specs.Inference.Chain.{DatatypeEnd, OpenEnd, SetOver};
-ghost use Rattle.csp_checking.specs.Inference.Equations.{number_of_name, when};
-ghost use Rattle.csp_checking.specs.Inference.Expressions.{behind_expression, behind_expressions, of_expression, of_expressions};
-ghost use Rattle.csp_expression.specs.Evaluation.{table_of};
-ghost use Rattle.csp_expression.specs.Expression.{expression_of, expressions_of};
-ghost use Rattle.csp_inference.specs.Chain.{demand_of};
-ghost use Rattle.csp_inference.specs.Equations.{Adds};
-ghost use Rattle.csp_inference.specs.Numbering.{names_of, numbering_of};
+ghost use Rattle.std.specs.Prelude.{IfOk};
+ghost use Rattle.csp_inference.specs.Question.{AddsQuestion};
+ghost use Rattle.csp_inference.specs.Questions.Expressions.{datatype_question, expression_question, expressions_question, name_question, nametype_question};
 
 use crate::chain::{Demand, End};
 use crate::equations::Equations;
@@ -31,7 +24,7 @@ impl<A: Allocator + Copy> Equations<A> {
         expression: &Expr<A>,
         kind: Demand,
     ) -> Result<(), Memory>
-        ensures { IfOk result (λ _. Adds self.old self.new (of_expression (table_of types.now) (numbering_of numbering.now) self.old.next (names_of names.now) (expression_of expression.now) (demand_of kind)) (behind_expression self.old.next (expression_of expression.now))) }
+        ensures { IfOk result (λ _. AddsQuestion self.old self.new (expression_question types.now numbering.now names.now expression.now kind)) }
     {
         match expression {
             Expr::Literal(value) => self.ask_value(numbering, value, kind),
@@ -78,7 +71,7 @@ impl<A: Allocator + Copy> Equations<A> {
         expressions: &[Expr<A>],
         kind: Demand,
     ) -> Result<(), Memory>
-        ensures { IfOk result (λ _. Adds self.old self.new (of_expressions (table_of types.now) (numbering_of numbering.now) self.old.next (names_of names.now) (to_expressions (expressions_of expressions.now)) (demand_of kind)) (behind_expressions self.old.next (to_expressions (expressions_of expressions.now)))) }
+        ensures { IfOk result (λ _. AddsQuestion self.old self.new (expressions_question types.now numbering.now names.now expressions.now kind)) }
     {
         for expression in expressions {
             self.ask_expression(types, numbering, names, expression, kind)?;
@@ -88,7 +81,7 @@ impl<A: Allocator + Copy> Equations<A> {
 
     /// Adds the equation for a bound name that is to have the kind.
     fn ask_name(&mut self, names: &[NumberedName], name: Name, kind: Demand) -> Result<(), Memory>
-        ensures { IfOk result (λ _. Adds self.old self.new (when (number_of_name (names_of names.now) name.0) (λ m. (OpenEnd m, demand_of kind) ∷ [])) self.old.next) }
+        ensures { IfOk result (λ _. AddsQuestion self.old self.new (name_question names.now name kind)) }
     {
         match number_of_name(names, name) {
             Some(number) => self.push(Demand::Plain(End::Open(number)), kind),
@@ -103,7 +96,7 @@ impl<A: Allocator + Copy> Equations<A> {
         datatype: DatatypeId,
         kind: Demand,
     ) -> Result<(), Memory>
-        ensures { IfOk result (λ _. Adds self.old self.new (when (slice_get (table_of types.now).datatypes datatype.0) (λ cs. (SetOver (DatatypeEnd datatype.0), demand_of kind) ∷ [])) self.old.next) }
+        ensures { IfOk result (λ _. AddsQuestion self.old self.new (datatype_question types.now datatype kind)) }
     {
         match types.datatypes.get(datatype.0 as usize) {
             Some(_) => self.push(Demand::SetOf(End::Datatype(datatype)), kind),
@@ -118,7 +111,7 @@ impl<A: Allocator + Copy> Equations<A> {
         nametype: NametypeId,
         kind: Demand,
     ) -> Result<(), Memory>
-        ensures { IfOk result (λ _. Adds self.old self.new (when (slice_get (numbering_of numbering.now).nametypes nametype.0) (λ m. (SetOver (OpenEnd m), demand_of kind) ∷ [])) self.old.next) }
+        ensures { IfOk result (λ _. AddsQuestion self.old self.new (nametype_question numbering.now nametype kind)) }
     {
         match numbering.nametypes.get(nametype.0 as usize) {
             Some(number) => self.push(Demand::SetOf(End::Open(*number)), kind),

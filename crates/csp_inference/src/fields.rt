@@ -1,11 +1,10 @@
 //! What the fields of a prefix ask for.
 
-ghost use Rattle.std.specs.Prelude.{◌≡◌, ◌∷◌, [], IfOk, length, map};
-ghost use Rattle.csp_checking.specs.Inference.Processes.{behind_fields, names_behind, of_fields};
-ghost use Rattle.csp_expression.specs.Evaluation.{table_of};
-ghost use Rattle.csp_term.specs.Field.{field_of, fields_of};
-ghost use Rattle.csp_inference.specs.Equations.{Adds, Asks, HasNames};
-ghost use Rattle.csp_inference.specs.Numbering.{names_of, numbering_of};
+ghost use Rattle.std.specs.Prelude.{◌≡◌, ◌∷◌, IfOk};
+ghost use Rattle.csp_inference.specs.Equations.{HasNames};
+ghost use Rattle.csp_inference.specs.Numbering.{names_of};
+ghost use Rattle.csp_inference.specs.Question.{AddsQuestion, AsksQuestion};
+ghost use Rattle.csp_inference.specs.Questions.Fields.{field_question, fields_question, names_behind_field, names_behind_fields};
 
 use crate::chain::{Demand, End, KindNumber};
 use crate::equations::Equations;
@@ -40,8 +39,8 @@ impl<A: Allocator + Copy> Equations<A> {
         fields: &[Field<A>],
         numbers: &[KindNumber],
     ) -> Result<Vec<NumberedName, A>, Memory>
-        ensures asks { IfOk result (λ _. Asks self.old self.new (of_fields (table_of types.now) (numbering_of numbering.now) self.old.next (names_of names.now) (fields_of fields.now) (map (λ n. n.0) numbers.now)) (behind_fields self.old.next (fields_of fields.now))) }
-        ensures names { IfOk result (λ inner. HasNames self.new (names_of inner.items) (names_behind (names_of names.now) (fields_of fields.now) (map (λ n. n.0) numbers.now))) }
+        ensures asks { IfOk result (λ _. AsksQuestion self.old self.new (fields_question types.now numbering.now names.now fields.now numbers.now)) }
+        ensures names { IfOk result (λ inner. HasNames self.new (names_of inner.items) (names_behind_fields names.now fields.now numbers.now)) }
     {
         let mut inner = Vec::from_slice(alloc, names)?;
         if fields.len() != numbers.len() {
@@ -63,8 +62,8 @@ impl<A: Allocator + Copy> Equations<A> {
         field: &Field<A>,
         number: KindNumber,
     ) -> Result<(), Memory>
-        ensures asks { IfOk result (λ _. Adds self.old self.new (of_fields (table_of types.now) (numbering_of numbering.now) self.old.next (names_of names.old.items) (field_of field.now ∷ []) (number.0 ∷ [])) (behind_fields self.old.next (field_of field.now ∷ []))) }
-        ensures names { IfOk result (λ _. names_of names.new.items ≡ names_behind (names_of names.old.items) (field_of field.now ∷ []) (number.0 ∷ [])) }
+        ensures asks { IfOk result (λ _. AddsQuestion self.old self.new (field_question types.now numbering.now names.old.items field.now number)) }
+        ensures names { IfOk result (λ _. names_of names.new.items ≡ names_behind_field names.old.items field.now number) }
     {
         match field {
             Field::Given(value) => {

@@ -1,15 +1,10 @@
 //! What the heads of calls and prefixes ask for.
 
-ghost use Rattle.std.specs.Prelude.{IfOk, slice_get};
-ghost use Rattle.csp_syntax.specs.Expression.{to_expressions};
-ghost use Rattle.csp_checking.specs.Inference.Equations.{when};
-ghost use Rattle.csp_checking.specs.Inference.Expressions.{behind_expressions, of_all};
-ghost use Rattle.csp_checking.specs.Inference.Processes.{behind_fields, of_fields};
-ghost use Rattle.csp_expression.specs.Evaluation.{table_of};
-ghost use Rattle.csp_expression.specs.Expression.{expressions_of};
-ghost use Rattle.csp_term.specs.Field.{fields_of};
-ghost use Rattle.csp_inference.specs.Equations.{Asks, HasNames, names_behind_prefix};
-ghost use Rattle.csp_inference.specs.Numbering.{names_of, numbering_of};
+ghost use Rattle.std.specs.Prelude.{IfOk};
+ghost use Rattle.csp_inference.specs.Equations.{HasNames};
+ghost use Rattle.csp_inference.specs.Numbering.{names_of};
+ghost use Rattle.csp_inference.specs.Question.{AsksQuestion};
+ghost use Rattle.csp_inference.specs.Questions.Heads.{call_question, names_in_body, prefix_question};
 
 use crate::equations::Equations;
 use crate::numbering::{NumberedName, Numbering};
@@ -28,7 +23,7 @@ impl<A: Allocator + Copy> Equations<A> {
         called: EquationId,
         arguments: &[Expr<A>],
     ) -> Result<(), Memory>
-        ensures { IfOk result (λ _. Asks self.old self.new (when (slice_get (numbering_of numbering.now).parameters called.0) (of_all (table_of types.now) (numbering_of numbering.now) self.old.next (names_of names.now) (to_expressions (expressions_of arguments.now)))) (behind_expressions self.old.next (to_expressions (expressions_of arguments.now)))) }
+        ensures { IfOk result (λ _. AsksQuestion self.old self.new (call_question types.now numbering.now names.now called arguments.now)) }
     {
         let Some(numbers) = numbering.parameters.get(called.0 as usize) else {
             self.push_never()?;
@@ -49,8 +44,8 @@ impl<A: Allocator + Copy> Equations<A> {
         channel: ChannelId,
         fields: &[Field<A>],
     ) -> Result<Vec<NumberedName, A>, Memory>
-        ensures asks { IfOk result (λ _. Asks self.old self.new (when (slice_get (numbering_of numbering.now).channels channel.0) (of_fields (table_of types.now) (numbering_of numbering.now) self.old.next (names_of names.now) (fields_of fields.now))) (behind_fields self.old.next (fields_of fields.now))) }
-        ensures names { IfOk result (λ inner. HasNames self.new (names_of inner.items) (names_behind_prefix (numbering_of numbering.now) (names_of names.now) channel.0 (fields_of fields.now))) }
+        ensures asks { IfOk result (λ _. AsksQuestion self.old self.new (prefix_question types.now numbering.now names.now channel fields.now)) }
+        ensures names { IfOk result (λ inner. HasNames self.new (names_of inner.items) (names_in_body numbering.now names.now channel fields.now)) }
     {
         let Some(numbers) = numbering.channels.get(channel.0 as usize) else {
             self.push_never()?;

@@ -1,12 +1,10 @@
 //! What the equations and the assertions of a script ask for.
 
 ghost use Rattle.std.specs.Prelude.{◌≡◌, IfOk, length, map};
-ghost use Rattle.csp_checking.specs.Inference.Items.{numbered, of_assertion, of_equation};
-ghost use Rattle.csp_checking.specs.Inference.Processes.{behind_process};
-ghost use Rattle.csp_term.specs.Script.{assertion_of, equation_of, script_of_parts};
-ghost use Rattle.csp_term.specs.Term.{process_of};
-ghost use Rattle.csp_inference.specs.Equations.{Asks};
-ghost use Rattle.csp_inference.specs.Numbering.{names_of, numbering_of};
+ghost use Rattle.csp_checking.specs.Inference.Items.{numbered};
+ghost use Rattle.csp_inference.specs.Numbering.{names_of};
+ghost use Rattle.csp_inference.specs.Question.{AsksQuestion};
+ghost use Rattle.csp_inference.specs.Questions.Items.{assertion_question, equation_question};
 
 use crate::chain::KindNumber;
 use crate::equations::Equations;
@@ -45,7 +43,7 @@ impl<A: Allocator + Copy> Equations<A> {
         equation: &Equation<A>,
         numbers: &[KindNumber],
     ) -> Result<(), Memory>
-        ensures { IfOk result (λ _. Asks self.old self.new (of_equation (script_of_parts script.now) (numbering_of numbering.now) self.old.next (equation_of equation.now) (map (λ n. n.0) numbers.now)) (behind_process self.old.next (process_of equation.now.body))) }
+        ensures { IfOk result (λ _. AsksQuestion self.old self.new (equation_question script.now numbering.now equation.now numbers.now)) }
     {
         if equation.parameters.len() != numbers.len() {
             self.push_never()?;
@@ -64,7 +62,7 @@ impl<A: Allocator + Copy> Equations<A> {
         numbering: &Numbering<A>,
         assertion: &Assertion<A>,
     ) -> Result<(), Memory>
-        ensures { IfOk result (λ _. Asks self.old self.new (of_assertion (script_of_parts script.now) (numbering_of numbering.now) self.old.next (assertion_of assertion.now)) (behind_process (behind_process self.old.next (process_of assertion.now.specification)) (process_of assertion.now.implementation))) }
+        ensures { IfOk result (λ _. AsksQuestion self.old self.new (assertion_question script.now numbering.now assertion.now)) }
     {
         self.ask_process(alloc, script, numbering, &[], &assertion.specification)?;
         self.ask_process(alloc, script, numbering, &[], &assertion.implementation)?;

@@ -1,10 +1,12 @@
 //! The kinds of operators' operands and values, where a kind that is left open has a number.
 
-ghost use Rattle.std.specs.Prelude.{◌≡◌, ◌∷◌, [], IfOk};
+ghost use Rattle.std.specs.Prelude.{◌≡◌, [], IfOk};
 ghost use Rattle.csp_checking.specs.Inference.Expressions.{behind_binary, behind_unary, binary_value, left_operand, operand, right_operand, unary_value};
 ghost use Rattle.csp_syntax.specs.Operators.{binary_of, unary_of};
 ghost use Rattle.csp_inference.specs.Chain.{demand_of};
 ghost use Rattle.csp_inference.specs.Equations.{Adds};
+ghost use Rattle.csp_inference.specs.Question.{AddsQuestion};
+ghost use Rattle.csp_inference.specs.Questions.Operators.{binary_question, unary_question};
 
 use crate::chain::{Demand, End, KindNumber};
 use crate::equations::Equations;
@@ -114,7 +116,7 @@ impl<A: Allocator + Copy> Equations<A> {
         kind: Demand,
     ) -> Result<KindNumber, Memory>
         ensures number { IfOk result (λ n. n.0 ≡ self.old.next) }
-        ensures behind { IfOk result (λ _. Adds self.old self.new ((unary_value (unary_of operator) self.old.next, demand_of kind) ∷ []) (behind_unary (unary_of operator) self.old.next)) }
+        ensures behind { IfOk result (λ _. AddsQuestion self.old self.new (unary_question operator kind)) }
     {
         let number = self.unary_number(operator)?;
         self.push(unary_value(operator, number), kind)?;
@@ -128,7 +130,7 @@ impl<A: Allocator + Copy> Equations<A> {
         kind: Demand,
     ) -> Result<KindNumber, Memory>
         ensures number { IfOk result (λ n. n.0 ≡ self.old.next) }
-        ensures behind { IfOk result (λ _. Adds self.old self.new ((binary_value (binary_of operator) self.old.next, demand_of kind) ∷ []) (behind_binary (binary_of operator) self.old.next)) }
+        ensures behind { IfOk result (λ _. AddsQuestion self.old self.new (binary_question operator kind)) }
     {
         let number = self.binary_number(operator)?;
         self.push(binary_value(operator, number), kind)?;

@@ -1,11 +1,8 @@
 //! What processes ask for.
 
 ghost use Rattle.std.specs.Prelude.{IfOk};
-ghost use Rattle.csp_checking.specs.Inference.Processes.{behind_process, of_process};
-ghost use Rattle.csp_term.specs.Script.{script_of_parts};
-ghost use Rattle.csp_term.specs.Term.{process_of};
-ghost use Rattle.csp_inference.specs.Equations.{Asks};
-ghost use Rattle.csp_inference.specs.Numbering.{names_of, numbering_of};
+ghost use Rattle.csp_inference.specs.Question.{AsksQuestion};
+ghost use Rattle.csp_inference.specs.Questions.Processes.{process_question};
 
 use crate::chain::{Demand, End};
 use crate::equations::Equations;
@@ -26,7 +23,7 @@ impl<A: Allocator + Copy> Equations<A> {
         names: &[NumberedName],
         process: &Term<A>,
     ) -> Result<(), Memory>
-        ensures { IfOk result (λ _. Asks self.old self.new (of_process (script_of_parts script.now) (numbering_of numbering.now) self.old.next (names_of names.now) (process_of process.now)) (behind_process self.old.next (process_of process.now))) }
+        ensures { IfOk result (λ _. AsksQuestion self.old self.new (process_question script.now numbering.now names.now process.now)) }
     {
         let types = &script.types;
         match process.form() {

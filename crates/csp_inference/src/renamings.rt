@@ -1,12 +1,13 @@
 //! What renamings ask for.
 
-ghost use Rattle.std.specs.Prelude.{◌≡◌, ◌&&◌, IfOk, map, slice_get};
+ghost use Rattle.std.specs.Prelude.{◌≡◌, IfOk, map};
 ghost use Rattle.csp_semantics.specs.Meaning.Events.{is_bare, same_sets};
-ghost use Rattle.csp_checking.specs.Inference.Processes.{are_bare_alike, are_same_sets, behind_event, behind_pairs, of_pair, of_pairs};
-ghost use Rattle.csp_event_sets.specs.Events.{event_expression_of, renaming_pair_of, renaming_pairs_of};
-ghost use Rattle.csp_term.specs.Script.{field_sets_of, field_values, script_of_parts};
-ghost use Rattle.csp_inference.specs.Equations.{Asks};
-ghost use Rattle.csp_inference.specs.Numbering.{names_of, numbering_of};
+ghost use Rattle.csp_checking.specs.Inference.Processes.{are_bare_alike, are_same_sets};
+ghost use Rattle.csp_event_sets.specs.Events.{event_expression_of, renaming_pair_of};
+ghost use Rattle.csp_term.specs.Script.{field_values, script_of_parts};
+ghost use Rattle.csp_inference.specs.Question.{AsksQuestion};
+ghost use Rattle.csp_inference.specs.Questions.Renamings.{pair_question, pairs_question};
+ghost use Rattle.csp_inference.specs.Renamings.{sets_of_channel};
 
 use crate::equations::Equations;
 use crate::numbering::{NumberedName, Numbering};
@@ -33,7 +34,7 @@ fn have_same_sets<A: Allocator + Copy>(
     from: ChannelId,
     to: ChannelId,
 ) -> bool
-    ensures { result ≡ are_same_sets (slice_get (script_of_parts script.now).channels from.0) (slice_get (script_of_parts script.now).channels to.0) }
+    ensures { result ≡ are_same_sets (sets_of_channel script.now from) (sets_of_channel script.now to) }
 {
     let Some(from) = script.channels.get(from.0 as usize) else {
         return false;
@@ -62,7 +63,7 @@ impl<A: Allocator + Copy> Equations<A> {
         names: &[NumberedName],
         pairs: &[RenamingPair<A>],
     ) -> Result<(), Memory>
-        ensures { IfOk result (λ _. Asks self.old self.new (of_pairs (script_of_parts script.now) (numbering_of numbering.now) self.old.next (names_of names.now) (renaming_pairs_of pairs.now)) (behind_pairs self.old.next (renaming_pairs_of pairs.now))) }
+        ensures { IfOk result (λ _. AsksQuestion self.old self.new (pairs_question script.now numbering.now names.now pairs.now)) }
     {
         for pair in pairs {
             self.ask_pair(script, numbering, names, pair)?;
@@ -78,7 +79,7 @@ impl<A: Allocator + Copy> Equations<A> {
         names: &[NumberedName],
         pair: &RenamingPair<A>,
     ) -> Result<(), Memory>
-        ensures { IfOk result (λ _. Asks self.old self.new (of_pair (script_of_parts script.now) (numbering_of numbering.now) self.old.next (names_of names.now) (renaming_pair_of pair.now)) (behind_event (behind_event self.old.next (event_expression_of pair.now.from)) (event_expression_of pair.now.to))) }
+        ensures { IfOk result (λ _. AsksQuestion self.old self.new (pair_question script.now numbering.now names.now pair.now)) }
     {
         if are_bare_alike(script, pair) {
             return Ok(());

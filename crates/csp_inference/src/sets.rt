@@ -1,11 +1,8 @@
 //! What the sets of nametypes and fields ask for.
 
-ghost use Rattle.std.specs.Prelude.{IfOk, Some, map};
-ghost use Rattle.csp_checking.specs.Inference.Items.{behind_copies, behind_set, of_copies, of_set};
-ghost use Rattle.csp_expression.specs.Evaluation.{table_of};
-ghost use Rattle.csp_expression.specs.Expression.{expression_of};
-ghost use Rattle.csp_inference.specs.Equations.{Adds};
-ghost use Rattle.csp_inference.specs.Numbering.{numbering_of};
+ghost use Rattle.std.specs.Prelude.{IfOk};
+ghost use Rattle.csp_inference.specs.Question.{AddsQuestion};
+ghost use Rattle.csp_inference.specs.Questions.Sets.{copies_question, set_question};
 
 use crate::chain::{Demand, End, KindNumber};
 use crate::equations::Equations;
@@ -24,7 +21,7 @@ impl<A: Allocator + Copy> Equations<A> {
         set: &Expr<A>,
         members: KindNumber,
     ) -> Result<(), Memory>
-        ensures { IfOk result (λ _. Adds self.old self.new (of_set (table_of types.now) (numbering_of numbering.now) self.old.next (Some (expression_of set.now)) members.0) (behind_set self.old.next (Some (expression_of set.now)))) }
+        ensures { IfOk result (λ _. AddsQuestion self.old self.new (set_question types.now numbering.now set.now members)) }
     {
         self.ask_expression(
             types,
@@ -45,7 +42,7 @@ impl<A: Allocator + Copy> Equations<A> {
         set: &Expr<A>,
         numbers: &[KindNumber],
     ) -> Result<(), Memory>
-        ensures { IfOk result (λ _. Adds self.old self.new (of_copies (table_of types.now) (numbering_of numbering.now) self.old.next (Some (expression_of set.now)) (map (λ n. n.0) numbers.now)) (behind_copies self.old.next (Some (expression_of set.now)) (map (λ n. n.0) numbers.now))) }
+        ensures { IfOk result (λ _. AddsQuestion self.old self.new (copies_question types.now numbering.now set.now numbers.now)) }
     {
         for members in numbers {
             self.ask_set(types, numbering, set, *members)?;

@@ -1,9 +1,8 @@
 //! What is known of the kinds so far.
 
-ghost use Rattle.std.specs.Prelude.{◌≡◌, ◌<◌, ◌++◌, ◌∷◌, [], map, option_map, Some, None, IfOk, length};
-ghost use Rattle.csp_checking.specs.Inference.Chain.{in_place_of, with_ends};
+ghost use Rattle.std.specs.Prelude.{◌≡◌, ◌<◌, ◌∷◌, [], map, option_map, IfOk, length};
 ghost use Rattle.csp_checking.specs.Inference.State.{IsResolved, bind_open, bound_to, nothing_known, state_of, unify_resolved};
-ghost use Rattle.csp_inference.specs.Chain.{chain_of, demand_of, end_of, over_all};
+ghost use Rattle.csp_inference.specs.Chain.{chain_of, chain_over, demand_of, going_on_at};
 ghost use Rattle.csp_inference.specs.Equations.{equation_of};
 ghost use Rattle.csp_inference.specs.State.{AreUnlike, SaysTheSame, Solved, Tells, chains_in, chains_of, found_at, lent_chain, open_alone, state_in, taken_off};
 
@@ -96,7 +95,7 @@ impl<A: Allocator + Copy> State<A> {
         layers: &[Layer],
         end: End,
     ) -> Result<(), Memory>
-        ensures { IfOk result (λ _. SaysTheSame (bound_to (state_in self.old) number.0 (over_all layers.now (end_of end))) (state_in self.new)) }
+        ensures { IfOk result (λ _. SaysTheSame (bound_to (state_in self.old) number.0 (chain_over layers.now end)) (state_in self.new)) }
     {
         self.make_room(number)?;
         go_on_all(&mut self.chains, number, layers, end)?;
@@ -114,7 +113,7 @@ impl<A: Allocator + Copy> State<A> {
         layers: &[Layer],
         end: End,
     ) -> Result<(), Misfit>
-        ensures { Tells (bind_open (state_in self.old) number.0 (over_all layers.now (end_of end))) (state_in self.new) result }
+        ensures { Tells (bind_open (state_in self.old) number.0 (chain_over layers.now end)) (state_in self.new) result }
     {
         if end != End::Open(number) {
             self.bind(alloc, number, layers, end)?;
@@ -137,7 +136,7 @@ impl<A: Allocator + Copy> State<A> {
         right_end: End,
     ) -> Result<(), Misfit>
         requires { AreUnlike left.now right.now }
-        ensures { Tells (unify_resolved (state_in self.old) (over_all left.now (end_of left_end)) (over_all right.now (end_of right_end))) (state_in self.new) result }
+        ensures { Tells (unify_resolved (state_in self.old) (chain_over left.now left_end) (chain_over right.now right_end)) (state_in self.new) result }
     {
         if let Some(number) = open_alone(left, left_end) {
             return self.bind_open(alloc, number, right, right_end);
@@ -182,7 +181,7 @@ fn go_on_at<A: Allocator + Copy>(
     layers: &[Layer],
     end: End,
 ) -> Result<(), Memory>
-    ensures { IfOk result (λ _. option_map chain_of slot.new ≡ option_map (with_ends (in_place_of number.0 (over_all layers.now (end_of end)))) (option_map chain_of slot.old)) }
+    ensures { IfOk result (λ _. option_map chain_of slot.new ≡ option_map (going_on_at number layers.now end) (option_map chain_of slot.old)) }
 {
     match slot {
         Some(chain) => chain.put_in(number, layers, end),
@@ -197,7 +196,7 @@ fn go_on_all<A: Allocator + Copy>(
     layers: &[Layer],
     end: End,
 ) -> Result<(), Memory>
-    ensures { IfOk result (λ _. chains_in slots.new ≡ map (option_map (with_ends (in_place_of number.0 (over_all layers.now (end_of end))))) (chains_in slots.old)) }
+    ensures { IfOk result (λ _. chains_in slots.new ≡ map (option_map (going_on_at number layers.now end)) (chains_in slots.old)) }
 {
     for slot in slots.iter_mut() {
         go_on_at(slot, number, layers, end)?;

@@ -1,14 +1,8 @@
 //! What values ask for.
 
-ghost use Rattle.std.specs.Prelude.{IfOk, map, slice_get, ◌∷◌, []};
-ghost use Rattle.csp_syntax.specs.Value.{to_values};
-ghost use Rattle.csp_checking.specs.Inference.Chain.{DatatypeEnd};
-ghost use Rattle.csp_checking.specs.Inference.Equations.{when};
-ghost use Rattle.csp_checking.specs.Inference.Expressions.{behind_value, behind_values, of_value, of_values};
-ghost use Rattle.csp_value.specs.Value.{value_of, values_of};
-ghost use Rattle.csp_inference.specs.Chain.{demand_of};
-ghost use Rattle.csp_inference.specs.Equations.{Adds};
-ghost use Rattle.csp_inference.specs.Numbering.{numbering_of};
+ghost use Rattle.std.specs.Prelude.{IfOk};
+ghost use Rattle.csp_inference.specs.Question.{AddsQuestion};
+ghost use Rattle.csp_inference.specs.Questions.Values.{constructor_question, value_question, values_question};
 
 use crate::chain::{Demand, End};
 use crate::equations::Equations;
@@ -25,7 +19,7 @@ impl<A: Allocator + Copy> Equations<A> {
         value: &Value<A>,
         kind: Demand,
     ) -> Result<(), Memory>
-        ensures { IfOk result (λ _. Adds self.old self.new (of_value (numbering_of numbering.now) self.old.next (value_of value.now) (demand_of kind)) (behind_value self.old.next (value_of value.now))) }
+        ensures { IfOk result (λ _. AddsQuestion self.old self.new (value_question numbering.now value.now kind)) }
     {
         match value {
             Value::Int(_) => self.push(Demand::Plain(End::Int), kind),
@@ -50,7 +44,7 @@ impl<A: Allocator + Copy> Equations<A> {
         values: &[Value<A>],
         kind: Demand,
     ) -> Result<(), Memory>
-        ensures { IfOk result (λ _. Adds self.old self.new (of_values (numbering_of numbering.now) self.old.next (to_values (values_of values.now)) (demand_of kind)) (behind_values self.old.next (to_values (values_of values.now)))) }
+        ensures { IfOk result (λ _. AddsQuestion self.old self.new (values_question numbering.now values.now kind)) }
     {
         for value in values {
             self.ask_value(numbering, value, kind)?;
@@ -65,7 +59,7 @@ impl<A: Allocator + Copy> Equations<A> {
         constructor: ConId,
         kind: Demand,
     ) -> Result<(), Memory>
-        ensures { IfOk result (λ _. Adds self.old self.new (when (slice_get (map (λ d. d.0) numbering.now.owners.items) constructor.0) (λ d. (DatatypeEnd d, demand_of kind) ∷ [])) self.old.next) }
+        ensures { IfOk result (λ _. AddsQuestion self.old self.new (constructor_question numbering.now constructor kind)) }
     {
         match numbering.owners.get(constructor.0 as usize) {
             Some(datatype) => self.push(Demand::Plain(End::Datatype(*datatype)), kind),

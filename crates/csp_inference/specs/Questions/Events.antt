@@ -1,0 +1,47 @@
+-- What events and sets of events ask.
+use Rattle.std.specs.Prelude.{List}
+use Rattle.csp_checking.specs.Inference.Processes.{behind_event, behind_event_set, behind_events, of_beginning, of_beginnings, of_event, of_event_set, of_events}
+use Rattle.csp_event_sets.specs.declared.event_expression.EventExpression.{EventExpression}
+use Rattle.csp_event_sets.specs.declared.event_set.EventSet.{EventSet}
+use Rattle.csp_event_sets.specs.Events.{event_expression_of, event_expressions_of, event_set_of}
+use Rattle.csp_expression.specs.declared.types.TypeTable.{TypeTable}
+use Rattle.csp_expression.specs.Evaluation.{table_of}
+use Rattle.csp_inference.specs.declared.numbering.NumberedName.{NumberedName}
+use Rattle.csp_inference.specs.declared.numbering.Numbering.{Numbering}
+use Rattle.csp_inference.specs.Numbering.{names_of, numbering_of}
+use Rattle.csp_inference.specs.Question.{Question}
+
+-- of an event of a channel with all its fields
+abbrev pub event_question : {A : Type 0} → TypeTable A → Numbering A → List NumberedName → EventExpression A → Question
+event_question types numbering names event = record {
+  equations = λ n. of_event (table_of types) (numbering_of numbering) n (names_of names) (event_expression_of event);
+  behind = λ n. behind_event n (event_expression_of event);
+}
+
+-- of the beginning of an event, with the first of its channel's fields
+abbrev pub beginning_question : {A : Type 0} → TypeTable A → Numbering A → List NumberedName → EventExpression A → Question
+beginning_question types numbering names event = record {
+  equations = λ n. of_beginning (table_of types) (numbering_of numbering) n (names_of names) (event_expression_of event);
+  behind = λ n. behind_event n (event_expression_of event);
+}
+
+-- of each event
+abbrev pub events_question : {A : Type 0} → TypeTable A → Numbering A → List NumberedName → List (EventExpression A) → Question
+events_question types numbering names events = record {
+  equations = λ n. of_events (table_of types) (numbering_of numbering) n (names_of names) (event_expressions_of events);
+  behind = λ n. behind_events n (event_expressions_of events);
+}
+
+-- of the beginning of each event
+abbrev pub beginnings_question : {A : Type 0} → TypeTable A → Numbering A → List NumberedName → List (EventExpression A) → Question
+beginnings_question types numbering names events = record {
+  equations = λ n. of_beginnings (table_of types) (numbering_of numbering) n (names_of names) (event_expressions_of events);
+  behind = λ n. behind_events n (event_expressions_of events);
+}
+
+-- of a set of events
+abbrev pub event_set_question : {A : Type 0} → TypeTable A → Numbering A → List NumberedName → EventSet A → Question
+event_set_question types numbering names set = record {
+  equations = λ n. of_event_set (table_of types) (numbering_of numbering) n (names_of names) (event_set_of set);
+  behind = λ n. behind_event_set n (event_set_of set);
+}
