@@ -7,7 +7,8 @@ use Rattle.csp_inference.specs.declared.equations.Equations.{Equations}
 use Rattle.csp_inference.specs.Equations.{Adds, equations_of}
 
 -- equations are added behind those of a first part
-pub adds_then : {A : Type 0} (s t u : Equations A) (es : List pure.KindEquation) (n : ℕ) (F : ℕ → List pure.KindEquation) (M : ℕ → ℕ) → Adds s t es n → Adds t u (F t.next) (M t.next) → Adds s u (es ++ F n) (M n)
+pub adds_then : {A : Type 0} (s t u : Equations A) (es : List pure.KindEquation) (n : ℕ) (F : ℕ → List pure.KindEquation) (M : ℕ → ℕ) →
+    Adds s t es n → Adds t u (F t.next) (M t.next) → Adds s u (es ++ F n) (M n)
 adds_then s t u es n F M first second = record {
   met = second.met ∙ ap (λ xs. xs ++ F t.next) first.met ∙ append_assoc (equations_of s) es (F t.next) ∙ ap (λ m. equations_of s ++ (es ++ F m)) first.next;
   next = second.next ∙ ap M first.next;
@@ -24,12 +25,16 @@ pub record Rests {A X : Type 0} (F : ℕ → List X → List pure.KindEquation) 
 
 module _ {A X : Type 0} (F : ℕ → List X → List pure.KindEquation) (M : ℕ → List X → ℕ) (start now : Equations A) (xs : List X) (i : ℕ) where
   -- one part more
-  pub rests_more : (G : ℕ → X → List pure.KindEquation) (B : ℕ → X → ℕ) (new : Equations A) (x : X) → ((n : ℕ) (ys : List X) → F n (x ∷ ys) ≡ G n x ++ F (B n x) ys) → ((n : ℕ) (ys : List X) → M n (x ∷ ys) ≡ M (B n x) ys) →
+  pub rests_more : (G : ℕ → X → List pure.KindEquation) (B : ℕ → X → ℕ) (new : Equations A) (x : X) →
+      ((n : ℕ) (ys : List X) → F n (x ∷ ys) ≡ G n x ++ F (B n x) ys) → ((n : ℕ) (ys : List X) → M n (x ∷ ys) ≡ M (B n x) ys) →
       i < length xs → x ≡ get_or xs i x → Rests F M start now xs i → Adds now new (G now.next x) (B now.next x) → Rests F M start new xs (i + 1)
   rests_more G B new x first behind within read rests adds =
       let cut = ap (λ z. z ∷ drop (i + 1) xs) read ∙ sym (drop_more xs i x within) in
       record {
-        met = ap (λ es. es ++ F new.next (drop (i + 1) xs)) adds.met ∙ append_assoc (equations_of now) (G now.next x) (F new.next (drop (i + 1) xs)) ∙ ap (λ m. equations_of now ++ (G now.next x ++ F m (drop (i + 1) xs))) adds.next ∙ ap (λ es. equations_of now ++ es) (sym (first now.next (drop (i + 1) xs)) ∙ ap (F now.next) cut) ∙ rests.met;
+        met =
+            ap (λ es. es ++ F new.next (drop (i + 1) xs)) adds.met ∙ append_assoc (equations_of now) (G now.next x) (F new.next (drop (i + 1) xs))
+            ∙ ap (λ m. equations_of now ++ (G now.next x ++ F m (drop (i + 1) xs))) adds.next
+            ∙ ap (λ es. equations_of now ++ es) (sym (first now.next (drop (i + 1) xs)) ∙ ap (F now.next) cut) ∙ rests.met;
         next = ap (λ m. M m (drop (i + 1) xs)) adds.next ∙ sym (behind now.next (drop (i + 1) xs)) ∙ ap (M now.next) cut ∙ rests.next;
       }
 

@@ -32,9 +32,12 @@ never_hopeless = λ a solves. absurd (cc solves.0)
 
 -- an equation that nothing solves stands for all that have no solution
 pub never_asks : {A : Type 0} (s t : Equations A) (es : List pure.KindEquation) (n m : ℕ) → AreHopeless es → Adds s t never n → Asks s t es m
-never_asks s t es n m none adds = hopelessly (hopeless_back (equations_of s) es none) (hopeless_same (equations_of s ++ never) (equations_of t) (sym adds.met) (hopeless_back (equations_of s) never never_hopeless))
+never_asks s t es n m none adds =
+    hopelessly (hopeless_back (equations_of s) es none)
+    (hopeless_same (equations_of s ++ never) (equations_of t) (sym adds.met) (hopeless_back (equations_of s) never never_hopeless))
 
-pub asks_then : {A : Type 0} (s t u : Equations A) (es : List pure.KindEquation) (n : ℕ) (F : ℕ → List pure.KindEquation) (M : ℕ → ℕ) → Asks s t es n → Asks t u (F t.next) (M t.next) → Asks s u (es ++ F n) (M n)
+pub asks_then : {A : Type 0} (s t u : Equations A) (es : List pure.KindEquation) (n : ℕ) (F : ℕ → List pure.KindEquation) (M : ℕ → ℕ) →
+    Asks s t es n → Asks t u (F t.next) (M t.next) → Asks s u (es ++ F n) (M n)
 asks_then s t u es n F M (exactly first) (exactly second) = exactly (adds_then s t u es n F M first second)
 asks_then s t u es n F M (exactly first) (hopelessly second now) =
     hopelessly (hopeless_same (equations_of t ++ F t.next) (equations_of s ++ (es ++ F n)) (ap₂ (λ xs m. xs ++ F m) first.met first.next ∙ append_assoc (equations_of s) es (F n)) second) now
@@ -54,15 +57,18 @@ pub data Left {A X : Type 0} (F : ℕ → List X → List pure.KindEquation) (M 
   hopeless : AreHopeless (equations_of start ++ F start.next xs) → AreHopeless (equations_of now) → Left F M start now xs i
 
 module _ {A X : Type 0} (F : ℕ → List X → List pure.KindEquation) (M : ℕ → List X → ℕ) (start now : Equations A) (xs : List X) (i : ℕ) where
-  pub left_more : (G : ℕ → X → List pure.KindEquation) (B : ℕ → X → ℕ) (new : Equations A) (x : X) → ((n : ℕ) (ys : List X) → F n (x ∷ ys) ≡ G n x ++ F (B n x) ys) → ((n : ℕ) (ys : List X) → M n (x ∷ ys) ≡ M (B n x) ys) →
+  pub left_more : (G : ℕ → X → List pure.KindEquation) (B : ℕ → X → ℕ) (new : Equations A) (x : X) →
+      ((n : ℕ) (ys : List X) → F n (x ∷ ys) ≡ G n x ++ F (B n x) ys) → ((n : ℕ) (ys : List X) → M n (x ∷ ys) ≡ M (B n x) ys) →
       i < length xs → x ≡ get_or xs i x → Left F M start now xs i → Asks now new (G now.next x) (B now.next x) → Left F M start new xs (i + 1)
   left_more G B new x first behind within read (exact rests) (exactly adds) = exact (rests_more F M start now xs i G B new x first behind within read rests adds)
   left_more G B new x first behind within read (exact rests) (hopelessly part then) =
       let cut = ap (λ z. z ∷ drop (i + 1) xs) read ∙ sym (drop_more xs i x within) in
       hopeless (hopeless_same ((equations_of now ++ G now.next x) ++ F (B now.next x) (drop (i + 1) xs)) (equations_of start ++ F start.next xs)
-      (append_assoc (equations_of now) (G now.next x) (F (B now.next x) (drop (i + 1) xs)) ∙ ap (λ es. equations_of now ++ es) (sym (first now.next (drop (i + 1) xs)) ∙ ap (F now.next) cut) ∙ rests.met)
+      (append_assoc (equations_of now) (G now.next x) (F (B now.next x) (drop (i + 1) xs))
+      ∙ ap (λ es. equations_of now ++ es) (sym (first now.next (drop (i + 1) xs)) ∙ ap (F now.next) cut) ∙ rests.met)
       (hopeless_front (equations_of now ++ G now.next x) (F (B now.next x) (drop (i + 1) xs)) part)) then
-  left_more G B new x first behind within read (hopeless whole none) (exactly adds) = hopeless whole (hopeless_same (equations_of now ++ G now.next x) (equations_of new) (sym adds.met) (hopeless_front (equations_of now) (G now.next x) none))
+  left_more G B new x first behind within read (hopeless whole none) (exactly adds) =
+      hopeless whole (hopeless_same (equations_of now ++ G now.next x) (equations_of new) (sym adds.met) (hopeless_front (equations_of now) (G now.next x) none))
   left_more G B new x first behind within read (hopeless whole none) (hopelessly part then) = hopeless whole then
 
   pub left_none : ((n : ℕ) → F n [] ≡ []) → ((n : ℕ) → M n [] ≡ n) → length xs ≤ i → Left F M start now xs i → Asks start now (F start.next xs) (M start.next xs)
@@ -80,12 +86,16 @@ module _ (types : Types) (o : numbers.Numbering) (names : numbers.Numbered) wher
   unequal_hopeless n [] [] differ = absurd (differ refl)
   unequal_hopeless n [] (m ∷ ms) differ = never_hopeless
   unequal_hopeless n (e ∷ es) [] differ = never_hopeless
-  unequal_hopeless n (e ∷ es) (m ∷ ms) differ = hopeless_back (of_expression types o n names e (chain.OpenEnd m)) (of_all types o (behind_expression n e) names (to_expressions es) ms) (unequal_hopeless (behind_expression n e) es ms (λ same. differ (ap suc same)))
+  unequal_hopeless n (e ∷ es) (m ∷ ms) differ =
+      hopeless_back (of_expression types o n names e (chain.OpenEnd m)) (of_all types o (behind_expression n e) names (to_expressions es) ms)
+      (unequal_hopeless (behind_expression n e) es ms (λ same. differ (ap suc same)))
 
   pub many_hopeless : (n : ℕ) (es : List expression.Expression) (ms : List ℕ) → length ms < length es → AreHopeless (of_first types o n names (to_expressions es) ms)
   many_hopeless n [] ms many = absurd (omega arith)
   many_hopeless n (e ∷ es) [] many = never_hopeless
-  many_hopeless n (e ∷ es) (m ∷ ms) many = hopeless_back (of_expression types o n names e (chain.OpenEnd m)) (of_first types o (behind_expression n e) names (to_expressions es) ms) (many_hopeless (behind_expression n e) es ms (omega arith))
+  many_hopeless n (e ∷ es) (m ∷ ms) many =
+      hopeless_back (of_expression types o n names e (chain.OpenEnd m)) (of_first types o (behind_expression n e) names (to_expressions es) ms)
+      (many_hopeless (behind_expression n e) es ms (omega arith))
 
   pub all_are_first : (n : ℕ) (es : List expression.Expression) (ms : List ℕ) → length es ≡ length ms → of_first types o n names (to_expressions es) ms ≡ of_all types o n names (to_expressions es) ms
   all_are_first n [] [] same = refl
@@ -99,13 +109,17 @@ pub record RestsBoth {A X Y : Type 0} (F : ℕ → List X → List Y → List pu
   pub next : M now.next (drop i xs) ≡ M start.next xs
 
 module _ {A X Y : Type 0} (F : ℕ → List X → List Y → List pure.KindEquation) (M : ℕ → List X → ℕ) (start now : Equations A) (xs : List X) (ys : List Y) (i : ℕ) where
-  pub both_more : (G : ℕ → X → Y → List pure.KindEquation) (B : ℕ → X → ℕ) (new : Equations A) (x : X) (y : Y) → ((n : ℕ) (us : List X) (vs : List Y) → F n (x ∷ us) (y ∷ vs) ≡ G n x y ++ F (B n x) us vs) → ((n : ℕ) (us : List X) → M n (x ∷ us) ≡ M (B n x) us) →
+  pub both_more : (G : ℕ → X → Y → List pure.KindEquation) (B : ℕ → X → ℕ) (new : Equations A) (x : X) (y : Y) →
+      ((n : ℕ) (us : List X) (vs : List Y) → F n (x ∷ us) (y ∷ vs) ≡ G n x y ++ F (B n x) us vs) → ((n : ℕ) (us : List X) → M n (x ∷ us) ≡ M (B n x) us) →
       i < length xs → i < length ys → x ≡ get_or xs i x → y ≡ get_or ys i y → RestsBoth F M start now xs ys i → Adds now new (G now.next x y) (B now.next x) → RestsBoth F M start new xs ys (i + 1)
   both_more G B new x y first behind in_xs in_ys read seen rests adds =
       let cut = ap (λ z. z ∷ drop (i + 1) xs) read ∙ sym (drop_more xs i x in_xs) in
       let slice = ap (λ z. z ∷ drop (i + 1) ys) seen ∙ sym (drop_more ys i y in_ys) in
       record {
-        met = ap (λ es. es ++ F new.next (drop (i + 1) xs) (drop (i + 1) ys)) adds.met ∙ append_assoc (equations_of now) (G now.next x y) (F new.next (drop (i + 1) xs) (drop (i + 1) ys)) ∙ ap (λ m. equations_of now ++ (G now.next x y ++ F m (drop (i + 1) xs) (drop (i + 1) ys))) adds.next
+        met =
+            ap (λ es. es ++ F new.next (drop (i + 1) xs) (drop (i + 1) ys)) adds.met
+            ∙ append_assoc (equations_of now) (G now.next x y) (F new.next (drop (i + 1) xs) (drop (i + 1) ys))
+            ∙ ap (λ m. equations_of now ++ (G now.next x y ++ F m (drop (i + 1) xs) (drop (i + 1) ys))) adds.next
             ∙ ap (λ es. equations_of now ++ es) (sym (first now.next (drop (i + 1) xs) (drop (i + 1) ys)) ∙ ap₂ (F now.next) cut slice) ∙ rests.met;
         next = ap (λ m. M m (drop (i + 1) xs)) adds.next ∙ sym (behind now.next (drop (i + 1) xs)) ∙ ap (M now.next) cut ∙ rests.next;
       }

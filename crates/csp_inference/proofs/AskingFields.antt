@@ -29,7 +29,9 @@ module _ (types : Types) (o : numbers.Numbering) where
       of_fields types o n names (f ∷ fs) (m ∷ ms) ≡ of_fields types o n names (f ∷ []) (m ∷ []) ++ of_fields types o (behind_fields n (f ∷ [])) (names_behind names (f ∷ []) (m ∷ [])) fs ms
   first_field n names (Given e) fs m ms = ap (λ xs. xs ++ of_fields types o (behind_expression n e) names fs ms) (sym (append-nil (of_expression types o n names e (chain.OpenEnd m))))
   first_field n names (Input x) fs m ms = refl
-  first_field n names (InputFrom x e) fs m ms = ap (λ xs. xs ++ of_fields types o (behind_expression n e) ((x, m) ∷ names) fs ms) (sym (append-nil (of_expression types o n names e (chain.SetOver (chain.OpenEnd m)))))
+  first_field n names (InputFrom x e) fs m ms =
+      ap (λ xs. xs ++ of_fields types o (behind_expression n e) ((x, m) ∷ names) fs ms)
+      (sym (append-nil (of_expression types o n names e (chain.SetOver (chain.OpenEnd m)))))
 
   pub fields_unequal : (n : ℕ) (names : numbers.Numbered) (fs : List Field) (ms : List ℕ) → length fs ≢ length ms → AreHopeless (of_fields types o n names fs ms)
   fields_unequal n names [] [] differ = absurd (differ refl)
@@ -37,9 +39,13 @@ module _ (types : Types) (o : numbers.Numbering) where
   fields_unequal n names (Given e ∷ fs) [] differ = never_hopeless
   fields_unequal n names (Input x ∷ fs) [] differ = never_hopeless
   fields_unequal n names (InputFrom x e ∷ fs) [] differ = never_hopeless
-  fields_unequal n names (Given e ∷ fs) (m ∷ ms) differ = hopeless_back (of_expression types o n names e (chain.OpenEnd m)) (of_fields types o (behind_expression n e) names fs ms) (fields_unequal (behind_expression n e) names fs ms (λ same. differ (ap suc same)))
+  fields_unequal n names (Given e ∷ fs) (m ∷ ms) differ =
+      hopeless_back (of_expression types o n names e (chain.OpenEnd m)) (of_fields types o (behind_expression n e) names fs ms)
+      (fields_unequal (behind_expression n e) names fs ms (λ same. differ (ap suc same)))
   fields_unequal n names (Input x ∷ fs) (m ∷ ms) differ = fields_unequal n ((x, m) ∷ names) fs ms (λ same. differ (ap suc same))
-  fields_unequal n names (InputFrom x e ∷ fs) (m ∷ ms) differ = hopeless_back (of_expression types o n names e (chain.SetOver (chain.OpenEnd m))) (of_fields types o (behind_expression n e) ((x, m) ∷ names) fs ms) (fields_unequal (behind_expression n e) ((x, m) ∷ names) fs ms (λ same. differ (ap suc same)))
+  fields_unequal n names (InputFrom x e ∷ fs) (m ∷ ms) differ =
+      hopeless_back (of_expression types o n names e (chain.SetOver (chain.OpenEnd m))) (of_fields types o (behind_expression n e) ((x, m) ∷ names) fs ms)
+      (fields_unequal (behind_expression n e) ((x, m) ∷ names) fs ms (λ same. differ (ap suc same)))
 
 behind_first : (n : ℕ) (f : Field) (fs : List Field) → behind_fields n (f ∷ fs) ≡ behind_fields (behind_fields n (f ∷ [])) fs
 behind_first n (Given e) fs = refl
@@ -62,8 +68,10 @@ pub record RestsFields {A : Type 0} (types : Types) (o : numbers.Numbering) (sta
   pub names : names_behind inner (drop i fs) (drop i ms) ≡ names_behind outer fs ms
 
 module _ {A : Type 0} (types : Types) (o : numbers.Numbering) (start now : Equations A) (outer inner : numbers.Numbered) (fs : List Field) (ms : List ℕ) (i : ℕ) where
-  pub fields_more : (new : Equations A) (names : numbers.Numbered) (f : Field) (m : ℕ) → f ∷ drop (i + 1) fs ≡ drop i fs → m ∷ drop (i + 1) ms ≡ drop i ms → RestsFields types o start now outer inner fs ms i →
-      Adds now new (of_fields types o now.next inner (f ∷ []) (m ∷ [])) (behind_fields now.next (f ∷ [])) → names ≡ names_behind inner (f ∷ []) (m ∷ []) → RestsFields types o start new outer names fs ms (i + 1)
+  pub fields_more : (new : Equations A) (names : numbers.Numbered) (f : Field) (m : ℕ) →
+      f ∷ drop (i + 1) fs ≡ drop i fs → m ∷ drop (i + 1) ms ≡ drop i ms → RestsFields types o start now outer inner fs ms i →
+      Adds now new (of_fields types o now.next inner (f ∷ []) (m ∷ [])) (behind_fields now.next (f ∷ [])) → names ≡ names_behind inner (f ∷ []) (m ∷ []) →
+      RestsFields types o start new outer names fs ms (i + 1)
   fields_more new names f m cut slice rests adds bound =
       let one = of_fields types o now.next inner (f ∷ []) (m ∷ []) in
       record {
@@ -97,23 +105,32 @@ cut_number ms i d within = cut_map (λ m. m.0) ms i (get_or ms i d) within (get_
 
 -- ---- where the channel is there, or the equation
 
-pub asked_arguments : {A : Type 0} (types : Types) (names : numbers.Numbered) (s t : Equations A) (o : Numbering A) (n : ℕ) (ns : Vec KindNumber A) (es : List (Expr A)) (ms : List KindNumber) → slice_get o.parameters.items n ≡ Some ns → ms ≡ ns.items →
+pub asked_arguments :
+    {A : Type 0} (types : Types) (names : numbers.Numbered) (s t : Equations A) (o : Numbering A) (n : ℕ) (ns : Vec KindNumber A) (es : List (Expr A)) (ms : List KindNumber) →
+    slice_get o.parameters.items n ≡ Some ns → ms ≡ ns.items →
     Asks s t (of_all types (numbering_of o) s.next names (to_expressions (expressions_of es)) (map (λ k. k.0) ms)) (behind_expressions s.next (to_expressions (expressions_of es))) →
-    Asks s t (when (slice_get (numbering_of o).parameters n) (of_all types (numbering_of o) s.next names (to_expressions (expressions_of es)))) (behind_expressions s.next (to_expressions (expressions_of es)))
+    Asks s t (when (slice_get (numbering_of o).parameters n) (of_all types (numbering_of o) s.next names (to_expressions (expressions_of es))))
+    (behind_expressions s.next (to_expressions (expressions_of es)))
 asked_arguments types names s t o n ns es ms found numbered h =
     let m = behind_expressions s.next (to_expressions (expressions_of es)) in
     found_asks s t (slice_get (numbering_of o).parameters n) (map (λ k. k.0) ns.items) (of_all types (numbering_of o) s.next names (to_expressions (expressions_of es))) m
     (slice_get-map (λ v. map (λ k. k.0) v.items) o.parameters.items n ∙ ap (option_map (λ v. map (λ k. k.0) v.items)) found)
-    (asks_same s t (of_all types (numbering_of o) s.next names (to_expressions (expressions_of es)) (map (λ k. k.0) ms)) (of_all types (numbering_of o) s.next names (to_expressions (expressions_of es)) (map (λ k. k.0) ns.items)) m m (ap (λ ks. of_all types (numbering_of o) s.next names (to_expressions (expressions_of es)) (map (λ k. k.0) ks)) numbered) refl h)
+    (asks_same s t (of_all types (numbering_of o) s.next names (to_expressions (expressions_of es)) (map (λ k. k.0) ms))
+    (of_all types (numbering_of o) s.next names (to_expressions (expressions_of es)) (map (λ k. k.0) ns.items)) m m
+    (ap (λ ks. of_all types (numbering_of o) s.next names (to_expressions (expressions_of es)) (map (λ k. k.0) ks)) numbered) refl h)
 
 module _ {A : Type 0} (types : Types) (names : numbers.Numbered) (s t : Equations A) (o : Numbering A) (c : ℕ) (ns : Vec KindNumber A) (fs : List Field) (ms : List KindNumber) (found : slice_get o.channels.items c ≡ Some ns) (numbered : ms ≡ ns.items) where
   there : slice_get (numbering_of o).channels c ≡ Some (map (λ k. k.0) ns.items)
   there = slice_get-map (λ v. map (λ k. k.0) v.items) o.channels.items c ∙ ap (option_map (λ v. map (λ k. k.0) v.items)) found
 
-  pub asked_prefix : Asks s t (of_fields types (numbering_of o) s.next names fs (map (λ k. k.0) ms)) (behind_fields s.next fs) → Asks s t (when (slice_get (numbering_of o).channels c) (of_fields types (numbering_of o) s.next names fs)) (behind_fields s.next fs)
+  pub asked_prefix :
+      Asks s t (of_fields types (numbering_of o) s.next names fs (map (λ k. k.0) ms)) (behind_fields s.next fs) →
+      Asks s t (when (slice_get (numbering_of o).channels c) (of_fields types (numbering_of o) s.next names fs)) (behind_fields s.next fs)
   asked_prefix h =
       found_asks s t (slice_get (numbering_of o).channels c) (map (λ k. k.0) ns.items) (of_fields types (numbering_of o) s.next names fs) (behind_fields s.next fs) there
-      (asks_same s t (of_fields types (numbering_of o) s.next names fs (map (λ k. k.0) ms)) (of_fields types (numbering_of o) s.next names fs (map (λ k. k.0) ns.items)) (behind_fields s.next fs) (behind_fields s.next fs) (ap (λ ks. of_fields types (numbering_of o) s.next names fs (map (λ k. k.0) ks)) numbered) refl h)
+      (asks_same s t (of_fields types (numbering_of o) s.next names fs (map (λ k. k.0) ms))
+      (of_fields types (numbering_of o) s.next names fs (map (λ k. k.0) ns.items)) (behind_fields s.next fs) (behind_fields s.next fs)
+      (ap (λ ks. of_fields types (numbering_of o) s.next names fs (map (λ k. k.0) ks)) numbered) refl h)
 
   pub named_prefix : (inner : numbers.Numbered) → HasNames t inner (names_behind names fs (map (λ k. k.0) ms)) → HasNames t inner (names_behind_prefix (numbering_of o) names c fs)
   named_prefix inner h =

@@ -59,7 +59,8 @@ module _ (R : RattleType.RattleType) (A : allocator.Ghosts R.Denot) (ad dd : Syn
       let order = slice_cmp (slice_cmp pure.value_cmp) in
       same_truth (pointwise field_eq xs ys) (same_sets (map field_values xs) (map field_values ys))
       (λ e. ap is_eq (ap (order (map field_values xs)) (sym (told.sound xs ys e)) ∙ tied_itself (lists_total (lists_total value_total)) (map field_values xs)))
-      (λ e. told.complete xs ys (slice_cmp-IsAntisymmetric (slice_cmp-IsAntisymmetric value_same) (map field_values xs) (map field_values ys) (is_eq-Equal (order (map field_values xs) (map field_values ys)) e)))
+      (λ e. told.complete xs ys
+      (slice_cmp-IsAntisymmetric (slice_cmp-IsAntisymmetric value_same) (map field_values xs) (map field_values ys) (is_eq-Equal (order (map field_values xs) (map field_values ys)) e)))
 
 -- no fields are no expressions
 pub none_is_bare : {A : Type 0} (written : EventExpression A) → (vec_len written.fields == 0) ≡ is_bare (event_expression_of written)
@@ -70,13 +71,20 @@ none_is_bare {A} written = ap (λ n. n == 0) written.fields.ok.0 ∙ by_list wri
     by_list (e ∷ es) = eqb-suc-zero (length es)
 
 -- two channels that are there
-pub both_there : {A : Type 0} (cs : List (Channel A)) (i j : ℕ) (x y : Channel A) → slice_get cs i ≡ Some x → slice_get cs j ≡ Some y → are_same_sets (slice_get (map field_sets_of cs) i) (slice_get (map field_sets_of cs) j) ≡ same_sets (field_sets_of x) (field_sets_of y)
-both_there cs i j x y first second = ap₂ are_same_sets (slice_get-map field_sets_of cs i ∙ ap (option_map field_sets_of) first) (slice_get-map field_sets_of cs j ∙ ap (option_map field_sets_of) second)
+pub both_there : {A : Type 0} (cs : List (Channel A)) (i j : ℕ) (x y : Channel A) →
+    slice_get cs i ≡ Some x → slice_get cs j ≡ Some y →
+    are_same_sets (slice_get (map field_sets_of cs) i) (slice_get (map field_sets_of cs) j) ≡ same_sets (field_sets_of x) (field_sets_of y)
+both_there cs i j x y first second =
+    ap₂ are_same_sets (slice_get-map field_sets_of cs i ∙ ap (option_map field_sets_of) first)
+    (slice_get-map field_sets_of cs j ∙ ap (option_map field_sets_of) second)
 
-pub second_missing : {A : Type 0} (cs : List (Channel A)) (i j : ℕ) (x : Channel A) → slice_get cs i ≡ Some x → slice_get (map field_sets_of cs) j ≡ None → false ≡ are_same_sets (slice_get (map field_sets_of cs) i) (slice_get (map field_sets_of cs) j)
+pub second_missing : {A : Type 0} (cs : List (Channel A)) (i j : ℕ) (x : Channel A) →
+    slice_get cs i ≡ Some x → slice_get (map field_sets_of cs) j ≡ None →
+    false ≡ are_same_sets (slice_get (map field_sets_of cs) i) (slice_get (map field_sets_of cs) j)
 second_missing cs i j x first none = sym (ap₂ are_same_sets (slice_get-map field_sets_of cs i ∙ ap (option_map field_sets_of) first) none)
 
-pub first_missing : {A : Type 0} (cs : List (Channel A)) (i j : ℕ) → slice_get (map field_sets_of cs) i ≡ None → false ≡ are_same_sets (slice_get (map field_sets_of cs) i) (slice_get (map field_sets_of cs) j)
+pub first_missing : {A : Type 0} (cs : List (Channel A)) (i j : ℕ) →
+    slice_get (map field_sets_of cs) i ≡ None → false ≡ are_same_sets (slice_get (map field_sets_of cs) i) (slice_get (map field_sets_of cs) j)
 first_missing cs i j none = sym (ap (λ o. are_same_sets o (slice_get (map field_sets_of cs) j)) none)
 
 abbrev pub asked_pairs : {A : Type 0} → process.Script → numbers.Numbering → numbers.Numbered → ℕ → List (RenamingPair A) → List KindEquation
@@ -86,7 +94,9 @@ abbrev pub behind_asked_pairs : {A : Type 0} → ℕ → List (RenamingPair A) �
 behind_asked_pairs n rs = behind_pairs n (renaming_pairs_of rs)
 
 -- a pair of events: both are asked
-pub asked_both : {A : Type 0} (script : process.Script) (o : numbers.Numbering) (names : numbers.Numbered) (s t u : Equations A) (r : process.RenamingPair) → are_bare_alike script r ≡ false → Asks s t (of_event script.types o s.next names r.from) (behind_event s.next r.from) → Asks t u (of_event script.types o t.next names r.to) (behind_event t.next r.to) →
+pub asked_both : {A : Type 0} (script : process.Script) (o : numbers.Numbering) (names : numbers.Numbered) (s t u : Equations A) (r : process.RenamingPair) →
+    are_bare_alike script r ≡ false → Asks s t (of_event script.types o s.next names r.from) (behind_event s.next r.from) →
+    Asks t u (of_event script.types o t.next names r.to) (behind_event t.next r.to) →
     Asks s u (of_pair script o s.next names r) (behind_event (behind_event s.next r.from) r.to)
 asked_both script o names s t u r unlike first second =
     let es = of_event script.types o s.next names r.from ++ of_event script.types o (behind_event s.next r.from) names r.to in

@@ -19,7 +19,9 @@ use Rattle.csp_inference.proofs.Asking.{asks_same, asks_then, hopeless_same, nev
 abbrev pub NamesLeft : List NumberedName → List Name → List KindNumber → ℕ → Type 0
 NamesLeft names xs ms i = names_of names ++ numbered (map (λ x. x.0) (drop i xs)) (map (λ m. m.0) (drop i ms)) ≡ numbered (map (λ x. x.0) xs) (map (λ m. m.0) ms)
 
-pub name_more : (names new : List NumberedName) (xs : List Name) (ms : List KindNumber) (i : ℕ) (d : Name) (e : KindNumber) → i < length xs → length xs ≡ length ms → NamesLeft names xs ms i → new ≡ names ++ record { name = get_or xs i d; number = get_or ms i e } ∷ [] → NamesLeft new xs ms (i + 1)
+pub name_more : (names new : List NumberedName) (xs : List Name) (ms : List KindNumber) (i : ℕ) (d : Name) (e : KindNumber) →
+    i < length xs → length xs ≡ length ms → NamesLeft names xs ms i → new ≡ names ++ record { name = get_or xs i d; number = get_or ms i e } ∷ [] →
+    NamesLeft new xs ms (i + 1)
 name_more names new xs ms i d e within same left pushed =
     let in_numbers : i < length ms = omega arith in
     let pair : NumberedName = record { name = get_or xs i d; number = get_or ms i e } in
@@ -27,24 +29,37 @@ name_more names new xs ms i d e within same left pushed =
     ap (λ ns. names_of ns ++ rest) pushed ∙ ap (λ ns. ns ++ rest) (map-append (λ b. (b.name.0, b.number.0)) names (pair ∷ [])) ∙ append_assoc (names_of names) (names_of (pair ∷ [])) rest
     ∙ ap (λ ns. names_of names ++ ns) (sym (ap₂ (λ us vs. numbered (map (λ x. x.0) us) (map (λ m. m.0) vs)) (drop_more xs i d within) (drop_more ms i e in_numbers))) ∙ left
 
-pub names_all : (names : List NumberedName) (xs : List Name) (ms : List KindNumber) (i : ℕ) → length xs ≤ i → NamesLeft names xs ms i → names_of names ≡ numbered (map (λ x. x.0) xs) (map (λ m. m.0) ms)
+pub names_all : (names : List NumberedName) (xs : List Name) (ms : List KindNumber) (i : ℕ) →
+    length xs ≤ i → NamesLeft names xs ms i → names_of names ≡ numbered (map (λ x. x.0) xs) (map (λ m. m.0) ms)
 names_all names xs ms i over left =
     sym (ap (λ us. names_of names ++ numbered (map (λ x. x.0) us) (map (λ m. m.0) (drop i ms))) (drop_all i xs over) ∙ append-nil (names_of names)) ∙ left
 
 module _ {A : Type 0} (script : Script) (o : numbers.Numbering) (s : Equations A) where
-  pub asked_equation : (t : Equations A) (q : Equation) (ms : List ℕ) (names : numbers.Numbered) → length q.parameters ≡ length ms → names ≡ numbered q.parameters ms → Asks s t (of_process script o s.next names q.body) (behind_process s.next q.body) →
+  pub asked_equation : (t : Equations A) (q : Equation) (ms : List ℕ) (names : numbers.Numbered) →
+      length q.parameters ≡ length ms → names ≡ numbered q.parameters ms → Asks s t (of_process script o s.next names q.body) (behind_process s.next q.body) →
       Asks s t (of_equation script o s.next q ms) (behind_process s.next q.body)
   asked_equation t q ms names same named h =
       asks_same s t (of_process script o s.next names q.body) (of_equation script o s.next q ms) (behind_process s.next q.body) (behind_process s.next q.body)
-      (ap (λ ns. of_process script o s.next ns q.body) named ∙ sym (cond-true (nat_eq (length q.parameters) (length ms)) (of_process script o s.next (numbered q.parameters ms) q.body) never (eq-eqb (length q.parameters) (length ms) same))) refl h
+      (ap (λ ns. of_process script o s.next ns q.body) named
+      ∙ sym (cond-true (nat_eq (length q.parameters) (length ms)) (of_process script o s.next (numbered q.parameters ms) q.body) never
+      (eq-eqb (length q.parameters) (length ms) same))) refl h
 
   pub unequal_equation : (t : Equations A) (q : Equation) (ms : List ℕ) (n m : ℕ) → length q.parameters ≢ length ms → Adds s t never n → Asks s t (of_equation script o s.next q ms) m
   unequal_equation t q ms n m differ h =
-      never_asks s t (of_equation script o s.next q ms) n m (hopeless_same never (of_equation script o s.next q ms) (sym (cond-false (nat_eq (length q.parameters) (length ms)) (of_process script o s.next (numbered q.parameters ms) q.body) never (ne_eqb (length q.parameters) (length ms) differ))) never_hopeless) h
+      never_asks s t (of_equation script o s.next q ms) n m
+      (hopeless_same never (of_equation script o s.next q ms)
+      (sym (cond-false (nat_eq (length q.parameters) (length ms)) (of_process script o s.next (numbered q.parameters ms) q.body) never (ne_eqb (length q.parameters) (length ms) differ)))
+      never_hopeless) h
 
-  pub asked_assertion : (t u : Equations A) (a : Assertion) (none others : numbers.Numbered) → none ≡ [] → others ≡ [] → Asks s t (of_process script o s.next none a.specification) (behind_process s.next a.specification) → Asks t u (of_process script o t.next others a.implementation) (behind_process t.next a.implementation) →
+  pub asked_assertion : (t u : Equations A) (a : Assertion) (none others : numbers.Numbered) →
+      none ≡ [] → others ≡ [] → Asks s t (of_process script o s.next none a.specification) (behind_process s.next a.specification) →
+      Asks t u (of_process script o t.next others a.implementation) (behind_process t.next a.implementation) →
       Asks s u (of_assertion script o s.next a) (behind_process (behind_process s.next a.specification) a.implementation)
   asked_assertion t u a none others empty alike first second =
       asks_then s t u (of_process script o s.next [] a.specification) (behind_process s.next a.specification) (λ m. of_process script o m [] a.implementation) (λ m. behind_process m a.implementation)
-      (asks_same s t (of_process script o s.next none a.specification) (of_process script o s.next [] a.specification) (behind_process s.next a.specification) (behind_process s.next a.specification) (ap (λ ns. of_process script o s.next ns a.specification) empty) refl first)
-      (asks_same t u (of_process script o t.next others a.implementation) (of_process script o t.next [] a.implementation) (behind_process t.next a.implementation) (behind_process t.next a.implementation) (ap (λ ns. of_process script o t.next ns a.implementation) alike) refl second)
+      (asks_same s t (of_process script o s.next none a.specification) (of_process script o s.next [] a.specification)
+      (behind_process s.next a.specification) (behind_process s.next a.specification) (ap (λ ns. of_process script o s.next ns a.specification) empty) refl
+      first)
+      (asks_same t u (of_process script o t.next others a.implementation) (of_process script o t.next [] a.implementation)
+      (behind_process t.next a.implementation) (behind_process t.next a.implementation) (ap (λ ns. of_process script o t.next ns a.implementation) alike)
+      refl second)

@@ -19,7 +19,9 @@ abbrev pub behind_asked_copies : Expression → ℕ → List KindNumber → ℕ
 behind_asked_copies e n ms = behind_copies n (Some e) (map (λ m. m.0) ms)
 
 -- one copy more
-pub copy_more : {A : Type 0} (types : Types) (o : numbers.Numbering) (e : Expression) (start now new : Equations A) (ms : List KindNumber) (i : ℕ) (d : KindNumber) → i < length ms → Rests (asked_copies types o e) (behind_asked_copies e) start now ms i →
+pub copy_more : {A : Type 0} (types : Types) (o : numbers.Numbering) (e : Expression) (start now new : Equations A) (ms : List KindNumber) (i : ℕ) (d : KindNumber) →
+    i < length ms → Rests (asked_copies types o e) (behind_asked_copies e) start now ms i →
     Adds now new (of_set types o now.next (Some e) (get_or ms i d).0) (behind_set now.next (Some e)) → Rests (asked_copies types o e) (behind_asked_copies e) start new ms (i + 1)
 copy_more types o e start now new ms i d within rests adds =
-    rests_more (asked_copies types o e) (behind_asked_copies e) start now ms i (λ n m. of_set types o n (Some e) m.0) (λ n m. behind_set n (Some e)) new (get_or ms i d) (λ n us. refl) (λ n us. refl) within (get_or_default ms i d (get_or ms i d) within) rests adds
+    rests_more (asked_copies types o e) (behind_asked_copies e) start now ms i (λ n m. of_set types o n (Some e) m.0) (λ n m. behind_set n (Some e)) new
+    (get_or ms i d) (λ n us. refl) (λ n us. refl) within (get_or_default ms i d (get_or ms i d) within) rests adds

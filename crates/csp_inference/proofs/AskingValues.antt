@@ -43,13 +43,17 @@ member_size (w ∷ ws) (suc i) v within read = let smaller = member_size ws i v 
 
 module _ {A : Type 0} (o : numbers.Numbering) (s t u : Equations A) (n : ℕ) (k : chain.Chain) (v : pure.Value) (vs : pure.Values) (numbered : n ≡ s.next) where
   -- an open kind for the items, and then the items
-  pub asked_sequence : v ≡ pure.Sequence vs → Adds s t ((chain.SequenceOver (chain.OpenEnd s.next), k) ∷ []) (suc s.next) → Adds t u (of_values o t.next vs (chain.OpenEnd n)) (behind_values t.next vs) → Adds s u (of_value o s.next v k) (behind_value s.next v)
+  pub asked_sequence :
+      v ≡ pure.Sequence vs → Adds s t ((chain.SequenceOver (chain.OpenEnd s.next), k) ∷ []) (suc s.next) →
+      Adds t u (of_values o t.next vs (chain.OpenEnd n)) (behind_values t.next vs) → Adds s u (of_value o s.next v k) (behind_value s.next v)
   asked_sequence is opened items =
       adds_same s u ((chain.SequenceOver (chain.OpenEnd s.next), k) ∷ of_values o (suc s.next) vs (chain.OpenEnd n)) (of_value o s.next v k) (behind_values (suc s.next) vs) (behind_value s.next v)
       (ap (λ m. (chain.SequenceOver (chain.OpenEnd s.next), k) ∷ of_values o (suc s.next) vs (chain.OpenEnd m)) numbered ∙ ap (λ x. of_value o s.next x k) (sym is)) (ap (behind_value s.next) (sym is))
       (adds_then s t u ((chain.SequenceOver (chain.OpenEnd s.next), k) ∷ []) (suc s.next) (λ m. of_values o m vs (chain.OpenEnd n)) (λ m. behind_values m vs) opened items)
 
-  pub asked_set : v ≡ pure.Set vs → Adds s t ((chain.SetOver (chain.OpenEnd s.next), k) ∷ []) (suc s.next) → Adds t u (of_values o t.next vs (chain.OpenEnd n)) (behind_values t.next vs) → Adds s u (of_value o s.next v k) (behind_value s.next v)
+  pub asked_set :
+      v ≡ pure.Set vs → Adds s t ((chain.SetOver (chain.OpenEnd s.next), k) ∷ []) (suc s.next) →
+      Adds t u (of_values o t.next vs (chain.OpenEnd n)) (behind_values t.next vs) → Adds s u (of_value o s.next v k) (behind_value s.next v)
   asked_set is opened items =
       adds_same s u ((chain.SetOver (chain.OpenEnd s.next), k) ∷ of_values o (suc s.next) vs (chain.OpenEnd n)) (of_value o s.next v k) (behind_values (suc s.next) vs) (behind_value s.next v)
       (ap (λ m. (chain.SetOver (chain.OpenEnd s.next), k) ∷ of_values o (suc s.next) vs (chain.OpenEnd m)) numbered ∙ ap (λ x. of_value o s.next x k) (sym is)) (ap (behind_value s.next) (sym is))

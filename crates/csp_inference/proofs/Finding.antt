@@ -38,8 +38,11 @@ module _ (cs : List (Option pure.Chain)) (ls : List Layer) (e : End) where
       by_end (ending.Open n) h = absurd (h n refl)
 
 -- one slot more of a walk over all slots
-pub slot_more : {A : Type 0} (f : Option pure.Chain → Option pure.Chain) (old now : List (Option (Chain A))) (i : ℕ) (item new : Option (Chain A)) → i < length old → length now ≡ length old → chains_in now ≡ map f (take i (chains_in old)) ++ drop i (chains_in old) →
+pub slot_more :
+    {A : Type 0} (f : Option pure.Chain → Option pure.Chain) (old now : List (Option (Chain A))) (i : ℕ) (item new : Option (Chain A)) → i < length old →
+    length now ≡ length old → chains_in now ≡ map f (take i (chains_in old)) ++ drop i (chains_in old) →
     item ≡ get_or now i item → option_map chain_of new ≡ f (option_map chain_of item) → chains_in (set now i new) ≡ map f (take (i + 1) (chains_in old)) ++ drop (i + 1) (chains_in old)
 slot_more f old now i item new within same so_far read made =
     map-set (option_map chain_of) now i new ∙ ap (set (chains_in now) i) made
-    ∙ map_over_more f (chains_in old) (chains_in now) i (option_map chain_of item) (simp length-map within) so_far (sym (get_or-map (option_map chain_of) now i item (option_map chain_of item) (rw same within) ∙ ap (option_map chain_of) (sym read)))
+    ∙ map_over_more f (chains_in old) (chains_in now) i (option_map chain_of item) (simp length-map within) so_far
+    (sym (get_or-map (option_map chain_of) now i item (option_map chain_of item) (rw same within) ∙ ap (option_map chain_of) (sym read)))

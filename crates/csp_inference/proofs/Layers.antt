@@ -26,7 +26,8 @@ ends_below f (layer.Set ∷ ls) c = ap pure.SetOver (ends_below f ls c)
 -- at a chain that ends in the number another one takes its place
 pub put_at_end : (ls : List Layer) (e : End) (n : KindNumber) (c : pure.Chain) → e ≡ ending.Open n → with_ends (in_place_of n.0 c) (over_all ls (end_of e)) ≡ over_all ls c
 put_at_end ls e n c is =
-    ends_below (in_place_of n.0 c) ls (end_of e) ∙ ap (λ x. over_all ls (with_ends (in_place_of n.0 c) (end_of x))) is ∙ ap (over_all ls) (cond-true (nat_eq n.0 n.0) c (pure.OpenEnd n.0) (eq-eqb n.0 n.0 refl))
+    ends_below (in_place_of n.0 c) ls (end_of e) ∙ ap (λ x. over_all ls (with_ends (in_place_of n.0 c) (end_of x))) is
+    ∙ ap (over_all ls) (cond-true (nat_eq n.0 n.0) c (pure.OpenEnd n.0) (eq-eqb n.0 n.0 refl))
 
 -- and one with another end stays
 pub put_elsewhere : (ls : List Layer) (e : End) (n : KindNumber) (c : pure.Chain) → e ≢ ending.Open n → with_ends (in_place_of n.0 c) (over_all ls (end_of e)) ≡ over_all ls (end_of e)
@@ -57,7 +58,9 @@ pub taken_unlike : (ls ms : List Layer) (i : ℕ) (d : Layer) → i < length ls 
 taken_unlike ls ms i d in_left in_right differ =
     let first = drop_more ls i d in_left in
     let second = drop_more ms i d in_right in
-    ap₂ taken_off first second ∙ cond-false (are_like (get_or ls i d) (get_or ms i d)) (taken_off (drop (i + 1) ls) (drop (i + 1) ms)) (get_or ls i d ∷ drop (i + 1) ls, get_or ms i d ∷ drop (i + 1) ms) (unlikeness (get_or ls i d) (get_or ms i d) differ)
+    ap₂ taken_off first second
+    ∙ cond-false (are_like (get_or ls i d) (get_or ms i d)) (taken_off (drop (i + 1) ls) (drop (i + 1) ms))
+    (get_or ls i d ∷ drop (i + 1) ls, get_or ms i d ∷ drop (i + 1) ms) (unlikeness (get_or ls i d) (get_or ms i d) differ)
     ∙ ap₂ (λ x y. (x, y)) (sym first) (sym second)
   where
     unlikeness : (l m : Layer) → l ≢ m → are_like l m ≡ false
@@ -67,5 +70,7 @@ taken_unlike ls ms i d in_left in_right differ =
     unlikeness layer.Set layer.Sequence e = refl
 
 -- what is left, as it is read
-pub taken : (ls ms : List Layer) (i : ℕ) → taken_off (drop i ls) (drop i ms) ≡ taken_off ls ms → taken_off (drop i ls) (drop i ms) ≡ (drop i ls, drop i ms) → (take (length ls - i) (drop i ls), take (length ms - i) (drop i ms)) ≡ taken_off ls ms
+pub taken : (ls ms : List Layer) (i : ℕ) →
+    taken_off (drop i ls) (drop i ms) ≡ taken_off ls ms → taken_off (drop i ls) (drop i ms) ≡ (drop i ls, drop i ms) →
+    (take (length ls - i) (drop i ls), take (length ms - i) (drop i ms)) ≡ taken_off ls ms
 taken ls ms i same over = ap₂ (λ x y. (x, y)) (take_rest ls i) (take_rest ms i) ∙ sym over ∙ same

@@ -24,4 +24,6 @@ module _ (s t : State) (es : List KindEquation) (i : ℕ) (d : KindEquation) (wi
   solved_no_more u v misfit.NoKinds next =
       let parts = ap (map equation_of) (sym (take-append-drop i es) ∙ ap (λ xs. take i es ++ xs) (drop_more es i d within)) ∙ map-append equation_of (take i es) (get_or es i d ∷ drop (i + 1) es) in
       let P : List pure.KindEquation → Type 0 = λ xs. HasNoSolution s xs in
-      subst P (sym parts) (unsolved_then s t (map equation_of (take i es)) (map equation_of (get_or es i d ∷ drop (i + 1) es)) so_far (unsolved_first t (equation_of (get_or es i d) ∷ []) (map equation_of (drop (i + 1) es)) next))
+      subst P (sym parts)
+      (unsolved_then s t (map equation_of (take i es)) (map equation_of (get_or es i d ∷ drop (i + 1) es)) so_far
+      (unsolved_first t (equation_of (get_or es i d) ∷ []) (map equation_of (drop (i + 1) es)) next))

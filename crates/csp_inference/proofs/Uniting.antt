@@ -19,9 +19,12 @@ use Rattle.csp_inference.specs.State.{AreUnlike, SaysTheSame, Solved, Tells, are
 -- ---- a number is bound
 
 -- the list is changed at all places, and then at the number's own
-pub bound_known : (old : State) (cs ds : List (Option pure.Chain)) (n : ℕ) (c : pure.Chain) → n < length cs → SaysTheSame (state_of cs) old → ds ≡ set (map (option_map (with_ends (in_place_of n c))) cs) n (Some c) → SaysTheSame (bound_to old n c) (state_of ds)
+pub bound_known : (old : State) (cs ds : List (Option pure.Chain)) (n : ℕ) (c : pure.Chain) →
+    n < length cs → SaysTheSame (state_of cs) old → ds ≡ set (map (option_map (with_ends (in_place_of n c))) cs) n (Some c) →
+    SaysTheSame (bound_to old n c) (state_of ds)
 bound_known old cs ds n c within same is =
-    λ m. ap (λ o. cond (nat_eq n m) (Some c) (option_map (with_ends (in_place_of n c)) o)) (sym (same m)) ∙ sym (unifying.bound_list (option_map (with_ends (in_place_of n c))) (Some c) cs n m refl within) ∙ ap (λ x. state_of x m) (sym is)
+    λ m. ap (λ o. cond (nat_eq n m) (Some c) (option_map (with_ends (in_place_of n c)) o)) (sym (same m)) ∙ sym
+    (unifying.bound_list (option_map (with_ends (in_place_of n c))) (Some c) cs n m refl within) ∙ ap (λ x. state_of x m) (sym is)
 
 end_below : (ls : List Layer) (c : pure.Chain) → open_end (over_all ls c) ≡ open_end c
 end_below [] c = refl
@@ -55,7 +58,8 @@ own_end n ls e is = ap (λ o. elim o [ Some m ↦ nat_eq n.0 m | None ↦ false 
 -- the number itself: there is nothing to do
 pub open_itself : (s : State) (n : KindNumber) (ls : List Layer) (e : End) → e ≡ ending.Open n → ls ≡ [] → bind_open s n.0 (over_all ls (end_of e)) ≡ Some s
 open_itself s n ls e is none =
-    ap (λ xs. bind_open s n.0 (over_all xs (end_of e))) none ∙ ap (λ x. bind_open s n.0 (end_of x)) is ∙ cond-true (nat_eq n.0 n.0) (Some s) (Some (bound_to s n.0 (pure.OpenEnd n.0))) (eq-eqb n.0 n.0 refl)
+    ap (λ xs. bind_open s n.0 (over_all xs (end_of e))) none ∙ ap (λ x. bind_open s n.0 (end_of x)) is
+    ∙ cond-true (nat_eq n.0 n.0) (Some s) (Some (bound_to s n.0 (pure.OpenEnd n.0))) (eq-eqb n.0 n.0 refl)
 
 -- a longer chain that ends in it
 pub open_endless : (s : State) (n : KindNumber) (ls : List Layer) (e : End) → e ≡ ending.Open n → ls ≢ [] → bind_open s n.0 (over_all ls (end_of e)) ≡ None
@@ -69,7 +73,8 @@ empty (l ∷ ls) e = absurd (omega arith)
 
 -- ---- what begins alike is taken off
 
-pub without_like : (s : State) (ls ms : List Layer) (c d : pure.Chain) → unify_resolved s (over_all ls c) (over_all ms d) ≡ unify_resolved s (over_all (taken_off ls ms).0 c) (over_all (taken_off ls ms).1 d)
+pub without_like : (s : State) (ls ms : List Layer) (c d : pure.Chain) →
+    unify_resolved s (over_all ls c) (over_all ms d) ≡ unify_resolved s (over_all (taken_off ls ms).0 c) (over_all (taken_off ls ms).1 d)
 without_like s [] ms c d = refl
 without_like s (l ∷ ls) [] c d = refl
 without_like s (layer.Sequence ∷ ls) (layer.Sequence ∷ ms) c d = without_like s ls ms c d
@@ -100,7 +105,9 @@ open_on_left s ls e n d h = ap (λ c. unify_resolved s c d) (is_open_alone ls e 
     by_right : (d : pure.Chain) → unify_resolved s (pure.OpenEnd n.0) d ≡ bind_open s n.0 d
     by_right d = refl
 
-pub open_on_right : (s : State) (ls : List Layer) (e : End) (ms : List Layer) (f : End) (n : KindNumber) → None ≡ open_alone ls e → Some n ≡ open_alone ms f → unify_resolved s (over_all ls (end_of e)) (over_all ms (end_of f)) ≡ bind_open s n.0 (over_all ls (end_of e))
+pub open_on_right : (s : State) (ls : List Layer) (e : End) (ms : List Layer) (f : End) (n : KindNumber) →
+    None ≡ open_alone ls e → Some n ≡ open_alone ms f →
+    unify_resolved s (over_all ls (end_of e)) (over_all ms (end_of f)) ≡ bind_open s n.0 (over_all ls (end_of e))
 open_on_right s ls e ms f n closed h = ap (unify_resolved s (over_all ls (end_of e))) (is_open_alone ms f n h) ∙ by_left ls e closed
   where
     by_left : (ls : List Layer) (e : End) → None ≡ open_alone ls e → unify_resolved s (over_all ls (end_of e)) (pure.OpenEnd n.0) ≡ bind_open s n.0 (over_all ls (end_of e))
@@ -120,8 +127,11 @@ same_chains s [] (ending.Open m) closed none = absurd (cc closed)
 same_chains s (l ∷ ls) e closed none = absurd (cc none)
 
 -- unlike chains with no open end alone
-pub none_fit : (s : State) (ls ms : List Layer) (e f : End) → AreUnlike ls ms → None ≡ open_alone ls e → None ≡ open_alone ms f → (ls ≡ ms → e ≢ f) → unify_resolved s (over_all ls (end_of e)) (over_all ms (end_of f)) ≡ None
-none_fit s [] [] (ending.Datatype c) (ending.Datatype d) unlike g h differ = cond-false (nat_eq c.0 d.0) (Some s) None (ne_eqb c.0 d.0 (λ same. differ refl (ap (λ k. ending.Datatype (record { 0 = k })) same)))
+pub none_fit : (s : State) (ls ms : List Layer) (e f : End) →
+    AreUnlike ls ms → None ≡ open_alone ls e → None ≡ open_alone ms f → (ls ≡ ms → e ≢ f) →
+    unify_resolved s (over_all ls (end_of e)) (over_all ms (end_of f)) ≡ None
+none_fit s [] [] (ending.Datatype c) (ending.Datatype d) unlike g h differ =
+    cond-false (nat_eq c.0 d.0) (Some s) None (ne_eqb c.0 d.0 (λ same. differ refl (ap (λ k. ending.Datatype (record { 0 = k })) same)))
 none_fit s [] [] ending.Int ending.Int unlike g h differ = absurd (differ refl refl)
 none_fit s [] [] ending.Bool ending.Bool unlike g h differ = absurd (differ refl refl)
 none_fit s [] ms (ending.Open n) f unlike g h differ = absurd (cc g)

@@ -7,4 +7,6 @@ use Rattle.csp_inference.proofs.state.go_on_all.Given as goal
 
 abbrev pub invariant-loop-slot : goal.invariant-loop-slot
 invariant-loop-slot g l =
-    chains_in l.slots ≡ map (option_map (with_ends (in_place_of l.number.0 (over_all l.layers (end_of l.end))))) (take l.slot-index (chains_in l.initial.slots)) ++ drop l.slot-index (chains_in l.initial.slots)
+    chains_in l.slots
+    ≡ map (option_map (with_ends (in_place_of l.number.0 (over_all l.layers (end_of l.end))))) (take l.slot-index (chains_in l.initial.slots))
+    ++ drop l.slot-index (chains_in l.initial.slots)

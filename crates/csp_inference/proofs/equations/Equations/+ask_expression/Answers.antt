@@ -16,7 +16,9 @@ pub ask_expression-returns-in_ok-number-in-Apply : goal.ask_expression-returns-i
 ask_expression-returns-in_ok-number-in-Apply g t c =
     let e = c.args.expression.now in
     if_ok c.ask_expression.result
-    (λ _. asked_apply (table_of c.args.types.now) (numbering_of c.args.numbering.now) (names_of c.args.names.now) (demand_of c.args.kind) c.args.self.now (expression_of e) c.push_unary.new.self c.ask_expression.new.self (unary_of c.in-Apply.operator) (expression_of c.deref.result.now) c.in_ok-number-in-Apply.number.0 (demand_of c.operand.result)
+    (λ _. asked_apply (table_of c.args.types.now) (numbering_of c.args.numbering.now) (names_of c.args.names.now) (demand_of c.args.kind) c.args.self.now
+    (expression_of e) c.push_unary.new.self c.ask_expression.new.self (unary_of c.in-Apply.operator) (expression_of c.deref.result.now)
+    c.in_ok-number-in-Apply.number.0 (demand_of c.operand.result)
     (of_apply e c.in-Apply.operator c.in-Apply.part c.deref.result.now c.in-Apply.is c.deref.ensures) c.in_ok-number-in-Apply.ensures.number c.operand.ensures c.in_ok-number-in-Apply.ensures.behind)
     c.ask_expression.ensures
 
@@ -24,31 +26,44 @@ pub ask_expression-returns-in_ok-ask_expression-in-Combine : goal.ask_expression
 ask_expression-returns-in_ok-ask_expression-in-Combine g t c =
     let e = c.args.expression.now in
     if_ok c.ask_expression-in-Combine-2.result
-    (λ _. asked_combine (table_of c.args.types.now) (numbering_of c.args.numbering.now) (names_of c.args.names.now) (demand_of c.args.kind) c.args.self.now (expression_of e) c.push_binary.new.self c.ask_expression-in-Combine.new.self c.ask_expression-in-Combine-2.new.self (binary_of c.in-Combine.operator) (expression_of c.deref-in-Combine.result.now) (expression_of c.deref-in-Combine-2.result.now) c.in_ok-number-in-Combine.number.0 (demand_of c.left_operand-left_kind.result) (demand_of c.right_operand-right_kind.result)
-    (of_combine e c.in-Combine.operator c.in-Combine.left c.in-Combine.right c.deref-in-Combine.result.now c.deref-in-Combine-2.result.now c.in-Combine.is c.deref-in-Combine.ensures c.deref-in-Combine-2.ensures) c.in_ok-number-in-Combine.ensures.number c.left_operand-left_kind.ensures c.right_operand-right_kind.ensures c.in_ok-number-in-Combine.ensures.behind c.in_ok-ask_expression-in-Combine.ensures)
+    (λ _. asked_combine (table_of c.args.types.now) (numbering_of c.args.numbering.now) (names_of c.args.names.now) (demand_of c.args.kind) c.args.self.now
+    (expression_of e) c.push_binary.new.self c.ask_expression-in-Combine.new.self c.ask_expression-in-Combine-2.new.self (binary_of c.in-Combine.operator)
+    (expression_of c.deref-in-Combine.result.now) (expression_of c.deref-in-Combine-2.result.now) c.in_ok-number-in-Combine.number.0
+    (demand_of c.left_operand-left_kind.result) (demand_of c.right_operand-right_kind.result)
+    (of_combine e c.in-Combine.operator c.in-Combine.left c.in-Combine.right c.deref-in-Combine.result.now c.deref-in-Combine-2.result.now c.in-Combine.is
+    c.deref-in-Combine.ensures c.deref-in-Combine-2.ensures) c.in_ok-number-in-Combine.ensures.number c.left_operand-left_kind.ensures
+    c.right_operand-right_kind.ensures c.in_ok-number-in-Combine.ensures.behind c.in_ok-ask_expression-in-Combine.ensures)
     c.ask_expression-in-Combine-2.ensures
 
 pub ask_expression-returns-in_ok-ask_expression-in-Range : goal.ask_expression-returns-in_ok-ask_expression-in-Range
 ask_expression-returns-in_ok-ask_expression-in-Range g t c =
     let e = c.args.expression.now in
     if_ok c.ask_expression-in-Range-2.result
-    (λ _. asked_range (table_of c.args.types.now) (numbering_of c.args.numbering.now) (names_of c.args.names.now) (demand_of c.args.kind) c.args.self.now (expression_of e) c.push.new.self c.ask_expression-in-Range.new.self c.ask_expression-in-Range-2.new.self (expression_of c.deref-in-Range.result.now) (expression_of c.deref-in-Range-2.result.now)
-    (of_range e c.in-Range.from c.in-Range.to c.deref-in-Range.result.now c.deref-in-Range-2.result.now c.in-Range.is c.deref-in-Range.ensures c.deref-in-Range-2.ensures) c.in_ok-push-in-Range.ensures c.in_ok-ask_expression-in-Range.ensures)
+    (λ _. asked_range (table_of c.args.types.now) (numbering_of c.args.numbering.now) (names_of c.args.names.now) (demand_of c.args.kind) c.args.self.now
+    (expression_of e) c.push.new.self c.ask_expression-in-Range.new.self c.ask_expression-in-Range-2.new.self (expression_of c.deref-in-Range.result.now)
+    (expression_of c.deref-in-Range-2.result.now)
+    (of_range e c.in-Range.from c.in-Range.to c.deref-in-Range.result.now c.deref-in-Range-2.result.now c.in-Range.is c.deref-in-Range.ensures c.deref-in-Range-2.ensures)
+    c.in_ok-push-in-Range.ensures c.in_ok-ask_expression-in-Range.ensures)
     c.ask_expression-in-Range-2.ensures
 
 pub ask_expression-returns-in_ok-number-in-Sequence : goal.ask_expression-returns-in_ok-number-in-Sequence
 ask_expression-returns-in_ok-number-in-Sequence g t c =
     let e = c.args.expression.now in
     if_ok c.ask_expressions.result
-    (λ _. asked_sequence (table_of c.args.types.now) (numbering_of c.args.numbering.now) (names_of c.args.names.now) (demand_of c.args.kind) c.args.self.now (expression_of e) c.push_sequence.new.self c.ask_expressions.new.self (to_expressions (expressions_of c.deref-in-Sequence.result.now)) c.in_ok-number-in-Sequence.number.0
-    (of_sequence e c.in-Sequence.items c.deref-in-Sequence.result.now c.in-Sequence.is c.deref-in-Sequence.ensures.value) c.in_ok-number-in-Sequence.ensures.number c.in_ok-number-in-Sequence.ensures.behind)
+    (λ _. asked_sequence (table_of c.args.types.now) (numbering_of c.args.numbering.now) (names_of c.args.names.now) (demand_of c.args.kind) c.args.self.now
+    (expression_of e) c.push_sequence.new.self c.ask_expressions.new.self (to_expressions (expressions_of c.deref-in-Sequence.result.now))
+    c.in_ok-number-in-Sequence.number.0
+    (of_sequence e c.in-Sequence.items c.deref-in-Sequence.result.now c.in-Sequence.is c.deref-in-Sequence.ensures.value)
+    c.in_ok-number-in-Sequence.ensures.number c.in_ok-number-in-Sequence.ensures.behind)
     c.ask_expressions.ensures
 
 pub ask_expression-returns-in_ok-number-in-Set : goal.ask_expression-returns-in_ok-number-in-Set
 ask_expression-returns-in_ok-number-in-Set g t c =
     let e = c.args.expression.now in
     if_ok c.ask_expressions-in-Set.result
-    (λ _. asked_set (table_of c.args.types.now) (numbering_of c.args.numbering.now) (names_of c.args.names.now) (demand_of c.args.kind) c.args.self.now (expression_of e) c.push_set.new.self c.ask_expressions-in-Set.new.self (to_expressions (expressions_of c.deref-in-Set.result.now)) c.in_ok-number-in-Set.number.0
+    (λ _. asked_set (table_of c.args.types.now) (numbering_of c.args.numbering.now) (names_of c.args.names.now) (demand_of c.args.kind) c.args.self.now
+    (expression_of e) c.push_set.new.self c.ask_expressions-in-Set.new.self (to_expressions (expressions_of c.deref-in-Set.result.now))
+    c.in_ok-number-in-Set.number.0
     (of_set e c.in-Set.members c.deref-in-Set.result.now c.in-Set.is c.deref-in-Set.ensures.value) c.in_ok-number-in-Set.ensures.number c.in_ok-number-in-Set.ensures.behind)
     c.ask_expressions-in-Set.ensures
 
@@ -76,7 +91,9 @@ ask_expressions-loop-expression-preserved g t c =
     let o = numbering_of c.args.numbering.now in
     let names = names_of c.args.names.now in
     let k = demand_of c.args.kind in
-    rests_more (asked_expressions types o names k) behind_asked c.args.self.now c.loop-expression.self c.args.expressions.now c.loop-expression.expression-index (λ n e. of_expression types o n names (expression_of e) k) (λ n e. behind_expression n (expression_of e)) c.ask_expression.new.self c.expression-item.result (λ n es. refl) (λ n es. refl)
+    rests_more (asked_expressions types o names k) behind_asked c.args.self.now c.loop-expression.self c.args.expressions.now c.loop-expression.expression-index
+    (λ n e. of_expression types o n names (expression_of e) k) (λ n e. behind_expression n (expression_of e)) c.ask_expression.new.self c.expression-item.result
+    (λ n es. refl) (λ n es. refl)
     c.loop-expression-test.true c.expression-item.is c.loop-expression.invariant c.in_ok-ask_expression.ensures
 
 pub ask_expressions-returns : goal.ask_expressions-returns
@@ -85,4 +102,5 @@ ask_expressions-returns g t c =
     let o = numbering_of c.args.numbering.now in
     let names = names_of c.args.names.now in
     let k = demand_of c.args.kind in
-    rests_none (asked_expressions types o names k) behind_asked c.args.self.now c.loop-expression.self c.args.expressions.now c.loop-expression.expression-index (λ n. refl) (λ n. refl) c.loop-expression-test.false c.loop-expression.invariant
+    rests_none (asked_expressions types o names k) behind_asked c.args.self.now c.loop-expression.self c.args.expressions.now c.loop-expression.expression-index
+    (λ n. refl) (λ n. refl) c.loop-expression-test.false c.loop-expression.invariant

@@ -30,14 +30,16 @@ ask_values-ask_value-requires g t c =
 pub ask_value-returns-in_ok-number-in-Seq : goal.ask_value-returns-in_ok-number-in-Seq
 ask_value-returns-in_ok-number-in-Seq g t c =
     if_ok c.ask_values.result
-    (λ _. asked_sequence (numbering_of c.args.numbering.now) c.args.self.now c.push_sequence.new.self c.ask_values.new.self c.in_ok-number-in-Seq.number.0 (demand_of c.args.kind) (value_of c.args.value.now) (to_values (values_of c.deref.result.now)) c.in_ok-number-in-Seq.ensures.number
+    (λ _. asked_sequence (numbering_of c.args.numbering.now) c.args.self.now c.push_sequence.new.self c.ask_values.new.self c.in_ok-number-in-Seq.number.0
+    (demand_of c.args.kind) (value_of c.args.value.now) (to_values (values_of c.deref.result.now)) c.in_ok-number-in-Seq.ensures.number
     (of_sequence c.args.value.now c.in-Seq.items c.deref.result.now c.in-Seq.is c.deref.ensures.value) c.in_ok-number-in-Seq.ensures.behind)
     c.ask_values.ensures
 
 pub ask_value-returns-in_ok-number-in-Set : goal.ask_value-returns-in_ok-number-in-Set
 ask_value-returns-in_ok-number-in-Set g t c =
     if_ok c.ask_values-in-Set.result
-    (λ _. asked_set (numbering_of c.args.numbering.now) c.args.self.now c.push_set.new.self c.ask_values-in-Set.new.self c.in_ok-number-in-Set.number.0 (demand_of c.args.kind) (value_of c.args.value.now) (to_values (values_of c.members.result.now)) c.in_ok-number-in-Set.ensures.number
+    (λ _. asked_set (numbering_of c.args.numbering.now) c.args.self.now c.push_set.new.self c.ask_values-in-Set.new.self c.in_ok-number-in-Set.number.0
+    (demand_of c.args.kind) (value_of c.args.value.now) (to_values (values_of c.members.result.now)) c.in_ok-number-in-Set.ensures.number
     (of_set c.args.value.now c.in-Set.set c.members.result.now c.in-Set.is c.members.ensures) c.in_ok-number-in-Set.ensures.behind)
     c.ask_values-in-Set.ensures
 
@@ -45,7 +47,9 @@ pub ask_values-loop-value-preserved : goal.ask_values-loop-value-preserved
 ask_values-loop-value-preserved g t c =
     let o = numbering_of c.args.numbering.now in
     let k = demand_of c.args.kind in
-    rests_more (asked_values o k) behind_asked c.args.self.now c.loop-value.self c.args.values.now c.loop-value.value-index (λ n v. of_value o n (value_of v) k) (λ n v. behind_value n (value_of v)) c.ask_value.new.self c.value-item.result (λ n vs. refl) (λ n vs. refl) c.loop-value-test.true c.value-item.is c.loop-value.invariant c.in_ok-ask_value.ensures
+    rests_more (asked_values o k) behind_asked c.args.self.now c.loop-value.self c.args.values.now c.loop-value.value-index (λ n v. of_value o n (value_of v) k)
+    (λ n v. behind_value n (value_of v)) c.ask_value.new.self c.value-item.result (λ n vs. refl) (λ n vs. refl) c.loop-value-test.true c.value-item.is
+    c.loop-value.invariant c.in_ok-ask_value.ensures
 
 pub ask_values-returns : goal.ask_values-returns
 ask_values-returns g t c =

@@ -15,7 +15,8 @@ returns-then-expressions-numbers g c =
     let names = names_of c.args.names.now in
     let s = c.args.self.now in
     let differ : length c.args.expressions.now ≢ length c.args.numbers.now = omega arith in
-    never_asks s c.push_never.new.self (asked_all types o names s.next c.args.expressions.now c.args.numbers.now) s.next (behind_asked s.next c.args.expressions.now) (unequal types o names s.next c.args.expressions.now c.args.numbers.now differ) c.in_ok-push_never.ensures
+    never_asks s c.push_never.new.self (asked_all types o names s.next c.args.expressions.now c.args.numbers.now) s.next
+    (behind_asked s.next c.args.expressions.now) (unequal types o names s.next c.args.expressions.now c.args.numbers.now differ) c.in_ok-push_never.ensures
 
 pub returns : goal.returns
 returns g c =
@@ -26,4 +27,5 @@ returns g c =
     let es = c.args.expressions.now in
     let ms = c.args.numbers.now in
     let same : length es ≡ length ms = omega arith in
-    exactly (adds_same s c.ask_each.new.self (asked_first types o names s.next es ms) (asked_all types o names s.next es ms) (behind_asked s.next es) (behind_asked s.next es) (all_first types o names s.next es ms same) refl c.in_ok-ask_each.ensures)
+    exactly (adds_same s c.ask_each.new.self (asked_first types o names s.next es ms) (asked_all types o names s.next es ms) (behind_asked s.next es)
+    (behind_asked s.next es) (all_first types o names s.next es ms same) refl c.in_ok-ask_each.ensures)

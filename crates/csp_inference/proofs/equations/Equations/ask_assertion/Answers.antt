@@ -5,4 +5,6 @@ use Rattle.csp_inference.proofs.AskingScripts.{asked_assertion}
 use Rattle.csp_inference.proofs.equations.Equations.ask_assertion.Goals as goal
 
 pub returns : goal.returns
-returns g c = asked_assertion (script_of_parts c.args.script.now) (numbering_of c.args.numbering.now) c.args.self.now c.ask_process.new.self c.ask_process-2.new.self (assertion_of c.args.assertion.now) _ _ refl refl c.in_ok-ask_process.ensures c.in_ok-ask_process-2.ensures
+returns g c =
+    asked_assertion (script_of_parts c.args.script.now) (numbering_of c.args.numbering.now) c.args.self.now c.ask_process.new.self c.ask_process-2.new.self
+    (assertion_of c.args.assertion.now) _ _ refl refl c.in_ok-ask_process.ensures c.in_ok-ask_process-2.ensures

@@ -12,9 +12,12 @@ loop-event-preserved g c =
     let types = table_of c.args.types.now in
     let o = numbering_of c.args.numbering.now in
     let names = names_of c.args.names.now in
-    left_more (asked_beginnings types o names) behind_asked_events c.args.self.now c.loop-event.self c.args.events.now c.loop-event.event-index (λ n e. of_beginning types o n names (event_expression_of e)) (λ n e. behind_event n (event_expression_of e)) c.ask_beginning.new.self c.event-item.result (λ n es. refl) (λ n es. refl)
+    left_more (asked_beginnings types o names) behind_asked_events c.args.self.now c.loop-event.self c.args.events.now c.loop-event.event-index
+    (λ n e. of_beginning types o n names (event_expression_of e)) (λ n e. behind_event n (event_expression_of e)) c.ask_beginning.new.self c.event-item.result
+    (λ n es. refl) (λ n es. refl)
     c.loop-event-test.true c.event-item.is c.loop-event.invariant c.in_ok-ask_beginning.ensures
 
 pub returns : goal.returns
 returns g c =
-    left_none (asked_beginnings (table_of c.args.types.now) (numbering_of c.args.numbering.now) (names_of c.args.names.now)) behind_asked_events c.args.self.now c.loop-event.self c.args.events.now c.loop-event.event-index (λ n. refl) (λ n. refl) c.loop-event-test.false c.loop-event.invariant
+    left_none (asked_beginnings (table_of c.args.types.now) (numbering_of c.args.numbering.now) (names_of c.args.names.now)) behind_asked_events c.args.self.now
+    c.loop-event.self c.args.events.now c.loop-event.event-index (λ n. refl) (λ n. refl) c.loop-event-test.false c.loop-event.invariant

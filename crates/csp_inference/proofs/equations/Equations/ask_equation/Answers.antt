@@ -14,7 +14,9 @@ returns-then-len-numbers g c =
     let right = length-map c.args.numbers.now (λ n. n.0) in
     let long = c.args.equation.now.parameters.ok.0 in
     let differ : length (map (λ x. x.0) c.args.equation.now.parameters.items) ≢ length (map (λ n. n.0) c.args.numbers.now) = omega arith in
-    unequal_equation (script_of_parts c.args.script.now) (numbering_of c.args.numbering.now) c.args.self.now c.push_never.new.self (equation_of c.args.equation.now) (map (λ n. n.0) c.args.numbers.now) c.args.self.now.next (behind_process c.args.self.now.next (process_of c.args.equation.now.body)) differ c.in_ok-push_never.ensures
+    unequal_equation (script_of_parts c.args.script.now) (numbering_of c.args.numbering.now) c.args.self.now c.push_never.new.self
+    (equation_of c.args.equation.now) (map (λ n. n.0) c.args.numbers.now) c.args.self.now.next
+    (behind_process c.args.self.now.next (process_of c.args.equation.now.body)) differ c.in_ok-push_never.ensures
 
 pub returns : goal.returns
 returns g c =
@@ -23,5 +25,6 @@ returns g c =
     let long = c.args.equation.now.parameters.ok.0 in
     let ms = map (λ n. n.0) c.args.numbers.now in
     let same : length (map (λ x. x.0) c.args.equation.now.parameters.items) ≡ length ms = omega arith in
-    asked_equation (script_of_parts c.args.script.now) (numbering_of c.args.numbering.now) c.args.self.now c.ask_process.new.self (equation_of c.args.equation.now) ms (names_of c.deref-2.result.now) same
+    asked_equation (script_of_parts c.args.script.now) (numbering_of c.args.numbering.now) c.args.self.now c.ask_process.new.self
+    (equation_of c.args.equation.now) ms (names_of c.deref-2.result.now) same
     (ap names_of c.deref-2.ensures.value ∙ c.in_ok-names.ensures ∙ ap (λ xs. numbered (map (λ x. x.0) xs) ms) c.deref.ensures.value) c.in_ok-ask_process.ensures

@@ -6,4 +6,6 @@ use Rattle.csp_inference.proofs.AskingFields.{RestsFields}
 use Rattle.csp_inference.proofs.equations.Equations.ask_fields.Given as goal
 
 abbrev pub invariant-loop-index : goal.invariant-loop-index
-invariant-loop-index g l = RestsFields (table_of l.types) (numbering_of l.numbering) l.initial.self l.self (names_of l.names) (names_of l.inner.items) (fields_of l.fields) (map (λ n. n.0) l.numbers) l.index
+invariant-loop-index g l =
+    RestsFields (table_of l.types) (numbering_of l.numbering) l.initial.self l.self (names_of l.names) (names_of l.inner.items) (fields_of l.fields)
+    (map (λ n. n.0) l.numbers) l.index

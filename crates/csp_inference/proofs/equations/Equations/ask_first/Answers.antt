@@ -11,4 +11,6 @@ returns-then-numbers-expressions g c =
     let o = numbering_of c.args.numbering.now in
     let names = names_of c.args.names.now in
     let s = c.args.self.now in
-    never_asks s c.push_never.new.self (asked_first types o names s.next c.args.expressions.now c.args.numbers.now) s.next (behind_asked s.next c.args.expressions.now) (many types o names s.next c.args.expressions.now c.args.numbers.now c.if-numbers-expressions.true) c.in_ok-push_never.ensures
+    never_asks s c.push_never.new.self (asked_first types o names s.next c.args.expressions.now c.args.numbers.now) s.next
+    (behind_asked s.next c.args.expressions.now) (many types o names s.next c.args.expressions.now c.args.numbers.now c.if-numbers-expressions.true)
+    c.in_ok-push_never.ensures

@@ -21,4 +21,6 @@ returns g c =
     let kept = with_items_is chains slots long in
     bound_known (state_in c.args.self.now) (chains_of c.make_room.new.self) (chains_in (set (with_items chains slots).items n bound)) n chain within c.make_room.ensures.known
     (ap (λ xs. chains_in (set xs n bound)) kept ∙ map-set (option_map chain_of) slots n bound
-    ∙ ap₂ (λ xs x. set xs n x) (c.in_ok-go_on_all.ensures ∙ ap (λ xs. map (option_map (with_ends (in_place_of n chain))) (chains_in xs)) c.deref_mut.ensures.value) (ap (λ ls. Some (over_all ls (end_of c.args.end))) c.in_ok-layers.ensures.items))
+    ∙ ap₂ (λ xs x. set xs n x)
+    (c.in_ok-go_on_all.ensures ∙ ap (λ xs. map (option_map (with_ends (in_place_of n chain))) (chains_in xs)) c.deref_mut.ensures.value)
+    (ap (λ ls. Some (over_all ls (end_of c.args.end))) c.in_ok-layers.ensures.items))

@@ -8,8 +8,11 @@ use Rattle.csp_inference.proofs.state.State.bind_open.Goals as goal
 
 pub returns-then-ne : goal.returns-then-ne
 returns-then-ne g c =
-    let differs : c.args.end ≢ ending.Open c.args.number = search rules in
-    (bound_to (state_in c.args.self.now) c.args.number.0 (over_all c.args.layers.now (end_of c.args.end)), open_bound (state_in c.args.self.now) c.args.number c.args.layers.now c.args.end differs, c.in_ok-bind.ensures)
+    let differs : c.args.end ≢ ending.Open c.args.number = search rules in (
+      bound_to (state_in c.args.self.now) c.args.number.0 (over_all c.args.layers.now (end_of c.args.end)),
+      open_bound (state_in c.args.self.now) c.args.number c.args.layers.now c.args.end differs,
+      c.in_ok-bind.ensures,
+    )
 
 pub returns-then-is_empty : goal.returns-then-is_empty
 returns-then-is_empty g c =
