@@ -119,7 +119,8 @@ asked_arguments types names s t o n ns es ms found numbered h =
     (of_all types (numbering_of o) s.next names (to_expressions (expressions_of es)) (map (λ k. k.0) ns.items)) m m
     (ap (λ ks. of_all types (numbering_of o) s.next names (to_expressions (expressions_of es)) (map (λ k. k.0) ks)) numbered) refl h)
 
-module _ {A : Type 0} (types : Types) (names : numbers.Numbered) (s t : Equations A) (o : Numbering A) (c : ℕ) (ns : Vec KindNumber A) (fs : List Field) (ms : List KindNumber) (found : slice_get o.channels.items c ≡ Some ns) (numbered : ms ≡ ns.items) where
+module _ {A : Type 0} (types : Types) (names : numbers.Numbered) (s t : Equations A) (o : Numbering A)
+    (c : ℕ) (ns : Vec KindNumber A) (fs : List Field) (ms : List KindNumber) (found : slice_get o.channels.items c ≡ Some ns) (numbered : ms ≡ ns.items) where
   there : slice_get (numbering_of o).channels c ≡ Some (map (λ k. k.0) ns.items)
   there = slice_get-map (λ v. map (λ k. k.0) v.items) o.channels.items c ∙ ap (option_map (λ v. map (λ k. k.0) v.items)) found
 
