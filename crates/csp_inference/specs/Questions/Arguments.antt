@@ -12,14 +12,14 @@ use Rattle.csp_inference.specs.declared.numbering.Numbering.{Numbering}
 use Rattle.csp_inference.specs.Numbering.{names_of, numbering_of}
 use Rattle.csp_inference.specs.Question.{Question}
 
--- that the expressions are as many as the numbers and have their kinds
+-- what arguments ask: that they are as many as the numbers and have their kinds
 abbrev pub arguments_question : {A : Type 0} → TypeTable A → Numbering A → List NumberedName → List (Expr A) → List KindNumber → Question
 arguments_question types numbering names expressions numbers = record {
   equations = λ n. of_all (table_of types) (numbering_of numbering) n (names_of names) (to_expressions (expressions_of expressions)) (map (λ m. m.0) numbers);
   behind = λ n. behind_expressions n (to_expressions (expressions_of expressions));
 }
 
--- that the expressions are no more than the numbers and have the kinds of the first ones
+-- what leading arguments ask: that they are no more than the numbers and have the kinds of the first ones
 abbrev pub leading_arguments_question : {A : Type 0} → TypeTable A → Numbering A → List NumberedName → List (Expr A) → List KindNumber → Question
 leading_arguments_question types numbering names expressions numbers = record {
   equations = λ n. of_first (table_of types) (numbering_of numbering) n (names_of names) (to_expressions (expressions_of expressions)) (map (λ m. m.0) numbers);

@@ -18,35 +18,35 @@ use Rattle.csp_inference.specs.Chain.{demand_of}
 use Rattle.csp_inference.specs.Numbering.{names_of, numbering_of}
 use Rattle.csp_inference.specs.Question.{Question}
 
--- that the expression has the kind
+-- what an expression asks: that it has the kind
 abbrev pub expression_question : {A : Type 0} → TypeTable A → Numbering A → List NumberedName → Expr A → Demand → Question
 expression_question types numbering names expression kind = record {
   equations = λ n. of_expression (table_of types) (numbering_of numbering) n (names_of names) (expression_of expression) (demand_of kind);
   behind = λ n. behind_expression n (expression_of expression);
 }
 
--- that all expressions have the kind
+-- what expressions ask: that all of them have the kind
 abbrev pub expressions_question : {A : Type 0} → TypeTable A → Numbering A → List NumberedName → List (Expr A) → Demand → Question
 expressions_question types numbering names expressions kind = record {
   equations = λ n. of_expressions (table_of types) (numbering_of numbering) n (names_of names) (to_expressions (expressions_of expressions)) (demand_of kind);
   behind = λ n. behind_expressions n (to_expressions (expressions_of expressions));
 }
 
--- that the name is bound and has the kind
+-- what a name asks: that it is bound and has the kind
 abbrev pub name_question : List NumberedName → Name → Demand → Question
 name_question names name kind = record {
   equations = λ n. when (number_of_name (names_of names) name.0) (λ m. (OpenEnd m, demand_of kind) ∷ []);
   behind = λ n. n;
 }
 
--- that the datatype is there and the set of its values has the kind
+-- what a datatype asks: that it is there and the set of its values has the kind
 abbrev pub datatype_question : {A : Type 0} → TypeTable A → DatatypeId → Demand → Question
 datatype_question types datatype kind = record {
   equations = λ n. when (slice_get (table_of types).datatypes datatype.0) (λ cs. (SetOver (DatatypeEnd datatype.0), demand_of kind) ∷ []);
   behind = λ n. n;
 }
 
--- that the nametype is there and the set that it names has the kind
+-- what a nametype asks: that it is there and the set that it names has the kind
 abbrev pub nametype_question : {A : Type 0} → Numbering A → NametypeId → Demand → Question
 nametype_question numbering nametype kind = record {
   equations = λ n. when (slice_get (numbering_of numbering).nametypes nametype.0) (λ m. (SetOver (OpenEnd m), demand_of kind) ∷ []);

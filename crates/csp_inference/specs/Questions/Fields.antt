@@ -12,14 +12,14 @@ use Rattle.csp_inference.specs.declared.numbering.Numbering.{Numbering}
 use Rattle.csp_inference.specs.Numbering.{names_of, numbering_of}
 use Rattle.csp_inference.specs.Question.{Question}
 
--- that the fields are as many as the numbers and have their kinds
+-- what fields ask: that they are as many as the numbers and have their kinds
 abbrev pub fields_question : {A : Type 0} → TypeTable A → Numbering A → List NumberedName → List (Field A) → List KindNumber → Question
 fields_question types numbering names fields numbers = record {
   equations = λ n. of_fields (table_of types) (numbering_of numbering) n (names_of names) (fields_of fields) (map (λ m. m.0) numbers);
   behind = λ n. behind_fields n (fields_of fields);
 }
 
--- that the field has the kind of the number
+-- what a field asks: that it has the kind of the number
 abbrev pub field_question : {A : Type 0} → TypeTable A → Numbering A → List NumberedName → Field A → KindNumber → Question
 field_question types numbering names field number = record {
   equations = λ n. of_fields (table_of types) (numbering_of numbering) n (names_of names) (field_of field ∷ []) (number.0 ∷ []);

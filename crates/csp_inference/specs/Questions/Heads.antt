@@ -18,7 +18,7 @@ use Rattle.csp_inference.specs.Equations.{names_behind_prefix}
 use Rattle.csp_inference.specs.Numbering.{names_of, numbering_of}
 use Rattle.csp_inference.specs.Question.{Question}
 
--- that the equation is there and the arguments have the kinds of its parameters
+-- what a call asks: that the equation is there and the arguments are for its parameters, of their kinds
 abbrev pub call_question : {A : Type 0} → TypeTable A → Numbering A → List NumberedName → EquationId → List (Expr A) → Question
 call_question types numbering names called arguments = record {
   equations = λ n. when (slice_get (numbering_of numbering).parameters called.0)
@@ -26,7 +26,7 @@ call_question types numbering names called arguments = record {
   behind = λ n. behind_expressions n (to_expressions (expressions_of arguments));
 }
 
--- that the channel is there and the fields have the kinds of its fields
+-- what the head of a prefix asks: that the channel is there and the fields are for its fields, of their kinds
 abbrev pub prefix_question : {A : Type 0} → TypeTable A → Numbering A → List NumberedName → ChannelId → List (Field A) → Question
 prefix_question types numbering names channel fields = record {
   equations = λ n. when (slice_get (numbering_of numbering).channels channel.0)

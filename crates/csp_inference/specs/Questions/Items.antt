@@ -12,14 +12,14 @@ use Rattle.csp_inference.specs.declared.numbering.Numbering.{Numbering}
 use Rattle.csp_inference.specs.Numbering.{numbering_of}
 use Rattle.csp_inference.specs.Question.{Question}
 
--- of an equation, whose parameters are to be as many as the numbers and to have their kinds
+-- what an equation asks whose parameters are to be as many as the numbers and to have their kinds
 abbrev pub equation_question : {A : Type 0} → ScriptParts A → Numbering A → Equation A → List KindNumber → Question
 equation_question script numbering equation numbers = record {
   equations = λ n. of_equation (script_of_parts script) (numbering_of numbering) n (equation_of equation) (map (λ m. m.0) numbers);
   behind = λ n. behind_process n (process_of equation.body);
 }
 
--- of both processes of an assertion
+-- what an assertion asks: what both its processes ask
 abbrev pub assertion_question : {A : Type 0} → ScriptParts A → Numbering A → Assertion A → Question
 assertion_question script numbering assertion = record {
   equations = λ n. of_assertion (script_of_parts script) (numbering_of numbering) n (assertion_of assertion);

@@ -10,7 +10,7 @@ use Rattle.csp_inference.specs.declared.numbering.Numbering.{Numbering}
 use Rattle.csp_inference.specs.Numbering.{names_of, numbering_of}
 use Rattle.csp_inference.specs.Question.{Question}
 
--- of a process of the script, where names have the kinds of their numbers
+-- what a process of the script asks, where names have the kinds of their numbers
 abbrev pub process_question : {A : Type 0} → ScriptParts A → Numbering A → List NumberedName → Term A → Question
 process_question script numbering names process = record {
   equations = λ n. of_process (script_of_parts script) (numbering_of numbering) n (names_of names) (process_of process);

@@ -10,14 +10,14 @@ use Rattle.csp_inference.specs.declared.numbering.Numbering.{Numbering}
 use Rattle.csp_inference.specs.Numbering.{names_of, numbering_of}
 use Rattle.csp_inference.specs.Question.{Question}
 
--- of each pair
+-- what pairs ask, one after the other
 abbrev pub pairs_question : {A : Type 0} → ScriptParts A → Numbering A → List NumberedName → List (RenamingPair A) → Question
 pairs_question script numbering names pairs = record {
   equations = λ n. of_pairs (script_of_parts script) (numbering_of numbering) n (names_of names) (renaming_pairs_of pairs);
   behind = λ n. behind_pairs n (renaming_pairs_of pairs);
 }
 
--- of a pair
+-- what a pair asks: nothing if it names two channels with the same field sets, else what both events ask
 abbrev pub pair_question : {A : Type 0} → ScriptParts A → Numbering A → List NumberedName → RenamingPair A → Question
 pair_question script numbering names pair = record {
   equations = λ n. of_pair (script_of_parts script) (numbering_of numbering) n (names_of names) (renaming_pair_of pair);

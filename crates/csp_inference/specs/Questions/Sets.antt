@@ -10,14 +10,14 @@ use Rattle.csp_inference.specs.declared.numbering.Numbering.{Numbering}
 use Rattle.csp_inference.specs.Numbering.{numbering_of}
 use Rattle.csp_inference.specs.Question.{Question}
 
--- of a set
+-- what a set asks: that its members have the kind of the number
 abbrev pub set_question : {A : Type 0} → TypeTable A → Numbering A → Expr A → KindNumber → Question
 set_question types numbering set members = record {
   equations = λ n. of_set (table_of types) (numbering_of numbering) n (Some (expression_of set)) members.0;
   behind = λ n. behind_set n (Some (expression_of set));
 }
 
--- of a set once for each of the numbers
+-- what a set asks once for each of the numbers
 abbrev pub copies_question : {A : Type 0} → TypeTable A → Numbering A → Expr A → List KindNumber → Question
 copies_question types numbering set numbers = record {
   equations = λ n. of_copies (table_of types) (numbering_of numbering) n (Some (expression_of set)) (map (λ m. m.0) numbers);

@@ -13,21 +13,21 @@ use Rattle.csp_inference.specs.Chain.{demand_of}
 use Rattle.csp_inference.specs.Numbering.{numbering_of}
 use Rattle.csp_inference.specs.Question.{Question}
 
--- that the value has the kind
+-- what a value asks: that it has the kind
 abbrev pub value_question : {A : Type 0} → Numbering A → Value A → Demand → Question
 value_question numbering value kind = record {
   equations = λ n. of_value (numbering_of numbering) n (value_of value) (demand_of kind);
   behind = λ n. behind_value n (value_of value);
 }
 
--- that all values have the kind
+-- what values ask: that all of them have the kind
 abbrev pub values_question : {A : Type 0} → Numbering A → List (Value A) → Demand → Question
 values_question numbering values kind = record {
   equations = λ n. of_values (numbering_of numbering) n (to_values (values_of values)) (demand_of kind);
   behind = λ n. behind_values n (to_values (values_of values));
 }
 
--- that the constructor has the kind, which is then its datatype
+-- what a constructor asks: that it has a datatype, and this is the kind
 abbrev pub constructor_question : {A : Type 0} → Numbering A → ConId → Demand → Question
 constructor_question numbering constructor kind = record {
   equations = λ n. when (slice_get (numbering_of numbering).owners constructor.0) (λ d. (DatatypeEnd d, demand_of kind) ∷ []);
