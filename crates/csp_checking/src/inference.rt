@@ -12,12 +12,12 @@ ghost use Rattle.csp_checking.specs.Faults.{KindFault, WrongKind};
 ghost use Rattle.csp_checking.specs.Fitting.{Item};
 ghost use Rattle.csp_checking.specs.Inference.Chain.{Chain, IntEnd, BoolEnd, DatatypeEnd, OpenEnd, SequenceOver, SetOver, Assignment, kind_of, open_end};
 ghost use Rattle.csp_checking.specs.Inference.State.{State, nothing_known, state_of, Satisfies, IsOpenIn, IsResolved, resolve, bound_to, KindEquation, IsSolved, HasNoSolution, IsUnified, CannotBeOne, unify_resolved, unify, solve};
-ghost use Rattle.csp_checking.specs.Inference.Equations.{Numbering, IsBelow, AreOwners};
+ghost use Rattle.csp_checking.specs.Inference.Equations.{Numbering, AreOwners};
 ghost use Rattle.csp_checking.specs.Inference.Items.{AreNumbersFor, rows_from, owners_from, numbers_of, next_number};
 ghost use Rattle.csp_checking.specs.Inference.Sets.{IsBeginningOf};
 ghost use Rattle.csp_checking.specs.Laws.Searches.{CanBeBound, with_bound, AreSameStates, found_of, sequence_twice, sequence_of_itself, sequences_compared, mixed_sequence};
 ghost use Rattle.csp_checking.specs.Laws.Asking.{ValuesAskForKinds, ExpressionsAskForKinds, ItemsAskForKinds, TurnsAskForKinds, FirstTurnsAskForKinds, FieldsAskForKinds, EventsAskForKinds, EventSetsAskForKinds, PairsAskForKinds, ProcessesAskForKinds, SetsAskForKinds, DeclarationsAskForKinds};
-ghost use Rattle.csp_checking.specs.Laws.FittingKinds.{AskForSets, of_tree, behind_tree, AreForSets, AreSolvable, AreUnsolvable, NumberedTree, AskForFit, Fit, IsSolvedFor, IsUnsolvedFor, AreKindsOf, IsMisfitOf, EquationsGoOn, AreOwnersIn, SetsAreDecided, ItemsAreDecided};
+ghost use Rattle.csp_checking.specs.Laws.FittingKinds.{TreeAsksForSets, AreForSets, AreSolvable, AreUnsolvable, NumberedTree, AskForFit, Fit, IsSolvedFor, IsUnsolvedFor, AreKindsOf, IsMisfitOf, EquationsGoOn, AreOwnersIn, SetsAreDecided, ItemsAreDecided};
 ghost use Rattle.csp_checking.specs.Laws.FirstSets.{AskForFirstSets, AreForFirstSets, AreForABeginning, FirstSetsAreAllSets, FirstFieldsAreABeginning, NametypesAskForTheirSet, FieldsAskForTheirSet, HeadsAskForNothing, OthersAskForNothing, FirstSetsGoOn};
 
 /// Some assignment satisfies each resolved state, whichever kinds the numbers have that are not bound. Where nothing is
@@ -118,8 +118,7 @@ pub fn equations_of_processes()
 
 /// The equations of sets, equations and assertions ask that kinds fit them.
 pub fn equations_of_scripts()
-    ensures sets { (types : Types) (raw : RawScript) (o : Numbering) (n : ℕ) →
-        AreOwners types o → IsBelow n o → AskForSets types raw o n (of_tree types raw o n) (behind_tree raw n) }
+    ensures sets { (types : Types) (raw : RawScript) (o : Numbering) → AreOwners types o → TreeAsksForSets types raw o }
     ensures items { (script : Script) (o : Numbering) → AreOwners script.types o → DeclarationsAskForKinds script o }
     ensures all { (tree : NumberedTree) (xs : List Item) → AskForFit tree xs }
 {}

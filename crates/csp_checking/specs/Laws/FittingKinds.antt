@@ -10,7 +10,7 @@ use Rattle.csp_checking.specs.Faults.{KindFault}
 use Rattle.csp_checking.specs.Fitting.{Item, FitKinds, IsMisfit}
 use Rattle.csp_checking.specs.Inference.Chain.{Assignment}
 use Rattle.csp_checking.specs.Inference.State.{State, nothing_known, Satisfies, KindEquation, IsSolved, HasNoSolution}
-use Rattle.csp_checking.specs.Inference.Equations.{Ask, Numbering, kinds_under, AreOwners}
+use Rattle.csp_checking.specs.Inference.Equations.{Ask, Numbering, kinds_under, IsBelow, AreOwners}
 use Rattle.csp_checking.specs.Inference.Items.{behind_sets, of_sets, behind_rows, of_rows, behind_items, of_item, of_items, AreNumbersFor, numbers_of}
 
 -- ---- sets
@@ -28,6 +28,12 @@ of_tree types raw o n =
 -- the first number behind them
 abbrev pub behind_tree : RawScript → ℕ → ℕ
 behind_tree raw n = behind_rows (behind_sets n (nametype_sets raw)) (channel_sets raw)
+
+-- they ask that kinds fit all sets
+abbrev pub TreeAsksForSets : Types → RawScript → Numbering → Type 0
+TreeAsksForSets types raw o = (n : ℕ) →
+    IsBelow n o →
+    AskForSets types raw o n (of_tree types raw o n) (behind_tree raw n)
 
 -- with some numbers for the tree the equations ask for kinds of its sets
 abbrev pub AreForSets : Types → RawScript → List KindEquation → Type 0

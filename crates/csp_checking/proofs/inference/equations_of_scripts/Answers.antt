@@ -2,7 +2,7 @@ use Rattle.csp_checking.proofs.AskingItems.{fit_sets_asked, items_asked, fit_ask
 use Rattle.csp_checking.proofs.inference.equations_of_scripts.Goals as goal
 
 pub returns-clause-sets : goal.returns-clause-sets
-returns-clause-sets c = λ types raw o n owners below. fit_sets_asked types o owners raw n below
+returns-clause-sets c = λ types raw o owners n below. fit_sets_asked types o owners raw n below
 
 pub returns-clause-items : goal.returns-clause-items
 returns-clause-items c = λ script o owners n xs below. items_asked script o owners n xs below
