@@ -16,7 +16,7 @@ use crate::fit::Fit;
 use crate::looking::Above;
 use crate::sets::{RefusedSet, Sets};
 use crate::table::Table;
-use csp_names::Names;
+use csp_names::{Names, declared_count};
 use csp_parse::{Declaration, Domain, Name};
 use csp_value::Memory;
 use std::alloc::Allocator;
@@ -50,27 +50,13 @@ impl<'s, 't, A: Allocator> Position<'s, 't, A> {
         ensures { IfOk result (Goes self.entry (declaration_of declaration.now)) }
     {
         let passed = self.passed.checked_add(1).ok_or(Memory)?;
-        let names = names_declared(declaration)?;
+        let names = declared_count(declaration);
         let visible = self.visible.checked_add(names).ok_or(Memory)?;
         Ok(Position {
             names: self.names,
             passed,
             visible,
         })
-    }
-}
-
-/// How many names the declaration declares.
-fn names_declared<A: Allocator>(declaration: &Declaration<'_, A>) -> Result<usize, Memory>
-    ensures { IfOk result (λ names. names ≡ length (declared (declaration_of declaration.now))) }
-{
-    match declaration {
-        Declaration::Datatype { constructors, .. } => {
-            constructors.len().checked_add(1).ok_or(Memory)
-        }
-        Declaration::Nametype { .. } | Declaration::Equation { .. } => Ok(1),
-        Declaration::Channels { names, .. } => Ok(names.len()),
-        Declaration::Assertion { .. } => Ok(0),
     }
 }
 
