@@ -10,7 +10,7 @@ use crate::scripts::{
     THREE_WIDE_LEVELS, script,
 };
 use csp_term::{Assertion, Script};
-use explore::{Gate, Open, explore};
+use explore::{Gate, Open, explore, explore_alone};
 use pair_store::Limits;
 use report::{Buffer, write};
 use std::alloc::Global;
@@ -59,8 +59,26 @@ fn outcome<R: Threads + Wait + Sync, G: Gate>(
     explore(alloc, rt, script, assertion, limits, workers, gate)
 }
 
-// The line of the text's one assertion.
-fn lines<R: Threads + Wait + Sync, G: Gate>(
+// The line of an outcome.
+fn line(alloc: Global, script: &Script<Global>, outcome: Outcome<Global>) -> Result<Vec<u8>, Fail> {
+    let outcomes = [outcome];
+    let mut line = Buffer::new(alloc);
+    write(alloc, script, &outcomes, &mut line)?;
+    Ok(line.bytes)
+}
+
+// The line of the text's one assertion, by the caller alone.
+fn line_alone(alloc: Global, text: &str) -> Result<Vec<u8>, Fail> {
+    let script = script(alloc, text)?;
+    let Some(assertion) = script.assertions().first() else {
+        return Err(Fail::new("no assertion"));
+    };
+    let outcome = explore_alone(alloc, &script, assertion, Limits::new(1000, 100));
+    line(alloc, &script, outcome)
+}
+
+// The line of the text's one assertion, by so many workers.
+fn line_by<R: Threads + Wait + Sync, G: Gate>(
     alloc: Global,
     rt: &R,
     text: &str,
@@ -73,10 +91,8 @@ fn lines<R: Threads + Wait + Sync, G: Gate>(
     let Some(assertion) = script.assertions().first() else {
         return Err(Fail::new("no assertion"));
     };
-    let outcomes = [outcome(alloc, rt, &script, assertion, workers, gate)];
-    let mut lines = Buffer::new(alloc);
-    write(alloc, &script, &outcomes, &mut lines)?;
-    Ok(lines.bytes)
+    let outcome = outcome(alloc, rt, &script, assertion, workers, gate);
+    line(alloc, &script, outcome)
 }
 
 fn is_answered_held<R: Abort + Threads + Wait + Sync>(
@@ -85,10 +101,10 @@ fn is_answered_held<R: Abort + Threads + Wait + Sync>(
     row: &Held,
 ) -> Result<(), Fail> {
     let (text, levels, others, expected) = *row;
-    let alone = lines(alloc, rt, text, 1, &Open)?;
+    let alone = line_by(alloc, rt, text, 1, &Open)?;
     assert!(rt; alone.as_slice() == expected.as_bytes(), "alone at {text}");
     let gate = Holding::new(levels, others);
-    let together = lines(alloc, rt, text, 2, &gate)?;
+    let together = line_by(alloc, rt, text, 2, &gate)?;
     assert!(rt; together.as_slice() == expected.as_bytes(), "at {text}");
     assert!(rt; gate.held_and_saw(), "nobody overtook at {text}");
     Ok(())
@@ -103,12 +119,21 @@ fn two_workers(rt: HostRuntime) -> Result<(), Fail> {
 }
 
 #[test]
+fn the_caller_alone(rt: HostRuntime) -> Result<(), Fail> {
+    for (text, expected) in &CHAINS {
+        let line = line_alone(rt.alloc(), text)?;
+        assert!(rt; line.as_slice() == expected.as_bytes(), "at {text}");
+    }
+    Ok(())
+}
+
+#[test]
 fn many_workers(rt: HostRuntime) -> Result<(), Fail> {
     for workers in [1, 2, 8, 64] {
         for (text, expected) in &CHAINS {
-            let lines = lines(rt.alloc(), &rt, text, workers, &Open)?;
+            let line = line_by(rt.alloc(), &rt, text, workers, &Open)?;
             assert!(rt;
-                lines.as_slice() == expected.as_bytes(),
+                line.as_slice() == expected.as_bytes(),
                 "by {workers} at {text}"
             );
         }
