@@ -1,5 +1,5 @@
 -- Each step of the side that moves, in turn.
-use Rattle.std.proofs.Common.{◌++◌, map, refl, ◌∙◌, ap}
+use Rattle.std.proofs.Common.{◌++◌, map, refl, ◌∙◌, ap, inl, inr, lit<}
 use Rattle.std.proofs.lemmas.Iterator.Adapters.{YieldsList-from_vec}
 use Rattle.std.proofs.lemmas.Iterator.Consumers.{YieldsList-end}
 use Rattle.csp_value.specs.Action.{action_of}
@@ -28,3 +28,18 @@ returns g c =
     let yielded = c.loop-of_side.yielded in
     let t = YieldsList-end (YieldsList-from_vec {s = c.into_iter-of_side-iterator.result} items given.0 (given.1 ∙ c.args.moves.ok.0)) yielded c.loop-of_side.of_side-iterator c.loop-of_side.yielded_by c.next.result c.next.new.self c.in-None.is c.next.ensures.steps in
     c.loop-of_side.invariant ∙ ap (λ xs. map answered_of c.args.steps.now.items ++ each_answer (leave_answer (around_of c.args.context)) (map answered_of xs)) (yielded_all yielded items t.0)
+
+pub into_iter-of_side-iterator-requires-room-T-Destruct : goal.into_iter-of_side-iterator-requires-room-T-Destruct
+into_iter-of_side-iterator-requires-room-T-Destruct g c κs within = elim g.met.A.AllocHandle.small [ inl e ↦ rw (e.0, e.1) (lit< tt) | inr e ↦ rw (e.0, e.1) (lit< tt) ]
+
+pub next-requires-room-T-Destruct : goal.next-requires-room-T-Destruct
+next-requires-room-T-Destruct g c κs within = elim g.met.A.AllocHandle.small [ inl e ↦ rw (e.0, e.1) (lit< tt) | inr e ↦ rw (e.0, e.1) (lit< tt) ]
+
+pub drop-of_side-iterator-requires-room-T-Destruct : goal.drop-of_side-iterator-requires-room-T-Destruct
+drop-of_side-iterator-requires-room-T-Destruct g c κs within = elim g.met.A.AllocHandle.small [ inl e ↦ rw (e.0, e.1) (lit< tt) | inr e ↦ rw (e.0, e.1) (lit< tt) ]
+
+pub drop-of_side-iterator-requires-in_err-push-room-T-Destruct : goal.drop-of_side-iterator-requires-in_err-push-room-T-Destruct
+drop-of_side-iterator-requires-in_err-push-room-T-Destruct g c κs within = elim g.met.A.AllocHandle.small [ inl e ↦ rw (e.0, e.1) (lit< tt) | inr e ↦ rw (e.0, e.1) (lit< tt) ]
+
+pub drop-of_side-iterator-requires-2-room-T-Destruct : goal.drop-of_side-iterator-requires-2-room-T-Destruct
+drop-of_side-iterator-requires-2-room-T-Destruct g c κs within = elim g.met.A.AllocHandle.small [ inl e ↦ rw (e.0, e.1) (lit< tt) | inr e ↦ rw (e.0, e.1) (lit< tt) ]
