@@ -10,7 +10,13 @@ use Rattle.csp_semantics.specs.Meaning.Stepping.{Steps}
 use Rattle.csp_semantics.specs.Meaning.Transitions as rule
 use Rattle.csp_value.specs.Action.{action_of}
 use Rattle.csp_expression.specs.Agreement.{Agrees}
+use Rattle.csp_term.specs.Script.{script_of_parts}
 use Rattle.csp_term.specs.Term.{process_of}
+use Rattle.csp_term.specs.declared.script.ScriptParts.{ScriptParts}
+use Rattle.csp_term.specs.declared.term.Term.{Term}
+use Rattle.csp_semantics.specs.Meaning.Substitution.{put}
+use Rattle.csp_expression.specs.Bindings.{bindings_of}
+use Rattle.csp_expression.specs.declared.substitution.Binding.{Binding}
 use Rattle.csp_operators.specs.declared.rule_step.RuleStep.{RuleStep}
 use Rattle.csp_operators.specs.declared.rule_step.Target.{Target}
 use Rattle.csp_operators.specs.declared.rule_step.Target.TheVariants as target
@@ -37,6 +43,10 @@ target_of target.Past = None
 abbrev pub answered_of : {A : Type 0} → RuleStep A → Answered
 answered_of s = (action_of s.action, target_of s.target)
 
+-- what is answered of the steps, in turn
+abbrev pub answers_of : {A : Type 0} → Vec (RuleStep A) A → List Answered
+answers_of steps = map answered_of steps.items
+
 -- No rule for the term has a cause, what is answered are its rule steps, and each of its rule steps is answered.
 pub record IsAnswered (s : Script) (p : Process) (steps : List Answered) : Type 0 where
   pub no_cause : cause_in s p ≡ None
@@ -45,7 +55,15 @@ pub record IsAnswered (s : Script) (p : Process) (steps : List Answered) : Type 
 
 -- The rule steps of the term, or the first cause.
 abbrev pub Answers : {A : Type 0} → Script → Process → Result (Vec (RuleStep A) A) NoValue → Type 0
-Answers s p x = Agrees (λ steps q. IsAnswered s q (map answered_of steps.items)) (λ c q. cause_in s q ≡ Some c) x p
+Answers s p x = Agrees (λ steps q. IsAnswered s q (answers_of steps)) (λ c q. cause_in s q ≡ Some c) x p
+
+-- The same in a script that is given by its parts.
+abbrev pub AnswersIn : {A : Type 0} → ScriptParts A → Process → Result (Vec (RuleStep A) A) NoValue → Type 0
+AnswersIn script p x = Answers (script_of_parts script) p x
+
+-- the term's process, with the values of the bindings put in
+abbrev pub process_under : {A : Type 0} → List (Binding A) → Term A → Process
+process_under bs t = put (bindings_of bs) (process_of t)
 
 -- the steps, where none leads past the limits
 abbrev pub all_within : List Answered → Option Steps

@@ -1,4 +1,5 @@
 pub mod Answering
 pub mod Composing
+pub mod Renaming
 pub mod Sharing
 pub mod Together

@@ -2,21 +2,28 @@
 use Rattle.std.specs.Prelude.{◌≡◌, ⊤, Bool, true, false, not, ◌&&◌, List, [], ◌∷◌, Option, Some, Result, Ok, Err}
 use Rattle.std.specs.Option.{option_or}
 use Rattle.std.specs.Result.{result_err}
-use Rattle.csp_syntax.specs.Value.{Event, Tau, Tick}
+use Rattle.csp_syntax.specs.Value.{Action, Event, Tau, Tick}
 use Rattle.csp_syntax.specs.Process.{Process, Omega}
 use Rattle.csp_semantics.specs.Meaning.Evaluation.{Cause}
+use Rattle.csp_semantics.specs.Meaning.Events.{event_test}
+use Rattle.csp_event_sets.specs.Events.{event_set_of}
+use Rattle.csp_event_sets.specs.declared.event_set.EventSet.{EventSet}
+use Rattle.csp_term.specs.Script.{script_of_parts}
+use Rattle.csp_term.specs.declared.script.ScriptParts.{ScriptParts}
 use Rattle.csp_expression.specs.Agreement.{Agrees}
 use Rattle.csp_event_tests.specs.declared.event_test.EventTest.{EventTest}
 use Rattle.csp_expression.specs.declared.no_value.NoValue.{NoValue}
+use Rattle.csp_operators.specs.declared.composition.Composition.{Composition}
 use Rattle.csp_operators.specs.declared.context.Context.{Context}
 use Rattle.csp_operators.specs.declared.context.Hand.{Hand}
 use Rattle.csp_operators.specs.declared.context.Hand.TheVariants as hand
 use Rattle.csp_operators.specs.declared.stay.AfterTick.{AfterTick}
 use Rattle.csp_operators.specs.declared.stay.AfterTick.TheVariants as after
+use Rattle.csp_operators.specs.declared.side.Side.{Side}
 use Rattle.csp_operators.specs.declared.sharing.Sharing.{Sharing}
 use Rattle.csp_operators.specs.declared.sharing.Sharing.TheVariants as sharing
 use Rattle.csp_operators.specs.Answering.{Answered, target_of}
-use Rattle.csp_operators.specs.Composing.{around_of, parallel_answers}
+use Rattle.csp_operators.specs.Composing.{answers_of_sides, around_of, composition_of, parallel_answers, stay_answer}
 use Rattle.csp_event_tests.specs.Testing.{AreSorted, IsTestOf, listed_in, test_of}
 
 -- What the sets list rises, so that an event is found by halving.
@@ -47,6 +54,18 @@ abbrev pub ended_by : {A : Type 0} → AfterTick → Context A → List Answered
 ended_by after.Other c = (Tau, target_of c.other.now) ∷ []
 ended_by after.All c = (Tick, Some Omega) ∷ []
 ended_by after.Beside c = (Tau, around_of c (Some Omega)) ∷ []
+
+-- what is made of a step of the side that moves, where sides share so
+abbrev pub alone_answer : {A : Type 0} → Sharing A → AfterTick → Context A → Action → Option Process → List Answered
+alone_answer s after c x t = stay_answer (is_free s c.hand) (around_of c) (ended_by after c) x t
+
+-- what is answered of these sides under the composition, where they share so
+abbrev pub composition_answers : {A : Type 0} → Sharing A → Composition A → Side A → Side A → List Answered
+composition_answers s c left right = answers_of_sides (composed_answers s (composition_of c)) left right
+
+-- the test that the set is in the script
+abbrev pub set_test : {A : Type 0} → ScriptParts A → EventSet A → Result (Event → Bool) Cause
+set_test script set = event_test (script_of_parts script) (event_set_of set)
 
 -- the tests of two sets, or the first cause of both, the first one's before the second's
 abbrev pub AreTestsOf : {A : Type 0} → Result (EventTest A × EventTest A) NoValue → Result (Event → Bool) Cause → Result (Event → Bool) Cause → Type 0

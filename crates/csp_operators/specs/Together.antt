@@ -1,10 +1,15 @@
 -- Which actions two sides do together, and in which order one looks for them.
-use Rattle.std.specs.Prelude.{Bool, false, List}
+use Rattle.std.specs.Prelude.{Bool, false, List, Option, map}
 use Rattle.std.specs.List.Sorted.{IsSortedByKey}
 use Rattle.std.specs.Ordering.{is_lt}
 use Rattle.csp_syntax.specs.Value as pure
+use Rattle.csp_syntax.specs.Process.{Process}
 use Rattle.csp_value.specs.Action.{action_of}
+use Rattle.csp_operators.specs.declared.meeting.Meeting.{Meeting}
 use Rattle.csp_operators.specs.declared.rule_step.RuleStep.{RuleStep}
+use Rattle.csp_operators.specs.Answering.{Answered, answered_of, target_of}
+use Rattle.csp_operators.specs.Composing.{composition_of, each_answer, meet_answer, under_both}
+use Rattle.csp_operators.specs.Sharing.{is_shared}
 
 -- the steps rise by their actions
 abbrev pub AreRising : {A : Type 0} → List (RuleStep A) → Type 0
@@ -18,3 +23,11 @@ is_before x s = is_lt (pure.action_cmp (action_of s.action) x)
 abbrev pub is_done_together : (pure.Event → Bool) → pure.Action → Bool
 is_done_together shared (pure.Ev e) = shared e
 is_done_together shared _ = false
+
+-- what is answered of the step by which both do the left one's action
+abbrev pub met_answer : {A : Type 0} → Meeting A → RuleStep A → RuleStep A → Answered
+met_answer m left right = (action_of left.action, under_both (composition_of m.composition.now) (target_of left.target) (target_of right.target))
+
+-- what the right side does together with a step of the left one
+abbrev pub meeting_answers : {A : Type 0} → Meeting A → pure.Action → Option Process → List Answered
+meeting_answers m x t = each_answer (meet_answer (is_shared m.sharing.now) (composition_of m.composition.now) x t) (map answered_of m.right.now)

@@ -1,15 +1,14 @@
 //! Choices. `P [] Q` keeps the choice by a tau of a side, and makes it by an event or tick. `P |~| Q` chooses by
 //! itself, and looks at neither side.
 
-ghost use Rattle.std.specs.Prelude.{◌≡◌, ◌∷◌, [], IfOk, map};
+ghost use Rattle.std.specs.Prelude.{◌≡◌, IfOk};
 ghost use Rattle.csp_syntax.specs.Process as pure;
-ghost use Rattle.csp_syntax.specs.Value.{Tau};
 ghost use Rattle.csp_syntax.specs.Process.{ExternalChoice, InternalChoice};
 ghost use Rattle.csp_semantics.specs.Meaning.Substitution.{put};
 ghost use Rattle.csp_expression.specs.Bindings.{bindings_of};
 ghost use Rattle.csp_term.specs.Term.{process_of};
-ghost use Rattle.csp_operators.specs.Answering.{Answers, answered_of, target_of};
-ghost use Rattle.csp_operators.specs.Composing.{AreSidesOf, composition_of, external_answers, left_answers, side_answers, under_both};
+ghost use Rattle.csp_operators.specs.Answering.{Answers, answers_of, target_of};
+ghost use Rattle.csp_operators.specs.Composing.{AreSidesOf, answers_of_sides, composition_of, external_answers, left_answers, process_of_sides, side_answers, tau_answers, under_both};
 
 use crate::composition::Composition;
 use crate::context::{Context, Hand};
@@ -32,8 +31,8 @@ pub fn by_sides<A: AllocHandle>(
 
 /// `P [] Q` with its steps, for a longer chain. `Memory` says that there is no room.
 pub fn between<A: AllocHandle>(alloc: A, left: Side<A>, right: Side<A>) -> Result<Side<A>, Memory>
-    ensures process { IfOk result (λ side. target_of side.process ≡ under_both ExternalChoice (target_of left.process) (target_of right.process)) }
-    ensures steps { IfOk result (λ side. side_answers side ≡ external_answers (target_of left.process) (side_answers left) (target_of right.process) (side_answers right)) }
+    ensures process { IfOk result (λ side. target_of side.process ≡ process_of_sides ExternalChoice left right) }
+    ensures steps { IfOk result (λ side. side_answers side ≡ answers_of_sides external_answers left right) }
 {
     let composition = Composition::Operator(ProcessOperator::ExternalChoice);
     let side = under(alloc, &composition, left, right);
@@ -48,8 +47,8 @@ fn under<A: AllocHandle>(
     left: Side<A>,
     right: Side<A>,
 ) -> Result<Side<A>, Memory>
-    ensures process { IfOk result (λ side. target_of side.process ≡ under_both (composition_of composition.now) (target_of left.process) (target_of right.process)) }
-    ensures steps { IfOk result (λ side. side_answers side ≡ left_answers (composition_of composition.now) (target_of left.process) (side_answers left) (target_of right.process) (side_answers right)) }
+    ensures process { IfOk result (λ side. target_of side.process ≡ process_of_sides (composition_of composition.now) left right) }
+    ensures steps { IfOk result (λ side. side_answers side ≡ answers_of_sides (left_answers (composition_of composition.now)) left right) }
 {
     let mut steps = Vec::new(alloc);
     let context = Context {
@@ -89,7 +88,7 @@ pub fn taus<A: AllocHandle>(
     left: Target<A>,
     right: Target<A>,
 ) -> Result<Vec<RuleStep<A>, A>, Memory>
-    ensures { IfOk result (λ steps. map answered_of steps.items ≡ (Tau, target_of left) ∷ (Tau, target_of right) ∷ []) }
+    ensures { IfOk result (λ steps. answers_of steps ≡ tau_answers (target_of left) (target_of right)) }
 {
     let mut steps = one_step(alloc, Action::Tau, left)?;
     add_step(Action::Tau, right, &mut steps)?;

@@ -1,14 +1,13 @@
 //! `P \ A` does what `P` does, and the events of `A` as tau. A tick ends all.
 
-ghost use Rattle.std.specs.Prelude.{◌≡◌, ◌∷◌, [], IfOk, cond, map};
+ghost use Rattle.std.specs.Prelude.{◌≡◌, ◌∷◌, [], IfOk, cond};
 ghost use Rattle.csp_syntax.specs.Process as pure;
 ghost use Rattle.csp_syntax.specs.Process.{Hiding};
 ghost use Rattle.csp_syntax.specs.Value.{Ev, Tau};
 ghost use Rattle.csp_value.specs.Action.{action_of, event_of};
 ghost use Rattle.csp_event_sets.specs.Events.{event_set_of};
-ghost use Rattle.csp_term.specs.Script.{script_of_parts};
-ghost use Rattle.csp_operators.specs.Answering.{Answers, answered_of, target_of};
-ghost use Rattle.csp_operators.specs.Composing.{each_answer, frame_of, hide_answer, under_limits};
+ghost use Rattle.csp_operators.specs.Answering.{AnswersIn, answered_of, answers_of, target_of};
+ghost use Rattle.csp_operators.specs.Composing.{each_answer, hide_answer, one_answer, under_frame};
 ghost use Rattle.csp_event_tests.specs.Testing.{AreSorted, listed_in, test_of};
 
 use crate::composition::Frame;
@@ -37,7 +36,7 @@ fn under<A: AllocHandle>(
     action: Action<A>,
     target: Target<A>,
 ) -> Result<RuleStep<A>, Memory>
-    ensures { IfOk result (λ s. answered_of s ≡ (action_of action, under_limits (frame_of frame.now) (target_of target))) }
+    ensures { IfOk result (λ s. answered_of s ≡ (action_of action, under_frame frame.now (target_of target))) }
 {
     let target = frame.of(alloc, target)?;
     Ok(RuleStep { action, target })
@@ -50,7 +49,7 @@ fn step<A: AllocHandle>(
     of_body: RuleStep<A>,
 ) -> Result<RuleStep<A>, Memory>
     requires { AreSorted (listed_in test.now) }
-    ensures { IfOk result (λ s. answered_of s ∷ [] ≡ hide_answer (test_of test.now) (under_limits (frame_of frame.now)) (action_of of_body.action) (target_of of_body.target)) }
+    ensures { IfOk result (λ s. answered_of s ∷ [] ≡ one_answer (hide_answer (test_of test.now) (under_frame frame.now)) of_body) }
 {
     let RuleStep { action, target } = of_body;
     match action {
@@ -72,7 +71,7 @@ pub fn by_body<A: AllocHandle>(
     hidden: EventSet<A>,
     body: Result<Vec<RuleStep<A>, A>, NoValue>,
 ) -> Result<Vec<RuleStep<A>, A>, NoValue>
-    ensures { (p : pure.Process) → Answers (script_of_parts script.now) p body → Answers (script_of_parts script.now) (Hiding p (event_set_of hidden)) result }
+    ensures { (p : pure.Process) → AnswersIn script.now p body → AnswersIn script.now (Hiding p (event_set_of hidden)) result }
 {
     let test = EventTest::of(alloc, script, &hidden)?;
     let body = body?;
@@ -91,7 +90,7 @@ fn without<A: AllocHandle>(
     body: Vec<RuleStep<A>, A>,
 ) -> Result<Vec<RuleStep<A>, A>, Memory>
     requires { AreSorted (listed_in test.now) }
-    ensures { IfOk result (λ steps. map answered_of steps.items ≡ each_answer (hide_answer (test_of test.now) (under_limits (frame_of frame.now))) (map answered_of body.items)) }
+    ensures { IfOk result (λ steps. answers_of steps ≡ each_answer (hide_answer (test_of test.now) (under_frame frame.now)) (answers_of body)) }
 {
     let mut steps = Vec::new(alloc);
     for of_body in body {

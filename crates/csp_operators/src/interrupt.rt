@@ -1,12 +1,10 @@
 //! `P /\ Q` does what `P` does, until it ticks or `Q` does an event or ticks.
 
-ghost use Rattle.std.specs.Prelude.{◌≡◌, ◌++◌, ◌∷◌, [], IfOk, OnOk, Some, map};
+ghost use Rattle.std.specs.Prelude.{◌≡◌, ◌++◌, IfOk, OnOk};
 ghost use Rattle.csp_syntax.specs.Process as pure;
-ghost use Rattle.csp_syntax.specs.Process.{Interrupt, Omega};
-ghost use Rattle.csp_syntax.specs.Value.{Tick};
-ghost use Rattle.csp_semantics.specs.Meaning.Stepping.{always};
-ghost use Rattle.csp_operators.specs.Answering.{Answers, answered_of, target_of};
-ghost use Rattle.csp_operators.specs.Composing.{AreSidesOf, around_of, composition_of, each_answer, ended_or_left_answers, side_answers, stay_answer};
+ghost use Rattle.csp_syntax.specs.Process.{Interrupt};
+ghost use Rattle.csp_operators.specs.Answering.{Answers, answers_of};
+ghost use Rattle.csp_operators.specs.Composing.{AreSidesOf, answers_of_sides, around_of, composition_of, each_answer, ended_or_left_answers, ending_answer};
 
 use crate::composition::Composition;
 use crate::context::{Context, Hand};
@@ -39,7 +37,7 @@ fn under<A: AllocHandle>(
     left: Side<A>,
     right: Side<A>,
 ) -> Result<Vec<RuleStep<A>, A>, Memory>
-    ensures { IfOk result (λ steps. map answered_of steps.items ≡ ended_or_left_answers (composition_of composition.now) (target_of left.process) (side_answers left) (target_of right.process) (side_answers right)) }
+    ensures { IfOk result (λ steps. answers_of steps ≡ answers_of_sides (ended_or_left_answers (composition_of composition.now)) left right) }
 {
     let mut steps = Vec::new(alloc);
     let context = Context {
@@ -64,7 +62,7 @@ fn goes_on<A: AllocHandle>(
     moves: Vec<RuleStep<A>, A>,
     steps: &mut Vec<RuleStep<A>, A>,
 ) -> Result<(), Memory>
-    ensures { OnOk result (map answered_of steps.new.items ≡ map answered_of steps.old.items ++ each_answer (stay_answer always (around_of context.entry) ((Tick, Some Omega) ∷ [])) (map answered_of moves.items)) }
+    ensures { OnOk result (answers_of steps.new ≡ answers_of steps.old ++ each_answer (ending_answer (around_of context.entry)) (answers_of moves)) }
 {
     let sharing = Sharing::Nothing;
     let added = stay::add(alloc, context, &sharing, AfterTick::All, moves, steps);

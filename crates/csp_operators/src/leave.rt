@@ -1,10 +1,9 @@
 //! What a side does whose first visible action leaves the composition: tau keeps it, and an event or tick goes on
 //! alone.
 
-ghost use Rattle.std.specs.Prelude.{◌≡◌, ◌++◌, ◌∷◌, [], IfOk, OnOk, map};
-ghost use Rattle.csp_value.specs.Action.{action_of};
-ghost use Rattle.csp_operators.specs.Answering.{answered_of, target_of};
-ghost use Rattle.csp_operators.specs.Composing.{around_of, each_answer, leave_answer};
+ghost use Rattle.std.specs.Prelude.{◌≡◌, ◌++◌, ◌∷◌, [], IfOk, OnOk};
+ghost use Rattle.csp_operators.specs.Answering.{answered_of, answers_of};
+ghost use Rattle.csp_operators.specs.Composing.{around_of, each_answer, leave_answer, one_answer};
 
 use crate::context::Context;
 use crate::rule_step::RuleStep;
@@ -15,7 +14,7 @@ fn step<A: AllocHandle>(
     context: Context<'_, A>,
     of_side: RuleStep<A>,
 ) -> Result<RuleStep<A>, Memory>
-    ensures { IfOk result (λ s. answered_of s ∷ [] ≡ leave_answer (around_of context.entry) (action_of of_side.action) (target_of of_side.target)) }
+    ensures { IfOk result (λ s. answered_of s ∷ [] ≡ one_answer (leave_answer (around_of context.entry)) of_side) }
 {
     let RuleStep { action, target } = of_side;
     match action {
@@ -35,7 +34,7 @@ pub(crate) fn add<A: AllocHandle>(
     moves: Vec<RuleStep<A>, A>,
     steps: &mut Vec<RuleStep<A>, A>,
 ) -> Result<(), Memory>
-    ensures { OnOk result (map answered_of steps.new.items ≡ map answered_of steps.old.items ++ each_answer (leave_answer (around_of context.entry)) (map answered_of moves.items)) }
+    ensures { OnOk result (answers_of steps.new ≡ answers_of steps.old ++ each_answer (leave_answer (around_of context.entry)) (answers_of moves)) }
 {
     for of_side in moves {
         steps.push(step(alloc, context, of_side)?)?;

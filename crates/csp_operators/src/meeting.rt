@@ -2,10 +2,10 @@
 
 ghost use Rattle.std.specs.Prelude.{◌≡◌, ◌++◌, IfOk, OnOk, map};
 ghost use Rattle.csp_value.specs.Action.{action_of};
-ghost use Rattle.csp_operators.specs.Answering.{answered_of, target_of};
-ghost use Rattle.csp_operators.specs.Composing.{composition_of, each_answer, meet_answer, under_both};
+ghost use Rattle.csp_operators.specs.Answering.{answered_of, answers_of, target_of};
+ghost use Rattle.csp_operators.specs.Composing.{composition_of, each_answer, one_answer, under_both};
 ghost use Rattle.csp_operators.specs.Sharing.{IsSearchable, is_shared};
-ghost use Rattle.csp_operators.specs.Together.{AreRising, is_before, is_done_together};
+ghost use Rattle.csp_operators.specs.Together.{AreRising, is_before, is_done_together, meeting_answers, met_answer};
 
 use crate::composition::Composition;
 use crate::rule_step::{RuleStep, Target};
@@ -34,7 +34,7 @@ impl<'m, A: AllocHandle> Meeting<'m, A> {
 
     /// The step by which both do the action.
     fn both(self, alloc: A, left: &RuleStep<A>, right: &RuleStep<A>) -> Result<RuleStep<A>, Memory>
-        ensures { IfOk result (λ s. answered_of s ≡ (action_of left.now.action, under_both (composition_of self.entry.composition.now) (target_of left.now.target) (target_of right.now.target))) }
+        ensures { IfOk result (λ s. answered_of s ≡ met_answer self.entry left.now right.now) }
     {
         let target = self.target(alloc, &left.target, &right.target)?;
         let action = left.action.try_copy(alloc)?;
@@ -59,7 +59,7 @@ impl<'m, A: AllocHandle> Meeting<'m, A> {
     ) -> Result<(), Memory>
         requires searchable { IsSearchable self.sharing.now }
         requires rising { AreRising self.right.now }
-        ensures { OnOk result (map answered_of steps.new.items ≡ map answered_of steps.old.items ++ each_answer (meet_answer (is_shared self.entry.sharing.now) (composition_of self.entry.composition.now) (action_of left.now.action) (target_of left.now.target)) (map answered_of self.entry.right.now)) }
+        ensures { OnOk result (answers_of steps.new ≡ answers_of steps.old ++ one_answer (meeting_answers self.entry) left.now) }
     {
         if !self.is_shared(&left.action) {
             return Ok(());
@@ -87,7 +87,7 @@ impl<'m, A: AllocHandle> Meeting<'m, A> {
     ) -> Result<(), Memory>
         requires searchable { IsSearchable self.sharing.now }
         requires rising { AreRising self.right.now }
-        ensures { OnOk result (map answered_of steps.new.items ≡ map answered_of steps.old.items ++ each_answer (λ x t. each_answer (meet_answer (is_shared self.entry.sharing.now) (composition_of self.entry.composition.now) x t) (map answered_of self.entry.right.now)) (map answered_of left.now)) }
+        ensures { OnOk result (answers_of steps.new ≡ answers_of steps.old ++ each_answer (meeting_answers self.entry) (map answered_of left.now)) }
     {
         for step in left {
             self.add_with(alloc, step, steps)?;

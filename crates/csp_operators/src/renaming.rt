@@ -3,13 +3,13 @@
 ghost use Rattle.std.specs.Prelude.{◌≡◌, ◌++◌, IfOk, OnOk, map};
 ghost use Rattle.csp_syntax.specs.Process as pure;
 ghost use Rattle.csp_syntax.specs.Process.{Renaming};
-ghost use Rattle.csp_semantics.specs.Meaning.Events.{or_itself};
-ghost use Rattle.csp_value.specs.Action.{action_of, event_of};
+ghost use Rattle.csp_syntax.specs.Value.{Ev};
+ghost use Rattle.csp_value.specs.Action.{event_of};
 ghost use Rattle.csp_event_sets.specs.Events.{renaming_pairs_of};
-ghost use Rattle.csp_term.specs.Script.{script_of_parts};
-ghost use Rattle.csp_operators.specs.Answering.{Answers, answered_of, target_of};
-ghost use Rattle.csp_operators.specs.Composing.{each_answer, frame_of, image_answers, rename_answer, under_limits};
-ghost use Rattle.csp_event_tests.specs.Imaging.{PairsRise, found_images};
+ghost use Rattle.csp_operators.specs.Answering.{AnswersIn, answers_of, target_of};
+ghost use Rattle.csp_operators.specs.Composing.{each_answer, image_answers, one_answer};
+ghost use Rattle.csp_operators.specs.Renaming.{renamed_answer};
+ghost use Rattle.csp_event_tests.specs.Imaging.{PairsRise};
 
 use crate::composition::Frame;
 use crate::rule_step::{RuleStep, Target, add_step};
@@ -25,7 +25,7 @@ fn add_images<A: AllocHandle>(
     target: &Target<A>,
     steps: &mut Vec<RuleStep<A>, A>,
 ) -> Result<(), Memory>
-    ensures { OnOk result (map answered_of steps.new.items ≡ map answered_of steps.old.items ++ image_answers (target_of target.now) (map event_of images.items)) }
+    ensures { OnOk result (answers_of steps.new ≡ answers_of steps.old ++ image_answers (target_of target.now) (map event_of images.items)) }
 {
     for image in images {
         let target = target.try_copy(alloc)?;
@@ -45,7 +45,7 @@ fn add_event<A: AllocHandle>(
     steps: &mut Vec<RuleStep<A>, A>,
 ) -> Result<(), Memory>
     requires { PairsRise images.now }
-    ensures { OnOk result (map answered_of steps.new.items ≡ map answered_of steps.old.items ++ image_answers (under_limits (frame_of frame.now) (target_of target)) (or_itself (event_of event) (found_images images.now (event_of event)))) }
+    ensures { OnOk result (answers_of steps.new ≡ answers_of steps.old ++ renamed_answer frame.now images.now (Ev (event_of event)) (target_of target)) }
 {
     let target = frame.of(alloc, target)?;
     let images = images.of_event(alloc, event)?;
@@ -60,7 +60,7 @@ fn add_one<A: AllocHandle>(
     steps: &mut Vec<RuleStep<A>, A>,
 ) -> Result<(), Memory>
     requires { PairsRise images.now }
-    ensures { OnOk result (map answered_of steps.new.items ≡ map answered_of steps.old.items ++ rename_answer (λ e. or_itself e (found_images images.now e)) (under_limits (frame_of frame.now)) (action_of of_body.action) (target_of of_body.target)) }
+    ensures { OnOk result (answers_of steps.new ≡ answers_of steps.old ++ one_answer (renamed_answer frame.now images.now) of_body) }
 {
     let RuleStep { action, target } = of_body;
     match action {
@@ -78,7 +78,7 @@ pub fn by_body<A: AllocHandle>(
     pairs: Vec<RenamingPair<A>, A>,
     body: Result<Vec<RuleStep<A>, A>, NoValue>,
 ) -> Result<Vec<RuleStep<A>, A>, NoValue>
-    ensures { (p : pure.Process) → Answers (script_of_parts script.now) p body → Answers (script_of_parts script.now) (Renaming p (renaming_pairs_of pairs.items)) result }
+    ensures { (p : pure.Process) → AnswersIn script.now p body → AnswersIn script.now (Renaming p (renaming_pairs_of pairs.items)) result }
 {
     let images = Images::of(alloc, script, &pairs)?;
     let body = body?;
@@ -96,7 +96,7 @@ fn renamed<A: AllocHandle>(
     body: Vec<RuleStep<A>, A>,
 ) -> Result<Vec<RuleStep<A>, A>, Memory>
     requires { PairsRise images.now }
-    ensures { IfOk result (λ steps. map answered_of steps.items ≡ each_answer (rename_answer (λ e. or_itself e (found_images images.now e)) (under_limits (frame_of frame.now))) (map answered_of body.items)) }
+    ensures { IfOk result (λ steps. answers_of steps ≡ each_answer (renamed_answer frame.now images.now) (answers_of body)) }
 {
     let mut steps = Vec::new(alloc);
     for of_body in body {

@@ -1,12 +1,9 @@
 //! The steps that rules answer, which may lead past the limits.
 
-ghost use Rattle.std.specs.Prelude.{◌≡◌, ◌++◌, ◌∷◌, [], IfOk, OnOk, Some, map};
-ghost use Rattle.csp_semantics.specs.Meaning.Substitution.{put};
+ghost use Rattle.std.specs.Prelude.{◌≡◌, ◌++◌, ◌∷◌, [], IfOk, OnOk, Some};
 ghost use Rattle.csp_syntax.specs.Process.{Omega};
 ghost use Rattle.csp_value.specs.Action.{action_of};
-ghost use Rattle.csp_expression.specs.Bindings.{bindings_of};
-ghost use Rattle.csp_term.specs.Term.{process_of};
-ghost use Rattle.csp_operators.specs.Answering.{answered_of, target_of, within_limits};
+ghost use Rattle.csp_operators.specs.Answering.{answers_of, process_under, target_of, within_limits};
 
 use csp_expression::Binding;
 use csp_term::{Action, AllocHandle, Memory, Term, TermFault, TermForm};
@@ -36,7 +33,7 @@ impl<A: AllocHandle> Target<A> {
         term: &Term<A>,
         bindings: &[Binding<'_, A>],
     ) -> Result<Target<A>, Memory>
-        ensures { IfOk result (λ t. target_of t ≡ within_limits (put (bindings_of bindings.now) (process_of term.now))) }
+        ensures { IfOk result (λ t. target_of t ≡ within_limits (process_under bindings.now term.now)) }
     {
         match term.subst(alloc, bindings) {
             Ok(target) => Ok(Target::Within(target)),
@@ -71,7 +68,7 @@ pub fn one_step<A: AllocHandle>(
     action: Action<A>,
     target: Target<A>,
 ) -> Result<Vec<RuleStep<A>, A>, Memory>
-    ensures { IfOk result (λ steps. map answered_of steps.items ≡ (action_of action, target_of target) ∷ []) }
+    ensures { IfOk result (λ steps. answers_of steps ≡ (action_of action, target_of target) ∷ []) }
 {
     let mut steps = Vec::new(alloc);
     steps.push(RuleStep { action, target })?;
@@ -84,7 +81,7 @@ pub(crate) fn add_step<A: AllocHandle>(
     target: Target<A>,
     steps: &mut Vec<RuleStep<A>, A>,
 ) -> Result<(), Memory>
-    ensures { OnOk result (map answered_of steps.new.items ≡ map answered_of steps.old.items ++ (action_of action, target_of target) ∷ []) }
+    ensures { OnOk result (answers_of steps.new ≡ answers_of steps.old ++ (action_of action, target_of target) ∷ []) }
 {
     steps.push(RuleStep { action, target })?;
     Ok(())

@@ -1,12 +1,9 @@
 //! `P ; Q` does what `P` does until `P` ends, and goes on as `Q` by tau.
 
-ghost use Rattle.std.specs.Prelude.{◌≡◌, IfOk, map};
+ghost use Rattle.std.specs.Prelude.{◌≡◌, IfOk};
 ghost use Rattle.csp_syntax.specs.Process as pure;
 ghost use Rattle.csp_syntax.specs.Process.{Sequential};
-ghost use Rattle.csp_semantics.specs.Meaning.Substitution.{put};
-ghost use Rattle.csp_expression.specs.Bindings.{bindings_of};
-ghost use Rattle.csp_term.specs.Term.{process_of};
-ghost use Rattle.csp_operators.specs.Answering.{Answers, answered_of, target_of};
+ghost use Rattle.csp_operators.specs.Answering.{Answers, answers_of, process_under, target_of};
 ghost use Rattle.csp_operators.specs.Composing.{sequential_answers};
 
 use crate::composition::Composition;
@@ -24,7 +21,7 @@ pub fn by_left<A: AllocHandle>(
     left: Result<Vec<RuleStep<A>, A>, NoValue>,
     right: &Term<A>,
 ) -> Result<Vec<RuleStep<A>, A>, NoValue>
-    ensures { (s : pure.Script) (p : pure.Process) → Answers s p left → Answers s (Sequential p (put (bindings_of bindings.now) (process_of right.now))) result }
+    ensures { (s : pure.Script) (p : pure.Process) → Answers s p left → Answers s (Sequential p (process_under bindings.now right.now)) result }
 {
     let left = left?;
     let right = Target::put_in(alloc, right, bindings)?;
@@ -37,7 +34,7 @@ fn before<A: AllocHandle>(
     left: Vec<RuleStep<A>, A>,
     right: &Target<A>,
 ) -> Result<Vec<RuleStep<A>, A>, Memory>
-    ensures { IfOk result (λ steps. map answered_of steps.items ≡ sequential_answers (map answered_of left.items) (target_of right.now)) }
+    ensures { IfOk result (λ steps. answers_of steps ≡ sequential_answers (answers_of left) (target_of right.now)) }
 {
     let composition = Composition::Operator(ProcessOperator::Sequential);
     let sharing = Sharing::Nothing;

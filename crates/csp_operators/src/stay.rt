@@ -1,11 +1,11 @@
 //! What a side does alone that stays in the composition: tau, and events that it is free to do. What follows its tick
 //! is the operator's own.
 
-ghost use Rattle.std.specs.Prelude.{◌≡◌, ◌++◌, ◌∷◌, [], IfOk, OnOk, map};
+ghost use Rattle.std.specs.Prelude.{◌≡◌, ◌++◌, ◌∷◌, [], IfOk, OnOk};
 ghost use Rattle.csp_value.specs.Action.{action_of};
-ghost use Rattle.csp_operators.specs.Answering.{answered_of, target_of};
-ghost use Rattle.csp_operators.specs.Composing.{around_of, each_answer, stay_answer};
-ghost use Rattle.csp_operators.specs.Sharing.{IsSearchable, ended_by, is_free};
+ghost use Rattle.csp_operators.specs.Answering.{answered_of, answers_of, target_of};
+ghost use Rattle.csp_operators.specs.Composing.{around_of, each_answer, one_answer};
+ghost use Rattle.csp_operators.specs.Sharing.{IsSearchable, alone_answer, ended_by};
 
 use crate::context::Context;
 use crate::rule_step::{RuleStep, Target, add_step};
@@ -56,7 +56,7 @@ fn add_end<A: AllocHandle>(
     after: AfterTick,
     steps: &mut Vec<RuleStep<A>, A>,
 ) -> Result<(), Memory>
-    ensures { OnOk result (map answered_of steps.new.items ≡ map answered_of steps.old.items ++ ended_by after context.entry) }
+    ensures { OnOk result (answers_of steps.new ≡ answers_of steps.old ++ ended_by after context.entry) }
 {
     steps.push(after_tick(alloc, context, after)?)?;
     Ok(())
@@ -70,7 +70,7 @@ fn add_around<A: AllocHandle>(
     target: Target<A>,
     steps: &mut Vec<RuleStep<A>, A>,
 ) -> Result<(), Memory>
-    ensures { OnOk result (map answered_of steps.new.items ≡ map answered_of steps.old.items ++ (action_of action, around_of context.entry (target_of target)) ∷ []) }
+    ensures { OnOk result (answers_of steps.new ≡ answers_of steps.old ++ (action_of action, around_of context.entry (target_of target)) ∷ []) }
 {
     let target = context.around(alloc, target)?;
     add_step(action, target, steps)
@@ -86,7 +86,7 @@ fn add_one<A: AllocHandle>(
     steps: &mut Vec<RuleStep<A>, A>,
 ) -> Result<(), Memory>
     requires { IsSearchable sharing.now }
-    ensures { OnOk result (map answered_of steps.new.items ≡ map answered_of steps.old.items ++ stay_answer (is_free sharing.now context.entry.hand) (around_of context.entry) (ended_by after context.entry) (action_of step.action) (target_of step.target)) }
+    ensures { OnOk result (answers_of steps.new ≡ answers_of steps.old ++ one_answer (alone_answer sharing.now after context.entry) step) }
 {
     let RuleStep { action, target } = step;
     match action {
@@ -112,7 +112,7 @@ pub(crate) fn add<A: AllocHandle>(
     steps: &mut Vec<RuleStep<A>, A>,
 ) -> Result<(), Memory>
     requires { IsSearchable sharing.now }
-    ensures { OnOk result (map answered_of steps.new.items ≡ map answered_of steps.old.items ++ each_answer (stay_answer (is_free sharing.now context.entry.hand) (around_of context.entry) (ended_by after context.entry)) (map answered_of moves.items)) }
+    ensures { OnOk result (answers_of steps.new ≡ answers_of steps.old ++ each_answer (alone_answer sharing.now after context.entry) (answers_of moves)) }
 {
     for step in moves {
         add_one(alloc, context, sharing, after, step, steps)?;
