@@ -2,9 +2,8 @@
 use Rattle.std.specs.Prelude.{◌≡◌, List, [], ◌∷◌, map, Option, Result, Err}
 use Rattle.std.specs.declared.vec.Vec.{Vec}
 use Rattle.csp_syntax.specs.Process.{Process, Script, Stop, ExternalChoice, InternalChoice, Interleaving}
-use Rattle.csp_semantics.specs.Meaning.Stepping.{always, never}
 use Rattle.csp_semantics.specs.Meaning.Substitution.{bind, put}
-use Rattle.csp_semantics.specs.Meaning.Transitions.{chain}
+use Rattle.csp_semantics.specs.Meaning.Transitions.{chain, left_grouped}
 use Rattle.csp_value.specs.declared.value.Value.{Value}
 use Rattle.csp_value.specs.Value.{value_of}
 use Rattle.csp_expression.specs.Bindings.{bindings_of}
@@ -16,8 +15,8 @@ use Rattle.csp_rules.specs.declared.rules.replicated.Looking.{Looking}
 use Rattle.csp_rules.specs.declared.rules.replicated.Looking.TheVariants as looking
 use Rattle.csp_expression.specs.declared.no_value.NoValue.{NoValue}
 use Rattle.csp_expression.specs.declared.no_value.NoValue.TheVariants as eval
-use Rattle.csp_operators.specs.Answering.{Answered, Answers}
-use Rattle.csp_operators.specs.Composing.{external_answers, parallel_answers}
+use Rattle.csp_operators.specs.Answering.{Answered, Answers, within_limits}
+use Rattle.csp_operators.specs.Composing.{external_answers, interleaving_answers, tau_answers}
 
 -- the process with the value put in for the name, under the bindings
 abbrev pub instance_of : {A : Type 0} → Instances A → Value A → Process
@@ -26,6 +25,14 @@ instance_of i v = put (bind i.name.0 (value_of v) (bindings_of i.bindings.now)) 
 abbrev pub instances_of : {A : Type 0} → Instances A → List (Value A) → List Process
 instances_of i vs = map (instance_of i) vs
 
+-- the chain of the instances of these values, grouped to the left
+abbrev pub instance_chain : {A : Type 0} → Instances A → (Process → Process → Process) → Value A → List (Value A) → Process
+instance_chain i under first others = left_grouped under (instance_of i first) (instances_of i others)
+
+-- a tau to the chain of internal choices before the last value, and one to the last one's instance
+abbrev pub chosen_answers : {A : Type 0} → Instances A → Value A → List (Value A) → Value A → List Answered
+chosen_answers i first others last = tau_answers (within_limits (instance_chain i InternalChoice first others)) (within_limits (instance_of i last))
+
 -- the operator between the instances
 abbrev pub looking_process : Looking → Process → Process → Process
 looking_process looking.ExternalChoice p q = ExternalChoice p q
@@ -33,7 +40,7 @@ looking_process looking.Interleaving p q = Interleaving p q
 
 abbrev pub looking_answers : Looking → Option Process → List Answered → Option Process → List Answered → List Answered
 looking_answers looking.ExternalChoice o bs r cs = external_answers o bs r cs
-looking_answers looking.Interleaving o bs r cs = parallel_answers always always never Interleaving o bs r cs
+looking_answers looking.Interleaving o bs r cs = interleaving_answers o bs r cs
 
 -- What is answered of the chain of internal choices. Of none there is no chain to answer.
 abbrev pub AnswersChoices : {A : Type 0} → Script → List Process → Result (Vec (RuleStep A) A) NoValue → Type 0

@@ -4,11 +4,8 @@
 //! value. They are those of the term with the values of the bindings put in, of which nothing is built but the targets.
 
 ghost use Rattle.csp_syntax.specs.Operators.{binary_process};
-ghost use Rattle.csp_semantics.specs.Meaning.Substitution.{put};
-ghost use Rattle.csp_expression.specs.Bindings.{bindings_of};
 ghost use Rattle.csp_term.specs.Term.{process_of};
-ghost use Rattle.csp_term.specs.Script.{script_of_parts};
-ghost use Rattle.csp_operators.specs.Answering.{Answers};
+ghost use Rattle.csp_rules.specs.Answering.{AnswersUnder};
 
 mod call;
 mod choice;
@@ -40,7 +37,7 @@ pub fn steps<'v, A: AllocHandle>(
     bindings: &[Binding<'v, A>],
     term: &'v Term<A>,
 ) -> Result<Vec<RuleStep<A>, A>, NoValue>
-    ensures { Answers (script_of_parts script.now) (put (bindings_of bindings.now) (process_of term.now)) result }
+    ensures { AnswersUnder script.now bindings.now (process_of term.now) result }
 {
     match term.form() {
         TermForm::Stop => Ok(Vec::new(alloc)),
@@ -83,7 +80,7 @@ fn binary<'v, A: AllocHandle>(
     left: &'v Term<A>,
     right: &'v Term<A>,
 ) -> Result<Vec<RuleStep<A>, A>, NoValue>
-    ensures { Answers (script_of_parts script.now) (put (bindings_of bindings.now) (binary_process operator (process_of left.now) (process_of right.now))) result }
+    ensures { AnswersUnder script.now bindings.now (binary_process operator (process_of left.now) (process_of right.now)) result }
 {
     match operator {
         ProcessOperator::ExternalChoice => choice::external(alloc, script, bindings, left, right),

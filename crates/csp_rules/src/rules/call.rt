@@ -5,12 +5,11 @@ ghost use Rattle.csp_syntax.specs.Expression.{to_expressions};
 ghost use Rattle.csp_syntax.specs.Process.{Call};
 ghost use Rattle.csp_semantics.specs.Meaning.Evaluation.{values};
 ghost use Rattle.csp_semantics.specs.Meaning.Events.{parameter_bindings};
-ghost use Rattle.csp_semantics.specs.Meaning.Substitution.{put, put_expressions};
+ghost use Rattle.csp_semantics.specs.Meaning.Substitution.{put_expressions};
 ghost use Rattle.csp_expression.specs.Bindings.{bindings_of};
 ghost use Rattle.csp_expression.specs.Evaluation.{table_of};
 ghost use Rattle.csp_expression.specs.Expression.{expressions_of};
-ghost use Rattle.csp_term.specs.Script.{script_of_parts};
-ghost use Rattle.csp_operators.specs.Answering.{Answers};
+ghost use Rattle.csp_rules.specs.Answering.{AnswersUnder};
 ghost use Rattle.csp_rules.specs.Arguments.{Binds, SeesAll, seen_values};
 
 use csp_expression::{Binding, Expr, NoValue, Seen, TypeTable};
@@ -24,7 +23,7 @@ pub(crate) fn steps<A: AllocHandle>(
     equation: EquationId,
     arguments: &[Expr<A>],
 ) -> Result<Vec<RuleStep<A>, A>, NoValue>
-    ensures { Answers (script_of_parts script.now) (put (bindings_of bindings.now) (Call equation.0 (to_expressions (expressions_of arguments.now)))) result }
+    ensures { AnswersUnder script.now bindings.now (Call equation.0 (to_expressions (expressions_of arguments.now))) result }
 {
     let values = argument_values(alloc, &script.types, bindings, arguments)?;
     let Some(called) = script.equations.get(equation.0 as usize) else {

@@ -1,11 +1,8 @@
 //! `P [] Q` by the steps of both sides.
 
 ghost use Rattle.csp_syntax.specs.Process.{ExternalChoice};
-ghost use Rattle.csp_semantics.specs.Meaning.Substitution.{put};
-ghost use Rattle.csp_expression.specs.Bindings.{bindings_of};
-ghost use Rattle.csp_term.specs.Script.{script_of_parts};
 ghost use Rattle.csp_term.specs.Term.{process_of};
-ghost use Rattle.csp_operators.specs.Answering.{Answers};
+ghost use Rattle.csp_rules.specs.Answering.{AnswersUnder};
 
 use crate::rules::side;
 use csp_expression::{Binding, NoValue};
@@ -21,7 +18,7 @@ pub(crate) fn external<'v, A: AllocHandle>(
     left: &'v Term<A>,
     right: &'v Term<A>,
 ) -> Result<Vec<RuleStep<A>, A>, NoValue>
-    ensures { Answers (script_of_parts script.now) (put (bindings_of bindings.now) (ExternalChoice (process_of left.now) (process_of right.now))) result }
+    ensures { AnswersUnder script.now bindings.now (ExternalChoice (process_of left.now) (process_of right.now)) result }
 {
     let sides = side::both(alloc, script, bindings, left, right);
     choice::by_sides(alloc, sides)

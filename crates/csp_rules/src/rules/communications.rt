@@ -5,16 +5,12 @@
 
 ghost use Rattle.std.specs.Prelude.{◌≡◌, ◌++◌, ◌∷◌, [], IfOk};
 ghost use Rattle.csp_syntax.specs.Process.{Given, Input, InputFrom};
-ghost use Rattle.csp_semantics.specs.Meaning.Events.{communications};
 ghost use Rattle.csp_semantics.specs.Meaning.Substitution.{bind};
 ghost use Rattle.csp_value.specs.Value.{value_of, values_of};
 ghost use Rattle.csp_expression.specs.Bindings.{bindings_of};
-ghost use Rattle.csp_expression.specs.Evaluation.{table_of};
 ghost use Rattle.csp_expression.specs.Expression.{expression_of};
 ghost use Rattle.csp_term.specs.Field.{fields_of};
-ghost use Rattle.csp_term.specs.Script.{field_values};
-ghost use Rattle.csp_term.specs.Term.{process_of};
-ghost use Rattle.csp_rules.specs.Communicating.{Finds, lent_values};
+ghost use Rattle.csp_rules.specs.Communicating.{FindsBehind, FindsField, lent_values};
 ghost use Rattle.csp_event_tests.specs.Testing.{sets_of};
 
 use csp_expression::{Binding, Expr, NoValue, TypeTable};
@@ -87,7 +83,7 @@ pub(crate) fn look_for<'v, A: AllocHandle>(
     sets: &'v [FieldSet<A>],
     found: Vec<RuleStep<A>, A>,
 ) -> Result<Vec<RuleStep<A>, A>, NoValue>
-    ensures { Finds walk.now.channel.0 (process_of walk.now.body.now) (lent_values front.now.values.items) found (communications (table_of walk.now.types.now) (bindings_of front.now.bindings.items) (fields_of fields.now) (sets_of sets.now)) result }
+    ensures { FindsBehind walk.now front.now (fields_of fields.now) (sets_of sets.now) found result }
 {
     match (fields.split_first(), sets.split_first()) {
         (None, None) => reach(walk, front, found),
@@ -115,7 +111,7 @@ fn given<'v, A: AllocHandle>(
     sets: &'v [FieldSet<A>],
     found: Vec<RuleStep<A>, A>,
 ) -> Result<Vec<RuleStep<A>, A>, NoValue>
-    ensures { Finds walk.now.channel.0 (process_of walk.now.body.now) (lent_values front.now.values.items) found (communications (table_of walk.now.types.now) (bindings_of front.now.bindings.items) (Given (expression_of value.now) ∷ fields_of fields.now) (field_values set.now ∷ sets_of sets.now)) result }
+    ensures { FindsField walk.now front.now (Given (expression_of value.now)) set.now fields.now sets.now found result }
 {
     let seen = (&*value).look(walk.alloc, walk.types, &front.bindings)?;
     if !set.contains(seen.value()) {
@@ -136,7 +132,7 @@ fn inputs<'v, A: AllocHandle>(
     sets: &'v [FieldSet<A>],
     found: Vec<RuleStep<A>, A>,
 ) -> Result<Vec<RuleStep<A>, A>, NoValue>
-    ensures { Finds walk.now.channel.0 (process_of walk.now.body.now) (lent_values front.now.values.items) found (communications (table_of walk.now.types.now) (bindings_of front.now.bindings.items) (Input name.0 ∷ fields_of fields.now) (field_values set.now ∷ sets_of sets.now)) result }
+    ensures { FindsField walk.now front.now (Input name.0) set.now fields.now sets.now found result }
 {
     let mut found = found;
     for value in set.members() {
@@ -158,7 +154,7 @@ fn inputs_from<'v, A: AllocHandle>(
     sets: &'v [FieldSet<A>],
     found: Vec<RuleStep<A>, A>,
 ) -> Result<Vec<RuleStep<A>, A>, NoValue>
-    ensures { Finds walk.now.channel.0 (process_of walk.now.body.now) (lent_values front.now.values.items) found (communications (table_of walk.now.types.now) (bindings_of front.now.bindings.items) (InputFrom name.0 (expression_of from.now) ∷ fields_of fields.now) (field_values set.now ∷ sets_of sets.now)) result }
+    ensures { FindsField walk.now front.now (InputFrom name.0 (expression_of from.now)) set.now fields.now sets.now found result }
 {
     let mut found = found;
     let seen = (&*from).look(walk.alloc, walk.types, &front.bindings)?;
@@ -180,7 +176,7 @@ fn reach<A: AllocHandle>(
     front: &Front<'_, A>,
     found: Vec<RuleStep<A>, A>,
 ) -> Result<Vec<RuleStep<A>, A>, NoValue>
-    ensures { Finds walk.now.channel.0 (process_of walk.now.body.now) (lent_values front.now.values.items) found (communications (table_of walk.now.types.now) (bindings_of front.now.bindings.items) [] []) result }
+    ensures { FindsBehind walk.now front.now [] [] found result }
 {
     let mut found = found;
     let fields = event_fields(walk.alloc, &front.values)?;

@@ -1,12 +1,9 @@
 //! A conditional process does what the branch does that its condition picks.
 
 ghost use Rattle.csp_syntax.specs.Process.{If};
-ghost use Rattle.csp_semantics.specs.Meaning.Substitution.{put};
-ghost use Rattle.csp_expression.specs.Bindings.{bindings_of};
 ghost use Rattle.csp_expression.specs.Expression.{expression_of};
-ghost use Rattle.csp_term.specs.Script.{script_of_parts};
 ghost use Rattle.csp_term.specs.Term.{process_of};
-ghost use Rattle.csp_operators.specs.Answering.{Answers};
+ghost use Rattle.csp_rules.specs.Answering.{AnswersUnder};
 
 use crate::rules;
 use crate::rules::condition::condition;
@@ -23,7 +20,7 @@ pub(crate) fn steps<'v, A: AllocHandle>(
     first: &'v Term<A>,
     second: &'v Term<A>,
 ) -> Result<Vec<RuleStep<A>, A>, NoValue>
-    ensures { Answers (script_of_parts script.now) (put (bindings_of bindings.now) (If (expression_of test.now) (process_of first.now) (process_of second.now))) result }
+    ensures { AnswersUnder script.now bindings.now (If (expression_of test.now) (process_of first.now) (process_of second.now)) result }
 {
     if condition(alloc, &script.types, bindings, test)? {
         rules::steps(alloc, script, bindings, first)

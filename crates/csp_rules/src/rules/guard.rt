@@ -1,12 +1,9 @@
 //! A guarded process does what its body does, where the condition is true.
 
 ghost use Rattle.csp_syntax.specs.Process.{Guard};
-ghost use Rattle.csp_semantics.specs.Meaning.Substitution.{put};
-ghost use Rattle.csp_expression.specs.Bindings.{bindings_of};
 ghost use Rattle.csp_expression.specs.Expression.{expression_of};
-ghost use Rattle.csp_term.specs.Script.{script_of_parts};
 ghost use Rattle.csp_term.specs.Term.{process_of};
-ghost use Rattle.csp_operators.specs.Answering.{Answers};
+ghost use Rattle.csp_rules.specs.Answering.{AnswersUnder};
 
 use crate::rules;
 use crate::rules::condition::condition;
@@ -22,7 +19,7 @@ pub(crate) fn steps<'v, A: AllocHandle>(
     test: &'v Expr<A>,
     body: &'v Term<A>,
 ) -> Result<Vec<RuleStep<A>, A>, NoValue>
-    ensures { Answers (script_of_parts script.now) (put (bindings_of bindings.now) (Guard (expression_of test.now) (process_of body.now))) result }
+    ensures { AnswersUnder script.now bindings.now (Guard (expression_of test.now) (process_of body.now)) result }
 {
     if condition(alloc, &script.types, bindings, test)? {
         rules::steps(alloc, script, bindings, body)

@@ -1,12 +1,9 @@
 //! `P \ A` by the steps of `P`.
 
 ghost use Rattle.csp_syntax.specs.Process.{Hiding};
-ghost use Rattle.csp_semantics.specs.Meaning.Substitution.{put};
-ghost use Rattle.csp_expression.specs.Bindings.{bindings_of};
 ghost use Rattle.csp_event_sets.specs.Events.{event_set_of};
-ghost use Rattle.csp_term.specs.Script.{script_of_parts};
 ghost use Rattle.csp_term.specs.Term.{process_of};
-ghost use Rattle.csp_operators.specs.Answering.{Answers};
+ghost use Rattle.csp_rules.specs.Answering.{AnswersUnder};
 
 use crate::rules;
 use csp_event_sets::EventSet;
@@ -22,7 +19,7 @@ pub(crate) fn steps<'v, A: AllocHandle>(
     hidden: &'v EventSet<A>,
     body: &'v Term<A>,
 ) -> Result<Vec<RuleStep<A>, A>, NoValue>
-    ensures { Answers (script_of_parts script.now) (put (bindings_of bindings.now) (Hiding (process_of body.now) (event_set_of hidden.now))) result }
+    ensures { AnswersUnder script.now bindings.now (Hiding (process_of body.now) (event_set_of hidden.now)) result }
 {
     let body = rules::steps(alloc, script, bindings, body);
     let hidden = hidden.put_in(alloc, bindings)?;

@@ -2,12 +2,9 @@
 //! values of its inputs.
 
 ghost use Rattle.csp_syntax.specs.Process.{Prefix};
-ghost use Rattle.csp_semantics.specs.Meaning.Substitution.{put};
-ghost use Rattle.csp_expression.specs.Bindings.{bindings_of};
 ghost use Rattle.csp_term.specs.Field.{fields_of};
-ghost use Rattle.csp_term.specs.Script.{script_of_parts};
 ghost use Rattle.csp_term.specs.Term.{process_of};
-ghost use Rattle.csp_operators.specs.Answering.{Answers};
+ghost use Rattle.csp_rules.specs.Answering.{AnswersUnder};
 
 use crate::rules::communications::{Front, Walk, look_for};
 use csp_expression::{Binding, NoValue};
@@ -22,7 +19,7 @@ pub(crate) fn steps<'v, A: AllocHandle>(
     fields: &'v [Field<A>],
     body: &'v Term<A>,
 ) -> Result<Vec<RuleStep<A>, A>, NoValue>
-    ensures { Answers (script_of_parts script.now) (put (bindings_of bindings.now) (Prefix channel.0 (fields_of fields.now) (process_of body.now))) result }
+    ensures { AnswersUnder script.now bindings.now (Prefix channel.0 (fields_of fields.now) (process_of body.now)) result }
 {
     let Some(declared) = script.channels.get(channel.0 as usize) else {
         return Err(NoValue::Cause(Cause::Kind));

@@ -1,12 +1,9 @@
 //! `P [[from <- to, ..]]` by the steps of `P`.
 
 ghost use Rattle.csp_syntax.specs.Process.{Renaming};
-ghost use Rattle.csp_semantics.specs.Meaning.Substitution.{put};
-ghost use Rattle.csp_expression.specs.Bindings.{bindings_of};
 ghost use Rattle.csp_event_sets.specs.Events.{renaming_pairs_of};
-ghost use Rattle.csp_term.specs.Script.{script_of_parts};
 ghost use Rattle.csp_term.specs.Term.{process_of};
-ghost use Rattle.csp_operators.specs.Answering.{Answers};
+ghost use Rattle.csp_rules.specs.Answering.{AnswersUnder};
 
 use crate::rules;
 use csp_event_sets::{RenamingPair, put_in_pairs};
@@ -22,7 +19,7 @@ pub(crate) fn steps<'v, A: AllocHandle>(
     pairs: &'v [RenamingPair<A>],
     body: &'v Term<A>,
 ) -> Result<Vec<RuleStep<A>, A>, NoValue>
-    ensures { Answers (script_of_parts script.now) (put (bindings_of bindings.now) (Renaming (process_of body.now) (renaming_pairs_of pairs.now))) result }
+    ensures { AnswersUnder script.now bindings.now (Renaming (process_of body.now) (renaming_pairs_of pairs.now)) result }
 {
     let body = rules::steps(alloc, script, bindings, body);
     let pairs = put_in_pairs(alloc, pairs, bindings)?;

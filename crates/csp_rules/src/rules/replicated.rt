@@ -2,19 +2,17 @@
 //! set, in order, with the value put in for the name. The steps of the chain are found from those of its instances, and
 //! of the chain itself no more is built than fits the limits.
 
-ghost use Rattle.std.specs.Prelude.{◌≡◌, ◌∷◌, [], IfOk, map};
+ghost use Rattle.std.specs.Prelude.{◌≡◌, IfOk};
 ghost use Rattle.csp_syntax.specs.Process.{ExternalChoice, InternalChoice, Interleaving, Skip, Stop};
-ghost use Rattle.csp_syntax.specs.Value.{Tau};
 ghost use Rattle.csp_syntax.specs.Operators.{replicated_process};
-ghost use Rattle.csp_semantics.specs.Meaning.Substitution.{put};
-ghost use Rattle.csp_semantics.specs.Meaning.Transitions.{chain, left_grouped};
-ghost use Rattle.csp_expression.specs.Bindings.{bindings_of};
+ghost use Rattle.csp_semantics.specs.Meaning.Transitions.{chain};
 ghost use Rattle.csp_expression.specs.Expression.{expression_of};
 ghost use Rattle.csp_term.specs.Script.{script_of_parts};
 ghost use Rattle.csp_term.specs.Term.{process_of};
-ghost use Rattle.csp_operators.specs.Answering.{Answers, answered_of, target_of, within_limits};
-ghost use Rattle.csp_operators.specs.Composing.{HaveSameSteps, IsSideOf, side_answers, under_both};
-ghost use Rattle.csp_rules.specs.Replicating.{AnswersChoices, instance_of, instances_of, looking_answers, looking_process};
+ghost use Rattle.csp_operators.specs.Answering.{AnswersIn, answers_of, target_of, within_limits};
+ghost use Rattle.csp_operators.specs.Composing.{HaveSameSteps, IsSideOf, answers_of_sides, process_of_sides, side_answers};
+ghost use Rattle.csp_rules.specs.Answering.{AnswersUnder};
+ghost use Rattle.csp_rules.specs.Replicating.{AnswersChoices, chosen_answers, instance_chain, instance_of, instances_of, looking_answers, looking_process};
 
 use crate::rules::{side, skip};
 use csp_expression::{Binding, Expr, NoValue};
@@ -34,7 +32,7 @@ pub(crate) fn steps<'v, A: AllocHandle>(
     set: &'v Expr<A>,
     body: &'v Term<A>,
 ) -> Result<Vec<RuleStep<A>, A>, NoValue>
-    ensures { Answers (script_of_parts script.now) (put (bindings_of bindings.now) (replicated_process operator name.0 (expression_of set.now) (process_of body.now))) result }
+    ensures { AnswersUnder script.now bindings.now (replicated_process operator name.0 (expression_of set.now) (process_of body.now)) result }
 {
     let seen = (&*set).look(alloc, &script.types, bindings)?;
     let Value::Set(members) = seen.value() else {
@@ -70,8 +68,8 @@ impl Looking {
         left: Side<A>,
         right: Side<A>,
     ) -> Result<Side<A>, Memory>
-        ensures process { IfOk result (λ side. target_of side.process ≡ under_both (looking_process self) (target_of left.process) (target_of right.process)) }
-        ensures steps { IfOk result (λ side. HaveSameSteps (side_answers side) (looking_answers self (target_of left.process) (side_answers left) (target_of right.process) (side_answers right))) }
+        ensures process { IfOk result (λ side. target_of side.process ≡ process_of_sides (looking_process self) left right) }
+        ensures steps { IfOk result (λ side. HaveSameSteps (side_answers side) (answers_of_sides (looking_answers self) left right)) }
     {
         match self {
             Looking::ExternalChoice => choice::between(alloc, left, right),
@@ -116,7 +114,7 @@ impl<'v, 'b, A: AllocHandle> Instances<'v, 'b, A> {
         first: &'v Value<A>,
         others: &'v [Value<A>],
     ) -> Result<Vec<RuleStep<A>, A>, NoValue>
-        ensures { Answers (script_of_parts self.now.script.now) (left_grouped (looking_process operator) (instance_of self.now first.now) (instances_of self.now others.now)) result }
+        ensures { AnswersIn self.now.script.now (instance_chain self.now (looking_process operator) first.now others.now) result }
     {
         let mut chain = self.side(first)?;
         for value in others {
@@ -128,7 +126,7 @@ impl<'v, 'b, A: AllocHandle> Instances<'v, 'b, A> {
 
     /// The chain of internal choices, of at least one, if it is within the limits.
     fn choices(&self, first: &'v Value<A>, others: &'v [Value<A>]) -> Result<Target<A>, Memory>
-        ensures { IfOk result (λ t. target_of t ≡ within_limits (left_grouped InternalChoice (instance_of self.now first.now) (instances_of self.now others.now))) }
+        ensures { IfOk result (λ t. target_of t ≡ within_limits (instance_chain self.now InternalChoice first.now others.now)) }
     {
         let mut chain = self.process(first)?;
         for value in others {
@@ -145,7 +143,7 @@ impl<'v, 'b, A: AllocHandle> Instances<'v, 'b, A> {
         others: &'v [Value<A>],
         last: &'v Value<A>,
     ) -> Result<Vec<RuleStep<A>, A>, Memory>
-        ensures { IfOk result (λ steps. map answered_of steps.items ≡ (Tau, within_limits (left_grouped InternalChoice (instance_of self.now first.now) (instances_of self.now others.now))) ∷ (Tau, within_limits (instance_of self.now last.now)) ∷ []) }
+        ensures { IfOk result (λ steps. answers_of steps ≡ chosen_answers self.now first.now others.now last.now) }
     {
         let chain = self.choices(first, others)?;
         let instance = self.process(last)?;
@@ -155,7 +153,7 @@ impl<'v, 'b, A: AllocHandle> Instances<'v, 'b, A> {
     /// The steps of `[]` over the values. Of none it is `STOP`.
     #[cycle(steps)]
     fn external(&self, values: &'v [Value<A>]) -> Result<Vec<RuleStep<A>, A>, NoValue>
-        ensures { Answers (script_of_parts self.now.script.now) (chain ExternalChoice Stop (instances_of self.now values.now)) result }
+        ensures { AnswersIn self.now.script.now (chain ExternalChoice Stop (instances_of self.now values.now)) result }
     {
         match values.split_first() {
             None => Ok(Vec::new(self.alloc)),
@@ -166,7 +164,7 @@ impl<'v, 'b, A: AllocHandle> Instances<'v, 'b, A> {
     /// The steps of `|||` over the values. Of none it is `SKIP`.
     #[cycle(steps)]
     fn interleaving(&self, values: &'v [Value<A>]) -> Result<Vec<RuleStep<A>, A>, NoValue>
-        ensures { Answers (script_of_parts self.now.script.now) (chain Interleaving Skip (instances_of self.now values.now)) result }
+        ensures { AnswersIn self.now.script.now (chain Interleaving Skip (instances_of self.now values.now)) result }
     {
         match values.split_first() {
             None => skip::steps(self.alloc, self.script),

@@ -1,9 +1,7 @@
 //! The sides of an operator.
 
-ghost use Rattle.csp_semantics.specs.Meaning.Substitution.{put};
-ghost use Rattle.csp_expression.specs.Bindings.{bindings_of};
 ghost use Rattle.csp_term.specs.Script.{script_of_parts};
-ghost use Rattle.csp_term.specs.Term.{process_of};
+ghost use Rattle.csp_operators.specs.Answering.{process_under};
 ghost use Rattle.csp_operators.specs.Composing.{AreSidesOf, IsSideOf};
 
 use crate::rules;
@@ -19,7 +17,7 @@ pub(crate) fn under<'v, A: AllocHandle>(
     bindings: &[Binding<'v, A>],
     term: &'v Term<A>,
 ) -> Result<Side<A>, NoValue>
-    ensures { IsSideOf (script_of_parts script.now) (put (bindings_of bindings.now) (process_of term.now)) result }
+    ensures { IsSideOf (script_of_parts script.now) (process_under bindings.now term.now) result }
 {
     let steps = rules::steps(alloc, script, bindings, term)?;
     let process = Target::put_in(alloc, term, bindings)?;
@@ -35,7 +33,7 @@ pub(crate) fn both<'v, A: AllocHandle>(
     left: &'v Term<A>,
     right: &'v Term<A>,
 ) -> Result<(Side<A>, Side<A>), NoValue>
-    ensures { AreSidesOf (script_of_parts script.now) (put (bindings_of bindings.now) (process_of left.now)) (put (bindings_of bindings.now) (process_of right.now)) result }
+    ensures { AreSidesOf (script_of_parts script.now) (process_under bindings.now left.now) (process_under bindings.now right.now) result }
 {
     let left = under(alloc, script, bindings, left)?;
     let right = under(alloc, script, bindings, right)?;

@@ -1,8 +1,7 @@
 //! `SKIP` ends by tick.
 
 ghost use Rattle.csp_syntax.specs.Process.{Skip};
-ghost use Rattle.csp_term.specs.Script.{script_of_parts};
-ghost use Rattle.csp_operators.specs.Answering.{Answers};
+ghost use Rattle.csp_operators.specs.Answering.{AnswersIn};
 
 use csp_expression::NoValue;
 use csp_operators::{RuleStep, Target, one_step};
@@ -12,7 +11,7 @@ pub(crate) fn steps<A: AllocHandle>(
     alloc: A,
     script: &ScriptParts<A>,
 ) -> Result<Vec<RuleStep<A>, A>, NoValue>
-    ensures { Answers (script_of_parts script.now) Skip result }
+    ensures { AnswersIn script.now Skip result }
 {
     let _script = script;
     let target = Target::Within(Term::new(alloc, TermForm::Omega)?);
