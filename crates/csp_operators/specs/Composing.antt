@@ -1,5 +1,5 @@
 -- What is answered of composed terms, by what is answered of their parts.
-use Rattle.std.specs.Prelude.{◌≡◌, ⊤, Bool, true, false, ◌&&◌, ◌↔◌, Contains, List, [], ◌∷◌, ◌++◌, cond, map, Option, Some, None, Result, Ok, Err}
+use Rattle.std.specs.Prelude.{◌≡◌, Bool, true, false, ◌&&◌, ◌↔◌, Contains, List, [], ◌∷◌, ◌++◌, cond, Option, Some, None, Result, Ok}
 use Rattle.std.specs.Option.{option_or}
 use Rattle.csp_syntax.specs.Value.{Action, Event, Tau, Tick, Ev, event_eq}
 use Rattle.csp_syntax.specs.Process.{Process, Omega, ExternalChoice, Sequential, Interleaving, Interrupt, AlphabetisedParallel, GeneralisedParallel, Hiding, Renaming, Script}
@@ -168,7 +168,7 @@ parallel_answers left_free right_free shared under o bs r cs =
     (each_answer (stay_answer right_free (λ u. under_both under o u) ((Tau, under_both under o (Some Omega)) ∷ [])) cs ++
     (each_answer (λ x t. each_answer (meet_answer shared under x t) cs) bs ++ ended_answer o r))
 
--- the sides share nothing
+-- each side does all of its events alone, since the sides share none
 abbrev pub interleaving_answers : Option Process → List Answered → Option Process → List Answered → List Answered
 interleaving_answers o bs r cs = parallel_answers always always never Interleaving o bs r cs
 
