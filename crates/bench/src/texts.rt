@@ -1,6 +1,6 @@
 //! Texts that are made of a part again and again.
 
-use anyhow::{Result, bail};
+use anyhow::Result;
 use csp_kinds::check;
 use csp_lex::{LONGEST_TEXT, tokens};
 use csp_parse::parse;
@@ -44,14 +44,7 @@ pub(crate) fn push_numbered(
 
 /// The script of a text that is not refused.
 pub(crate) fn script_of(alloc: Global, text: &str) -> Result<Script<Global>> {
-    let Ok(list) = tokens(alloc, text.as_bytes()) else {
-        bail!("a token is refused");
-    };
-    let Ok(raw) = parse(alloc, &list) else {
-        bail!("the text is no tree");
-    };
-    let Ok(script) = check(alloc, &raw) else {
-        bail!("a name or a kind is refused");
-    };
-    Ok(script)
+    let list = tokens(alloc, text.as_bytes())?;
+    let raw = parse(alloc, &list)?;
+    Ok(check(alloc, &raw)?)
 }
