@@ -1,6 +1,6 @@
 //! The answer is the same for every number of workers, and in whichever order they put.
 
-ghost use Rattle.std.specs.Prelude.{◌≤◌};
+ghost use Rattle.std.specs.Prelude.{◌≤◌, IfSome};
 ghost use Rattle.csp_answers.specs.Terms.{IsAssertionOf};
 ghost use Rattle.csp_term.specs.Script.{assertion_of, script_of};
 
@@ -43,56 +43,43 @@ static CHAINS: [(&str, &str); 2] = [
     (IN_A_BUFFER_OF_ONE, "1 fails trace <in.0> event in.0\n"),
 ];
 
-// The answer to the assertion.
+// The answer to the assertion, by so many workers, or by the caller alone where no number is given.
 fn outcome<R: Threads + Wait + Sync, G: Gate>(
     alloc: Global,
     rt: &R,
     script: &Script<Global>,
     assertion: &Assertion<Global>,
-    workers: usize,
+    workers: Option<usize>,
     gate: &G,
 ) -> Outcome<Global>
     requires terms { IsAssertionOf (script_of script.now) (assertion_of assertion.now) }
-    requires workers { (1 ≤ workers) × (workers ≤ 64) }
+    requires workers { IfSome workers (λ number. (1 ≤ number) × (number ≤ 64)) }
 {
     let limits = Limits::new(1000, 100);
-    explore(alloc, rt, script, assertion, limits, workers, gate)
+    match workers {
+        Some(number) => explore(alloc, rt, script, assertion, limits, number, gate),
+        None => explore_alone(alloc, script, assertion, limits),
+    }
 }
 
-// The line of an outcome.
-fn line(alloc: Global, script: &Script<Global>, outcome: Outcome<Global>) -> Result<Vec<u8>, Fail> {
-    let outcomes = [outcome];
-    let mut line = Buffer::new(alloc);
-    write(alloc, script, &outcomes, &mut line)?;
-    Ok(line.bytes)
-}
-
-// The line of the text's one assertion, by the caller alone.
-fn line_alone(alloc: Global, text: &str) -> Result<Vec<u8>, Fail> {
-    let script = script(alloc, text)?;
-    let Some(assertion) = script.assertions().first() else {
-        return Err(Fail::new("no assertion"));
-    };
-    let outcome = explore_alone(alloc, &script, assertion, Limits::new(1000, 100));
-    line(alloc, &script, outcome)
-}
-
-// The line of the text's one assertion, by so many workers.
+// The line of the text's one assertion, by so many workers or by the caller alone.
 fn line_by<R: Threads + Wait + Sync, G: Gate>(
     alloc: Global,
     rt: &R,
     text: &str,
-    workers: usize,
+    workers: Option<usize>,
     gate: &G,
 ) -> Result<Vec<u8>, Fail>
-    requires { (1 ≤ workers) × (workers ≤ 64) }
+    requires { IfSome workers (λ number. (1 ≤ number) × (number ≤ 64)) }
 {
     let script = script(alloc, text)?;
     let Some(assertion) = script.assertions().first() else {
         return Err(Fail::new("no assertion"));
     };
-    let outcome = outcome(alloc, rt, &script, assertion, workers, gate);
-    line(alloc, &script, outcome)
+    let outcomes = [outcome(alloc, rt, &script, assertion, workers, gate)];
+    let mut line = Buffer::new(alloc);
+    write(alloc, &script, &outcomes, &mut line)?;
+    Ok(line.bytes)
 }
 
 fn is_answered_held<R: Abort + Threads + Wait + Sync>(
@@ -101,10 +88,10 @@ fn is_answered_held<R: Abort + Threads + Wait + Sync>(
     row: &Held,
 ) -> Result<(), Fail> {
     let (text, levels, others, expected) = *row;
-    let alone = line_by(alloc, rt, text, 1, &Open)?;
+    let alone = line_by(alloc, rt, text, Some(1), &Open)?;
     assert!(rt; alone.as_slice() == expected.as_bytes(), "alone at {text}");
     let gate = Holding::new(levels, others);
-    let together = line_by(alloc, rt, text, 2, &gate)?;
+    let together = line_by(alloc, rt, text, Some(2), &gate)?;
     assert!(rt; together.as_slice() == expected.as_bytes(), "at {text}");
     assert!(rt; gate.held_and_saw(), "nobody overtook at {text}");
     Ok(())
@@ -121,7 +108,7 @@ fn two_workers(rt: HostRuntime) -> Result<(), Fail> {
 #[test]
 fn the_caller_alone(rt: HostRuntime) -> Result<(), Fail> {
     for (text, expected) in &CHAINS {
-        let line = line_alone(rt.alloc(), text)?;
+        let line = line_by(rt.alloc(), &rt, text, None, &Open)?;
         assert!(rt; line.as_slice() == expected.as_bytes(), "at {text}");
     }
     Ok(())
@@ -131,7 +118,7 @@ fn the_caller_alone(rt: HostRuntime) -> Result<(), Fail> {
 fn many_workers(rt: HostRuntime) -> Result<(), Fail> {
     for workers in [1, 2, 8, 64] {
         for (text, expected) in &CHAINS {
-            let line = line_by(rt.alloc(), &rt, text, workers, &Open)?;
+            let line = line_by(rt.alloc(), &rt, text, Some(workers), &Open)?;
             assert!(rt;
                 line.as_slice() == expected.as_bytes(),
                 "by {workers} at {text}"
