@@ -7,7 +7,7 @@ ghost use Rattle.csp_term.specs.Script.{script_of};
 ghost use Rattle.csp_term.specs.Term.{process_of};
 
 use crate::texts;
-use anyhow::{Result, ensure};
+use anyhow::{Context, Result, ensure};
 use csp_norm::normalise;
 use csp_term::{Script, Term};
 use std::alloc::Global;
@@ -36,7 +36,10 @@ fn specification(script: &Script<Global>) -> Result<&Term<Global>>
 {
     let assertions = script.assertions();
     ensure!(!assertions.is_empty(), "no assertion");
-    Ok(&assertions[0].specification)
+    assertions[0]
+        .property
+        .specification()
+        .context("no specification")
 }
 
 /// Says how many nodes a second are made of the specification, which has so many at least.

@@ -1,5 +1,5 @@
-//! Searches: of a hidden chain of buffers, a table of philosophers, a ring that passes a token, and a counter, which
-//! has a level for each of its pairs.
+//! Searches: of a hidden chain of buffers, a table of philosophers, a ring that passes a token, a counter, which has a
+//! level for each of its pairs, and for divergence of long chains of taus, in the order of the rows and against it.
 
 ghost use Rattle.std.specs.Prelude.{◌≤◌};
 

@@ -18,7 +18,7 @@ pub(crate) struct System {
     pub(crate) large: Size,
 }
 
-pub(crate) static SYSTEMS: [System; 4] = [
+pub(crate) static SYSTEMS: [System; 6] = [
     System {
         name: "chain of buffers",
         text: "channel c : {0..$}.{0..1}
@@ -79,6 +79,38 @@ assert UP [T= COUNTER(0)
         large: Size {
             size: 15000,
             pairs: 30002,
+        },
+    },
+    // Each row leads by a tau to the next one.
+    System {
+        name: "chain of taus onwards",
+        text: "CHAIN(n) = if n < $ then CHAIN(n+1) else STOP
+assert CHAIN(0) :[divergence free]
+",
+        small: Size {
+            size: 100,
+            pairs: 102,
+        },
+        large: Size {
+            size: 100000,
+            pairs: 100002,
+        },
+    },
+    // Of five rows one leads by a tau to one that was stored long before.
+    System {
+        name: "chain of taus backwards",
+        text: "channel up
+DOWN(n) = if n > 0 then DOWN(n-1) else STOP
+UP(n) = DOWN(n) |~| (n < $ & up -> UP(n+1))
+assert UP(0) :[divergence free]
+",
+        small: Size {
+            size: 20,
+            pairs: 105,
+        },
+        large: Size {
+            size: 20000,
+            pairs: 100005,
         },
     },
 ];

@@ -4,11 +4,12 @@ use Rattle.std.proofs.Common.{ℕ, ◌&&◌, Bool, true, false, List, [], ◌∷
 use Rattle.std.proofs.lemmas.List.{map-append}
 use Rattle.csp_text.specs.Place.{Place}
 use Rattle.csp_text.specs.Token.{PlacedToken}
-use Rattle.csp_text.specs.Raw.{RawName, RawExpression, RawExpressions, RawField, RawEvent, RawEventSet, RawPair, Infix, RawProcess, RawDomain, RawDeclaration, RawChannels, RawScript}
-use Rattle.csp_text.specs.Grammar.{IsName, name, AreNames, one_name, more_names, IsExpression, conjunction, or, IsConjunction, negation, and, IsNegation, comparison, not, IsComparison, sum, compare, IsSum, product, add, IsProduct, atom, multiply, IsAtom, true_word, false_word, bool_word, negate, length_of, bracketed, no_items, items, no_members, members, range, of_one, of_two, AreSums, one_sum, more_sums, AreExpressions, one_expression, more_expressions, AreDotted, no_dotted, dotted, IsEvent, event, AreEvents, one_event, more_events, AreLaterFields, no_fields, output, input, input_from, AreFields, later_fields, dotted_field, IsSetWord, union_of_sets, inter_of_sets, diff_of_sets, IsEventSet, no_events, events, productions, of_sets, ArePairs, one_pair, more_pairs, IsRenamingPart, renaming_part, IsHidingPart, hiding_part, IsProcess, conditional, replicated, renamed, hidden, operand, chain, generalised, alphabetised, IsRenamed, renamed_base, renamed_again, IsHidden, hidden_base, hidden_renamed, hidden_again, IsChain, two, longer, IsOperand, prefix, guard, base, IsBase, stop, skip, call, call_with, bracketed_process, AreAlternatives, one_alternative, more_alternatives, AreDomains, one_domain, more_domains, IsDeclaration, datatype, nametype, bare_channels, channels, equation, equation_with, assertion, IsScript, no_declarations, declarations}
-use Rattle.csp_checking.specs.Names.{Environment, environment_of, environment_above, binding, bound_by_fields, declared}
-use Rattle.csp_checking.specs.Sets.{behind_each, types_of, set_expression, channel_sets, field_members, channel_members}
-use Rattle.csp_checking.specs.Sites.{AsEquation, AsEvent, AsProductions, AsBareLeft, AsBareRight, Site, Used, BoundThere, Parameter, FieldSet, ChannelHead, site_place, sites, in_parameters, in_heads, in_field_sets, in_declaration, in_expression, in_expressions, number_of, in_fields, in_event, in_production, in_event_set, has_no_fields, in_pair, in_process}
+use Rattle.csp_text.specs.Raw.{RawProperty, RawName, RawExpression, RawExpressions, RawField, RawEvent, RawEventSet, RawPair, Infix, RawProcess, RawDomain, RawClause, RawDeclaration, RawChannels, RawScript, raw_expression_and}
+use Rattle.csp_text.specs.Grammar.{IsFirstSide, plain_side, negated_side, IsFreedom, deadlock_free, divergence_free, freedom, IsName, name, AreNames, one_name, more_names, IsExpression, conjunction, or, IsConjunction, negation, and, IsNegation, comparison, not, IsComparison, sum, compare, IsSum, product, add, IsProduct, atom, multiply, IsAtom, true_word, false_word, bool_word, negate, length_of, bracketed, no_items, items, no_members, members, range, of_one, of_two, AreSums, one_sum, more_sums, AreExpressions, one_expression, more_expressions, AreDotted, no_dotted, dotted, IsEvent, event, AreEvents, one_event, more_events, AreLaterFields, no_fields, output, input, input_from, AreFields, later_fields, dotted_field, IsSetWord, union_of_sets, inter_of_sets, diff_of_sets, IsEventSet, no_events, events, productions, of_sets, ArePairs, one_pair, more_pairs, IsRenamingPart, renaming_part, IsHidingPart, hiding_part, IsProcess, conditional, replicated, renamed, hidden, operand, chain, generalised, alphabetised, IsRenamed, renamed_base, renamed_again, IsHidden, hidden_base, hidden_renamed, hidden_again, IsChain, two, longer, IsOperand, prefix, guard, base, IsBase, stop, skip, call, call_with, bracketed_process, IsClause, bare_clause, clause, AreClauses, one_clause, more_clauses, AreDomains, one_domain, more_domains, IsDeclaration, datatype, nametype, bare_channels, channels, equation, equation_with, assertion, IsScript, no_declarations, declarations}
+use Rattle.csp_checking.specs.Names.{Environment, environment_of, environment_above, binding, bound_by_fields, clause_names, declared}
+use Rattle.csp_checking.specs.Resolving.{number_of}
+use Rattle.csp_checking.specs.Sets.{behind_each, datatypes_of, types_of, set_expression, channel_sets, members_above, field_members_with, field_members, channel_members}
+use Rattle.csp_checking.specs.Sites.{in_property, AsConstructor, AsEquation, AsEvent, AsProductions, AsBareLeft, AsBareRight, Site, Used, BoundThere, Parameter, FieldSet, ChannelHead, site_place, sites, in_parameters, in_heads, in_field_sets, with_clause, in_clause_sets, in_clauses, in_declaration, in_expression, in_expressions, in_fields, in_event, in_production, in_event_set, has_no_fields, in_pair, in_process}
 use Rattle.csp_checking.specs.Rules.{all_declared}
 use Rattle.csp_checking.specs.Fitting as Fitting
 use Rattle.csp_checking.specs.Fitting.{item_declared, item_place}
@@ -43,6 +44,10 @@ pub name_along : {a : List PlacedToken} {n : RawName} → IsName a n → StandAl
 name_along (name t cs e) = here no_places
 
 -- ---- expressions
+
+-- a name that is looked at, and sites behind it
+named_along : (x : Site) (xs : List Site) {a b : List PlacedToken} → StandAlong a (site_place x ∷ []) → SitesAlong b xs → SitesAlong (a ++ b) (x ∷ xs)
+named_along x xs h k = join h k
 
 -- a list of one
 one_more : (env : Environment) (e : RawExpression) {a : List PlacedToken} → SitesAlong a (in_expression env e) → SitesAlong a (in_expression env e ++ [])
@@ -90,6 +95,9 @@ mutual
   atom_along env (of_one {a} {b} {c} {d} u v h w) = before d (behind (a ++ b) (expression_along env h))
   atom_along env (of_two {a} {b} {c} {d} {x} {y} {o} {e} {f} u v h w k z) =
       before y (both (in_expression env e) (in_expression env f) (before d (behind (a ++ b) (expression_along env h))) (expression_along env k))
+  atom_along env (IsAtom.constructed {a} {b} {c} {d} {x} {y} {n} {e} {es} u h v k l w) =
+      let site = Used env (AsConstructor (number_of (raw_expression_and e es))) n in
+      before y (both (site ∷ in_expression env e) (in_expressions env es) (named_along site (in_expression env e) (before c (behind a (name_along h))) (atom_along env k)) (dotted_along env l))
 
   pub sums_along : (env : Environment) {a : List PlacedToken} {es : RawExpressions} → AreSums a es → SitesAlong a (in_expressions env es)
   sums_along env (one_sum {a} {e} h) = one_more env e (sum_along env h)
@@ -99,15 +107,11 @@ mutual
   expressions_along env (one_expression {a} {e} h) = one_more env e (expression_along env h)
   expressions_along env (more_expressions {a} {b} {c} {e} {es} h w k) = both (in_expression env e) (in_expressions env es) (before b (expression_along env h)) (expressions_along env k)
 
+  pub dotted_along : (env : Environment) {a : List PlacedToken} {es : RawExpressions} → AreDotted a es → SitesAlong a (in_expressions env es)
+  dotted_along env no_dotted = no_places
+  dotted_along env (dotted {a} {b} {c} {e} {es} w h k) = both (in_expression env e) (in_expressions env es) (behind a (atom_along env h)) (dotted_along env k)
+
 -- ---- events
-
-pub dotted_along : (env : Environment) {a : List PlacedToken} {es : RawExpressions} → AreDotted a es → SitesAlong a (in_expressions env es)
-dotted_along env no_dotted = no_places
-dotted_along env (dotted {a} {b} {c} {e} {es} w h k) = both (in_expression env e) (in_expressions env es) (behind a (atom_along env h)) (dotted_along env k)
-
--- a name that is looked at, and sites behind it
-named_along : (x : Site) (xs : List Site) {a b : List PlacedToken} → StandAlong a (site_place x ∷ []) → SitesAlong b xs → SitesAlong (a ++ b) (x ∷ xs)
-named_along x xs h k = join h k
 
 pub event_along : (env : Environment) {a : List PlacedToken} {e : RawEvent} → IsEvent a e → SitesAlong a (in_event env e)
 event_along env (event {a} {b} {n} {es} h k) = named_along (Used env (AsEvent (number_of es)) n) (in_expressions env es) (name_along h) (dotted_along env k)
@@ -248,8 +252,38 @@ domains_along raw above names done (more_domains t ts {b} {c} {e} {ds} h w k) =
     (in_field_sets raw above names (done ++ record { place = t.place; set = e } ∷ []) ds) (before b (here (atom_along (environment_above above) h)))
     (domains_along raw above names (done ++ record { place = t.place; set = e } ∷ []) k)
 
+pub clause_sets_along : (raw above : RawScript) (datatype_name : RawName) (clauses : List RawClause) (constructor : RawName) (done : List RawDomain) {a : List PlacedToken} {ds : List RawDomain} → AreDomains a ds →
+    SitesAlong a (in_clause_sets raw above datatype_name clauses constructor done ds)
+clause_sets_along raw above datatype_name clauses constructor done (one_domain t ts {e} h) = here (lone (in_expression (environment_above above) e) (atom_along (environment_above above) h))
+clause_sets_along raw above datatype_name clauses constructor done (more_domains t ts {b} {c} {e} {ds} h w k) =
+    both (FieldSet t.place (types_of raw) (with_clause above datatype_name clauses constructor (done ++ record { place = t.place; set = e } ∷ []))
+    (set_expression above (record { place = t.place; set = e }))
+    (field_members_with (datatypes_of raw) (members_above raw above) (set_expression above (record { place = t.place; set = e }))) ∷ in_expression (environment_above above) e)
+    (in_clause_sets raw above datatype_name clauses constructor (done ++ record { place = t.place; set = e } ∷ []) ds) (before b (here (atom_along (environment_above above) h)))
+    (clause_sets_along raw above datatype_name clauses constructor (done ++ record { place = t.place; set = e } ∷ []) k)
+
+pub clause_along : (raw above : RawScript) (datatype_name : RawName) (clauses : List RawClause) {a : List PlacedToken} {c : RawClause} → IsClause a c →
+    SitesAlong a (in_clause_sets raw above datatype_name clauses c.name [] c.fields)
+clause_along raw above datatype_name clauses (bare_clause h) = no_places
+clause_along raw above datatype_name clauses (clause {a} {b} {c} {n} {ds} h w k) = behind (a ++ b) (clause_sets_along raw above datatype_name clauses n [] k)
+
+pub clauses_along : (raw above : RawScript) (datatype_name : RawName) (done : List RawClause) {a : List PlacedToken} {cs : List RawClause} → AreClauses a cs → SitesAlong a (in_clauses raw above datatype_name done cs)
+clauses_along raw above datatype_name done (one_clause {a} {c} h) = lone (in_clause_sets raw above datatype_name done c.name [] c.fields) (clause_along raw above datatype_name done h)
+clauses_along raw above datatype_name done (more_clauses {a} {b} {d} {c} {cs} h w k) =
+    both (in_clause_sets raw above datatype_name done c.name [] c.fields) (in_clauses raw above datatype_name (done ++ c ∷ []) cs) (before b (clause_along raw above datatype_name done h))
+    (clauses_along raw above datatype_name (done ++ c ∷ []) k)
+
+first_side_along : (env : Environment) {a : List PlacedToken} {n : Bool} {p : RawProcess} → IsFirstSide a n p → SitesAlong a (in_process env p)
+first_side_along env (plain_side t ts other h) = process_along env h
+first_side_along env (negated_side {a} {b} w h) = behind a (process_along env h)
+
+-- an assertion of freedom has the sites of its one side
+free_along : (env : Environment) (p : RawProcess) (b c d : List PlacedToken) {a : RawProperty} → IsFreedom d a → SitesAlong b (in_process env p) → SitesAlong (b ++ c ++ d) (in_property env a ++ in_process env p)
+free_along env p b c d (deadlock_free o h k e) along = before d (before c along)
+free_along env p b c d (divergence_free o h k e) along = before d (before c along)
+
 pub declaration_along : (raw above : RawScript) {a : List PlacedToken} {d : RawDeclaration} → IsDeclaration a d → SitesAlong a (in_declaration raw above d)
-declaration_along raw above (datatype u h v k) = no_places
+declaration_along raw above (datatype {a} {b} {c} {d} {n} {cs} u h v k) = behind (a ++ b ++ c) (clauses_along raw above n [] k)
 declaration_along raw above (nametype t ts {a} {b} {c} {n} {e} u h v k) = behind (a ++ b ++ c) (here (expression_along (environment_above above) k))
 declaration_along raw above (bare_channels {a} {b} {ns} u h) =
     lone (in_heads raw (above ++ RawChannels ns [] ∷ []) (length (channel_sets above)) ns)
@@ -261,8 +295,9 @@ declaration_along raw above (equation {a} {b} {c} {n} {p} h u k) = behind (a ++ 
 declaration_along raw above (equation_with {a} {b} {c} {d} {x} {y} {n} {ns} {p} h u k v w i) =
     both (in_parameters (environment_of raw) ns) (in_process (binding (environment_of raw) ns) p)
     (before x (before d (behind (a ++ b) (parameters_along (environment_of raw) k)))) (process_along (binding (environment_of raw) ns) i)
-declaration_along raw above (assertion t {b} {c} {d} {m} {p} {q} u h v k) =
-    further (both (in_process (environment_of raw) p) (in_process (environment_of raw) q) (before c (process_along (environment_of raw) h)) (process_along (environment_of raw) k))
+declaration_along raw above (assertion t {b} {c} {d} {n} {m} {p} {q} u h v k) =
+    further (both (in_process (environment_of raw) p) (in_process (environment_of raw) q) (before c (first_side_along (environment_of raw) h)) (process_along (environment_of raw) k))
+declaration_along raw above (freedom t {b} {c} {d} {n} {a} {p} u h v k) = further (free_along (environment_of raw) p b c d k (first_side_along (environment_of raw) h))
 
 pub declarations_along : (raw above : RawScript) {a : List PlacedToken} {ds : RawScript} → IsScript a ds → SitesAlong a (behind_each (in_declaration raw) above ds)
 declarations_along raw above no_declarations = no_places
@@ -281,18 +316,23 @@ names_along : {a : List PlacedToken} {ns : List RawName} → AreNames a ns → S
 names_along (one_name h) = name_along h
 names_along (more_names {a} {b} {c} {n} {ns} h w k) = join (before b (name_along h)) (names_along k)
 
-alternatives_along : {a : List PlacedToken} {ns : List RawName} → AreAlternatives a ns → StandAlong a (name_places ns)
-alternatives_along (one_alternative h) = name_along h
-alternatives_along (more_alternatives {a} {b} {c} {n} {ns} h w k) = join (before b (name_along h)) (alternatives_along k)
+clause_name_along : {a : List PlacedToken} {c : RawClause} → IsClause a c → StandAlong a (c.name.place ∷ [])
+clause_name_along (bare_clause h) = name_along h
+clause_name_along (clause {a} {b} {c} {n} {ds} h w k) = before c (before b (name_along h))
+
+clause_names_along : {a : List PlacedToken} {cs : List RawClause} → AreClauses a cs → StandAlong a (name_places (clause_names cs))
+clause_names_along (one_clause h) = clause_name_along h
+clause_names_along (more_clauses {a} {b} {d} {c} {cs} h w k) = join (before b (clause_name_along h)) (clause_names_along k)
 
 declared_along : {a : List PlacedToken} {d : RawDeclaration} → IsDeclaration a d → StandAlong a (name_places (declared d))
-declared_along (datatype {a} {b} {c} {d} {n} {ns} u h v k) = join (before c (behind a (name_along h))) (alternatives_along k)
+declared_along (datatype {a} {b} {c} {d} {n} {cs} u h v k) = join (before c (behind a (name_along h))) (clause_names_along k)
 declared_along (nametype t ts {a} {b} {c} {n} {e} u h v k) = before (t ∷ ts) (before c (behind a (name_along h)))
 declared_along (bare_channels {a} {b} {ns} u h) = behind a (names_along h)
 declared_along (channels {a} {b} {c} {d} {ns} {ds} u h v k) = before d (before c (behind a (names_along h)))
 declared_along (equation {a} {b} {c} {n} {p} h u k) = before c (before b (name_along h))
 declared_along (equation_with {a} {b} {c} {d} {x} {y} {n} {ns} {p} h u k v w i) = before y (before x (before d (before c (before b (name_along h)))))
 declared_along (assertion t u h v k) = no_places
+declared_along (freedom t u h v k) = no_places
 
 pub all_declared_along : (ts : List PlacedToken) (raw : RawScript) → IsScript ts raw → StandAlong ts (name_places (all_declared raw))
 all_declared_along ts raw no_declarations = no_places
@@ -309,6 +349,7 @@ item_along above (channels u h v k) = no_places
 item_along above (equation {a} {b} {c} {n} {p} h u k) = before c (before b (name_along h))
 item_along above (equation_with {a} {b} {c} {d} {x} {y} {n} {ns} {p} h u k v w i) = before y (before x (before d (before c (before b (name_along h)))))
 item_along above (assertion t u h v k) = here no_places
+item_along above (freedom t u h v k) = here no_places
 
 items_behind : (above : RawScript) {a : List PlacedToken} {ds : RawScript} → IsScript a ds → StandAlong a (map item_place (behind_each item_declared above ds))
 items_behind above no_declarations = no_places

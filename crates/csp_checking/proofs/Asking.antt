@@ -134,15 +134,18 @@ pub fixed_rows : (n : ℕ) (rows : List (List ℕ)) → Each (Each (λ m. m < n)
 fixed_rows n [] h a b agree = refl
 fixed_rows n (r ∷ rows) h a b agree = ap₂ ◌∷◌ (fixed_numbers n r h.0 a b agree) (fixed_rows n rows h.1 a b agree)
 
-abbrev pub made_of : List Kind → List (List Kind) → List (List Kind) → Kinds
-made_of ks kss kps = record { nametypes = ks; channels = kss; parameters = kps }
+abbrev pub made_of : List Kind → List (List Kind) → List (List Kind) → List (List Kind) → Kinds
+made_of ks kcs kss kps = record { nametypes = ks; constructors = kcs; channels = kss; parameters = kps }
 
-pub same_record : (ks js : List Kind) (kss jss kps jps : List (List Kind)) → ks ≡ js → kss ≡ jss → kps ≡ jps → made_of ks kss kps ≡ made_of js jss jps
-same_record ks js kss jss kps jps e f g = ap (λ z. made_of z kss kps) e ∙ ap (λ z. made_of js z kps) f ∙ ap (λ z. made_of js jss z) g
+pub same_record : (ks js : List Kind) (kcs jcs kss jss kps jps : List (List Kind)) → ks ≡ js → kcs ≡ jcs → kss ≡ jss → kps ≡ jps → made_of ks kcs kss kps ≡ made_of js jcs jss jps
+same_record ks js kcs jcs kss jss kps jps e d f g =
+    ap (λ z. made_of z kcs kss kps) e ∙ ap (λ z. made_of js z kss kps) d ∙ ap (λ z. made_of js jcs z kps) f ∙ ap (λ z. made_of js jcs jss z) g
 
 pub fixed_kinds : (n : ℕ) (o : Numbering) → IsBelow n o → Fixed n (λ a. kinds_under a o)
-fixed_kinds n o below a b agree = same_record (map b o.nametypes) (map a o.nametypes) (map (map b) o.channels) (map (map a) o.channels) (map (map b) o.parameters) (map (map a) o.parameters)
-    (fixed_numbers n o.nametypes below.nametypes a b agree) (fixed_rows n o.channels below.channels a b agree) (fixed_rows n o.parameters below.parameters a b agree)
+fixed_kinds n o below a b agree =
+    same_record (map b o.nametypes) (map a o.nametypes) (map (map b) o.constructors) (map (map a) o.constructors) (map (map b) o.channels) (map (map a) o.channels) (map (map b) o.parameters) (map (map a) o.parameters)
+    (fixed_numbers n o.nametypes below.nametypes a b agree) (fixed_rows n o.constructors below.constructors a b agree) (fixed_rows n o.channels below.channels a b agree)
+    (fixed_rows n o.parameters below.parameters a b agree)
 
 pub fixed_names : (n : ℕ) (names : Numbered) → NamesBelow n names → Fixed n (λ a. scope_under a names)
 fixed_names n [] h a b agree = refl
@@ -161,6 +164,7 @@ rows_less n m (r ∷ rows) le h = (each_less n m r le h.0, rows_less n m rows le
 pub below_more : (n m : ℕ) (o : Numbering) → n ≤ m → IsBelow n o → IsBelow m o
 below_more n m o le h = record {
   nametypes = each_less n m o.nametypes le h.nametypes;
+  constructors = rows_less n m o.constructors le h.constructors;
   channels = rows_less n m o.channels le h.channels;
   parameters = rows_less n m o.parameters le h.parameters;
 }

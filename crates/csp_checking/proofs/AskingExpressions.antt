@@ -1,16 +1,19 @@
 -- The equations of values and expressions ask for their kinds.
-use Rattle.std.proofs.Common.{◌≡◌, ℕ, zero, suc, ◌≤◌, ◌<◌, nat_eq, Bool, true, false, cond, List, [], ◌∷◌, ◌++◌, map, slice_get, ℤ, Option, Some, None, refl, sym, ◌∙◌, ap, subst, arith}
-use Rattle.std.specs.Prelude.{option_map}
+use Rattle.std.proofs.Common.{◌≡◌, ℕ, suc, ◌≤◌, ◌<◌, nat_eq, Bool, true, false, cond, List, [], ◌∷◌, ◌++◌, map, slice_get, ℤ, Option, Some, None, refl, sym, ◌∙◌, ap, subst, arith}
+use Rattle.std.specs.Prelude.{option_map, ⊤}
 use Rattle.std.proofs.lemmas.Option.{slice_get-map}
-use Rattle.csp_syntax.specs.Value.{Value, Integer, Truth, Constructor, Sequence, Set, Values, no_values, value_and}
-use Rattle.csp_syntax.specs.Expression.{Unary, Negate, Not, Length, Head, Tail, IsNull, Card, Binary, Add, Subtract, Multiply, Modulus, Concatenate, Equals, Differs, LessThan, AtMost, GreaterThan, AtLeast, And, Or, IsElement, IsMember, Union, Intersection, Difference, Expression, Literal, Name, Apply, Combine, SequenceOf, SetOf, Range, Booleans, Datatype, Nametype, Expressions, no_expressions, expression_and}
+use Rattle.csp_syntax.specs.Value.{Value, Integer, Truth, Constructor, Sequence, Set, Values, no_values, value_and, values_list, value_cmp}
+use Rattle.csp_syntax.specs.Expression.{Unary, Negate, Not, Length, Head, Tail, IsNull, Card, Binary, Add, Subtract, Multiply, Modulus, Concatenate, Equals, Differs, LessThan, AtMost, GreaterThan, AtLeast, And, Or, IsElement, IsMember, Union, Intersection, Difference, Expression, Literal, Name, Apply, Combine, SequenceOf, SetOf, Range, Booleans, Datatype, Nametype, ConstructorOf, Expressions, no_expressions, expression_and}
 use Rattle.csp_syntax.specs.Types.{Types}
+use Rattle.csp_semantics.specs.Meaning.Offers.{RisesBy, rises}
 use Rattle.csp_semantics.specs.Kinds.Kind.{Kind, IntKind, BoolKind, DatatypeKind, SequenceKind, SetKind, Kinds, Scope, kind_of_name, Each}
-use Rattle.csp_semantics.specs.Kinds.Values.{IsValueOf, AreValuesOf}
+use Rattle.csp_semantics.specs.Kinds.Values.{IsValueOf, AreValuesOf, AreValuesInTurn}
 use Rattle.csp_semantics.specs.Kinds.Expressions.{UnaryKinds, negate, negation, count, head, tail, is_null, card, BinaryKinds, add, subtract, multiply, remainder, concatenate, equals, differs, less_than, at_most, greater_than, at_least, conjunction, disjunction, is_element, is_member, unite, intersect, subtract_set, HasKind, AllHaveKind, HaveKinds, HaveFirstKinds}
 use Rattle.csp_checking.specs.Inference.Chain.{Chain, IntEnd, BoolEnd, DatatypeEnd, OpenEnd, SequenceOver, SetOver, Assignment, kind_of, assign, AgreeBelow}
-use Rattle.csp_checking.specs.Inference.Equations.{Ask, Numbering, kinds_under, Numbered, scope_under, number_of_name, IsBelow, NamesBelow, IsChainBelow, AreOwners}
-use Rattle.csp_checking.specs.Inference.Expressions.{behind_unary, operand, unary_value, behind_binary, left_operand, right_operand, binary_value, behind_value, behind_values, behind_expression, behind_expressions, of_value, of_values, of_expression, of_expressions, of_all, of_first}
+use Rattle.csp_semantics.proofs.Misfits.{each_got}
+use Rattle.csp_semantics.proofs.RisingValues.{told_rises, rises_told}
+use Rattle.csp_checking.specs.Inference.Equations.{Ask, never, when, Numbering, kinds_under, Numbered, scope_under, number_of_name, IsBelow, NamesBelow, IsChainBelow, AreOwners}
+use Rattle.csp_checking.specs.Inference.Expressions.{behind_unary, operand, unary_value, behind_binary, left_operand, right_operand, binary_value, behind_value, behind_values, behind_expression, behind_expressions, of_rising, of_value, of_values, of_values_in_turn, of_expression, of_expressions, of_all, of_first}
 use Rattle.csp_checking.proofs.Asking.{below_more, names_more, each_less, fixed_numbers, fixed_kinds, fixed_names, assigned, assigned_above, Fixed, Hangs, fixed_more, fixed_chain, ask_nothing, ask_equal, ask_both, ask_more, ask_same, ask_never, ask_when, ask_own}
 
 -- ---- operators
@@ -144,70 +147,170 @@ number_below P (b ∷ names) x m h e = by_test (nat_eq b.0 x) (number_below P na
     by_test true rest f = let same : b.1 ≡ m = cc f in subst P same h.0
     by_test false rest f = rest f
 
-pub each_got : {A : Type 0} (P : A → Type 0) (xs : List A) (n : ℕ) (x : A) → Each P xs → slice_get xs n ≡ Some x → P x
-each_got P [] n x h e = absurd (cc e)
-each_got P (y ∷ xs) zero x h e = let same : y ≡ x = cc e in subst P same h.0
-each_got P (y ∷ xs) (suc n) x h e = each_got P xs n x h.1 e
-
 pub some_mapped : {A B : Type 0} (f : A → B) (o : Option A) (y : B) → option_map f o ≡ Some y → (x : A) × (o ≡ Some x) × (f x ≡ y)
 some_mapped f None y e = absurd (cc e)
 some_mapped f (Some x) y e = (x, refl, cc e)
 
+-- ---- numbers rise
+
+mutual
+  value_rises : (n : ℕ) (v : Value) → n ≤ behind_value n v
+  value_rises n (Integer z) = omega arith
+  value_rises n (Truth b) = omega arith
+  value_rises n (Constructor c vs) = values_rise n vs
+  value_rises n (Sequence vs) = let rest : suc n ≤ behind_values (suc n) vs = values_rise (suc n) vs in omega (arith, rest)
+  value_rises n (Set vs) = let rest : suc n ≤ behind_values (suc n) vs = values_rise (suc n) vs in omega (arith, rest)
+
+  values_rise : (n : ℕ) (vs : Values) → n ≤ behind_values n vs
+  values_rise n no_values = omega arith
+  values_rise n (value_and v vs) =
+      let first : n ≤ behind_value n v = value_rises n v in
+      let rest : behind_value n v ≤ behind_values (behind_value n v) vs = values_rise (behind_value n v) vs in omega (arith, first, rest)
+
+mutual
+  expression_rises : (n : ℕ) (e : Expression) → n ≤ behind_expression n e
+  expression_rises n (Literal v) = value_rises n v
+  expression_rises n (Name x) = omega arith
+  expression_rises n (Apply op e) =
+      let first : n ≤ behind_unary op n = unary_rises op n in
+      let rest : behind_unary op n ≤ behind_expression (behind_unary op n) e = expression_rises (behind_unary op n) e in omega (arith, first, rest)
+  expression_rises n (Combine op e f) =
+      let first : n ≤ behind_binary op n = binary_rises op n in
+      let second : behind_binary op n ≤ behind_expression (behind_binary op n) e = expression_rises (behind_binary op n) e in
+      let third : behind_expression (behind_binary op n) e ≤ behind_expression (behind_expression (behind_binary op n) e) f = expression_rises (behind_expression (behind_binary op n) e) f in
+      omega (arith, first, second, third)
+  expression_rises n (SequenceOf es) = let rest : suc n ≤ behind_expressions (suc n) es = expressions_rise (suc n) es in omega (arith, rest)
+  expression_rises n (SetOf es) = let rest : suc n ≤ behind_expressions (suc n) es = expressions_rise (suc n) es in omega (arith, rest)
+  expression_rises n (Range e f) =
+      let first : n ≤ behind_expression n e = expression_rises n e in
+      let rest : behind_expression n e ≤ behind_expression (behind_expression n e) f = expression_rises (behind_expression n e) f in omega (arith, first, rest)
+  expression_rises n Booleans = omega arith
+  expression_rises n (Datatype d) = omega arith
+  expression_rises n (Nametype x) = omega arith
+  expression_rises n (ConstructorOf c es) = expressions_rise n es
+
+  expressions_rise : (n : ℕ) (es : Expressions) → n ≤ behind_expressions n es
+  expressions_rise n no_expressions = omega arith
+  expressions_rise n (expression_and e es) =
+      let first : n ≤ behind_expression n e = expression_rises n e in
+      let rest : behind_expression n e ≤ behind_expressions (behind_expression n e) es = expressions_rise (behind_expression n e) es in omega (arith, first, rest)
+
 module _ (types : Types) (o : Numbering) (owners : AreOwners types o) where
   -- ---- values
 
-  integer_only : (z : ℤ) (k : Kind) → IsValueOf types (Integer z) k → IntKind ≡ k
-  integer_only z IntKind h = refl
-  integer_only z _ h = absurd h
+  integer_only : (kinds : Kinds) (z : ℤ) (k : Kind) → IsValueOf types kinds (Integer z) k → IntKind ≡ k
+  integer_only kinds z IntKind h = refl
+  integer_only kinds z _ h = absurd h
 
-  truth_only : (t : Bool) (k : Kind) → IsValueOf types (Truth t) k → BoolKind ≡ k
-  truth_only t BoolKind h = refl
-  truth_only t _ h = absurd h
+  truth_only : (kinds : Kinds) (t : Bool) (k : Kind) → IsValueOf types kinds (Truth t) k → BoolKind ≡ k
+  truth_only kinds t BoolKind h = refl
+  truth_only kinds t _ h = absurd h
 
-  constructor_only : (c : ℕ) (k : Kind) → IsValueOf types (Constructor c) k → (d : ℕ) × (DatatypeKind d ≡ k) × (slice_get o.owners c ≡ Some d)
-  constructor_only c (DatatypeKind d) h = (d, refl, (owners d c).0 h)
-  constructor_only c _ h = absurd h
+  -- the fields of a constructor have the kinds of its fields in turn
+  abbrev FieldsFit : ℕ → Values → Kinds → Type 0
+  FieldsFit c vs kinds = (ks : List Kind) × (slice_get kinds.constructors c ≡ Some ks) × AreValuesInTurn types kinds vs ks
 
-  sequence_only : (vs : Values) (k : Kind) → IsValueOf types (Sequence vs) k → (j : Kind) × (SequenceKind j ≡ k) × AreValuesOf types vs j
-  sequence_only vs (SequenceKind j) h = (j, refl, h)
-  sequence_only vs _ h = absurd h
+  constructor_only : (kinds : Kinds) (c : ℕ) (vs : Values) (k : Kind) → IsValueOf types kinds (Constructor c vs) k → (d : ℕ) × (DatatypeKind d ≡ k) × (slice_get o.owners c ≡ Some d) × FieldsFit c vs kinds
+  constructor_only kinds c vs (DatatypeKind d) h = (d, refl, (owners d c).0 h.0, h.1)
+  constructor_only kinds c vs _ h = absurd h
 
-  set_only : (vs : Values) (k : Kind) → IsValueOf types (Set vs) k → (j : Kind) × (SetKind j ≡ k) × AreValuesOf types vs j
-  set_only vs (SetKind j) h = (j, refl, h)
-  set_only vs _ h = absurd h
+  sequence_only : (kinds : Kinds) (vs : Values) (k : Kind) → IsValueOf types kinds (Sequence vs) k → (j : Kind) × (SequenceKind j ≡ k) × AreValuesOf types kinds vs j
+  sequence_only kinds vs (SequenceKind j) h = (j, refl, h)
+  sequence_only kinds vs _ h = absurd h
+
+  set_only : (kinds : Kinds) (vs : Values) (k : Kind) → IsValueOf types kinds (Set vs) k → (j : Kind) × (SetKind j ≡ k) × (AreValuesOf types kinds vs j × RisesBy value_cmp (values_list vs))
+  set_only kinds vs (SetKind j) h = (j, refl, h)
+  set_only kinds vs _ h = absurd h
 
   own_fixed : (n : ℕ) → Fixed (suc n) (λ a. kind_of a (OpenEnd n))
   own_fixed n a b agree = agree n (omega arith)
 
-  mutual
-    pub value_asks : (n : ℕ) (v : Value) (k : Chain) → Fixed n (λ a. kind_of a k) → Ask n (of_value o n v k) (behind_value n v) (λ a. IsValueOf types v (kind_of a k))
-    value_asks n (Integer z) k fixed =
-        ask_same n n ((IntEnd, k) ∷ []) (λ a. IntKind ≡ kind_of a k) (λ a. IsValueOf types (Integer z) (kind_of a k))
-        (ask_equal n IntEnd k (λ a b agree. refl) fixed) (λ a e. subst (IsValueOf types (Integer z)) e tt) (λ a h. integer_only z (kind_of a k) h)
-    value_asks n (Truth t) k fixed =
-        ask_same n n ((BoolEnd, k) ∷ []) (λ a. BoolKind ≡ kind_of a k) (λ a. IsValueOf types (Truth t) (kind_of a k))
-        (ask_equal n BoolEnd k (λ a b agree. refl) fixed) (λ a e. subst (IsValueOf types (Truth t)) e tt) (λ a h. truth_only t (kind_of a k) h)
-    value_asks n (Constructor c) k fixed = ask_when n n (slice_get o.owners c) (λ d. (DatatypeEnd d, k) ∷ []) (λ a. IsValueOf types (Constructor c) (kind_of a k)) (omega arith)
-        (λ d is. ask_same n n ((DatatypeEnd d, k) ∷ []) (λ a. DatatypeKind d ≡ kind_of a k) (λ a. IsValueOf types (Constructor c) (kind_of a k))
-        (ask_equal n (DatatypeEnd d) k (λ a b agree. refl) fixed)
-        (λ a e. subst (IsValueOf types (Constructor c)) e ((owners d c).1 is))
-        (λ a h. let x = constructor_only c (kind_of a k) h in let same : x.0 ≡ d = cc (sym x.2 ∙ is) in ap DatatypeKind (sym same) ∙ x.1))
-        (λ none a h. let x = constructor_only c (kind_of a k) h in cc (sym none ∙ x.2))
-    value_asks n (Sequence vs) k fixed =
-        ask_own n (behind_values (suc n) vs) k (SequenceOver (OpenEnd n)) SequenceKind (of_values o (suc n) vs (OpenEnd n)) (λ a j. AreValuesOf types vs j)
-        (λ a j. IsValueOf types (Sequence vs) j) (λ a. refl) fixed
-        (values_asks (suc n) vs (OpenEnd n) (own_fixed n)) (λ a b j agree h. h) (λ a j h. h) (λ a i h. sequence_only vs i h)
-    value_asks n (Set vs) k fixed =
-        ask_own n (behind_values (suc n) vs) k (SetOver (OpenEnd n)) SetKind (of_values o (suc n) vs (OpenEnd n)) (λ a j. AreValuesOf types vs j) (λ a j. IsValueOf types (Set vs) j) (λ a. refl) fixed
-        (values_asks (suc n) vs (OpenEnd n) (own_fixed n)) (λ a b j agree h. h) (λ a j h. h) (λ a i h. set_only vs i h)
+  -- what hangs on the kinds alone, and on them and more
+  kinds_hang : (n : ℕ) (P : Kinds → Type 0) → IsBelow n o → Hangs n (λ a. P (kinds_under a o))
+  kinds_hang n P below a b agree h = subst P (sym (fixed_kinds n o below a b agree)) h
 
-    pub values_asks : (n : ℕ) (vs : Values) (k : Chain) → Fixed n (λ a. kind_of a k) → Ask n (of_values o n vs k) (behind_values n vs) (λ a. AreValuesOf types vs (kind_of a k))
-    values_asks n no_values k fixed = ask_nothing n
-    values_asks n (value_and v vs) k fixed =
+  both_hang : {X : Type 0} (n : ℕ) (P : Kinds → X → Type 0) (x : Assignment → X) → IsBelow n o → Fixed n x → Hangs n (λ a. P (kinds_under a o) (x a))
+  both_hang n P x below fixed a b agree h = subst (P (kinds_under b o)) (sym (fixed a b agree)) (subst (λ K. P K (x a)) (sym (fixed_kinds n o below a b agree)) h)
+
+  -- the equations of the fields of a constructor
+  fields_ask : (n : ℕ) (c : ℕ) (vs : Values) → IsBelow n o → n ≤ behind_values n vs →
+      ((ms : List ℕ) → Each (λ m. m < n) ms → Ask n (of_values_in_turn o n vs ms) (behind_values n vs) (λ a. AreValuesInTurn types (kinds_under a o) vs (map a ms))) → Ask n (when (slice_get o.constructors c) (of_values_in_turn o n vs)) (behind_values n vs) (λ a. FieldsFit c vs (kinds_under a o))
+  fields_ask n c vs below rising turn =
+      let p = behind_values n vs in
+      ask_when n p (slice_get o.constructors c) (of_values_in_turn o n vs) (λ a. FieldsFit c vs (kinds_under a o)) rising
+      (λ ms is. ask_same n p (of_values_in_turn o n vs ms) (λ a. AreValuesInTurn types (kinds_under a o) vs (map a ms)) (λ a. FieldsFit c vs (kinds_under a o))
+      (turn ms (each_got (Each (λ m. m < n)) o.constructors c ms below.constructors is))
+      (λ a h. (map a ms, slice_get-map (map a) o.constructors c ∙ ap (option_map (map a)) is, h))
+      (λ a h.
+      let e : Some (map a ms) ≡ Some h.0 = sym (ap (option_map (map a)) is) ∙ sym (slice_get-map (map a) o.constructors c) ∙ h.1 in
+      let same : map a ms ≡ h.0 = cc e in subst (AreValuesInTurn types (kinds_under a o) vs) (sym same) h.2))
+      (λ none a h. let e : None ≡ Some h.0 = sym (ap (option_map (map a)) none) ∙ sym (slice_get-map (map a) o.constructors c) ∙ h.1 in cc e)
+
+  -- what is asked of the members of a set for their order
+  rising_asks : (p : ℕ) (vs : Values) → Ask p (of_rising vs) p (λ a. RisesBy value_cmp (values_list vs))
+  rising_asks p vs = by (rises (values_list vs)) refl
+    where
+      by : (b : Bool) → rises (values_list vs) ≡ b → Ask p (cond b [] never) p (λ a. RisesBy value_cmp (values_list vs))
+      by true is = ask_same p p [] (λ a. ⊤) (λ a. RisesBy value_cmp (values_list vs)) (ask_nothing p) (λ a h. told_rises (values_list vs) is) (λ a h. tt)
+      by false is = ask_never p p _ (omega arith) (λ a h. let e = sym is ∙ rises_told (values_list vs) h in absurd (cc e))
+
+  mutual
+    pub value_asks : (n : ℕ) (v : Value) (k : Chain) → IsBelow n o → Fixed n (λ a. kind_of a k) → Ask n (of_value o n v k) (behind_value n v) (λ a. IsValueOf types (kinds_under a o) v (kind_of a k))
+    value_asks n (Integer z) k below fixed =
+        ask_same n n ((IntEnd, k) ∷ []) (λ a. IntKind ≡ kind_of a k) (λ a. IsValueOf types (kinds_under a o) (Integer z) (kind_of a k))
+        (ask_equal n IntEnd k (λ a b agree. refl) fixed) (λ a e. subst (IsValueOf types (kinds_under a o) (Integer z)) e tt) (λ a h. integer_only (kinds_under a o) z (kind_of a k) h)
+    value_asks n (Truth t) k below fixed =
+        ask_same n n ((BoolEnd, k) ∷ []) (λ a. BoolKind ≡ kind_of a k) (λ a. IsValueOf types (kinds_under a o) (Truth t) (kind_of a k))
+        (ask_equal n BoolEnd k (λ a b agree. refl) fixed) (λ a e. subst (IsValueOf types (kinds_under a o) (Truth t)) e tt) (λ a h. truth_only (kinds_under a o) t (kind_of a k) h)
+    value_asks n (Constructor c vs) k below fixed =
+        let p = behind_values n vs in
+        let rising : n ≤ p = values_rise n vs in
+        let fields = when (slice_get o.constructors c) (of_values_in_turn o n vs) in
+        let Whole : Assignment → Type 0 = λ a. IsValueOf types (kinds_under a o) (Constructor c vs) (kind_of a k) in
+        ask_when n p (slice_get o.owners c) (λ d. (DatatypeEnd d, k) ∷ fields) Whole rising
+        (λ d is. ask_same n p ((DatatypeEnd d, k) ∷ fields) (λ a. (DatatypeKind d ≡ kind_of a k) × FieldsFit c vs (kinds_under a o)) Whole
+        (ask_both n n p ((DatatypeEnd d, k) ∷ []) fields (λ a. DatatypeKind d ≡ kind_of a k) (λ a. FieldsFit c vs (kinds_under a o)) (ask_equal n (DatatypeEnd d) k (λ a b agree. refl) fixed)
+        (fields_ask n c vs below rising (λ ms small. turn_asks n vs ms below small)) (kinds_hang n (FieldsFit c vs) below))
+        (λ a x. subst (IsValueOf types (kinds_under a o) (Constructor c vs)) x.0 ((owners d c).1 is, x.1))
+        (λ a h. let x = constructor_only (kinds_under a o) c vs (kind_of a k) h in let same : x.0 ≡ d = cc (sym x.2 ∙ is) in (ap DatatypeKind (sym same) ∙ x.1, x.3)))
+        (λ none a h. let x = constructor_only (kinds_under a o) c vs (kind_of a k) h in let e = sym none ∙ x.2 in cc e)
+    value_asks n (Sequence vs) k below fixed =
+        ask_own n (behind_values (suc n) vs) k (SequenceOver (OpenEnd n)) SequenceKind (of_values o (suc n) vs (OpenEnd n)) (λ a j. AreValuesOf types (kinds_under a o) vs j)
+        (λ a j. IsValueOf types (kinds_under a o) (Sequence vs) j) (λ a. refl) fixed
+        (values_asks (suc n) vs (OpenEnd n) (below_more n (suc n) o (omega arith) below) (own_fixed n)) (λ a b j agree h. kinds_hang n (λ K. AreValuesOf types K vs j) below a b agree h)
+        (λ a j h. h) (λ a i h. sequence_only (kinds_under a o) vs i h)
+    value_asks n (Set vs) k below fixed =
+        let p = behind_values (suc n) vs in
+        let more = below_more n (suc n) o (omega arith) below in
+        ask_own n p k (SetOver (OpenEnd n)) SetKind (of_values o (suc n) vs (OpenEnd n) ++ of_rising vs) (λ a j. AreValuesOf types (kinds_under a o) vs j × RisesBy value_cmp (values_list vs))
+        (λ a j. IsValueOf types (kinds_under a o) (Set vs) j) (λ a. refl) fixed
+        (ask_both (suc n) p p (of_values o (suc n) vs (OpenEnd n)) (of_rising vs) (λ a. AreValuesOf types (kinds_under a o) vs (a n)) (λ a. RisesBy value_cmp (values_list vs))
+        (values_asks (suc n) vs (OpenEnd n) more (own_fixed n)) (rising_asks p vs) (λ a b agree h. h))
+        (λ a b j agree h. (kinds_hang n (λ K. AreValuesOf types K vs j) below a b agree h.0, h.1)) (λ a j h. h) (λ a i h. set_only (kinds_under a o) vs i h)
+
+    pub values_asks : (n : ℕ) (vs : Values) (k : Chain) → IsBelow n o → Fixed n (λ a. kind_of a k) →
+        Ask n (of_values o n vs k) (behind_values n vs) (λ a. AreValuesOf types (kinds_under a o) vs (kind_of a k))
+    values_asks n no_values k below fixed = ask_nothing n
+    values_asks n (value_and v vs) k below fixed =
+        let first = value_asks n v k below fixed in
         ask_both n (behind_value n v) (behind_values (behind_value n v) vs) (of_value o n v k) (of_values o (behind_value n v) vs k)
-        (λ a. IsValueOf types v (kind_of a k)) (λ a. AreValuesOf types vs (kind_of a k)) (value_asks n v k fixed)
-        (values_asks (behind_value n v) vs k (fixed_more n (behind_value n v) (λ a. kind_of a k) (value_asks n v k fixed).rising fixed))
-        (λ a b agree h. subst (AreValuesOf types vs) (sym (fixed a b agree)) h)
+        (λ a. IsValueOf types (kinds_under a o) v (kind_of a k)) (λ a. AreValuesOf types (kinds_under a o) vs (kind_of a k)) first
+        (values_asks (behind_value n v) vs k (below_more n (behind_value n v) o first.rising below) (fixed_more n (behind_value n v) (λ a. kind_of a k) first.rising fixed))
+        (both_hang n (λ K j. AreValuesOf types K vs j) (λ a. kind_of a k) below fixed)
+
+    -- fields in turn, with the numbers of their kinds
+    turn_asks : (n : ℕ) (vs : Values) (ms : List ℕ) → IsBelow n o → Each (λ m. m < n) ms →
+        Ask n (of_values_in_turn o n vs ms) (behind_values n vs) (λ a. AreValuesInTurn types (kinds_under a o) vs (map a ms))
+    turn_asks n no_values [] below small = ask_nothing n
+    turn_asks n no_values (m ∷ ms) below small = ask_never n n _ (omega arith) (λ a h. h)
+    turn_asks n (value_and v vs) [] below small = ask_never n (behind_values n (value_and v vs)) _ (values_rise n (value_and v vs)) (λ a h. h)
+    turn_asks n (value_and v vs) (m ∷ ms) below small =
+        let p = behind_value n v in
+        let first = value_asks n v (OpenEnd m) below (λ a b agree. agree m small.0) in
+        ask_both n p (behind_values p vs) (of_value o n v (OpenEnd m)) (of_values_in_turn o p vs ms) (λ a. IsValueOf types (kinds_under a o) v (a m))
+        (λ a. AreValuesInTurn types (kinds_under a o) vs (map a ms)) first
+        (turn_asks p vs ms (below_more n p o first.rising below) (each_less n p ms first.rising small.1))
+        (both_hang n (λ K ks. AreValuesInTurn types K vs ks) (λ a. map a ms) below (fixed_numbers n ms small.1))
 
   -- ---- expressions
 
@@ -228,6 +331,15 @@ module _ (types : Types) (o : Numbering) (owners : AreOwners types o) where
   nametype_only : (kinds : Kinds) (scope : Scope) (x : ℕ) (k : Kind) → HasKind types kinds scope (Nametype x) k → (j : Kind) × (SetKind j ≡ k) × (slice_get kinds.nametypes x ≡ Some j)
   nametype_only kinds scope x (SetKind j) h = (j, refl, h)
   nametype_only kinds scope x _ h = absurd h
+
+  -- the fields that are written have the kinds of the constructor's fields in turn
+  abbrev GivenFit : ℕ → Expressions → Kinds → Scope → Type 0
+  GivenFit c es kinds scope = (ks : List Kind) × (slice_get kinds.constructors c ≡ Some ks) × HaveKinds types kinds scope es ks
+
+  written_only : (kinds : Kinds) (scope : Scope) (c : ℕ) (es : Expressions) (k : Kind) → HasKind types kinds scope (ConstructorOf c es) k →
+      (d : ℕ) × (DatatypeKind d ≡ k) × (slice_get o.owners c ≡ Some d) × GivenFit c es kinds scope
+  written_only kinds scope c es (DatatypeKind d) h = (d, refl, (owners d c).0 h.0, h.1)
+  written_only kinds scope c es _ h = absurd h
 
   all_sequence_only : (kinds : Kinds) (scope : Scope) (es : Expressions) (k : Kind) → HasKind types kinds scope (SequenceOf es) k →
       (j : Kind) × (SequenceKind j ≡ k) × AllHaveKind types kinds scope es j
@@ -267,9 +379,27 @@ module _ (types : Types) (o : Numbering) (owners : AreOwners types o) where
         HasKind types (kinds_under a o) (scope_under a names) e j → HasKind types (kinds_under b o) (scope_under b names) e j
     moved n e j g a b agree h = hangs n names (λ K S i. HasKind types K S e i) (λ c. j) g (λ c d f. refl) a b agree h
 
+    number_fixed : (n m : ℕ) → m < n → Fixed n (λ a. a m)
+    number_fixed n m small a b agree = agree m small
+
+    -- the equations of the fields that are written for a constructor
+    given_ask : (n : ℕ) (c : ℕ) (es : Expressions) → InUse n names → n ≤ behind_expressions n es →
+        ((ms : List ℕ) → Each (λ m. m < n) ms → Ask n (of_all types o n names es ms) (behind_expressions n es) (λ a. HaveKinds types (kinds_under a o) (scope_under a names) es (map a ms))) →
+        Ask n (when (slice_get o.constructors c) (of_all types o n names es)) (behind_expressions n es) (λ a. GivenFit c es (kinds_under a o) (scope_under a names))
+    given_ask n c es g rising turn =
+        let p = behind_expressions n es in
+        ask_when n p (slice_get o.constructors c) (of_all types o n names es) (λ a. GivenFit c es (kinds_under a o) (scope_under a names)) rising
+        (λ ms is. ask_same n p (of_all types o n names es ms) (λ a. HaveKinds types (kinds_under a o) (scope_under a names) es (map a ms)) (λ a. GivenFit c es (kinds_under a o) (scope_under a names))
+        (turn ms (each_got (Each (λ m. m < n)) o.constructors c ms g.0.constructors is))
+        (λ a h. (map a ms, slice_get-map (map a) o.constructors c ∙ ap (option_map (map a)) is, h))
+        (λ a h.
+        let e : Some (map a ms) ≡ Some h.0 = sym (ap (option_map (map a)) is) ∙ sym (slice_get-map (map a) o.constructors c) ∙ h.1 in
+        let same : map a ms ≡ h.0 = cc e in subst (HaveKinds types (kinds_under a o) (scope_under a names) es) (sym same) h.2))
+        (λ none a h. let e : None ≡ Some h.0 = sym (ap (option_map (map a)) none) ∙ sym (slice_get-map (map a) o.constructors c) ∙ h.1 in cc e)
+
     mutual
       pub expression_asks : (n : ℕ) (e : Expression) (k : Chain) → InUse n names → Fixed n (λ a. kind_of a k) → Ask n (of_expression types o n names e k) (behind_expression n e) (Kinded e k)
-      expression_asks n (Literal v) k g fixed = value_asks n v k fixed
+      expression_asks n (Literal v) k g fixed = value_asks n v k g.0 fixed
       expression_asks n (Name x) k g fixed = ask_when n n (number_of_name names x) (λ m. (OpenEnd m, k) ∷ []) (Kinded (Name x) k) (omega arith)
           (λ m is. ask_same n n ((OpenEnd m, k) ∷ []) (λ a. a m ≡ kind_of a k) (Kinded (Name x) k) (ask_equal n (OpenEnd m) k (λ a b agree. agree m (number_below (λ i. i < n) names x m g.1 is)) fixed)
           (λ a e. name_kind a names x ∙ ap (option_map a) is ∙ ap Some e)
@@ -365,6 +495,19 @@ module _ (types : Types) (o : Numbering) (owners : AreOwners types o) where
           (λ none a h.
           let y = nametype_only (kinds_under a o) (scope_under a names) x (kind_of a k) h in
           let e : None ≡ Some y.0 = sym (ap (option_map a) none) ∙ sym (slice_get-map a o.nametypes x) ∙ y.2 in cc e)
+      expression_asks n (ConstructorOf c es) k g fixed =
+          let p = behind_expressions n es in
+          let rising : n ≤ p = expressions_rise n es in
+          let fields = when (slice_get o.constructors c) (of_all types o n names es) in
+          ask_when n p (slice_get o.owners c) (λ d. (DatatypeEnd d, k) ∷ fields) (Kinded (ConstructorOf c es) k) rising
+          (λ d is. ask_same n p ((DatatypeEnd d, k) ∷ fields) (λ a. (DatatypeKind d ≡ kind_of a k) × GivenFit c es (kinds_under a o) (scope_under a names)) (Kinded (ConstructorOf c es) k)
+          (ask_both n n p ((DatatypeEnd d, k) ∷ []) fields (λ a. DatatypeKind d ≡ kind_of a k) (λ a. GivenFit c es (kinds_under a o) (scope_under a names))
+          (ask_equal n (DatatypeEnd d) k (λ a b agree. refl) fixed) (given_ask n c es g rising (λ ms small. all_asks n es ms g small)) (hangs n names (λ K S (x : ℕ). GivenFit c es K S) (λ a. 0) g (λ a b agree. refl)))
+          (λ a x. subst (HasKind types (kinds_under a o) (scope_under a names) (ConstructorOf c es)) x.0 ((owners d c).1 is, x.1))
+          (λ a h.
+          let x = written_only (kinds_under a o) (scope_under a names) c es (kind_of a k) h in
+          let same : x.0 ≡ d = cc (sym x.2 ∙ is) in (ap DatatypeKind (sym same) ∙ x.1, x.3)))
+          (λ none a h. let x = written_only (kinds_under a o) (scope_under a names) c es (kind_of a k) h in let e = sym none ∙ x.2 in cc e)
 
       pub expressions_asks : (n : ℕ) (es : Expressions) (k : Chain) → InUse n names → Fixed n (λ a. kind_of a k) →
           Ask n (of_expressions types o n names es k) (behind_expressions n es) (AllKinded es k)
@@ -376,27 +519,24 @@ module _ (types : Types) (o : Numbering) (owners : AreOwners types o) where
           (expressions_asks p es k (in_use_more n p names first.rising g) (fixed_more n p (λ a. kind_of a k) first.rising fixed))
           (hangs n names (λ K S j. AllHaveKind types K S es j) (λ a. kind_of a k) g fixed)
 
-    number_fixed : (n m : ℕ) → m < n → Fixed n (λ a. a m)
-    number_fixed n m small a b agree = agree m small
-
-    -- in turn
-    pub all_asks : (n : ℕ) (es : Expressions) (ms : List ℕ) → InUse n names → Each (λ m. m < n) ms →
-        Ask n (of_all types o n names es ms) (behind_expressions n es) (λ a. HaveKinds types (kinds_under a o) (scope_under a names) es (map a ms))
-    all_asks n no_expressions [] g small = ask_nothing n
-    all_asks n no_expressions (m ∷ ms) g small = ask_never n n _ (omega arith) (λ a h. h)
-    all_asks n (expression_and e es) [] g small = ask_never n (behind_expressions n (expression_and e es)) _ (expressions_asks n (expression_and e es) IntEnd g (λ a b agree. refl)).rising (λ a h. h)
-    all_asks n (expression_and e es) (m ∷ ms) g small =
-        let p = behind_expression n e in
-        let first = expression_asks n e (OpenEnd m) g (number_fixed n m small.0) in
-        ask_both n p (behind_expressions p es) (of_expression types o n names e (OpenEnd m)) (of_all types o p names es ms) (Kinded e (OpenEnd m))
-        (λ a. HaveKinds types (kinds_under a o) (scope_under a names) es (map a ms)) first
-        (all_asks p es ms (in_use_more n p names first.rising g) (each_less n p ms first.rising small.1))
-        (hangs n names (λ K S ks. HaveKinds types K S es ks) (λ a. map a ms) g (fixed_numbers n ms small.1))
+      -- in turn
+      pub all_asks : (n : ℕ) (es : Expressions) (ms : List ℕ) → InUse n names → Each (λ m. m < n) ms →
+          Ask n (of_all types o n names es ms) (behind_expressions n es) (λ a. HaveKinds types (kinds_under a o) (scope_under a names) es (map a ms))
+      all_asks n no_expressions [] g small = ask_nothing n
+      all_asks n no_expressions (m ∷ ms) g small = ask_never n n _ (omega arith) (λ a h. h)
+      all_asks n (expression_and e es) [] g small = ask_never n (behind_expressions n (expression_and e es)) _ (expressions_rise n (expression_and e es)) (λ a h. h)
+      all_asks n (expression_and e es) (m ∷ ms) g small =
+          let p = behind_expression n e in
+          let first = expression_asks n e (OpenEnd m) g (number_fixed n m small.0) in
+          ask_both n p (behind_expressions p es) (of_expression types o n names e (OpenEnd m)) (of_all types o p names es ms) (Kinded e (OpenEnd m))
+          (λ a. HaveKinds types (kinds_under a o) (scope_under a names) es (map a ms)) first
+          (all_asks p es ms (in_use_more n p names first.rising g) (each_less n p ms first.rising small.1))
+          (hangs n names (λ K S ks. HaveKinds types K S es ks) (λ a. map a ms) g (fixed_numbers n ms small.1))
 
     pub first_asks : (n : ℕ) (es : Expressions) (ms : List ℕ) → InUse n names → Each (λ m. m < n) ms →
         Ask n (of_first types o n names es ms) (behind_expressions n es) (λ a. HaveFirstKinds types (kinds_under a o) (scope_under a names) es (map a ms))
     first_asks n no_expressions ms g small = ask_nothing n
-    first_asks n (expression_and e es) [] g small = ask_never n (behind_expressions n (expression_and e es)) _ (expressions_asks n (expression_and e es) IntEnd g (λ a b agree. refl)).rising (λ a h. h)
+    first_asks n (expression_and e es) [] g small = ask_never n (behind_expressions n (expression_and e es)) _ (expressions_rise n (expression_and e es)) (λ a h. h)
     first_asks n (expression_and e es) (m ∷ ms) g small =
         let p = behind_expression n e in
         let first = expression_asks n e (OpenEnd m) g (number_fixed n m small.0) in

@@ -1,15 +1,15 @@
 -- The equations of sets, equations and assertions ask that kinds fit them.
-use Rattle.std.proofs.Common.{◌≡◌, ℕ, zero, suc, ◌+◌, ◌≤◌, ◌<◌, nat_eq, Bool, true, false, cond, List, [], ◌∷◌, ◌++◌, append-nil, length, map, slice_get, Option, Some, None, refl, sym, ◌∙◌, ap, ap₂, subst, inl, inr, arith}
+use Rattle.std.proofs.Common.{◌≡◌, ℕ, zero, suc, ◌+◌, ◌≤◌, ◌<◌, nat_eq, Bool, true, false, cond, List, [], ◌∷◌, ◌++◌, append-nil, length, map, slice_get, Option, Some, None, IfSome, refl, sym, ◌∙◌, ap, ap₂, subst, inl, inr, arith}
 use Rattle.std.specs.Prelude.{◌⊎◌, flat_map}
 use Rattle.std.proofs.lemmas.Bool.{eqb-true, eqb-false}
 use Rattle.csp_syntax.specs.Expression.{Expression}
-use Rattle.csp_syntax.specs.Process.{Process, Equation, Assertion, Script}
+use Rattle.csp_syntax.specs.Process.{Process, Equation, specification_of, Assertion, Script}
 use Rattle.csp_syntax.specs.Types.{Types}
 use Rattle.csp_semantics.specs.Kinds.Kind.{Kind, IntKind, SetKind, Kinds, scope_of, InTurn, Each}
-use Rattle.csp_semantics.specs.Kinds.Processes.{IsWellKinded}
+use Rattle.csp_semantics.specs.Kinds.Processes.{IsWellKinded, IsClosedTerm}
 use Rattle.csp_semantics.specs.Kinds.Scripts.{IsWellKindedEquation, IsWellKindedAssertion}
 use Rattle.csp_text.specs.Raw.{RawScript}
-use Rattle.csp_checking.specs.Sets.{nametype_sets, channel_sets, types_of, IsSetOf, FitSets}
+use Rattle.csp_checking.specs.Sets.{nametype_sets, constructor_sets, channel_sets, types_of, IsSetOf, FitSets}
 use Rattle.csp_checking.specs.Rules.{parameters_declared, SomeFit}
 use Rattle.csp_checking.specs.Fitting.{Item, EquationItem, AssertionItem, FitsItem, FitKinds, IsMisfit, misfit}
 use Rattle.csp_checking.specs.Inference.Chain.{BoolEnd, OpenEnd, SetOver, Assignment, assign, AgreeBelow}
@@ -17,14 +17,16 @@ use Rattle.csp_checking.specs.Inference.State as state
 use Rattle.csp_checking.specs.Inference.Equations.{Ask, never, when, Numbering, kinds_under, scope_under, IsBelow, NamesBelow, AreOwners}
 use Rattle.csp_checking.specs.Inference.Expressions.{behind_expression}
 use Rattle.csp_checking.specs.Inference.Processes.{behind_process, of_process}
-use Rattle.csp_checking.specs.Inference.Items.{behind_set, of_set, behind_sets, of_sets, behind_rows, of_rows, numbered, of_equation, of_assertion, behind_item, of_item, behind_items, of_items, HaveShape, AreNumbersFor, numbers_from, rows_from, behind_all, numbers_of, next_number}
+use Rattle.csp_checking.specs.Inference.Items.{of_specification, behind_specification, behind_assertion, behind_set, of_set, behind_sets, of_sets, behind_rows, of_rows, numbered, of_equation, of_assertion, behind_item, of_item, behind_items, of_items, HaveShape, AreNumbersFor, numbers_from, rows_from, behind_all, behind_nametypes, behind_constructors, behind_channels, numbers_of, next_number}
+use Rattle.csp_checking.specs.Laws.FittingKinds.{behind_first, behind_second, of_tree, behind_tree}
 use Rattle.std.proofs.lemmas.List.{append_assoc, length-map}
 use Rattle.csp_checking.specs.Faults.{KindFault}
 use Rattle.csp_checking.proofs.Unrefused.{set_kept, turn_map}
 use Rattle.csp_semantics.proofs.Misfits.{in_turn_length}
 use Rattle.csp_checking.proofs.Unifying.{IsRight, solve_right, nothing_resolved}
 use Rattle.csp_checking.proofs.Asking.{made_of, same_record, below_more, agree_on, assigned, assigned_above, fixed_kinds, each_less, rows_less, fixed_rows, fixed_numbers, Fixed, Hangs, ask_nothing, ask_both, ask_same, ask_never, asked_sound, asked_complete, asked_none, asked_some}
-use Rattle.csp_checking.proofs.AskingExpressions.{each_got, InUse, hangs, expression_asks}
+use Rattle.csp_semantics.proofs.Misfits.{each_got}
+use Rattle.csp_checking.proofs.AskingExpressions.{InUse, hangs, expression_asks}
 use Rattle.csp_checking.proofs.AskingProcesses.{ask_found, named_hangs, Fits, fits_hangs, process_asks}
 use Rattle.csp_checking.proofs.Owning.{row_length}
 
@@ -82,23 +84,29 @@ module _ (types : Types) (o : Numbering) (owners : AreOwners types o) where
       (kinds_hang n (λ K kss. InTurn (InTurn (IsSetOf types K)) rows kss) (λ a. map (map a) mss) below (fixed_rows n mss small.1))
 
   -- all sets of a tree
-  pub fit_sets_asked : (raw : RawScript) (n : ℕ) → IsBelow n o →
-      Ask n (of_sets types o n (nametype_sets raw) o.nametypes ++ of_rows types o (behind_sets n (nametype_sets raw)) (channel_sets raw) o.channels)
-      (behind_rows (behind_sets n (nametype_sets raw)) (channel_sets raw))
-      (λ a. FitSets types raw (kinds_under a o))
+  pub fit_sets_asked : (raw : RawScript) (n : ℕ) → IsBelow n o → Ask n (of_tree types raw o n) (behind_tree raw n) (λ a. FitSets types raw (kinds_under a o))
   fit_sets_asked raw n below =
-      let p = behind_sets n (nametype_sets raw) in
-      let q = behind_rows p (channel_sets raw) in
+      let p = behind_first raw n in
+      let q = behind_second raw n in
+      let r = behind_tree raw n in
+      let F : Assignment → Type 0 = λ a. InTurn (IsSetOf types (kinds_under a o)) (nametype_sets raw) (map a o.nametypes) in
+      let G : Assignment → Type 0 = λ a. InTurn (InTurn (IsSetOf types (kinds_under a o))) (constructor_sets raw) (map (map a) o.constructors) in
+      let H : Assignment → Type 0 = λ a. InTurn (InTurn (IsSetOf types (kinds_under a o))) (channel_sets raw) (map (map a) o.channels) in
+      let es = of_sets types o n (nametype_sets raw) o.nametypes in
+      let fs = of_rows types o p (constructor_sets raw) o.constructors in
+      let gs = of_rows types o q (channel_sets raw) o.channels in
       let first = sets_asked n (nametype_sets raw) o.nametypes below below.nametypes in
       let more = below_more n p o first.rising below in
-      ask_same n q (of_sets types o n (nametype_sets raw) o.nametypes ++ of_rows types o p (channel_sets raw) o.channels)
-      (λ a. InTurn (IsSetOf types (kinds_under a o)) (nametype_sets raw) (map a o.nametypes)
-      × InTurn (InTurn (IsSetOf types (kinds_under a o))) (channel_sets raw) (map (map a) o.channels)) (λ a. FitSets types raw (kinds_under a o))
-      (ask_both n p q (of_sets types o n (nametype_sets raw) o.nametypes) (of_rows types o p (channel_sets raw) o.channels)
-      (λ a. InTurn (IsSetOf types (kinds_under a o)) (nametype_sets raw) (map a o.nametypes))
-      (λ a. InTurn (InTurn (IsSetOf types (kinds_under a o))) (channel_sets raw) (map (map a) o.channels)) first (rows_asked p (channel_sets raw) o.channels more more.channels)
-      (kinds_hang n (λ K kss. InTurn (InTurn (IsSetOf types K)) (channel_sets raw) kss) (λ a. map (map a) o.channels) below (fixed_rows n o.channels below.channels)))
-      (λ a x. record { nametypes = x.0; channels = x.1 }) (λ a x. (x.nametypes, x.channels))
+      let second = rows_asked p (constructor_sets raw) o.constructors more more.constructors in
+      let yet_more = below_more p q o second.rising more in
+      let third = rows_asked q (channel_sets raw) o.channels yet_more yet_more.channels in
+      ask_same n r (es ++ (fs ++ gs)) (λ a. F a × (G a × H a)) (λ a. FitSets types raw (kinds_under a o))
+      (ask_both n p r es (fs ++ gs) F (λ a. G a × H a) first
+      (ask_both p q r fs gs G H second third (kinds_hang p (λ K kss. InTurn (InTurn (IsSetOf types K)) (channel_sets raw) kss) (λ a. map (map a) o.channels) more (fixed_rows p o.channels more.channels)))
+      (kinds_hang {X = List (List Kind) × List (List Kind)} n (λ K kss. InTurn (InTurn (IsSetOf types K)) (constructor_sets raw) kss.0 × InTurn (InTurn (IsSetOf types K)) (channel_sets raw) kss.1)
+      (λ a. (map (map a) o.constructors, map (map a) o.channels)) below
+      (λ a b agree. ap₂ (λ x y. (x, y)) (fixed_rows n o.constructors below.constructors a b agree) (fixed_rows n o.channels below.channels a b agree))))
+      (λ a x. record { nametypes = x.0; constructors = x.1.0; channels = x.1.1 }) (λ a x. (x.nametypes, (x.constructors, x.channels)))
 
 -- ---- equations and assertions
 
@@ -137,14 +145,19 @@ module _ (script : Script) (o : Numbering) (owners : AreOwners script.types o) w
       by_test false is = ask_never n (behind_process n q.body) (λ a. IsWellKindedEquation script (kinds_under a o) q (map a ms)) (process_rises n q.body below)
           (λ a h. eqb-false (length q.parameters) (length ms) is (h.parameters ∙ length-map ms a))
 
+  specification_asked : (n : ℕ) (spec : Option Process) → IsBelow n o → Ask n (of_specification script o n spec) (behind_specification n spec) (λ a. IfSome spec (IsClosedTerm script (kinds_under a o)))
+  specification_asked n (Some p) below = process_asks script o owners n [] p (below, tt)
+  specification_asked n None below = ask_nothing n
+
   assertion_asked : (n : ℕ) (x : Assertion) → IsBelow n o → Ask n (of_assertion script o n x)
-      (behind_process (behind_process n x.specification) x.implementation) (λ a. IsWellKindedAssertion script (kinds_under a o) x)
+      (behind_assertion n x) (λ a. IsWellKindedAssertion script (kinds_under a o) x)
   assertion_asked n x below =
-      let p = behind_process n x.specification in
+      let spec = specification_of x.property in
+      let p = behind_specification n spec in
       let q = behind_process p x.implementation in
-      let first = process_asks script o owners n [] x.specification (below, tt) in
-      ask_same n q (of_assertion script o n x) (λ a. Fits script o owners [] x.specification a × Fits script o owners [] x.implementation a) (λ a. IsWellKindedAssertion script (kinds_under a o) x)
-      (ask_both n p q (of_process script o n [] x.specification) (of_process script o p [] x.implementation) (Fits script o owners [] x.specification) (Fits script o owners [] x.implementation) first
+      let first = specification_asked n spec below in
+      ask_same n q (of_assertion script o n x) (λ a. IfSome spec (IsClosedTerm script (kinds_under a o)) × Fits script o owners [] x.implementation a) (λ a. IsWellKindedAssertion script (kinds_under a o) x)
+      (ask_both n p q (of_specification script o n spec) (of_process script o p [] x.implementation) (λ a. IfSome spec (IsClosedTerm script (kinds_under a o))) (Fits script o owners [] x.implementation) first
       (process_asks script o owners p [] x.implementation (below_more n p o first.rising below, tt)) (fits_hangs script o owners n [] x.implementation (below, tt)))
       (λ a h. record { specification = h.0; implementation = h.1 }) (λ a h. (h.specification, h.implementation))
 
@@ -163,11 +176,11 @@ module _ (script : Script) (o : Numbering) (owners : AreOwners script.types o) w
       let same : h.0 ≡ q = cc e in (h.1, h.3, subst (λ r. IsWellKindedEquation script (kinds_under a o) r h.1) same h.4))
 
   assertion_item : (n m : ℕ) (found : Option Assertion) → slice_get script.assertions m ≡ found → IsBelow n o →
-      Ask n (when found (of_assertion script o n)) (elim found [ Some x ↦ behind_process (behind_process n x.specification) x.implementation | None ↦ n ])
+      Ask n (when found (of_assertion script o n)) (elim found [ Some x ↦ behind_assertion n x | None ↦ n ])
       (λ a. (x : Assertion) × (slice_get script.assertions m ≡ Some x) × IsWellKindedAssertion script (kinds_under a o) x)
   assertion_item n m None is below = ask_never n n _ (omega arith) (λ a h. let e : None ≡ Some h.0 = sym is ∙ h.1 in cc e)
   assertion_item n m (Some x) is below =
-      ask_same n (behind_process (behind_process n x.specification) x.implementation) (of_assertion script o n x) (λ a. IsWellKindedAssertion script (kinds_under a o) x)
+      ask_same n (behind_assertion n x) (of_assertion script o n x) (λ a. IsWellKindedAssertion script (kinds_under a o) x)
       (λ a. (y : Assertion) × (slice_get script.assertions m ≡ Some y) × IsWellKindedAssertion script (kinds_under a o) y) (assertion_asked n x below) (λ a h. (x, is, h))
       (λ a h.
       let e : Some h.0 ≡ Some x = sym h.1 ∙ is in
@@ -205,6 +218,7 @@ module _ (script : Script) (o : Numbering) (owners : AreOwners script.types o) w
     shape_of : (kinds : Kinds) → FitKinds raw script kinds xs → HaveShape raw kinds
     shape_of kinds h = record {
       nametypes = sym (in_turn_length (IsSetOf (types_of raw) kinds) (nametype_sets raw) kinds.nametypes h.sets.nametypes);
+      constructors = turn_lengths (IsSetOf (types_of raw) kinds) (constructor_sets raw) kinds.constructors h.sets.constructors;
       channels = turn_lengths (IsSetOf (types_of raw) kinds) (channel_sets raw) kinds.channels h.sets.channels;
       parameters = h.parameters;
     }
@@ -258,24 +272,28 @@ rows_length P (r ∷ rows) (ks ∷ kss) h = ap₂ ◌∷◌ (sym (in_turn_length
 -- kinds that fit sets, with some kinds for the parameters
 with_parameters : (types : Types) (raw : RawScript) → SomeFit types raw → (kinds : Kinds) × HaveShape raw kinds × FitSets types raw kinds
 with_parameters types raw fit = (
-  made_of fit.0.nametypes fit.0.channels (map repeated (flat_map parameters_declared raw)),
+  full,
   record {
     nametypes = sym (in_turn_length (IsSetOf types fit.0) (nametype_sets raw) fit.0.nametypes fit.1.nametypes);
+    constructors = rows_length (IsSetOf types fit.0) (constructor_sets raw) fit.0.constructors fit.1.constructors;
     channels = rows_length (IsSetOf types fit.0) (channel_sets raw) fit.0.channels fit.1.channels;
     parameters = repeated_rows (flat_map parameters_declared raw);
   },
   record {
-    nametypes = turn_map (IsSetOf types fit.0) (IsSetOf types (made_of fit.0.nametypes fit.0.channels (map repeated (flat_map parameters_declared raw)))) kept
-        (nametype_sets raw) fit.0.nametypes fit.1.nametypes;
-    channels = turn_map (InTurn (IsSetOf types fit.0)) (InTurn (IsSetOf types (made_of fit.0.nametypes fit.0.channels (map repeated (flat_map parameters_declared raw)))))
-        (λ es ks h. turn_map (IsSetOf types fit.0)
-        (IsSetOf types (made_of fit.0.nametypes fit.0.channels (map repeated (flat_map parameters_declared raw)))) kept es ks h)
-        (channel_sets raw) fit.0.channels fit.1.channels;
+    nametypes = turn_map (IsSetOf types fit.0) (IsSetOf types full) kept (nametype_sets raw) fit.0.nametypes fit.1.nametypes;
+    constructors = rows_kept (constructor_sets raw) fit.0.constructors fit.1.constructors;
+    channels = rows_kept (channel_sets raw) fit.0.channels fit.1.channels;
   },
 )
   where
-    kept : (e : Option Expression) (k : Kind) → IsSetOf types fit.0 e k → IsSetOf types (made_of fit.0.nametypes fit.0.channels (map repeated (flat_map parameters_declared raw))) e k
-    kept = set_kept types fit.0 (made_of fit.0.nametypes fit.0.channels (map repeated (flat_map parameters_declared raw))) refl
+    full : Kinds
+    full = made_of fit.0.nametypes fit.0.constructors fit.0.channels (map repeated (flat_map parameters_declared raw))
+
+    kept : (e : Option Expression) (k : Kind) → IsSetOf types fit.0 e k → IsSetOf types full e k
+    kept = set_kept types fit.0 full (λ n k e. e) (λ c ks e. e)
+
+    rows_kept : (rows : List (List (Option Expression))) (kss : List (List Kind)) → InTurn (InTurn (IsSetOf types fit.0)) rows kss → InTurn (InTurn (IsSetOf types full)) rows kss
+    rows_kept rows kss h = turn_map (InTurn (IsSetOf types fit.0)) (InTurn (IsSetOf types full)) (λ es ks i. turn_map (IsSetOf types fit.0) (IsSetOf types full) kept es ks i) rows kss h
 
 module _ (types : Types) (raw : RawScript) (o : Numbering) (n m : ℕ) (es : List state.KindEquation) (numbers : AreNumbersFor raw n o)
     (sets : Ask n es m (λ a. FitSets types raw (kinds_under a o))) where
@@ -331,23 +349,32 @@ cover_rows (ks ∷ kss) n a =
       ap₂ ◌∷◌ (fixed_numbers (n + length ks) (numbers_from n (length ks)) (numbers_small n (length ks) (n + length ks) (omega arith)) y.0 z.0 z.1 ∙ y.2) z.2,
     )
 
-abbrev Covered : Kinds → ℕ → List ℕ → List ℕ → Assignment → Type 0
-Covered kinds k ls ps a = (map a (numbers_from 0 k) ≡ kinds.nametypes) × (map (map a) (rows_from k ls) ≡ kinds.channels) × (map (map a) (rows_from (behind_all k ls) ps) ≡ kinds.parameters)
+-- the numbers of the constructors' fields, of the channels' and of the parameters, from k on
+abbrev Covered : Kinds → ℕ → List ℕ → List ℕ → List ℕ → Assignment → Type 0
+Covered kinds k cs ls ps a =
+    (map a (numbers_from 0 k) ≡ kinds.nametypes) × (map (map a) (rows_from k cs) ≡ kinds.constructors)
+    × (map (map a) (rows_from (behind_all k cs) ls) ≡ kinds.channels) × (map (map a) (rows_from (behind_all (behind_all k cs) ls) ps) ≡ kinds.parameters)
 
-cover_all : (kinds : Kinds) → (a : Assignment) × Covered kinds (length kinds.nametypes) (map length kinds.channels) (map length kinds.parameters) a
+cover_all : (kinds : Kinds) → (a : Assignment) × Covered kinds (length kinds.nametypes) (map length kinds.constructors) (map length kinds.channels) (map length kinds.parameters) a
 cover_all kinds =
     let k = length kinds.nametypes in
+    let cs = map length kinds.constructors in
     let ls = map length kinds.channels in
     let ps = map length kinds.parameters in
-    let l = behind_all k ls in
-    let le : k ≤ l = behind_rises k ls in
+    let j = behind_all k cs in
+    let l = behind_all j ls in
+    let le : k ≤ j = behind_rises k cs in
+    let lf : j ≤ l = behind_rises j ls in
     let x = cover_numbers kinds.nametypes 0 (λ n. IntKind) in
-    let y = cover_rows kinds.channels k x.0 in
-    let z = cover_rows kinds.parameters l y.0 in (
+    let w = cover_rows kinds.constructors k x.0 in
+    let y = cover_rows kinds.channels j w.0 in
+    let z = cover_rows kinds.parameters l y.0 in
+    let last : AgreeBelow j w.0 z.0 = agree_on j l w.0 y.0 z.0 lf y.1 z.1 in (
       z.0,
       (
-        fixed_numbers k (numbers_from 0 k) (numbers_small 0 k k (omega arith)) x.0 z.0 (agree_on k l x.0 y.0 z.0 le y.1 z.1) ∙ x.2,
-        fixed_rows l (rows_from k ls) (rows_small k l ls (omega arith)) y.0 z.0 z.1 ∙ y.2,
+        fixed_numbers k (numbers_from 0 k) (numbers_small 0 k k (omega arith)) x.0 z.0 (agree_on k j x.0 w.0 z.0 le w.1 last) ∙ x.2,
+        fixed_rows j (rows_from k cs) (rows_small k j cs (omega arith)) w.0 z.0 last ∙ w.2,
+        fixed_rows l (rows_from j ls) (rows_small j l ls (omega arith)) y.0 z.0 z.1 ∙ y.2,
         z.2,
       ),
     )
@@ -355,26 +382,32 @@ cover_all kinds =
 pub row_numbers_for : (owners : List ℕ) (raw : RawScript) → AreNumbersFor raw (next_number raw) (numbers_of owners raw)
 row_numbers_for owners raw = record {
   below =
-      let le : length (nametype_sets raw) ≤ behind_all (length (nametype_sets raw)) (map length (channel_sets raw)) = behind_rises (length (nametype_sets raw)) (map length (channel_sets raw)) in
-      let lf : behind_all (length (nametype_sets raw)) (map length (channel_sets raw)) ≤ next_number raw =
-      behind_rises (behind_all (length (nametype_sets raw)) (map length (channel_sets raw))) (flat_map parameters_declared raw) in
+      let lc : behind_nametypes raw ≤ behind_constructors raw = behind_rises (behind_nametypes raw) (map length (constructor_sets raw)) in
+      let le : behind_constructors raw ≤ behind_channels raw = behind_rises (behind_constructors raw) (map length (channel_sets raw)) in
+      let lf : behind_channels raw ≤ next_number raw = behind_rises (behind_channels raw) (flat_map parameters_declared raw) in
       record {
-        nametypes = numbers_small 0 (length (nametype_sets raw)) (next_number raw) (omega arith);
-        channels = rows_small (length (nametype_sets raw)) (next_number raw) (map length (channel_sets raw)) (omega arith);
-        parameters = rows_small (behind_all (length (nametype_sets raw)) (map length (channel_sets raw))) (next_number raw) (flat_map parameters_declared raw) (omega arith);
+        nametypes = numbers_small 0 (behind_nametypes raw) (next_number raw) (omega (arith, lc, le, lf));
+        constructors = rows_small (behind_nametypes raw) (next_number raw) (map length (constructor_sets raw)) (omega (arith, le, lf));
+        channels = rows_small (behind_constructors raw) (next_number raw) (map length (channel_sets raw)) (omega (arith, lf));
+        parameters = rows_small (behind_channels raw) (next_number raw) (flat_map parameters_declared raw) (omega arith);
       };
   nametypes = row_length 0 (length (nametype_sets raw));
-  channels = rows_from_counted (length (nametype_sets raw)) (map length (channel_sets raw));
-  parameters = rows_from_counted (behind_all (length (nametype_sets raw)) (map length (channel_sets raw))) (flat_map parameters_declared raw);
+  constructors = rows_from_counted (behind_nametypes raw) (map length (constructor_sets raw));
+  channels = rows_from_counted (behind_constructors raw) (map length (channel_sets raw));
+  parameters = rows_from_counted (behind_channels raw) (flat_map parameters_declared raw);
   cover = λ kinds shape.
       let x = cover_all kinds in
-      let y : Covered kinds (length (nametype_sets raw)) (map length (channel_sets raw)) (flat_map parameters_declared raw) x.0 =
-      subst (λ k. Covered kinds k (map length (channel_sets raw)) (flat_map parameters_declared raw) x.0) shape.nametypes
-      (subst (λ ls. Covered kinds (length kinds.nametypes) ls (flat_map parameters_declared raw) x.0) shape.channels
-      (subst (λ ps. Covered kinds (length kinds.nametypes) (map length kinds.channels) ps x.0) shape.parameters x.1)) in (
+      let cs = map length (constructor_sets raw) in
+      let ls = map length (channel_sets raw) in
+      let ps = flat_map parameters_declared raw in
+      let y : Covered kinds (length (nametype_sets raw)) cs ls ps x.0 =
+      subst (λ k. Covered kinds k cs ls ps x.0) shape.nametypes
+      (subst (λ z. Covered kinds (length kinds.nametypes) z ls ps x.0) shape.constructors
+      (subst (λ z. Covered kinds (length kinds.nametypes) (map length kinds.constructors) z ps x.0) shape.channels
+      (subst (λ z. Covered kinds (length kinds.nametypes) (map length kinds.constructors) (map length kinds.channels) z x.0) shape.parameters x.1))) in (
         x.0,
-        same_record (map x.0 (numbers_from 0 (length (nametype_sets raw)))) kinds.nametypes (map (map x.0) (rows_from (length (nametype_sets raw)) (map length (channel_sets raw)))) kinds.channels
-            (map (map x.0) (rows_from (behind_all (length (nametype_sets raw)) (map length (channel_sets raw))) (flat_map parameters_declared raw))) kinds.parameters y.0 y.1 y.2,
+        same_record (map x.0 (numbers_from 0 (length (nametype_sets raw)))) kinds.nametypes (map (map x.0) (rows_from (behind_nametypes raw) cs)) kinds.constructors
+            (map (map x.0) (rows_from (behind_constructors raw) ls)) kinds.channels (map (map x.0) (rows_from (behind_channels raw) ps)) kinds.parameters y.0 y.1 y.2 y.3,
       );
 }
 
@@ -391,16 +424,16 @@ sets_decided types raw owners right = by_answer (state.solve state.nothing_known
     o = numbers_of owners raw
 
     es : List state.KindEquation
-    es = of_sets types o (next_number raw) (nametype_sets raw) o.nametypes ++ of_rows types o (behind_sets (next_number raw) (nametype_sets raw)) (channel_sets raw) o.channels
+    es = of_tree types raw o (next_number raw)
 
-    asked : Ask (next_number raw) es (behind_rows (behind_sets (next_number raw) (nametype_sets raw)) (channel_sets raw)) (λ a. FitSets types raw (kinds_under a o))
+    asked : Ask (next_number raw) es (behind_tree raw (next_number raw)) (λ a. FitSets types raw (kinds_under a o))
     asked = fit_sets_asked types o right raw (next_number raw) (row_numbers_for owners raw).below
 
     by_answer : (x : Option state.State) → IsRight state.nothing_known es x → SomeFit types raw ⊎ (¬ (SomeFit types raw))
     by_answer (Some t) h =
-        inl (some_sets_fit types raw o (next_number raw) (behind_rows (behind_sets (next_number raw) (nametype_sets raw)) (channel_sets raw)) es
+        inl (some_sets_fit types raw o (next_number raw) (behind_tree raw (next_number raw)) es
         (row_numbers_for owners raw) asked t h)
-    by_answer None h = inr (no_sets_fit types raw o (next_number raw) (behind_rows (behind_sets (next_number raw) (nametype_sets raw)) (channel_sets raw)) es (row_numbers_for owners raw) asked h)
+    by_answer None h = inr (no_sets_fit types raw o (next_number raw) (behind_tree raw (next_number raw)) es (row_numbers_for owners raw) asked h)
 
 pub items_decided : (raw : RawScript) (script : Script) (owners : List ℕ) (xs : List Item) → AreOwners (types_of raw) (numbers_of owners raw) → AreOwners script.types (numbers_of owners raw) →
     ((kinds : Kinds) × FitKinds raw script kinds xs) ⊎ ((kinds : Kinds) → ¬ (FitKinds raw script kinds xs))
@@ -411,10 +444,10 @@ items_decided raw script owners xs right good =
     o = numbers_of owners raw
 
     es : List state.KindEquation
-    es = of_sets (types_of raw) o (next_number raw) (nametype_sets raw) o.nametypes ++ of_rows (types_of raw) o (behind_sets (next_number raw) (nametype_sets raw)) (channel_sets raw) o.channels
+    es = of_tree (types_of raw) raw o (next_number raw)
 
     m : ℕ
-    m = behind_rows (behind_sets (next_number raw) (nametype_sets raw)) (channel_sets raw)
+    m = behind_tree raw (next_number raw)
 
     asked : Ask (next_number raw) es m (λ a. FitSets (types_of raw) raw (kinds_under a o))
     asked = fit_sets_asked (types_of raw) o right raw (next_number raw) (row_numbers_for owners raw).below

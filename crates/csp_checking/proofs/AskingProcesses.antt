@@ -8,7 +8,7 @@ use Rattle.std.specs.FinMap.{slice_cmp-IsAntisymmetric}
 use Rattle.std.proofs.lemmas.Option.{slice_get-map}
 use Rattle.csp_syntax.specs.Value.{Value, value_cmp}
 use Rattle.csp_syntax.specs.Expression.{Expression, Expressions}
-use Rattle.csp_syntax.specs.Process.{Field, Given, Input, InputFrom, EventExpression, EventSet, Enumeration, Productions, EventUnion, EventIntersection, EventDifference, RenamingPair, Process, Stop, Skip, Omega, Call, Prefix, Guard, If, ExternalChoice, InternalChoice, Sequential, Interleaving, Interrupt, GeneralisedParallel, AlphabetisedParallel, Hiding, Renaming, ReplicatedExternalChoice, ReplicatedInternalChoice, ReplicatedInterleaving, Script}
+use Rattle.csp_syntax.specs.Process.{Field, Given, Input, InputFrom, EventExpression, EventSet, Enumeration, Productions, EventUnion, EventIntersection, EventDifference, RenamingPair, Process, Stop, Skip, Omega, Call, Prefix, Guard, If, ExternalChoice, InternalChoice, Sequential, Interleaving, Interrupt, GeneralisedParallel, AlphabetisedParallel, Hiding, Renaming, ReplicatedExternalChoice, ReplicatedInternalChoice, ReplicatedInterleaving, SlidingChoice, Script}
 use Rattle.csp_syntax.specs.Types.{Types}
 use Rattle.csp_semantics.specs.Meaning.Events.{is_bare}
 use Rattle.csp_semantics.specs.Kinds.Kind.{Kind, SetKind, Kinds, Scope, Each}
@@ -23,7 +23,8 @@ use Rattle.csp_checking.specs.Inference.Expressions.{behind_expression, behind_e
 use Rattle.csp_checking.specs.Inference.Processes.{behind_fields, behind_event, behind_events, behind_event_set, behind_pairs, behind_process, of_fields, names_behind, of_event, of_beginning, of_events, of_beginnings, of_event_set, are_same_sets, are_bare_alike, of_pair, of_pairs, of_process}
 use Rattle.csp_syntax.proofs.Equalities.{value_same, is_eq-Equal}
 use Rattle.csp_checking.proofs.Asking.{below_more, each_less, fixed_numbers, assigned, assigned_above, Hangs, ask_nothing, ask_both, ask_more, ask_same, ask_never, ask_when}
-use Rattle.csp_checking.proofs.AskingExpressions.{each_got, InUse, in_use_more, hangs, Kinded, expression_asks, expressions_asks, all_asks, first_asks}
+use Rattle.csp_semantics.proofs.Misfits.{each_got}
+use Rattle.csp_checking.proofs.AskingExpressions.{InUse, in_use_more, hangs, Kinded, expression_asks, expressions_asks, all_asks, first_asks}
 
 -- ---- what is found by a number
 
@@ -410,3 +411,4 @@ module _ (script : Script) (o : Numbering) (owners : AreOwners script.types o) w
   process_asks n names (ReplicatedExternalChoice x e p) g = replicated_asked x e p (λ m xs h. process_asks m xs p h) n names g
   process_asks n names (ReplicatedInternalChoice x e p) g = replicated_asked x e p (λ m xs h. process_asks m xs p h) n names g
   process_asks n names (ReplicatedInterleaving x e p) g = replicated_asked x e p (λ m xs h. process_asks m xs p h) n names g
+  process_asks n names (SlidingChoice p q) g = two_asked p q (λ m xs h. process_asks m xs p h) (λ m xs h. process_asks m xs q h) n names g

@@ -16,10 +16,10 @@ use Rattle.csp_checking.specs.Scripts.{IsScriptOf}
 use Rattle.csp_checking.specs.Sets.{types_of}
 use Rattle.csp_checking.specs.Sites.{Use, Site, Used, Parameter, FieldSet, ChannelHead, AsEquation, AsExpression, sites}
 use Rattle.csp_checking.specs.Faults.{KindFault, UnknownName, DeclaredTwice, WrongKind, WrongCount, BadFieldSet, TooManyEvents, fault_number, IsFirstRefused}
-use Rattle.csp_checking.specs.Rules.{IsRedeclared, redeclared, IsRefusedSite, unknown, parameter_declared, parameter_again, wrong_class, arguments, field_kind, no_member, too_many_events, SomeFit, suits, all_declared}
+use Rattle.csp_checking.specs.Rules.{IsRedeclared, redeclared, IsRefusedSite, unknown, parameter_declared, parameter_again, wrong_class, arguments, field_kind, no_member, too_many_events, SomeFit, suits, all_declared, bare_constructor}
 use Rattle.csp_checking.specs.Fitting.{FitKinds, FitsItem, EquationItem, IsMisfit, misfit}
 use Rattle.csp_checking.specs.Refusals.{IsRefusedAt, IsKindRefusal, in_first_pass, in_second_pass, in_third_pass}
-use Rattle.csp_checking.specs.Laws.Trees.{at, named, unknown_process, declared_parameter, channel_as_process, too_few_arguments, empty_field_set, channel_twice, growing_parameter, many_events, large_field_set}
+use Rattle.csp_checking.specs.Laws.Trees.{at, named, unknown_process, unknown_in_freedom, declared_parameter, channel_as_process, too_few_arguments, empty_field_set, channel_twice, growing_parameter, many_events, large_field_set}
 use Rattle.csp_checking.proofs.FirstRefused.{none_refused}
 
 pub new : (before : List RawName) (n : RawName) → has_spelling (spellings before) n.spelling ≡ false → (f : KindFault) → ¬ (IsRedeclared before n f)
@@ -40,6 +40,14 @@ pub unknown_row : IsKindRefusal unknown_process UnknownName (at 1 8)
 unknown_row = in_second_pass (none_refused IsRedeclared [] tt) (at_once IsRefusedAt (Used (environment_of unknown_process) (AsEquation 0) (named (codes "P") 1 8)) [] UnknownName (unknown refl) lowest)
   where
     lowest : (g : KindFault) → IsRefusedSite (Used (environment_of unknown_process) (AsEquation 0) (named (codes "P") 1 8)) g → 1 ≤ fault_number g
+    lowest g (unknown h) = omega arith
+    lowest g (wrong_class h s) = omega arith
+    lowest g (arguments h s) = omega arith
+
+pub freedom_row : IsKindRefusal unknown_in_freedom UnknownName (at 1 12)
+freedom_row = in_second_pass (none_refused IsRedeclared [] tt) (at_once IsRefusedAt (Used (environment_of unknown_in_freedom) (AsEquation 0) (named (codes "P") 1 12)) [] UnknownName (unknown refl) lowest)
+  where
+    lowest : (g : KindFault) → IsRefusedSite (Used (environment_of unknown_in_freedom) (AsEquation 0) (named (codes "P") 1 12)) g → 1 ≤ fault_number g
     lowest g (unknown h) = omega arith
     lowest g (wrong_class h s) = omega arith
     lowest g (arguments h s) = omega arith
@@ -111,7 +119,7 @@ count_row = in_second_pass
 -- ---- the set of a field without members, and a too large one
 
 abbrev pub some_kinds : List (List Kind) → Kinds
-some_kinds cs = record { nametypes = []; channels = cs; parameters = [] }
+some_kinds cs = record { nametypes = []; constructors = []; channels = cs; parameters = [] }
 
 pub empty_row : IsKindRefusal empty_field_set BadFieldSet (at 1 13)
 empty_row = in_second_pass
@@ -121,7 +129,7 @@ empty_row = in_second_pass
     (not_counted (named (codes "c") 1 9) (types_of empty_field_set) empty_field_set) (no_member fit) lowest)
   where
     fit : SomeFit (types_of empty_field_set) empty_field_set
-    fit = (some_kinds ((IntKind ∷ []) ∷ []), record { nametypes = tt; channels = ((tt, tt), tt) })
+    fit = (some_kinds ((IntKind ∷ []) ∷ []), record { nametypes = tt; constructors = tt; channels = ((tt, tt), tt) })
 
     lowest : (g : KindFault) → IsRefusedSite (FieldSet (at 1 13) (types_of empty_field_set) empty_field_set (Some (SetOf no_expressions)) None) g → 5 ≤ fault_number g
     lowest g (field_kind none) = absurd (none fit)
@@ -138,7 +146,7 @@ large_row = in_second_pass
     (not_counted (named (codes "c") 1 9) (types_of large_field_set) large_field_set) (no_member fit) lowest)
   where
     fit : SomeFit (types_of large_field_set) large_field_set
-    fit = (some_kinds ((IntKind ∷ []) ∷ []), record { nametypes = tt; channels = (((tt, tt), tt), tt) })
+    fit = (some_kinds ((IntKind ∷ []) ∷ []), record { nametypes = tt; constructors = tt; channels = (((tt, tt), tt), tt) })
 
     lowest : (g : KindFault) → IsRefusedSite (FieldSet (at 1 13) (types_of large_field_set) large_field_set (Some large) None) g → 5 ≤ fault_number g
     lowest g (field_kind none) = absurd (none fit)
@@ -164,7 +172,7 @@ events_row = in_second_pass
     (tail_of_sites (sites many_events)) TooManyEvents (too_many_events fit (lt_true refl)) lowest)
   where
     fit : SomeFit (types_of many_events) many_events
-    fit = (some_kinds ((IntKind ∷ IntKind ∷ []) ∷ []), record { nametypes = tt; channels = (((tt, tt), ((tt, tt), tt)), tt) })
+    fit = (some_kinds ((IntKind ∷ IntKind ∷ []) ∷ []), record { nametypes = tt; constructors = tt; channels = (((tt, tt), ((tt, tt), tt)), tt) })
 
     lowest : (g : KindFault) → IsRefusedSite (ChannelHead (named (codes "c") 1 9) (types_of many_events) many_events [] (Some many_members)) g → 6 ≤ fault_number g
     lowest g (too_many_events h m) = omega arith
@@ -176,7 +184,7 @@ grown = Call 0 (expression_and (SequenceOf (expression_and (Name 0) no_expressio
 
 abbrev growing : Script
 growing = record {
-  types = record { datatypes = []; nametypes = [] };
+  types = record { datatypes = []; nametypes = []; constructors = [] };
   channels = [];
   equations = record { parameters = 0 ∷ []; body = grown } ∷ [];
   assertions = [];
@@ -185,7 +193,7 @@ growing = record {
 }
 
 growing_is : IsScriptOf growing_parameter growing
-growing_is = record { datatypes = refl; nametypes = refl; channels = refl; equations = refl; assertions = refl; channel_names = refl; constructor_names = refl }
+growing_is = record { datatypes = refl; nametypes = refl; constructors = refl; channels = refl; equations = refl; assertions = refl; channel_names = refl; constructor_names = refl }
 
 no_cycle : (k : Kind) → SequenceKind k ≡ k → ⊥
 no_cycle IntKind e = cc e
@@ -240,6 +248,7 @@ kinds_row = in_third_pass (record {
     use_fine : (g : KindFault) → ¬ (IsRefusedSite (Used (binding (environment_of growing_parameter) (named (codes "n") 1 3 ∷ [])) AsExpression (named (codes "n") 1 11)) g)
     use_fine g (unknown h) = absurd (cc h)
     use_fine g (wrong_class {m = m} h s) = absurd (suited AsExpression (Bound 0) m h refl s)
+    use_fine g (bare_constructor h s) = absurd (cc h)
 
     lowest : (g : KindFault) → IsMisfit growing_parameter growing [] (EquationItem (at 1 1) 0) g → 3 ≤ fault_number g
     lowest g (misfit h) = omega arith

@@ -11,7 +11,7 @@ use Rattle.csp_checking.specs.Names.{ChannelName, EquationName, Meaning, Declare
 use Rattle.csp_checking.specs.Sets.{types_of, nametype_sets, IsSetOf}
 use Rattle.csp_checking.specs.Sites.{Site, Used, Parameter, NametypeSet, FieldSet, ChannelHead, AsExpression, AsBareLeft, AsBareRight, sites}
 use Rattle.csp_checking.specs.Faults.{KindFault, UnknownName, DeclaredTwice, WrongKind, WrongCount, TooManyEvents, fault_number}
-use Rattle.csp_checking.specs.Rules.{IsRedeclared, IsRefusedSite, unknown, parameter_declared, parameter_again, wrong_class, left_fields, right_fields, other_sets, HasFieldSets, nametype_kind, too_many_events, SomeFit, suits, all_declared}
+use Rattle.csp_checking.specs.Rules.{IsRedeclared, IsRefusedSite, unknown, parameter_declared, parameter_again, wrong_class, left_fields, right_fields, other_sets, HasFieldSets, nametype_kind, too_many_events, SomeFit, suits, all_declared, bare_constructor}
 use Rattle.csp_checking.specs.Refusals.{IsRefusedAt, PassesNames, IsKindRefusal, in_second_pass}
 use Rattle.csp_checking.specs.Checked.{IsCheckedTree}
 use Rattle.csp_checking.specs.Laws.Trees.{at, named, domain, up_to, channel_of_itself, parameter_twice, unlike_channels, bare_and_unknown, mixed_nametype, one_event_too_many, outputs, outputs_script}
@@ -25,7 +25,7 @@ abbrev zero_one : List Value
 zero_one = numbers_from (pos 0) 2
 
 outputs_kinds : Kinds
-outputs_kinds = record { nametypes = []; channels = (IntKind ∷ []) ∷ []; parameters = (IntKind ∷ []) ∷ [] }
+outputs_kinds = record { nametypes = []; constructors = []; channels = (IntKind ∷ []) ∷ []; parameters = (IntKind ∷ []) ∷ [] }
 
 outputs_env : Environment
 outputs_env = environment_of outputs
@@ -34,7 +34,7 @@ outputs_within : Environment
 outputs_within = binding (environment_of outputs) (named (codes "n") 2 3 ∷ [])
 
 outputs_fit : SomeFit (types_of outputs) (take 1 outputs)
-outputs_fit = (some_kinds ((IntKind ∷ []) ∷ []), record { nametypes = tt; channels = (((tt, tt), tt), tt) })
+outputs_fit = (some_kinds ((IntKind ∷ []) ∷ []), record { nametypes = tt; constructors = tt; channels = (((tt, tt), tt), tt) })
 
 outputs_pass : PassesNames outputs
 unfolding outputs_env outputs_within
@@ -49,11 +49,11 @@ outputs_pass = record {
         (
           event_fine outputs_within 1 (named (codes "c") 2 8) (Declared ChannelName 0) refl refl refl,
           (
-            expression_fine outputs_within (named (codes "n") 2 10) (Bound 0) refl refl,
+            expression_fine outputs_within (named (codes "n") 2 10) (Bound 0) refl refl (λ p e. let f = e in cc f),
             (
               equation_fine outputs_within 1 (named (codes "P") 2 15) (Declared EquationName 0) refl refl refl,
               (
-                expression_fine outputs_within (named (codes "n") 2 17) (Bound 0) refl refl,
+                expression_fine outputs_within (named (codes "n") 2 17) (Bound 0) refl refl (λ p e. let f = e in cc f),
                 (
                   equation_fine outputs_env 1 (named (codes "P") 3 8) (Declared EquationName 0) refl refl refl,
                   (
@@ -77,10 +77,10 @@ pub outputs_checked : IsCheckedTree outputs outputs_script
 unfolding outputs_kinds lib.Utf8.encode
 outputs_checked = record {
   names = outputs_pass;
-  script_of = record { datatypes = refl; nametypes = refl; channels = refl; equations = refl; assertions = refl; channel_names = refl; constructor_names = refl };
+  script_of = record { datatypes = refl; nametypes = refl; constructors = refl; channels = refl; equations = refl; assertions = refl; channel_names = refl; constructor_names = refl };
   kinds = outputs_kinds;
   fit = record {
-    sets = record { nametypes = tt; channels = (((tt, tt), tt), tt) };
+    sets = record { nametypes = tt; constructors = tt; channels = (((tt, tt), tt), tt) };
     parameters = refl;
     each = (
       (_, IntKind ∷ [], refl, refl, record { parameters = refl; body = (IntKind ∷ [], refl, (refl, tt), (IntKind ∷ [], refl, (refl, tt))) }),
@@ -94,6 +94,7 @@ outputs_checked = record {
 itself_row' : (g : KindFault) → IsRefusedSite (Used (environment_above []) AsExpression (named (codes "c") 1 13)) g → 1 ≤ fault_number g
 itself_row' g (unknown h) = omega arith
 itself_row' g (wrong_class h s) = omega arith
+itself_row' g (bare_constructor h s) = omega arith
 
 pub itself_row : IsKindRefusal channel_of_itself UnknownName (at 1 13)
 itself_row = in_second_pass (none_refused IsRedeclared (all_declared channel_of_itself) (new [] (named (codes "c") 1 9) refl, tt)) (record {
@@ -153,10 +154,10 @@ abbrev only : ℕ → List Value
 only n = Integer (pos n) ∷ []
 
 unlike_one : SomeFit (types_of unlike_channels) (take 1 unlike_channels)
-unlike_one = (some_kinds ((IntKind ∷ []) ∷ []), record { nametypes = tt; channels = (((tt, tt), tt), tt) })
+unlike_one = (some_kinds ((IntKind ∷ []) ∷ []), record { nametypes = tt; constructors = tt; channels = (((tt, tt), tt), tt) })
 
 unlike_two : SomeFit (types_of unlike_channels) (take 2 unlike_channels)
-unlike_two = (some_kinds ((IntKind ∷ []) ∷ (IntKind ∷ []) ∷ []), record { nametypes = tt; channels = (((tt, tt), tt), (((tt, tt), tt), tt)) })
+unlike_two = (some_kinds ((IntKind ∷ []) ∷ (IntKind ∷ []) ∷ []), record { nametypes = tt; constructors = tt; channels = (((tt, tt), tt), (((tt, tt), tt), tt)) })
 
 unlike_left : HasFieldSets unlike_channels 0 (only 0 ∷ [])
 unlike_left = record { members = refl; so_far = take 1 unlike_channels; below = drop 1 unlike_channels; stands = refl; declared = ltb-true 0 1 refl; fit = unlike_one }
@@ -224,7 +225,7 @@ bare_row = in_second_pass
         head_fine (named (codes "c") 1 9) (types_of bare_and_unknown) (take 1 bare_and_unknown) [] (only 0 ∷ []) refl,
         (
           field_fine (at 1 13) (types_of bare_and_unknown) (take 1 bare_and_unknown) (Some (just 0)) (only 0)
-              (some_kinds ((IntKind ∷ []) ∷ []), record { nametypes = tt; channels = (((tt, tt), tt), tt) }),
+              (some_kinds ((IntKind ∷ []) ∷ []), record { nametypes = tt; constructors = tt; channels = (((tt, tt), tt), tt) }),
           tt,
         ),
       );
@@ -247,16 +248,16 @@ abbrev numbers : ℕ → List Value
 numbers n = numbers_from (pos 0) n
 
 many_one : SomeFit (types_of one_event_too_many) (take 1 one_event_too_many)
-many_one = (some_kinds ((IntKind ∷ []) ∷ []), record { nametypes = tt; channels = (((tt, tt), tt), tt) })
+many_one = (some_kinds ((IntKind ∷ []) ∷ []), record { nametypes = tt; constructors = tt; channels = (((tt, tt), tt), tt) })
 
 many_part : SomeFit (types_of one_event_too_many) (take 1 one_event_too_many ++ RawChannels (named (codes "d") 2 9 ∷ []) (domain 2 13 (up_to 1023) ∷ []) ∷ [])
-many_part = (some_kinds ((IntKind ∷ []) ∷ (IntKind ∷ []) ∷ []), record { nametypes = tt; channels = (((tt, tt), tt), (((tt, tt), tt), tt)) })
+many_part = (some_kinds ((IntKind ∷ []) ∷ (IntKind ∷ []) ∷ []), record { nametypes = tt; constructors = tt; channels = (((tt, tt), tt), (((tt, tt), tt), tt)) })
 
 many_two : SomeFit (types_of one_event_too_many) (take 2 one_event_too_many)
-many_two = (some_kinds ((IntKind ∷ []) ∷ (IntKind ∷ IntKind ∷ []) ∷ []), record { nametypes = tt; channels = (((tt, tt), tt), (((tt, tt), ((tt, tt), tt)), tt)) })
+many_two = (some_kinds ((IntKind ∷ []) ∷ (IntKind ∷ IntKind ∷ []) ∷ []), record { nametypes = tt; constructors = tt; channels = (((tt, tt), tt), (((tt, tt), ((tt, tt), tt)), tt)) })
 
 many_all : SomeFit (types_of one_event_too_many) one_event_too_many
-many_all = (some_kinds ((IntKind ∷ []) ∷ (IntKind ∷ IntKind ∷ []) ∷ [] ∷ []), record { nametypes = tt; channels = (((tt, tt), tt), (((tt, tt), ((tt, tt), tt)), (tt, tt))) })
+many_all = (some_kinds ((IntKind ∷ []) ∷ (IntKind ∷ IntKind ∷ []) ∷ [] ∷ []), record { nametypes = tt; constructors = tt; channels = (((tt, tt), tt), (((tt, tt), ((tt, tt), tt)), (tt, tt))) })
 
 abbrev before_many : List Site
 before_many = ChannelHead (named (codes "c") 1 9) (types_of one_event_too_many) (take 1 one_event_too_many) [] (Some (numbers 1024 ∷ [])) ∷ FieldSet (at 1 13)

@@ -2,10 +2,16 @@
 use Rattle.std.specs.Prelude.{flat_map, filter_map, replicate}
 use Rattle.std.proofs.lemmas.Grind.{flat_map-append}
 use Rattle.std.proofs.lemmas.List.{append_assoc, map-append, length-map}
-use Rattle.std.proofs.Common.{◌≡◌, ℕ, suc, ◌+◌, List, [], ◌∷◌, ◌++◌, append-nil, length, length-append, Some, refl, sym, ap, ◌∙◌, subst, arith}
+use Rattle.std.specs.Ordering.{is_lt, nat_cmp}
+use Rattle.std.specs.Cmp.{nat_cmp_is}
+use Rattle.std.specs.declared.cmp.Ordering.TheVariants.{Less}
+use Rattle.std.proofs.Common.{◌≡◌, ℕ, zero, suc, ◌+◌, List, [], ◌∷◌, ◌++◌, append-nil, length, length-append, Some, refl, sym, ap, ◌∙◌, subst, arith}
 use Rattle.csp_syntax.specs.Process.{Script}
+use Rattle.csp_semantics.specs.Meaning.Offers.{RisesBy}
+use Rattle.csp_semantics.specs.Kinds.Kind.{Each}
+use Rattle.csp_semantics.specs.Kinds.Values.{DatatypesRise}
 use Rattle.csp_text.specs.Raw.{RawDeclaration, RawDatatype, RawNametype, RawChannels, RawEquation, RawAssertion, RawScript}
-use Rattle.csp_checking.specs.Names.{ConstructorName, declared_as, names_of, spellings, number_in, DatatypeName}
+use Rattle.csp_checking.specs.Names.{ConstructorName, clause_names, declared_as, names_of, spellings, number_in, DatatypeName}
 use Rattle.csp_checking.specs.Sets.{datatype_of, datatypes_of, types_of}
 use Rattle.csp_checking.specs.Scripts.{IsScriptOf}
 use Rattle.csp_checking.specs.Faults.{NoneRefused}
@@ -47,29 +53,42 @@ datatypes_behind raw ss [] once is = refl
 datatypes_behind raw ss (RawNametype name domain ∷ ds) once is = datatypes_behind raw ss ds once is
 datatypes_behind raw ss (RawChannels names domains ∷ ds) once is = datatypes_behind raw ss ds once is
 datatypes_behind raw ss (RawEquation name ns p ∷ ds) once is = datatypes_behind raw ss ds once is
-datatypes_behind raw ss (RawAssertion place m p q ∷ ds) once is = datatypes_behind raw ss ds once is
+datatypes_behind raw ss (RawAssertion place n a p ∷ ds) once is = datatypes_behind raw ss ds once is
 datatypes_behind raw ss (RawDatatype name cs ∷ ds) once is =
-    ap (λ r. r ∷ flat_map (datatype_of raw) ds) row ∙ ap (λ rows. numbers_from (length ss) (length cs) ∷ rows)
-    (datatypes_behind raw (ss ++ spellings cs) ds once again ∙ ap (λ n. rows_from n (constructor_counts ds)) count)
+    ap (λ r. r ∷ flat_map (datatype_of raw) ds) row ∙ ap (λ rows. numbers_from (length ss) (length (clause_names cs)) ∷ rows)
+    (datatypes_behind raw (ss ++ spellings (clause_names cs)) ds once again ∙ ap (λ n. rows_from n (constructor_counts ds)) count)
   where
-    parts : names_of ConstructorName raw ≡ ss ++ (spellings cs ++ names_of ConstructorName ds)
-    parts = is ∙ ap (λ zs. ss ++ zs) (map-append (λ n. n.spelling) cs (flat_map (declared_as ConstructorName) ds))
+    parts : names_of ConstructorName raw ≡ ss ++ (spellings (clause_names cs) ++ names_of ConstructorName ds)
+    parts = is ∙ ap (λ zs. ss ++ zs) (map-append (λ n. n.spelling) (clause_names cs) (flat_map (declared_as ConstructorName) ds))
 
-    row : filter_map (number_in (names_of ConstructorName raw)) (spellings cs) ≡ numbers_from (length ss) (length cs)
+    row : filter_map (number_in (names_of ConstructorName raw)) (spellings (clause_names cs)) ≡ numbers_from (length ss) (length (clause_names cs))
     row =
         let P : List (List ℕ) → Type 0 = EachOnce in
-        ap (λ all. filter_map (number_in all) (spellings cs)) parts ∙ numbers_between ss (spellings cs) (names_of ConstructorName ds) (subst P parts once)
-        ∙ ap (numbers_from (length ss)) (length-map cs (λ n. n.spelling))
+        ap (λ all. filter_map (number_in all) (spellings (clause_names cs))) parts ∙ numbers_between ss (spellings (clause_names cs)) (names_of ConstructorName ds) (subst P parts once)
+        ∙ ap (numbers_from (length ss)) (length-map (clause_names cs) (λ n. n.spelling))
 
-    again : names_of ConstructorName raw ≡ (ss ++ spellings cs) ++ names_of ConstructorName ds
-    again = parts ∙ sym (append_assoc ss (spellings cs) (names_of ConstructorName ds))
+    again : names_of ConstructorName raw ≡ (ss ++ spellings (clause_names cs)) ++ names_of ConstructorName ds
+    again = parts ∙ sym (append_assoc ss (spellings (clause_names cs)) (names_of ConstructorName ds))
 
-    count : length (ss ++ spellings cs) ≡ length ss + length cs
-    count = length-append ss (spellings cs) ∙ ap (λ n. length ss + n) (length-map cs (λ n. n.spelling))
+    count : length (ss ++ spellings (clause_names cs)) ≡ length ss + length (clause_names cs)
+    count = length-append ss (spellings (clause_names cs)) ∙ ap (λ n. length ss + n) (length-map (clause_names cs) (λ n. n.spelling))
 
 -- The datatypes of a tree are rows of numbers, one behind the other.
 pub datatypes_in_rows : (raw : RawScript) → NoneRefused IsRedeclared (all_declared raw) → datatypes_of raw ≡ rows_from 0 (constructor_counts raw)
 datatypes_in_rows raw none = datatypes_behind raw [] raw (names_once ConstructorName raw none) refl
+
+-- the constructors of each datatype rise
+row_rises : (n k : ℕ) → RisesBy nat_cmp (numbers_from n k)
+row_rises n zero = tt
+row_rises n (suc zero) = tt
+row_rises n (suc (suc k)) = (ap is_lt (sym (nat_cmp_is n (suc n) Less (omega arith))), row_rises (suc n) (suc k))
+
+rows_rise : (n : ℕ) (ks : List ℕ) → Each (RisesBy nat_cmp) (rows_from n ks)
+rows_rise n [] = tt
+rows_rise n (k ∷ ks) = (row_rises n k, rows_rise (n + k) ks)
+
+pub datatypes_rise : (raw : RawScript) → NoneRefused IsRedeclared (all_declared raw) → DatatypesRise (types_of raw)
+datatypes_rise raw none = subst (Each (RisesBy nat_cmp)) (sym (datatypes_in_rows raw none)) (rows_rise 0 (constructor_counts raw))
 
 pub types_in_rows : (raw : RawScript) → NoneRefused IsRedeclared (all_declared raw) → (types_of raw).datatypes ≡ rows_from 0 (constructor_counts raw)
 types_in_rows raw none = datatypes_in_rows raw none
@@ -105,27 +124,27 @@ owners_with_one_more d (j ∷ ks) k =
 pub owners_counted : (d : ℕ) (raw : RawScript) → length (owners_from d (constructor_counts raw)) ≡ length (names_of ConstructorName raw)
 owners_counted d [] = refl
 owners_counted d (RawDatatype name cs ∷ ds) =
-    length-append (replicate (length cs) d) (owners_from (suc d) (constructor_counts ds))
-    ∙ ap (λ n. n + length (owners_from (suc d) (constructor_counts ds))) (length-replicate (length cs) d ∙ sym (length-map cs (λ n. n.spelling)))
-    ∙ ap (λ n. length (spellings cs) + n) (owners_counted (suc d) ds) ∙ sym (length-append (spellings cs) (names_of ConstructorName ds))
-    ∙ sym (ap length (map-append (λ n. n.spelling) cs (flat_map (declared_as ConstructorName) ds)))
+    length-append (replicate (length (clause_names cs)) d) (owners_from (suc d) (constructor_counts ds))
+    ∙ ap (λ n. n + length (owners_from (suc d) (constructor_counts ds))) (length-replicate (length (clause_names cs)) d ∙ sym (length-map (clause_names cs) (λ n. n.spelling)))
+    ∙ ap (λ n. length (spellings (clause_names cs)) + n) (owners_counted (suc d) ds) ∙ sym (length-append (spellings (clause_names cs)) (names_of ConstructorName ds))
+    ∙ sym (ap length (map-append (λ n. n.spelling) (clause_names cs) (flat_map (declared_as ConstructorName) ds)))
 owners_counted d (RawNametype name domain ∷ ds) = owners_counted d ds
 owners_counted d (RawChannels names domains ∷ ds) = owners_counted d ds
 owners_counted d (RawEquation name ns p ∷ ds) = owners_counted d ds
-owners_counted d (RawAssertion place m p q ∷ ds) = owners_counted d ds
+owners_counted d (RawAssertion place n a p ∷ ds) = owners_counted d ds
 
 pub constructors_counted : (n : ℕ) (raw : RawScript) → behind_all n (constructor_counts raw) ≡ n + length (names_of ConstructorName raw)
 constructors_counted n [] = omega arith
 constructors_counted n (RawDatatype name cs ∷ ds) =
-    let rest : behind_all (n + length cs) (constructor_counts ds) ≡ n + length cs + length (names_of ConstructorName ds) = constructors_counted (n + length cs) ds in
-    let count : length (names_of ConstructorName (RawDatatype name cs ∷ ds)) ≡ length cs + length (names_of ConstructorName ds) =
-    ap length (map-append (λ n. n.spelling) cs (flat_map (declared_as ConstructorName) ds)) ∙ length-append (spellings cs) (names_of ConstructorName ds)
-    ∙ ap (λ k. k + length (names_of ConstructorName ds)) (length-map cs (λ n. n.spelling)) in
+    let rest : behind_all (n + length (clause_names cs)) (constructor_counts ds) ≡ n + length (clause_names cs) + length (names_of ConstructorName ds) = constructors_counted (n + length (clause_names cs)) ds in
+    let count : length (names_of ConstructorName (RawDatatype name cs ∷ ds)) ≡ length (clause_names cs) + length (names_of ConstructorName ds) =
+    ap length (map-append (λ n. n.spelling) (clause_names cs) (flat_map (declared_as ConstructorName) ds)) ∙ length-append (spellings (clause_names cs)) (names_of ConstructorName ds)
+    ∙ ap (λ k. k + length (names_of ConstructorName ds)) (length-map (clause_names cs) (λ n. n.spelling)) in
     omega (arith, rest, count)
 constructors_counted n (RawNametype name domain ∷ ds) = constructors_counted n ds
 constructors_counted n (RawChannels names domains ∷ ds) = constructors_counted n ds
 constructors_counted n (RawEquation name ns p ∷ ds) = constructors_counted n ds
-constructors_counted n (RawAssertion place m p q ∷ ds) = constructors_counted n ds
+constructors_counted n (RawAssertion place b a p ∷ ds) = constructors_counted n ds
 
 pub datatypes_counted : (raw : RawScript) → length (constructor_counts raw) ≡ length (names_of DatatypeName raw)
 datatypes_counted [] = refl
@@ -133,4 +152,4 @@ datatypes_counted (RawDatatype name cs ∷ ds) = ap suc (datatypes_counted ds)
 datatypes_counted (RawNametype name domain ∷ ds) = datatypes_counted ds
 datatypes_counted (RawChannels names domains ∷ ds) = datatypes_counted ds
 datatypes_counted (RawEquation name ns p ∷ ds) = datatypes_counted ds
-datatypes_counted (RawAssertion place m p q ∷ ds) = datatypes_counted ds
+datatypes_counted (RawAssertion place n a p ∷ ds) = datatypes_counted ds

@@ -7,7 +7,7 @@ use Rattle.std.proofs.lemmas.Slice.Eq.{bytes_eq-Decides}
 use Rattle.std.proofs.Math.Seq.{take-append_seam}
 use Rattle.std.proofs.Common.{◌≡◌, ◌≤◌, ℕ, suc, ◌+◌, Bool, true, false, List, [], ◌∷◌, ◌++◌, append-nil, length, length-append, Option, Some, None, refl, sym, ap, ◌∙◌, subst, arith}
 use Rattle.csp_text.specs.Raw.{RawName, RawDeclaration, RawDatatype, RawNametype, RawChannels, RawEquation, RawAssertion, RawScript}
-use Rattle.csp_checking.specs.Names.{Class, ConstructorName, ChannelName, Declared, declared, declared_as, names_of, spellings, number_in, has_spelling}
+use Rattle.csp_checking.specs.Names.{Class, ConstructorName, ChannelName, Declared, declared, declared_as, names_of, clause_names, spellings, number_in, has_spelling}
 use Rattle.csp_checking.specs.Sets.{behind_each}
 use Rattle.csp_checking.specs.Faults.{KindFault, DeclaredTwice, fault_number, NoneRefused, IsFirstRefused}
 use Rattle.csp_checking.specs.Refusals.{IsKindRefusal, in_first_pass}
@@ -24,11 +24,11 @@ numbered_spellings class n [] = refl
 numbered_spellings class n (x ∷ xs) = ap (λ ss. x.spelling ∷ ss) (numbered_spellings class (suc n) xs)
 
 pub spellings_declared : (above : RawScript) (d : RawDeclaration) → row_spellings (rows_declared above d) ≡ spellings (declared d)
-spellings_declared above (RawDatatype name constructors) = ap (λ ss. name.spelling ∷ ss) (numbered_spellings ConstructorName (length (names_of ConstructorName above)) constructors)
+spellings_declared above (RawDatatype name clauses) = ap (λ ss. name.spelling ∷ ss) (numbered_spellings ConstructorName (length (names_of ConstructorName above)) (clause_names clauses))
 spellings_declared above (RawNametype name domain) = refl
 spellings_declared above (RawChannels names domains) = numbered_spellings ChannelName (length (names_of ChannelName above)) names
 spellings_declared above (RawEquation name parameters body) = refl
-spellings_declared above (RawAssertion place model p q) = refl
+spellings_declared above (RawAssertion place n a p) = refl
 
 spellings_behind : (above ds : RawScript) → row_spellings (behind_each rows_declared above ds) ≡ spellings (all_declared ds)
 spellings_behind above [] = refl

@@ -8,10 +8,11 @@ use Rattle.csp_syntax.specs.Types.{Types}
 use Rattle.csp_text.specs.Place.{Place}
 use Rattle.csp_text.specs.Raw.{RawName, RawScript}
 use Rattle.csp_checking.specs.Names.{Meaning, declared_meaning, has_spelling, Environment, meaning}
+use Rattle.csp_checking.specs.Resolving.{constructor_count}
 use Rattle.csp_checking.specs.Sets.{number_of_events}
-use Rattle.csp_checking.specs.Sites.{Use, AsExpression, AsEquation, AsEvent, AsBareLeft, Used, BoundThere, Parameter, FieldSet, ChannelHead}
+use Rattle.csp_checking.specs.Sites.{Use, AsExpression, AsConstructor, AsEquation, AsEvent, AsBareLeft, Used, BoundThere, Parameter, FieldSet, ChannelHead}
 pub use Rattle.csp_checking.specs.Walks.{IsFine}
-use Rattle.csp_checking.specs.Rules.{suits, parameter_count, field_count, SomeFit, most_events, unknown, bound_declared, parameter_declared, parameter_again, wrong_class, arguments, fields, left_fields, field_kind, too_many_events}
+use Rattle.csp_checking.specs.Rules.{suits, parameter_count, field_count, SomeFit, most_events, unknown, bound_declared, parameter_declared, parameter_again, wrong_class, bare_constructor, constructor, arguments, fields, left_fields, field_kind, too_many_events}
 
 not_both : {b : Bool} → b ≡ false → b ≡ true → ⊥
 not_both e f = let both : false ≡ true = sym e ∙ f in cc both
@@ -25,9 +26,18 @@ same_there e f = let both = sym e ∙ f in cc both
 not_unsuited : (u : Use) {o : Option Meaning} {m k : Meaning} → o ≡ Some m → suits u m ≡ true → o ≡ Some k → IsFalse (suits u k) → ⊥
 not_unsuited u e s f g = not_both g (ap (suits u) (sym (same_there e f)) ∙ s)
 
-pub expression_fine : (env : Environment) (n : RawName) (m : Meaning) → meaning env n ≡ Some m → suits AsExpression m ≡ true → IsFine (Used env AsExpression n)
-expression_fine env n m e s f (unknown h) = missing h e
-expression_fine env n m e s f (wrong_class h r) = not_unsuited AsExpression e s h r
+-- where it is a constructor, it has no fields
+pub expression_fine : (env : Environment) (n : RawName) (m : Meaning) → meaning env n ≡ Some m → suits AsExpression m ≡ true →
+    ((p : ℕ) → constructor_count env n ≡ Some p → p ≡ 0) → IsFine (Used env AsExpression n)
+expression_fine env n m e s alone f (unknown h) = missing h e
+expression_fine env n m e s alone f (wrong_class h r) = not_unsuited AsExpression e s h r
+expression_fine env n m e s alone f (bare_constructor {p = p} h r) = r (alone p h)
+
+pub constructor_fine : (env : Environment) (k : ℕ) (n : RawName) (m : Meaning) → meaning env n ≡ Some m → suits (AsConstructor k) m ≡ true →
+    constructor_count env n ≡ Some k → IsFine (Used env (AsConstructor k) n)
+constructor_fine env k n m e s c f (unknown h) = missing h e
+constructor_fine env k n m e s c f (wrong_class h r) = not_unsuited (AsConstructor k) e s h r
+constructor_fine env k n m e s c f (constructor h r) = r (same_there h c)
 
 pub equation_fine : (env : Environment) (k : ℕ) (n : RawName) (m : Meaning) → meaning env n ≡ Some m → suits (AsEquation k) m ≡ true →
     parameter_count env n ≡ Some k → IsFine (Used env (AsEquation k) n)

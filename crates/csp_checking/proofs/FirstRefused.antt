@@ -103,14 +103,17 @@ pub one_script : (raw : RawScript) (s t : Script) → IsScriptOf raw s → IsScr
 one_script raw s t a b =
     let ds : s.types.datatypes ≡ t.types.datatypes = a.datatypes ∙ sym b.datatypes in
     let ns : s.types.nametypes ≡ t.types.nametypes = map_some s.types.nametypes t.types.nametypes (a.nametypes ∙ sym b.nametypes) in
-    let types : s.types ≡ t.types = types_same s.types t.types ds ns in
+    let ks : s.types.constructors ≡ t.types.constructors = map_some s.types.constructors t.types.constructors (a.constructors ∙ sym b.constructors) in
+    let types : s.types ≡ t.types = types_same s.types t.types ds ns ks in
     let cs : s.channels ≡ t.channels = map_some s.channels t.channels (a.channels ∙ sym b.channels) in
     let es : s.equations ≡ t.equations = map_some s.equations t.equations (a.equations ∙ sym b.equations) in
     let ss : s.assertions ≡ t.assertions = map_some s.assertions t.assertions (a.assertions ∙ sym b.assertions) in
     scripts_same s t types cs es ss (a.channel_names ∙ sym b.channel_names) (a.constructor_names ∙ sym b.constructor_names)
   where
-    types_same : (u v : Types) → u.datatypes ≡ v.datatypes → u.nametypes ≡ v.nametypes → u ≡ v
-    types_same u v d n = ap (λ x. record { datatypes = x; nametypes = u.nametypes }) d ∙ ap (λ y. record { datatypes = v.datatypes; nametypes = y }) n
+    types_same : (u v : Types) → u.datatypes ≡ v.datatypes → u.nametypes ≡ v.nametypes → u.constructors ≡ v.constructors → u ≡ v
+    types_same u v d n k =
+        ap (λ x. record { datatypes = x; nametypes = u.nametypes; constructors = u.constructors }) d ∙ ap (λ y. record { datatypes = v.datatypes; nametypes = y; constructors = u.constructors }) n
+        ∙ ap (λ z. record { datatypes = v.datatypes; nametypes = v.nametypes; constructors = z }) k
 
     scripts_same : (u v : Script) → u.types ≡ v.types → u.channels ≡ v.channels → u.equations ≡ v.equations → u.assertions ≡ v.assertions →
         u.channel_names ≡ v.channel_names → u.constructor_names ≡ v.constructor_names → u ≡ v

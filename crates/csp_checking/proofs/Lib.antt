@@ -1,13 +1,17 @@
 pub mod FirstRefused
 pub mod FineSites
+pub mod Meant
+pub mod Sizes
 pub mod Resolving
 pub mod ScriptThere
 pub mod WellKinded
 pub mod Unrefused
 pub mod AlongTokens
 pub mod FitsAbove
+pub mod UsedAbove
 pub mod CheckedRows
 pub mod CheckedTrees
+pub mod ClauseTrees
 pub mod Unifying
 pub mod Asking
 pub mod AskingExpressions
@@ -23,3 +27,6 @@ pub mod Spellings
 pub mod DeclaredRows
 pub mod RowMeanings
 pub mod ConstructorRows
+pub mod Tidy
+pub mod RisingSets
+pub mod CheckedTexts

@@ -1,18 +1,20 @@
 -- Where no name is refused, each expression and each process has its term.
-use Rattle.std.specs.Prelude.{⊤, is_some, option_map, flat_map, cond}
+use Rattle.std.specs.Prelude.{⊤, is_some, option_map, flat_map, cond, not, nat_eq}
+use Rattle.std.proofs.lemmas.Bool.{eq-eqb}
 use Rattle.std.proofs.Common.{◌≡◌, ◌&&◌, ℕ, suc, Bool, true, false, List, [], ◌∷◌, ◌++◌, length, Option, Some, None, refl, sym, ap, ◌∙◌, subst}
 use Rattle.std.proofs.lemmas.Slice.Eq.{bytes_eq-Decides}
 use Rattle.std.specs.Str.{bytes_eq}
-use Rattle.csp_syntax.specs.Process.{Model}
-use Rattle.csp_text.specs.Raw.{RawName, RawExpression, RawNumber, RawTruth, RawBooleans, RawUse, RawApply, RawCombine, RawSequence, RawSet, RawRange, RawExpressions, no_raw_expressions, raw_expression_and, RawField, RawGiven, RawInput, RawInputFrom, RawEvent, RawEventSet, RawEnumeration, RawProductions, RawEventUnion, RawEventIntersection, RawEventDifference, RawPair, RawProcess, RawStop, RawSkip, RawCall, RawPrefix, RawGuard, RawIf, RawInfix, RawGeneralisedParallel, RawAlphabetisedParallel, RawHiding, RawRenaming, RawReplicated}
-use Rattle.csp_checking.specs.Names.{DatatypeName, ConstructorName, NametypeName, ChannelName, EquationName, Meaning, Declared, Bound, number_in, has_spelling, with_spellings, spellings, Environment, binding, bound_by_fields, bound_in, meaning}
-use Rattle.csp_checking.specs.Resolving.{of_two, of_three, of_four, every, as_expression, as_channel, as_equation, expression_of, expressions_of, bound_number, fields_of, event_of, event_set_of, pair_of, infix_process, replicated_process, process_of, equation_of, assertion_of}
-use Rattle.csp_checking.specs.Sites.{Use, AsExpression, AsEquation, AsEvent, AsProductions, AsBareLeft, AsBareRight, Site, Used, in_expression, in_expressions, in_fields, in_event, in_production, in_event_set, in_pair, has_no_fields, in_process, in_parameters, number_of}
-use Rattle.csp_checking.specs.Faults.{KindFault, UnknownName, WrongKind}
-use Rattle.csp_checking.specs.Rules.{IsRefusedSite, unknown, wrong_class, suits}
+use Rattle.csp_syntax.specs.Process.{RefinementOf, DeadlockFree, DivergenceFree}
+use Rattle.csp_text.specs.Raw.{RawProperty, RawRefinementOf, RawDeadlockFree, RawDivergenceFree, RawName, RawExpression, RawNumber, RawTruth, RawBooleans, RawUse, RawApply, RawCombine, RawSequence, RawSet, RawRange, RawConstructor, RawExpressions, no_raw_expressions, raw_expression_and, RawField, RawGiven, RawInput, RawInputFrom, RawEvent, RawEventSet, RawEnumeration, RawProductions, RawEventUnion, RawEventIntersection, RawEventDifference, RawPair, RawProcess, RawStop, RawSkip, RawCall, RawPrefix, RawGuard, RawIf, RawInfix, RawGeneralisedParallel, RawAlphabetisedParallel, RawHiding, RawRenaming, RawReplicated}
+use Rattle.csp_checking.specs.Names.{bound_in_property, DatatypeName, ConstructorName, NametypeName, ChannelName, EquationName, Meaning, Declared, Bound, number_in, has_spelling, with_spellings, spellings, Environment, binding, bound_by_fields, bound_in, meaning}
+use Rattle.csp_checking.specs.Resolving.{property_of, of_two, of_three, of_four, every, as_expression, as_constructor, as_channel, as_equation, constructor_count, is_count, lacks_fields, constructor_with, number_of, expression_of, expressions_of, bound_number, fields_of, event_of, event_set_of, pair_of, infix_process, replicated_process, process_of, equation_of, assertion_of}
+use Rattle.csp_checking.specs.Sites.{in_property, Use, AsExpression, AsConstructor, AsEquation, AsEvent, AsProductions, AsBareLeft, AsBareRight, Site, Used, in_expression, in_expressions, in_fields, in_event, in_production, in_event_set, in_pair, has_no_fields, in_process, in_parameters}
+use Rattle.csp_checking.specs.Faults.{KindFault, UnknownName, WrongKind, WrongCount}
+use Rattle.csp_checking.specs.Rules.{IsRefusedSite, unknown, wrong_class, bare_constructor, constructor, suits}
 use Rattle.csp_checking.specs.Refusals.{IsRefusedAt}
 pub use Rattle.csp_checking.specs.Walks.{AllFine, IsThere, AreNumbered}
 use Rattle.csp_checking.proofs.FirstRefused.{EachFine}
+use Rattle.csp_checking.proofs.Meant.{constructor_counted}
 
 -- ---- sites that are fine
 
@@ -75,6 +77,7 @@ as_equation_suits a (Declared EquationName k) s = (_, refl)
 -- the uses of a channel's name
 abbrev IsChannelUse : Use → Type 0
 IsChannelUse AsExpression = ⊥
+IsChannelUse (AsConstructor n) = ⊥
 IsChannelUse (AsEquation n) = ⊥
 IsChannelUse (AsEvent n) = ⊤
 IsChannelUse (AsProductions n) = ⊤
@@ -111,16 +114,52 @@ as_channel_suits AsExpression (Declared ConstructorName k) is s = absurd is
 as_channel_suits AsExpression (Declared DatatypeName k) is s = absurd is
 as_channel_suits AsExpression (Declared NametypeName k) is s = absurd is
 as_channel_suits AsExpression (Declared EquationName k) is s = absurd is
+as_channel_suits (AsConstructor a) (Bound n) is s = absurd is
+as_channel_suits (AsConstructor a) (Declared ConstructorName k) is s = absurd is
+as_channel_suits (AsConstructor a) (Declared DatatypeName k) is s = absurd is
+as_channel_suits (AsConstructor a) (Declared NametypeName k) is s = absurd is
+as_channel_suits (AsConstructor a) (Declared EquationName k) is s = absurd is
 as_channel_suits (AsEquation a) (Bound n) is s = absurd is
 as_channel_suits (AsEquation a) (Declared ConstructorName k) is s = absurd is
 as_channel_suits (AsEquation a) (Declared DatatypeName k) is s = absurd is
 as_channel_suits (AsEquation a) (Declared NametypeName k) is s = absurd is
 as_channel_suits (AsEquation a) (Declared EquationName k) is s = absurd is
 
-pub expression_named : (env : Environment) (n : RawName) → ((f : KindFault) → ¬ (IsRefusedSite (Used env AsExpression n) f)) → IsThere (as_expression (meaning env n))
+as_constructor_suits : (a : ℕ) (m : Meaning) → suits (AsConstructor a) m ≡ true → IsThere (as_constructor (Some m))
+as_constructor_suits a (Bound n) s = absurd (cc s)
+as_constructor_suits a (Declared ConstructorName k) s = (k, refl)
+as_constructor_suits a (Declared DatatypeName k) s = absurd (cc s)
+as_constructor_suits a (Declared NametypeName k) s = absurd (cc s)
+as_constructor_suits a (Declared ChannelName k) s = absurd (cc s)
+as_constructor_suits a (Declared EquationName k) s = absurd (cc s)
+
+-- a constructor that stands alone has no fields
+pub not_lacking : (env : Environment) (n : RawName) → ((f : KindFault) → ¬ (IsRefusedSite (Used env AsExpression n) f)) → lacks_fields (constructor_count env n) ≡ false
+not_lacking env n fine = go (constructor_count env n) refl
+  where
+    by : (p : ℕ) → constructor_count env n ≡ Some p → (b : Bool) → nat_eq p 0 ≡ b → not b ≡ false
+    by p is true e = refl
+    by p is false e = absurd (fine WrongCount (bare_constructor is (λ zero. let same = eq-eqb p 0 zero in let both : true ≡ false = sym same ∙ e in cc both)))
+
+    go : (o : Option ℕ) → constructor_count env n ≡ o → lacks_fields o ≡ false
+    go None is = refl
+    go (Some p) is = by p is (nat_eq p 0) refl
+
+pub expression_named : (env : Environment) (n : RawName) → ((f : KindFault) → ¬ (IsRefusedSite (Used env AsExpression n) f)) →
+    IsThere (cond (lacks_fields (constructor_count env n)) None (as_expression (meaning env n)))
 expression_named env n fine =
     let h = fine_meaning env AsExpression n fine in
-    let there = as_expression_suits h.0 h.2 in (there.0, ap as_expression h.1 ∙ there.1)
+    let there = as_expression_suits h.0 h.2 in
+    (there.0, ap (λ b. cond b None (as_expression (meaning env n))) (not_lacking env n fine) ∙ ap as_expression h.1 ∙ there.1)
+
+-- one that is written with fields has so many
+pub has_so_many : (env : Environment) (k : ℕ) (n : RawName) → ((f : KindFault) → ¬ (IsRefusedSite (Used env (AsConstructor k) n) f)) → (p : ℕ) → constructor_count env n ≡ Some p →
+    is_count k (constructor_count env n) ≡ true
+has_so_many env k n fine p is = ap (is_count k) is ∙ by (nat_eq p k) refl
+  where
+    by : (b : Bool) → nat_eq p k ≡ b → b ≡ true
+    by true e = refl
+    by false e = absurd (fine WrongCount (constructor is (λ same. let yes = eq-eqb p k same in let both : true ≡ false = sym yes ∙ e in cc both)))
 
 pub equation_named : (env : Environment) (a : ℕ) (n : RawName) → ((f : KindFault) → ¬ (IsRefusedSite (Used env (AsEquation a) n) f)) → IsThere (as_equation (meaning env n))
 equation_named env a n fine =
@@ -131,6 +170,14 @@ pub channel_named : (env : Environment) (u : Use) (n : RawName) → IsChannelUse
 channel_named env u n is fine =
     let h = fine_meaning env u n fine in
     let there = as_channel_suits u h.0 is h.2 in (there.0, ap as_channel h.1 ∙ there.1)
+
+pub constructor_named : (env : Environment) (k : ℕ) (n : RawName) → ((f : KindFault) → ¬ (IsRefusedSite (Used env (AsConstructor k) n) f)) → IsThere (constructor_with env n k)
+constructor_named env k n fine =
+    let h = fine_meaning env (AsConstructor k) n fine in
+    let there = as_constructor_suits k h.0 h.2 in
+    let is = ap as_constructor h.1 ∙ there.1 in
+    let count = constructor_counted env n there.0 is in
+    (there.0, ap (λ b. cond b (as_constructor (meaning env n)) None) (has_so_many env k n fine count.0 count.1) ∙ is)
 
 -- ---- expressions
 
@@ -149,6 +196,8 @@ mutual
   expression_there env (RawRange e f) fine =
       there_two _ (expression_of env e) (expression_of env f) (expression_there env e (fine_left (in_expression env e) (in_expression env f) fine))
       (expression_there env f (fine_right (in_expression env e) (in_expression env f) fine))
+  expression_there env (RawConstructor n es) fine =
+      there_two _ (constructor_with env n (number_of es)) (expressions_of env es) (constructor_named env (number_of es) n fine.0) (expressions_there env es fine.1)
 
   pub expressions_there : (env : Environment) (es : RawExpressions) → AllFine (in_expressions env es) → IsThere (expressions_of env es)
   expressions_there env no_raw_expressions fine = (_, refl)
@@ -306,12 +355,17 @@ equation_there env ns p fine numbered =
     (process_there (binding env ns) p (fine_right (in_parameters env ns) (in_process (binding env ns) p) fine)
     (subst P (sym (same_table env ns)) (numbered_right env.numbered ns (bound_in p) numbered)))
 
-pub assertion_there : (env : Environment) (m : Model) (p q : RawProcess) → AllFine (in_process env p ++ in_process env q) →
-    AreNumbered env.numbered (bound_in p ++ bound_in q) → IsThere (assertion_of env m p q)
-assertion_there env m p q fine numbered =
-    there_two _ (process_of env p) (process_of env q)
-    (process_there env p (fine_left (in_process env p) (in_process env q) fine) (numbered_left env.numbered (bound_in p) (bound_in q) numbered))
-    (process_there env q (fine_right (in_process env p) (in_process env q) fine) (numbered_right env.numbered (bound_in p) (bound_in q) numbered))
+property_there : (env : Environment) (a : RawProperty) → AllFine (in_property env a) → AreNumbered env.numbered (bound_in_property a) → IsThere (property_of env a)
+property_there env (RawRefinementOf model spec) fine numbered = let h = process_there env spec fine numbered in (RefinementOf model h.0, ap (option_map (RefinementOf model)) h.1)
+property_there env RawDeadlockFree fine numbered = (DeadlockFree, refl)
+property_there env RawDivergenceFree fine numbered = (DivergenceFree, refl)
+
+pub assertion_there : (env : Environment) (n : Bool) (a : RawProperty) (p : RawProcess) → AllFine (in_property env a ++ in_process env p) →
+    AreNumbered env.numbered (bound_in_property a ++ bound_in p) → IsThere (assertion_of env n a p)
+assertion_there env n a p fine numbered =
+    there_two _ (property_of env a) (process_of env p)
+    (property_there env a (fine_left (in_property env a) (in_process env p) fine) (numbered_left env.numbered (bound_in_property a) (bound_in p) numbered))
+    (process_there env p (fine_right (in_property env a) (in_process env p) fine) (numbered_right env.numbered (bound_in_property a) (bound_in p) numbered))
 
 -- ---- the table of bound names
 

@@ -8,7 +8,7 @@ use Rattle.std.proofs.lemmas.List.{append_assoc, map-append}
 use Rattle.std.proofs.lemmas.Slice.Eq.{bytes_eq-Decides}
 use Rattle.std.proofs.Common.{◌≡◌, ◌≤◌, ℕ, zero, suc, ◌+◌, Bool, true, false, List, [], ◌∷◌, ◌++◌, append-nil, length, length-append, Option, Some, None, refl, sym, ap, ◌∙◌, subst, arith}
 use Rattle.csp_text.specs.Raw.{RawName, RawDeclaration, RawDatatype, RawNametype, RawChannels, RawEquation, RawAssertion, RawScript}
-use Rattle.csp_checking.specs.Names.{Class, DatatypeName, ConstructorName, NametypeName, ChannelName, EquationName, Meaning, Declared, Bound, declared_as, names_of, spellings, number_in, declared_meaning}
+use Rattle.csp_checking.specs.Names.{clause_names, Class, DatatypeName, ConstructorName, NametypeName, ChannelName, EquationName, Meaning, Declared, Bound, declared_as, names_of, spellings, number_in, declared_meaning}
 use Rattle.csp_checking.specs.Sets.{behind_each}
 use Rattle.csp_checking.specs.Faults.{NoneRefused}
 use Rattle.csp_checking.specs.Rules.{all_declared, IsRedeclared}
@@ -67,11 +67,11 @@ of_numbered class c n (x ∷ xs) = go (same_class class c) (of_numbered class c 
     go false e = e
 
 of_declared : (class : Class) (above : RawScript) (d : RawDeclaration) → of_class class (rows_declared above d) ≡ spellings (declared_as class d)
-of_declared DatatypeName above (RawDatatype name cs) = ap (λ ss. name.spelling ∷ ss) (of_numbered DatatypeName ConstructorName (length (names_of ConstructorName above)) cs)
-of_declared ConstructorName above (RawDatatype name cs) = of_numbered ConstructorName ConstructorName (length (names_of ConstructorName above)) cs
-of_declared NametypeName above (RawDatatype name cs) = of_numbered NametypeName ConstructorName (length (names_of ConstructorName above)) cs
-of_declared ChannelName above (RawDatatype name cs) = of_numbered ChannelName ConstructorName (length (names_of ConstructorName above)) cs
-of_declared EquationName above (RawDatatype name cs) = of_numbered EquationName ConstructorName (length (names_of ConstructorName above)) cs
+of_declared DatatypeName above (RawDatatype name cs) = ap (λ ss. name.spelling ∷ ss) (of_numbered DatatypeName ConstructorName (length (names_of ConstructorName above)) (clause_names cs))
+of_declared ConstructorName above (RawDatatype name cs) = of_numbered ConstructorName ConstructorName (length (names_of ConstructorName above)) (clause_names cs)
+of_declared NametypeName above (RawDatatype name cs) = of_numbered NametypeName ConstructorName (length (names_of ConstructorName above)) (clause_names cs)
+of_declared ChannelName above (RawDatatype name cs) = of_numbered ChannelName ConstructorName (length (names_of ConstructorName above)) (clause_names cs)
+of_declared EquationName above (RawDatatype name cs) = of_numbered EquationName ConstructorName (length (names_of ConstructorName above)) (clause_names cs)
 of_declared DatatypeName above (RawNametype name domain) = refl
 of_declared ConstructorName above (RawNametype name domain) = refl
 of_declared NametypeName above (RawNametype name domain) = refl
@@ -87,11 +87,11 @@ of_declared ConstructorName above (RawEquation name ns p) = refl
 of_declared NametypeName above (RawEquation name ns p) = refl
 of_declared ChannelName above (RawEquation name ns p) = refl
 of_declared EquationName above (RawEquation name ns p) = refl
-of_declared DatatypeName above (RawAssertion place m p q) = refl
-of_declared ConstructorName above (RawAssertion place m p q) = refl
-of_declared NametypeName above (RawAssertion place m p q) = refl
-of_declared ChannelName above (RawAssertion place m p q) = refl
-of_declared EquationName above (RawAssertion place m p q) = refl
+of_declared DatatypeName above (RawAssertion place n a p) = refl
+of_declared ConstructorName above (RawAssertion place n a p) = refl
+of_declared NametypeName above (RawAssertion place n a p) = refl
+of_declared ChannelName above (RawAssertion place n a p) = refl
+of_declared EquationName above (RawAssertion place n a p) = refl
 
 of_behind : (class : Class) (above ds : RawScript) → of_class class (behind_each rows_declared above ds) ≡ spellings (flat_map (declared_as class) ds)
 of_behind class above [] = refl
@@ -136,7 +136,7 @@ declared_counted : (above : RawScript) (d : RawDeclaration) → AreCounted (decl
 declared_counted above (RawDatatype name cs) =
     let head : Row = (name.spelling, Declared DatatypeName (length (names_of DatatypeName above))) in (
       class_count DatatypeName above,
-      numbered_counted ConstructorName (length (names_of ConstructorName above)) cs (declared_rows above ++ (name.spelling, Declared DatatypeName (length (names_of DatatypeName above))) ∷ [])
+      numbered_counted ConstructorName (length (names_of ConstructorName above)) (clause_names cs) (declared_rows above ++ (name.spelling, Declared DatatypeName (length (names_of DatatypeName above))) ∷ [])
           (class_count ConstructorName above
           ∙ sym (ap length (of_class_append ConstructorName (declared_rows above)
           ((name.spelling, Declared DatatypeName (length (names_of DatatypeName above))) ∷ [])
@@ -145,7 +145,7 @@ declared_counted above (RawDatatype name cs) =
 declared_counted above (RawNametype name domain) = (class_count NametypeName above, tt)
 declared_counted above (RawChannels names domains) = numbered_counted ChannelName (length (names_of ChannelName above)) names (declared_rows above) (class_count ChannelName above)
 declared_counted above (RawEquation name ns p) = (class_count EquationName above, tt)
-declared_counted above (RawAssertion place m p q) = tt
+declared_counted above (RawAssertion place n a p) = tt
 
 behind_counted : (above ds : RawScript) → AreCounted (declared_rows above) (behind_each rows_declared above ds)
 behind_counted above [] = tt

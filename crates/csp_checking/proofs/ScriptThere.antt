@@ -1,19 +1,19 @@
 -- A tree of which the first two passes refuse nothing has its script.
-use Rattle.std.specs.Prelude.{flat_map, replicate, slice_get, unwrap_or, option_and_then}
+use Rattle.std.specs.Prelude.{flat_map, replicate, slice_get, option_and_then}
 use Rattle.std.specs.Str.{encode_utf8_all}
-use Rattle.std.proofs.Common.{◌≡◌, ℕ, ◌+◌, List, [], ◌∷◌, ◌++◌, append-nil, length, length-append, map, Option, Some, None, refl, sym, ap, ◌∙◌, subst}
+use Rattle.std.proofs.Common.{◌≡◌, ℕ, List, [], ◌∷◌, ◌++◌, append-nil, length, map, Option, Some, None, refl, sym, ap, ◌∙◌, subst}
 use Rattle.std.proofs.lemmas.List.{append_assoc, map-append}
 use Rattle.csp_syntax.specs.Value.{Value}
 use Rattle.csp_syntax.specs.Expression.{Expression}
 use Rattle.csp_syntax.specs.Process.{Script}
 use Rattle.csp_syntax.specs.Types.{Types}
 use Rattle.csp_text.specs.Place.{Place}
-use Rattle.csp_text.specs.Raw.{RawName, RawDomain, RawDeclaration, RawDatatype, RawNametype, RawChannels, RawEquation, RawAssertion, RawScript}
-use Rattle.csp_checking.specs.Names.{ConstructorName, ChannelName, names_of, bound_in_declaration, bound_in, bound_spellings, environment_of, environment_above}
+use Rattle.csp_text.specs.Raw.{RawName, RawDomain, RawClause, RawDeclaration, RawDatatype, RawNametype, RawChannels, RawEquation, RawAssertion, RawScript}
+use Rattle.csp_checking.specs.Names.{bound_in_property, ConstructorName, ChannelName, names_of, bound_in_declaration, bound_in, bound_spellings, environment_of, environment_above}
 use Rattle.csp_checking.specs.Resolving.{every, equation_of, assertion_of}
-use Rattle.csp_checking.specs.Sets.{behind_each, types_of, in_order, set_expression, nametypes_declared, channels_declared, nametype_sets, channel_sets, datatypes_of, Members, members_with, with_members, nametype_members, field_members}
+use Rattle.csp_checking.specs.Sets.{behind_each, types_of, in_order, set_expression, clause_sets, channels_declared, channel_sets, datatypes_of, Members, no_members, members_with, field_members_with, TypeItem, NametypeItem, DatatypeItem, types_declared, with_nametype, with_constructors, with_members, members_above, field_members}
 use Rattle.csp_checking.specs.Scripts.{equation_declared, assertion_declared, IsScriptOf}
-use Rattle.csp_checking.specs.Sites.{NametypeSet, FieldSet, in_expression, in_heads, in_field_sets, in_declaration, sites}
+use Rattle.csp_checking.specs.Sites.{NametypeSet, FieldSet, in_expression, in_heads, in_field_sets, with_clause, in_clause_sets, in_clauses, in_declaration, sites}
 use Rattle.csp_checking.specs.Faults.{KindFault, WrongKind, BadFieldSet}
 use Rattle.csp_checking.specs.Rules.{IsRefusedSite, nametype_kind, field_kind, no_value, no_member}
 use Rattle.csp_checking.specs.Refusals.{IsRefusedAt, PassesNames}
@@ -48,11 +48,13 @@ equations_there raw above (RawEquation name ns p ∷ ds) fine numbered =
     (equations_there raw (above ++ RawEquation name ns p ∷ []) ds
     (fine_right (in_declaration raw above (RawEquation name ns p)) (behind_each (in_declaration raw) (above ++ RawEquation name ns p ∷ []) ds) fine)
     (numbered_right (bound_spellings raw) (ns ++ bound_in p) (flat_map bound_in_declaration ds) numbered))
-equations_there raw above (RawAssertion place m p q ∷ ds) fine numbered =
-    equations_there raw (above ++ RawAssertion place m p q ∷ []) ds
-    (fine_right (in_declaration raw above (RawAssertion place m p q)) (behind_each (in_declaration raw) (above ++ RawAssertion place m p q ∷ []) ds) fine)
-    (numbered_right (bound_spellings raw) (bound_in p ++ bound_in q) (flat_map bound_in_declaration ds) numbered)
-equations_there raw above (RawDatatype name cs ∷ ds) fine numbered = equations_there raw (above ++ RawDatatype name cs ∷ []) ds fine numbered
+equations_there raw above (RawAssertion place n a p ∷ ds) fine numbered =
+    equations_there raw (above ++ RawAssertion place n a p ∷ []) ds
+    (fine_right (in_declaration raw above (RawAssertion place n a p)) (behind_each (in_declaration raw) (above ++ RawAssertion place n a p ∷ []) ds) fine)
+    (numbered_right (bound_spellings raw) (bound_in_property a ++ bound_in p) (flat_map bound_in_declaration ds) numbered)
+equations_there raw above (RawDatatype name cs ∷ ds) fine numbered =
+    equations_there raw (above ++ RawDatatype name cs ∷ []) ds
+    (fine_right (in_declaration raw above (RawDatatype name cs)) (behind_each (in_declaration raw) (above ++ RawDatatype name cs ∷ []) ds) fine) numbered
 equations_there raw above (RawNametype name domain ∷ ds) fine numbered =
     equations_there raw (above ++ RawNametype name domain ∷ []) ds
     (fine_right (in_declaration raw above (RawNametype name domain))
@@ -65,19 +67,21 @@ equations_there raw above (RawChannels names domains ∷ ds) fine numbered =
 pub assertions_there : (raw above ds : RawScript) → AllFine (behind_each (in_declaration raw) above ds) →
     AreNumbered (bound_spellings raw) (flat_map bound_in_declaration ds) → AllThere (flat_map (assertion_declared raw) ds)
 assertions_there raw above [] fine numbered = none_more
-assertions_there raw above (RawAssertion place m p q ∷ ds) fine numbered =
-    one_more (assertion_of (environment_of raw) m p q) (flat_map (assertion_declared raw) ds)
-    (assertion_there (environment_of raw) m p q
-    (fine_left (in_declaration raw above (RawAssertion place m p q)) (behind_each (in_declaration raw) (above ++ RawAssertion place m p q ∷ []) ds) fine)
-    (numbered_left (bound_spellings raw) (bound_in p ++ bound_in q) (flat_map bound_in_declaration ds) numbered))
-    (assertions_there raw (above ++ RawAssertion place m p q ∷ []) ds
-    (fine_right (in_declaration raw above (RawAssertion place m p q)) (behind_each (in_declaration raw) (above ++ RawAssertion place m p q ∷ []) ds) fine)
-    (numbered_right (bound_spellings raw) (bound_in p ++ bound_in q) (flat_map bound_in_declaration ds) numbered))
+assertions_there raw above (RawAssertion place n a p ∷ ds) fine numbered =
+    one_more (assertion_of (environment_of raw) n a p) (flat_map (assertion_declared raw) ds)
+    (assertion_there (environment_of raw) n a p
+    (fine_left (in_declaration raw above (RawAssertion place n a p)) (behind_each (in_declaration raw) (above ++ RawAssertion place n a p ∷ []) ds) fine)
+    (numbered_left (bound_spellings raw) (bound_in_property a ++ bound_in p) (flat_map bound_in_declaration ds) numbered))
+    (assertions_there raw (above ++ RawAssertion place n a p ∷ []) ds
+    (fine_right (in_declaration raw above (RawAssertion place n a p)) (behind_each (in_declaration raw) (above ++ RawAssertion place n a p ∷ []) ds) fine)
+    (numbered_right (bound_spellings raw) (bound_in_property a ++ bound_in p) (flat_map bound_in_declaration ds) numbered))
 assertions_there raw above (RawEquation name ns p ∷ ds) fine numbered =
     assertions_there raw (above ++ RawEquation name ns p ∷ []) ds
     (fine_right (in_declaration raw above (RawEquation name ns p)) (behind_each (in_declaration raw) (above ++ RawEquation name ns p ∷ []) ds) fine)
     (numbered_right (bound_spellings raw) (ns ++ bound_in p) (flat_map bound_in_declaration ds) numbered)
-assertions_there raw above (RawDatatype name cs ∷ ds) fine numbered = assertions_there raw (above ++ RawDatatype name cs ∷ []) ds fine numbered
+assertions_there raw above (RawDatatype name cs ∷ ds) fine numbered =
+    assertions_there raw (above ++ RawDatatype name cs ∷ []) ds
+    (fine_right (in_declaration raw above (RawDatatype name cs)) (behind_each (in_declaration raw) (above ++ RawDatatype name cs ∷ []) ds) fine) numbered
 assertions_there raw above (RawNametype name domain ∷ ds) fine numbered =
     assertions_there raw (above ++ RawNametype name domain ∷ []) ds
     (fine_right (in_declaration raw above (RawNametype name domain))
@@ -133,16 +137,18 @@ channels_there raw above (RawChannels names domains ∷ ds) fine =
     (channels_there raw (above ++ RawChannels names domains ∷ []) ds
     (fine_right (in_declaration raw above (RawChannels names domains))
     (behind_each (in_declaration raw) (above ++ RawChannels names domains ∷ []) ds) fine)))
-channels_there raw above (RawDatatype name cs ∷ ds) fine = channels_there raw (above ++ RawDatatype name cs ∷ []) ds fine
+channels_there raw above (RawDatatype name cs ∷ ds) fine =
+    channels_there raw (above ++ RawDatatype name cs ∷ []) ds
+    (fine_right (in_declaration raw above (RawDatatype name cs)) (behind_each (in_declaration raw) (above ++ RawDatatype name cs ∷ []) ds) fine)
 channels_there raw above (RawNametype name domain ∷ ds) fine =
     channels_there raw (above ++ RawNametype name domain ∷ []) ds
     (fine_right (in_declaration raw above (RawNametype name domain)) (behind_each (in_declaration raw) (above ++ RawNametype name domain ∷ []) ds) fine)
 channels_there raw above (RawEquation name ns p ∷ ds) fine =
     channels_there raw (above ++ RawEquation name ns p ∷ []) ds
     (fine_right (in_declaration raw above (RawEquation name ns p)) (behind_each (in_declaration raw) (above ++ RawEquation name ns p ∷ []) ds) fine)
-channels_there raw above (RawAssertion place m p q ∷ ds) fine =
-    channels_there raw (above ++ RawAssertion place m p q ∷ []) ds
-    (fine_right (in_declaration raw above (RawAssertion place m p q)) (behind_each (in_declaration raw) (above ++ RawAssertion place m p q ∷ []) ds) fine)
+channels_there raw above (RawAssertion place n a p ∷ ds) fine =
+    channels_there raw (above ++ RawAssertion place n a p ∷ []) ds
+    (fine_right (in_declaration raw above (RawAssertion place n a p)) (behind_each (in_declaration raw) (above ++ RawAssertion place n a p ∷ []) ds) fine)
 
 -- ---- the sets of nametypes
 
@@ -159,18 +165,74 @@ pub at_its_place : {A : Type 0} (xs ys : List A) (x : A) → slice_get (xs ++ x 
 at_its_place [] ys x = refl
 at_its_place (z ∷ xs) ys x = at_its_place xs ys x
 
--- the table begins with the members so far
-pub table_begins : (dts : List (List ℕ)) (ms : Members) (es : List (Option Expression)) → (more : Members) × (with_members dts ms es ≡ ms ++ more)
-table_begins dts ms [] = ([], sym (append-nil ms))
-table_begins dts ms (e ∷ es) =
-    let x = option_and_then (members_with dts ms) e in
-    let rest = table_begins dts (ms ++ option_and_then (members_with dts ms) e ∷ []) es in
-    (option_and_then (members_with dts ms) e ∷ rest.0, rest.1 ∙ append_assoc ms (option_and_then (members_with dts ms) e ∷ []) rest.0)
+-- ---- the sets of constructors
 
-pub in_table : (dts : List (List ℕ)) (ms : Members) (e : Option Expression) (es : List (Option Expression)) →
-    slice_get (with_members dts ms (e ∷ es)) (length ms) ≡ Some (option_and_then (members_with dts ms) e)
-in_table dts ms e es = let begins = table_begins dts (ms ++ option_and_then (members_with dts ms) e ∷ []) es in
-    ap (λ t. slice_get t (length ms)) (begins.1 ∙ append_assoc ms (option_and_then (members_with dts ms) e ∷ []) begins.0) ∙ at_its_place ms begins.0 (option_and_then (members_with dts ms) e)
+set_there : (p : Place) (types : Types) (so_far : RawScript) (e : Option Expression) (ms : Option (List Value)) → IsThere e →
+    ((f : KindFault) → ¬ (IsRefusedSite (FieldSet p types so_far e ms) f)) → IsThere ms
+set_there p types so_far e (Some vs) set fine = (vs, refl)
+set_there p types so_far None None set fine = absurd (let both = set.1 in cc both)
+set_there p types so_far (Some e) None set fine = absurd (fine WrongKind (field_kind (λ some. fine BadFieldSet (no_member some))))
+
+-- the members of a set over those of the declarations above
+abbrev pub above_it : RawScript → RawScript → Option Expression → Option (List Value)
+above_it raw above e = field_members_with (datatypes_of raw) (members_above raw above) e
+
+pub clause_there : (raw above : RawScript) (name : RawName) (clauses : List RawClause) (constructor : RawName) (before ds : List RawDomain) →
+    AllFine (in_clause_sets raw above name clauses constructor before ds) → IsThere (every (above_it raw above) (map (set_expression above) ds))
+clause_there raw above name clauses constructor before [] fine = (_, refl)
+clause_there raw above name clauses constructor before (d ∷ ds) fine =
+    let sites_left = in_expression (environment_above above) d.set in
+    let rest = in_clause_sets raw above name clauses constructor (before ++ d ∷ []) ds in
+    there_two _ (above_it raw above (set_expression above d)) (every (above_it raw above) (map (set_expression above) ds))
+    (set_there d.place (types_of raw) (with_clause above name clauses constructor (before ++ d ∷ [])) (set_expression above d) (above_it raw above (set_expression above d))
+    (expression_there (environment_above above) d.set (fine_left (in_expression (environment_above above) d.set) (in_clause_sets raw above name clauses constructor (before ++ d ∷ []) ds) fine.1)) fine.0)
+    (clause_there raw above name clauses constructor (before ++ d ∷ []) ds
+    (fine_right (in_expression (environment_above above) d.set) (in_clause_sets raw above name clauses constructor (before ++ d ∷ []) ds) fine.1))
+
+pub clauses_there : (raw above : RawScript) (name : RawName) (before cs : List RawClause) → AllFine (in_clauses raw above name before cs) →
+    AllThere (map (every (above_it raw above)) (map (clause_sets above) cs))
+clauses_there raw above name before [] fine = none_more
+clauses_there raw above name before (c ∷ cs) fine =
+    one_more (every (above_it raw above) (clause_sets above c)) (map (every (above_it raw above)) (map (clause_sets above) cs))
+    (clause_there raw above name before c.name [] c.fields (fine_left (in_clause_sets raw above name before c.name [] c.fields) (in_clauses raw above name (before ++ c ∷ []) cs) fine))
+    (clauses_there raw above name (before ++ c ∷ []) cs (fine_right (in_clause_sets raw above name before c.name [] c.fields) (in_clauses raw above name (before ++ c ∷ []) cs) fine))
+
+-- ---- the members of all sets of types
+
+pub with_more : (dts : List (List ℕ)) (ms : Members) (xs ys : List TypeItem) → with_members dts ms (xs ++ ys) ≡ with_members dts (with_members dts ms xs) ys
+with_more dts ms [] ys = refl
+with_more dts ms (NametypeItem e ∷ xs) ys = with_more dts (with_nametype (option_and_then (members_with dts ms) e) ms) xs ys
+with_more dts ms (DatatypeItem cs ∷ xs) ys = with_more dts (with_constructors (map (every (field_members_with dts ms)) cs) ms) xs ys
+
+-- members, and more behind them
+abbrev pub followed : Members → Members → Members
+followed ms more = record { nametypes = ms.nametypes ++ more.nametypes; constructors = ms.constructors ++ more.constructors }
+
+-- the table begins with the members so far
+pub table_begins : (dts : List (List ℕ)) (ms : Members) (xs : List TypeItem) → (more : Members) × (with_members dts ms xs ≡ followed ms more)
+table_begins dts ms [] = (no_members, λ i. record { nametypes = sym (append-nil ms.nametypes) i; constructors = sym (append-nil ms.constructors) i })
+table_begins dts ms (NametypeItem e ∷ xs) =
+    let m = option_and_then (members_with dts ms) e in
+    let rest = table_begins dts (with_nametype m ms) xs in (
+      record { nametypes = m ∷ rest.0.nametypes; constructors = rest.0.constructors },
+      rest.1 ∙ (λ i. record { nametypes = append_assoc ms.nametypes (m ∷ []) rest.0.nametypes i; constructors = ms.constructors ++ rest.0.constructors }),
+    )
+table_begins dts ms (DatatypeItem cs ∷ xs) =
+    let new = map (every (field_members_with dts ms)) cs in
+    let rest = table_begins dts (with_constructors new ms) xs in (
+      record { nametypes = rest.0.nametypes; constructors = new ++ rest.0.constructors },
+      rest.1 ∙ (λ i. record { nametypes = ms.nametypes ++ rest.0.nametypes; constructors = append_assoc ms.constructors new rest.0.constructors i }),
+    )
+
+-- those of one more declaration, over those above
+pub members_one_more : (raw above : RawScript) (d : RawDeclaration) → members_above raw (above ++ d ∷ []) ≡ with_members (datatypes_of raw) (members_above raw above) (types_declared above d)
+members_one_more raw above d =
+    ap (with_members (datatypes_of raw) no_members) (behind_one_more types_declared above d) ∙ with_more (datatypes_of raw) no_members (in_order types_declared above) (types_declared above d)
+
+-- each is there
+pub record AllMembersThere (ms : Members) : Type 0 where
+  pub nametypes : AllThere ms.nametypes
+  pub constructors : AllThere ms.constructors
 
 pub nametype_there : (p : Place) (types : Types) (so_far : RawScript) (e : Option Expression) (ms : Option (List Value)) → IsThere e →
     ((f : KindFault) → ¬ (IsRefusedSite (NametypeSet p types so_far e ms) f)) → IsThere ms
@@ -178,46 +240,28 @@ nametype_there p types so_far e (Some vs) set fine = (vs, refl)
 nametype_there p types so_far None None set fine = absurd (let both = set.1 in cc both)
 nametype_there p types so_far (Some e) None set fine = absurd (fine WrongKind (nametype_kind (λ some. fine BadFieldSet (no_value some))))
 
-pub nametypes_there : (raw above ds : RawScript) (ms : Members) → AllThere ms → length ms ≡ length (nametype_sets above) →
-    nametype_members raw ≡ with_members (datatypes_of raw) ms (behind_each nametypes_declared above ds) →
-    AllFine (behind_each (in_declaration raw) above ds) → AllThere (nametype_members raw)
-nametypes_there raw above [] ms all size table fine = (all.0, all.1 ∙ sym table)
-nametypes_there raw above (RawNametype name domain ∷ ds) ms all size table fine =
-    let x = option_and_then (members_with (datatypes_of raw) ms) (set_expression above domain) in
-    let next = above ++ RawNametype name domain ∷ [] in
-    let here : unwrap_or (slice_get (nametype_members raw) (length (nametype_sets above))) None ≡ option_and_then (members_with (datatypes_of raw) ms) (set_expression above domain) =
-    ap (λ o. unwrap_or o None) (ap (λ t. slice_get t (length (nametype_sets above))) table
-    ∙ ap (λ n. slice_get (with_members (datatypes_of raw) ms
-    (set_expression above domain ∷ behind_each nametypes_declared (above ++ RawNametype name domain ∷ []) ds)) n) (sym size)
-    ∙ in_table (datatypes_of raw) ms (set_expression above domain) (behind_each nametypes_declared (above ++ RawNametype name domain ∷ []) ds)) in
-    let P : Option (List Value) → Type 0 = IsThere in
-    let set : IsThere (set_expression above domain) =
-    expression_there (environment_above above) domain.set
-    (fine_left (in_expression (environment_above above) domain.set) (behind_each (in_declaration raw) (above ++ RawNametype name domain ∷ []) ds) fine.1) in
-    let there : IsThere (option_and_then (members_with (datatypes_of raw) ms) (set_expression above domain)) =
-    subst P here (nametype_there domain.place (types_of raw) (above ++ RawNametype name domain ∷ []) (set_expression above domain)
-    (unwrap_or (slice_get (nametype_members raw) (length (nametype_sets above))) None) set fine.0) in
-    nametypes_there raw (above ++ RawNametype name domain ∷ []) ds (ms ++ option_and_then (members_with (datatypes_of raw) ms) (set_expression above domain) ∷ [])
-    (joined ms (option_and_then (members_with (datatypes_of raw) ms) (set_expression above domain) ∷ []) all
-    (one_more (option_and_then (members_with (datatypes_of raw) ms) (set_expression above domain)) [] there none_more))
-    (length-append ms (option_and_then (members_with (datatypes_of raw) ms) (set_expression above domain) ∷ []) ∙ ap (λ n. n + 1) size
-    ∙ sym (length-append (nametype_sets above) (set_expression above domain ∷ [])) ∙ sym (ap length (behind_one_more nametypes_declared above (RawNametype name domain))))
-    table (fine_right (in_expression (environment_above above) domain.set) (behind_each (in_declaration raw) (above ++ RawNametype name domain ∷ []) ds) fine.1)
-nametypes_there raw above (RawDatatype name cs ∷ ds) ms all size table fine =
-    nametypes_there raw (above ++ RawDatatype name cs ∷ []) ds ms all
-    (size ∙ sym (ap length (behind_one_more nametypes_declared above (RawDatatype name cs) ∙ append-nil (nametype_sets above)))) table fine
-nametypes_there raw above (RawChannels names domains ∷ ds) ms all size table fine =
-    nametypes_there raw (above ++ RawChannels names domains ∷ []) ds ms all
-    (size ∙ sym (ap length (behind_one_more nametypes_declared above (RawChannels names domains) ∙ append-nil (nametype_sets above)))) table
-    (fine_right (in_declaration raw above (RawChannels names domains)) (behind_each (in_declaration raw) (above ++ RawChannels names domains ∷ []) ds) fine)
-nametypes_there raw above (RawEquation name ns p ∷ ds) ms all size table fine =
-    nametypes_there raw (above ++ RawEquation name ns p ∷ []) ds ms all
-    (size ∙ sym (ap length (behind_one_more nametypes_declared above (RawEquation name ns p) ∙ append-nil (nametype_sets above)))) table
-    (fine_right (in_declaration raw above (RawEquation name ns p)) (behind_each (in_declaration raw) (above ++ RawEquation name ns p ∷ []) ds) fine)
-nametypes_there raw above (RawAssertion place m p q ∷ ds) ms all size table fine =
-    nametypes_there raw (above ++ RawAssertion place m p q ∷ []) ds ms all
-    (size ∙ sym (ap length (behind_one_more nametypes_declared above (RawAssertion place m p q) ∙ append-nil (nametype_sets above)))) table
-    (fine_right (in_declaration raw above (RawAssertion place m p q)) (behind_each (in_declaration raw) (above ++ RawAssertion place m p q ∷ []) ds) fine)
+one_there : (raw above : RawScript) (d : RawDeclaration) → AllFine (in_declaration raw above d) → AllMembersThere (members_above raw above) →
+    AllMembersThere (with_members (datatypes_of raw) (members_above raw above) (types_declared above d))
+one_there raw above (RawNametype name domain) fine all =
+    let ms = members_above raw above in
+    let m = option_and_then (members_with (datatypes_of raw) (members_above raw above)) (set_expression above domain) in
+    let there : IsThere m =
+    nametype_there domain.place (types_of raw) (above ++ RawNametype name domain ∷ []) (set_expression above domain) m (expression_there (environment_above above) domain.set fine.1) fine.0 in
+    record { nametypes = joined ms.nametypes (m ∷ []) all.nametypes (one_more m [] there none_more); constructors = all.constructors }
+one_there raw above (RawDatatype name cs) fine all =
+    let ms = members_above raw above in
+    record { nametypes = all.nametypes; constructors = joined ms.constructors (map (every (above_it raw above)) (map (clause_sets above) cs)) all.constructors (clauses_there raw above name [] cs fine) }
+one_there raw above (RawChannels names domains) fine all = all
+one_there raw above (RawEquation name ns p) fine all = all
+one_there raw above (RawAssertion place n a p) fine all = all
+
+pub members_there : (raw above ds : RawScript) → AllFine (behind_each (in_declaration raw) above ds) → AllMembersThere (members_above raw above) → AllMembersThere (members_above raw (above ++ ds))
+members_there raw above [] fine all = let P : RawScript → Type 0 = λ z. AllMembersThere (members_above raw z) in subst P (sym (append-nil above)) all
+members_there raw above (d ∷ ds) fine all =
+    let P : RawScript → Type 0 = λ z. AllMembersThere (members_above raw z) in
+    subst P (append_assoc above (d ∷ []) ds)
+    (members_there raw (above ++ d ∷ []) ds (fine_right (in_declaration raw above d) (behind_each (in_declaration raw) (above ++ d ∷ []) ds) fine)
+    (subst AllMembersThere (sym (members_one_more raw above d)) (one_there raw above d (fine_left (in_declaration raw above d) (behind_each (in_declaration raw) (above ++ d ∷ []) ds) fine) all)))
 
 -- ---- the script
 
@@ -225,17 +269,17 @@ pub has_script : (raw : RawScript) → PassesNames raw → (script : Script) × 
 has_script raw passes =
     let fine = all_fine [] (sites raw) (each_of_none IsRefusedAt [] (sites raw) passes.fine) in
     let numbered = all_numbered [] (flat_map bound_in_declaration raw) in
-    let ns = nametypes_there raw [] raw [] none_more refl refl fine in
+    let ms = members_there raw [] raw fine (record { nametypes = none_more; constructors = none_more }) in
     let cs = channels_there raw [] raw fine in
     let es = equations_there raw [] raw fine numbered in
     let as_ = assertions_there raw [] raw fine numbered in (
       record {
-        types = record { datatypes = datatypes_of raw; nametypes = ns.0 };
+        types = record { datatypes = datatypes_of raw; nametypes = ms.nametypes.0; constructors = ms.constructors.0 };
         channels = cs.0;
         equations = es.0;
         assertions = as_.0;
         channel_names = map encode_utf8_all (names_of ChannelName raw);
         constructor_names = map encode_utf8_all (names_of ConstructorName raw);
       },
-      record { datatypes = refl; nametypes = ns.1; channels = cs.1; equations = es.1; assertions = as_.1; channel_names = refl; constructor_names = refl },
+      record { datatypes = refl; nametypes = ms.nametypes.1; constructors = ms.constructors.1; channels = cs.1; equations = es.1; assertions = as_.1; channel_names = refl; constructor_names = refl },
     )

@@ -8,11 +8,11 @@ use Rattle.csp_syntax.specs.Types.{Types}
 use Rattle.csp_text.specs.Place.{Place}
 use Rattle.csp_text.specs.Raw.{RawName, RawScript}
 use Rattle.csp_checking.specs.Names.{Meaning, declared_meaning, has_spelling, Environment, meaning}
-use Rattle.csp_checking.specs.Resolving.{as_channel}
+use Rattle.csp_checking.specs.Resolving.{as_channel, constructor_count}
 use Rattle.csp_checking.specs.Sets.{number_of_events}
-use Rattle.csp_checking.specs.Sites.{Use, AsEquation, AsEvent, AsProductions, AsBareLeft, AsBareRight, Used, BoundThere, Parameter, NametypeSet, FieldSet, ChannelHead}
+use Rattle.csp_checking.specs.Sites.{Use, AsExpression, AsConstructor, AsEquation, AsEvent, AsProductions, AsBareLeft, AsBareRight, Used, BoundThere, Parameter, NametypeSet, FieldSet, ChannelHead}
 use Rattle.csp_checking.specs.Faults.{KindFault, UnknownName, DeclaredTwice, WrongKind, WrongCount, BadFieldSet, TooManyEvents, fault_number}
-use Rattle.csp_checking.specs.Rules.{suits, fields_declared, parameter_count, field_count, SomeFit, HasFieldSets, most_events, IsRefusedSite, unknown, bound_declared, parameter_declared, parameter_again, wrong_class, arguments, fields, left_fields, right_fields, too_many_fields, other_sets, nametype_kind, field_kind, no_value, no_member, too_many_events}
+use Rattle.csp_checking.specs.Rules.{suits, fields_declared, parameter_count, field_count, SomeFit, HasFieldSets, most_events, IsRefusedSite, unknown, bound_declared, parameter_declared, parameter_again, wrong_class, bare_constructor, constructor, arguments, fields, left_fields, right_fields, too_many_fields, other_sets, nametype_kind, field_kind, no_value, no_member, too_many_events}
 use Rattle.csp_checking.specs.Walks.{IsFine, IsStoppedAt}
 use Rattle.csp_checking.proofs.Counts.{fields_of_sets}
 use Rattle.csp_checking.proofs.Walking.{stopped_here}
@@ -48,6 +48,8 @@ unknown_stops env u n e = stopped_here (Used env u n) [] UnknownName (unknown e)
 from_three : (env : Environment) (u : Use) (n : RawName) (m : Meaning) → meaning env n ≡ Some m → (g : KindFault) → IsRefusedSite (Used env u n) g → 3 ≤ fault_number g
 from_three env u n m e g (unknown h) = absurd (missing h e)
 from_three env u n m e g (wrong_class h r) = omega arith
+from_three env u n m e g (bare_constructor h r) = omega arith
+from_three env u n m e g (constructor h r) = omega arith
 from_three env u n m e g (arguments h r) = omega arith
 from_three env u n m e g (fields h r) = omega arith
 from_three env u n m e g (left_fields h r q) = omega arith
@@ -59,6 +61,24 @@ pub class_stops : (env : Environment) (u : Use) (n : RawName) (m : Meaning) → 
 class_stops env u n m e s = stopped_here (Used env u n) [] WrongKind (wrong_class e s) (from_three env u n m e)
 
 -- ---- K04: another number of arguments or fields
+
+pub bare_stops : (env : Environment) (n : RawName) (m : Meaning) (p : ℕ) → meaning env n ≡ Some m → suits AsExpression m ≡ true →
+    constructor_count env n ≡ Some p → p ≢ 0 → IsStoppedAt (Used env AsExpression n ∷ []) WrongCount n.place
+bare_stops env n m p e s c other = stopped_here (Used env AsExpression n) [] WrongCount (bare_constructor c other) lowest
+  where
+    lowest : (g : KindFault) → IsRefusedSite (Used env AsExpression n) g → 4 ≤ fault_number g
+    lowest g (unknown h) = absurd (missing h e)
+    lowest g (wrong_class h r) = absurd (unsuited AsExpression e s h r)
+    lowest g (bare_constructor h r) = omega arith
+
+pub constructor_stops : (env : Environment) (k : ℕ) (n : RawName) (m : Meaning) (p : ℕ) → meaning env n ≡ Some m → suits (AsConstructor k) m ≡ true →
+    constructor_count env n ≡ Some p → p ≢ k → IsStoppedAt (Used env (AsConstructor k) n ∷ []) WrongCount n.place
+constructor_stops env k n m p e s c other = stopped_here (Used env (AsConstructor k) n) [] WrongCount (constructor c other) lowest
+  where
+    lowest : (g : KindFault) → IsRefusedSite (Used env (AsConstructor k) n) g → 4 ≤ fault_number g
+    lowest g (unknown h) = absurd (missing h e)
+    lowest g (wrong_class h r) = absurd (unsuited (AsConstructor k) e s h r)
+    lowest g (constructor h r) = omega arith
 
 pub arguments_stop : (env : Environment) (k : ℕ) (n : RawName) (m : Meaning) (p : ℕ) → meaning env n ≡ Some m → suits (AsEquation k) m ≡ true →
     parameter_count env n ≡ Some p → p ≢ k → IsStoppedAt (Used env (AsEquation k) n ∷ []) WrongCount n.place

@@ -1,9 +1,10 @@
 -- How many constructors each datatype of a tree has.
 use Rattle.std.specs.Prelude.{ℕ, List, [], ◌∷◌, length, flat_map}
 use Rattle.csp_text.specs.Raw.{RawDeclaration, RawDatatype, RawScript}
+use Rattle.csp_checking.specs.Names.{clause_names}
 
 abbrev pub constructors_declared : RawDeclaration → List ℕ
-constructors_declared (RawDatatype name constructors) = length constructors ∷ []
+constructors_declared (RawDatatype name clauses) = length (clause_names clauses) ∷ []
 constructors_declared _ = []
 
 abbrev pub constructor_counts : RawScript → List ℕ

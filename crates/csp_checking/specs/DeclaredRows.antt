@@ -2,7 +2,7 @@
 use Rattle.std.specs.Prelude.{◌≡◌, ⊤, ℕ, suc, cond, List, [], ◌∷◌, length, map, Option, Some, None}
 use Rattle.std.specs.Str.{bytes_eq}
 use Rattle.csp_text.specs.Raw.{RawName, RawDeclaration, RawDatatype, RawNametype, RawChannels, RawEquation, RawAssertion, RawScript}
-use Rattle.csp_checking.specs.Names.{Class, DatatypeName, ConstructorName, NametypeName, ChannelName, EquationName, Meaning, Declared, names_of, number_in}
+use Rattle.csp_checking.specs.Names.{Class, DatatypeName, ConstructorName, NametypeName, ChannelName, EquationName, clause_names, Meaning, Declared, names_of, number_in}
 use Rattle.csp_checking.specs.Sets.{in_order}
 
 -- a spelling, and what it means
@@ -16,13 +16,13 @@ numbered_rows class n (x ∷ xs) = (x.spelling, Declared class n) ∷ numbered_r
 
 -- the rows of a declaration's names, whose numbers go on behind those of the names above
 abbrev pub rows_declared : RawScript → RawDeclaration → List Row
-rows_declared above (RawDatatype name constructors) =
+rows_declared above (RawDatatype name clauses) =
     (name.spelling, Declared DatatypeName (length (names_of DatatypeName above)))
-    ∷ numbered_rows ConstructorName (length (names_of ConstructorName above)) constructors
+    ∷ numbered_rows ConstructorName (length (names_of ConstructorName above)) (clause_names clauses)
 rows_declared above (RawNametype name domain) = (name.spelling, Declared NametypeName (length (names_of NametypeName above))) ∷ []
 rows_declared above (RawChannels names domains) = numbered_rows ChannelName (length (names_of ChannelName above)) names
 rows_declared above (RawEquation name parameters body) = (name.spelling, Declared EquationName (length (names_of EquationName above))) ∷ []
-rows_declared above (RawAssertion place model p q) = []
+rows_declared above (RawAssertion place n a p) = []
 
 -- Each declared name, in the order of the text.
 abbrev pub declared_rows : RawScript → List Row

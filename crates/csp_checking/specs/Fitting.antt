@@ -20,12 +20,12 @@ item_place (EquationItem p n) = p
 item_place (AssertionItem p n) = p
 
 abbrev pub one_assertion : RawDeclaration → List RawDeclaration
-one_assertion (RawAssertion place model p q) = RawAssertion place model p q ∷ []
+one_assertion (RawAssertion place n a p) = RawAssertion place n a p ∷ []
 one_assertion _ = []
 
 abbrev pub item_declared : RawScript → RawDeclaration → List Item
 item_declared above (RawEquation name parameters body) = EquationItem name.place (length (names_of EquationName above)) ∷ []
-item_declared above (RawAssertion place model p q) = AssertionItem place (length (flat_map one_assertion above)) ∷ []
+item_declared above (RawAssertion place n a p) = AssertionItem place (length (flat_map one_assertion above)) ∷ []
 item_declared above _ = []
 
 abbrev pub items : RawScript → List Item

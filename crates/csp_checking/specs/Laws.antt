@@ -7,4 +7,5 @@ pub mod UsedNames
 pub mod Searches
 pub mod Asking
 pub mod FittingKinds
+pub mod Sets
 pub mod FirstSets

@@ -1,25 +1,28 @@
 -- The names of a tree: what is declared, what is bound, and what a name means where it stands.
-use Rattle.std.specs.Prelude.{ℕ, suc, Bool, cond, List, [], ◌∷◌, ◌++◌, map, flat_map, Option, Some, None, is_some, option_map}
+use Rattle.std.specs.Prelude.{ℕ, suc, Bool, cond, List, [], ◌∷◌, ◌++◌, length, map, flat_map, slice_get, Option, Some, None, is_some, option_map}
 use Rattle.std.specs.Option.{option_or}
 use Rattle.std.specs.Str.{bytes_eq}
-use Rattle.csp_text.specs.Raw.{RawName, RawField, RawGiven, RawInput, RawInputFrom, RawProcess, RawStop, RawSkip, RawCall, RawPrefix, RawGuard, RawIf, RawInfix, RawGeneralisedParallel, RawAlphabetisedParallel, RawHiding, RawRenaming, RawReplicated, RawDeclaration, RawDatatype, RawNametype, RawChannels, RawEquation, RawAssertion, RawScript}
+use Rattle.csp_text.specs.Raw.{RawName, RawField, RawGiven, RawInput, RawInputFrom, RawProcess, RawStop, RawSkip, RawCall, RawPrefix, RawGuard, RawIf, RawInfix, RawGeneralisedParallel, RawAlphabetisedParallel, RawHiding, RawRenaming, RawReplicated, RawProperty, RawRefinementOf, RawClause, RawDeclaration, RawDatatype, RawNametype, RawChannels, RawEquation, RawAssertion, RawScript}
 
 -- the classes of declared names
 pub data Class : Type 0 where
   DatatypeName ConstructorName NametypeName ChannelName EquationName : Class
 
+abbrev pub clause_names : List RawClause → List RawName
+clause_names clauses = map (λ c. c.name) clauses
+
 -- the names that a declaration declares, in the order of the text
 abbrev pub declared : RawDeclaration → List RawName
-declared (RawDatatype name constructors) = name ∷ constructors
+declared (RawDatatype name clauses) = name ∷ clause_names clauses
 declared (RawNametype name domain) = name ∷ []
 declared (RawChannels names domains) = names
 declared (RawEquation name parameters body) = name ∷ []
-declared (RawAssertion place model specification implementation) = []
+declared (RawAssertion place negated property implementation) = []
 
 -- those of one class
 abbrev pub declared_as : Class → RawDeclaration → List RawName
-declared_as DatatypeName (RawDatatype name constructors) = name ∷ []
-declared_as ConstructorName (RawDatatype name constructors) = constructors
+declared_as DatatypeName (RawDatatype name clauses) = name ∷ []
+declared_as ConstructorName (RawDatatype name clauses) = clause_names clauses
 declared_as NametypeName (RawNametype name domain) = name ∷ []
 declared_as ChannelName (RawChannels names domains) = names
 declared_as EquationName (RawEquation name parameters body) = name ∷ []
@@ -62,10 +65,15 @@ bound_in (RawHiding p a) = bound_in p
 bound_in (RawRenaming p rs) = bound_in p
 bound_in (RawReplicated op n e p) = n ∷ bound_in p
 
+-- those of the specification that an assertion compares with, if there is one
+abbrev pub bound_in_property : RawProperty → List RawName
+bound_in_property (RawRefinementOf model spec) = bound_in spec
+bound_in_property _ = []
+
 -- those of a declaration, its parameters among them
 abbrev pub bound_in_declaration : RawDeclaration → List RawName
 bound_in_declaration (RawEquation name parameters body) = parameters ++ bound_in body
-bound_in_declaration (RawAssertion place model p q) = bound_in p ++ bound_in q
+bound_in_declaration (RawAssertion place n a p) = bound_in_property a ++ bound_in p
 bound_in_declaration _ = []
 
 -- the list with further spellings behind it, each once
@@ -113,3 +121,12 @@ binding env (n ∷ ns) = binding (record { declarations = env.declarations; numb
 -- what a name means there, if anything; a bound name hides a declared one
 abbrev pub meaning : Environment → RawName → Option Meaning
 meaning env n = cond (has_spelling env.bound n.spelling) (option_map Bound (number_in env.numbered n.spelling)) (declared_meaning env.declarations n.spelling)
+
+-- how many fields each constructor has
+abbrev pub constructor_fields : RawDeclaration → List ℕ
+constructor_fields (RawDatatype name clauses) = map (λ c. length c.fields) clauses
+constructor_fields _ = []
+
+-- and the one of this number
+abbrev pub fields_of_constructor : RawScript → ℕ → Option ℕ
+fields_of_constructor raw k = slice_get (flat_map constructor_fields raw) k

@@ -1,10 +1,10 @@
 -- The term that an expression or a process as it is written stands for, where each of its names means something that fits.
-use Rattle.std.specs.Prelude.{ℕ, List, [], ◌∷◌, pos, Option, Some, None, option_map}
-use Rattle.csp_syntax.specs.Value.{Integer, Truth, Constructor}
-use Rattle.csp_syntax.specs.Expression.{Expression, Literal, Name, Apply, Combine, SequenceOf, SetOf, Range, Booleans, Datatype, Nametype, Expressions, no_expressions, expression_and}
-use Rattle.csp_syntax.specs.Process.{Field, Given, Input, InputFrom, EventExpression, EventSet, Enumeration, Productions, EventUnion, EventIntersection, EventDifference, RenamingPair, Process, Stop, Skip, Call, Prefix, Guard, If, ExternalChoice, InternalChoice, Sequential, Interleaving, Interrupt, GeneralisedParallel, AlphabetisedParallel, Hiding, Renaming, ReplicatedExternalChoice, ReplicatedInternalChoice, ReplicatedInterleaving, Equation, Model, Assertion}
-use Rattle.csp_text.specs.Raw.{RawName, RawExpression, RawNumber, RawTruth, RawBooleans, RawUse, RawApply, RawCombine, RawSequence, RawSet, RawRange, RawExpressions, no_raw_expressions, raw_expression_and, RawField, RawGiven, RawInput, RawInputFrom, RawEvent, RawEventSet, RawEnumeration, RawProductions, RawEventUnion, RawEventIntersection, RawEventDifference, RawPair, Infix, ExternalInfix, InternalInfix, SequentialInfix, InterleavingInfix, InterruptInfix, Replicator, ExternalReplicator, InternalReplicator, InterleavingReplicator, RawProcess, RawStop, RawSkip, RawCall, RawPrefix, RawGuard, RawIf, RawInfix, RawGeneralisedParallel, RawAlphabetisedParallel, RawHiding, RawRenaming, RawReplicated}
-use Rattle.csp_checking.specs.Names.{DatatypeName, ConstructorName, NametypeName, ChannelName, EquationName, Meaning, Declared, Bound, number_in, Environment, binding, bound_by_fields, meaning}
+use Rattle.std.specs.Prelude.{ℕ, suc, nat_eq, Bool, false, not, cond, List, [], ◌∷◌, pos, Option, Some, None, option_map, option_and_then}
+use Rattle.csp_syntax.specs.Value.{Integer, Truth, Constructor, no_values}
+use Rattle.csp_syntax.specs.Expression.{Expression, Literal, Name, Apply, Combine, SequenceOf, SetOf, Range, Booleans, Datatype, Nametype, ConstructorOf, Expressions, no_expressions, expression_and}
+use Rattle.csp_syntax.specs.Process.{Field, Given, Input, InputFrom, EventExpression, EventSet, Enumeration, Productions, EventUnion, EventIntersection, EventDifference, RenamingPair, Process, Stop, Skip, Call, Prefix, Guard, If, ExternalChoice, InternalChoice, Sequential, Interleaving, Interrupt, GeneralisedParallel, AlphabetisedParallel, Hiding, Renaming, ReplicatedExternalChoice, ReplicatedInternalChoice, ReplicatedInterleaving, SlidingChoice, Equation, Property, RefinementOf, DeadlockFree, DivergenceFree, Assertion}
+use Rattle.csp_text.specs.Raw.{RawName, RawExpression, RawNumber, RawTruth, RawBooleans, RawUse, RawApply, RawCombine, RawSequence, RawSet, RawRange, RawConstructor, RawExpressions, no_raw_expressions, raw_expression_and, RawField, RawGiven, RawInput, RawInputFrom, RawEvent, RawEventSet, RawEnumeration, RawProductions, RawEventUnion, RawEventIntersection, RawEventDifference, RawPair, Infix, ExternalInfix, InternalInfix, SequentialInfix, InterleavingInfix, InterruptInfix, SlidingInfix, Replicator, ExternalReplicator, InternalReplicator, InterleavingReplicator, RawProcess, RawStop, RawSkip, RawCall, RawPrefix, RawGuard, RawIf, RawInfix, RawGeneralisedParallel, RawAlphabetisedParallel, RawHiding, RawRenaming, RawReplicated, RawProperty, RawRefinementOf, RawDeadlockFree, RawDivergenceFree}
+use Rattle.csp_checking.specs.Names.{DatatypeName, ConstructorName, NametypeName, ChannelName, EquationName, Meaning, Declared, Bound, number_in, Environment, binding, bound_by_fields, meaning, fields_of_constructor}
 
 -- a form of several parts, where each part is there
 abbrev pub of_two : {A B C : Type 0} → (A → B → C) → Option A → Option B → Option C
@@ -26,10 +26,14 @@ every f (x ∷ xs) = of_two ◌∷◌ (f x) (every f xs)
 
 abbrev pub as_expression : Option Meaning → Option Expression
 as_expression (Some (Bound n)) = Some (Name n)
-as_expression (Some (Declared ConstructorName k)) = Some (Literal (Constructor k))
+as_expression (Some (Declared ConstructorName k)) = Some (Literal (Constructor k no_values))
 as_expression (Some (Declared DatatypeName d)) = Some (Datatype d)
 as_expression (Some (Declared NametypeName n)) = Some (Nametype n)
 as_expression _ = None
+
+abbrev pub as_constructor : Option Meaning → Option ℕ
+as_constructor (Some (Declared ConstructorName k)) = Some k
+as_constructor _ = None
 
 abbrev pub as_channel : Option Meaning → Option ℕ
 as_channel (Some (Declared ChannelName c)) = Some c
@@ -39,18 +43,40 @@ abbrev pub as_equation : Option Meaning → Option ℕ
 as_equation (Some (Declared EquationName n)) = Some n
 as_equation _ = None
 
--- A literal number, a truth value and a constructor's name are values.
+-- how many fields the constructor has that a name means; none where it means no constructor
+abbrev pub constructor_count : Environment → RawName → Option ℕ
+constructor_count env n = option_and_then (fields_of_constructor env.declarations) (as_constructor (meaning env n))
+
+abbrev pub is_count : ℕ → Option ℕ → Bool
+is_count k (Some p) = nat_eq p k
+is_count k None = false
+
+-- a constructor with fields, which cannot stand alone
+abbrev pub lacks_fields : Option ℕ → Bool
+lacks_fields (Some p) = not (nat_eq p 0)
+lacks_fields None = false
+
+-- the number of the constructor that a name means, if that has so many fields
+abbrev pub constructor_with : Environment → RawName → ℕ → Option ℕ
+constructor_with env n k = cond (is_count k (constructor_count env n)) (as_constructor (meaning env n)) None
+
+abbrev pub number_of : RawExpressions → ℕ
+number_of no_raw_expressions = 0
+number_of (raw_expression_and e es) = suc (number_of es)
+
+-- A literal number, a truth value and a constructor's name are values. A constructor has as many fields as its clause.
 abbrev mutual
   pub expression_of : Environment → RawExpression → Option Expression
   expression_of env (RawNumber n) = Some (Literal (Integer (pos n)))
   expression_of env (RawTruth b) = Some (Literal (Truth b))
   expression_of env RawBooleans = Some Booleans
-  expression_of env (RawUse n) = as_expression (meaning env n)
+  expression_of env (RawUse n) = cond (lacks_fields (constructor_count env n)) None (as_expression (meaning env n))
   expression_of env (RawApply op e) = option_map (Apply op) (expression_of env e)
   expression_of env (RawCombine op e f) = of_two (Combine op) (expression_of env e) (expression_of env f)
   expression_of env (RawSequence es) = option_map SequenceOf (expressions_of env es)
   expression_of env (RawSet es) = option_map SetOf (expressions_of env es)
   expression_of env (RawRange e f) = of_two Range (expression_of env e) (expression_of env f)
+  expression_of env (RawConstructor n es) = of_two ConstructorOf (constructor_with env n (number_of es)) (expressions_of env es)
 
   pub expressions_of : Environment → RawExpressions → Option Expressions
   expressions_of env no_raw_expressions = Some no_expressions
@@ -87,6 +113,7 @@ infix_process InternalInfix = InternalChoice
 infix_process SequentialInfix = Sequential
 infix_process InterleavingInfix = Interleaving
 infix_process InterruptInfix = Interrupt
+infix_process SlidingInfix = SlidingChoice
 
 abbrev pub replicated_process : Replicator → ℕ → Expression → Process → Process
 replicated_process ExternalReplicator = ReplicatedExternalChoice
@@ -111,5 +138,10 @@ process_of env (RawReplicated op n e p) = of_three (replicated_process op) (boun
 abbrev pub equation_of : Environment → List RawName → RawProcess → Option Equation
 equation_of env ns p = of_two (λ xs body. record { parameters = xs; body = body }) (every (bound_number env) ns) (process_of (binding env ns) p)
 
-abbrev pub assertion_of : Environment → Model → RawProcess → RawProcess → Option Assertion
-assertion_of env m p q = of_two (λ s i. record { model = m; specification = s; implementation = i }) (process_of env p) (process_of env q)
+abbrev pub property_of : Environment → RawProperty → Option Property
+property_of env (RawRefinementOf model spec) = option_map (RefinementOf model) (process_of env spec)
+property_of env RawDeadlockFree = Some DeadlockFree
+property_of env RawDivergenceFree = Some DivergenceFree
+
+abbrev pub assertion_of : Environment → Bool → RawProperty → RawProcess → Option Assertion
+assertion_of env n a p = of_two (λ x i. record { negated = n; property = x; implementation = i }) (property_of env a) (process_of env p)

@@ -7,9 +7,9 @@ use Rattle.csp_semantics.specs.Kinds.Kind.{Kinds}
 use Rattle.csp_text.specs.Place.{Place}
 use Rattle.csp_text.specs.Raw.{RawName, RawDeclaration, RawChannels, RawEquation, RawScript}
 use Rattle.csp_checking.specs.Names.{DatatypeName, ConstructorName, NametypeName, ChannelName, EquationName, declared, spellings, has_spelling, Meaning, Declared, Bound, declared_meaning, Environment, meaning}
-use Rattle.csp_checking.specs.Resolving.{as_channel, as_equation}
+use Rattle.csp_checking.specs.Resolving.{as_channel, as_equation, constructor_count}
 use Rattle.csp_checking.specs.Sets.{types_of, channel_sets, channel_members, FitSets, number_of_events}
-use Rattle.csp_checking.specs.Sites.{Use, AsExpression, AsEquation, AsEvent, AsProductions, AsBareLeft, AsBareRight, Site, Used, BoundThere, Parameter, NametypeSet, FieldSet, ChannelHead}
+use Rattle.csp_checking.specs.Sites.{Use, AsExpression, AsConstructor, AsEquation, AsEvent, AsProductions, AsBareLeft, AsBareRight, Site, Used, BoundThere, Parameter, NametypeSet, FieldSet, ChannelHead}
 use Rattle.csp_checking.specs.Faults.{UnknownName, WrongCount, WrongKind, DeclaredTwice, KindFault, BadFieldSet, TooManyEvents}
 
 abbrev pub all_declared : RawScript → List RawName
@@ -22,12 +22,13 @@ pub data IsRedeclared (before : List RawName) (n : RawName) : KindFault → Type
 -- ---- the second pass: the names in use, and the sets
 
 -- A prefix, set of events or renaming needs a channel; a process needs an equation; an expression needs a bound name,
--- a constructor, a datatype or a nametype.
+-- a constructor, a datatype or a nametype, and one that is written with fields a constructor.
 abbrev pub suits : Use → Meaning → Bool
 suits AsExpression (Bound n) = true
 suits AsExpression (Declared ConstructorName k) = true
 suits AsExpression (Declared DatatypeName d) = true
 suits AsExpression (Declared NametypeName n) = true
+suits (AsConstructor n) (Declared ConstructorName k) = true
 suits (AsEquation n) (Declared EquationName k) = true
 suits (AsEvent n) (Declared ChannelName c) = true
 suits (AsProductions n) (Declared ChannelName c) = true
@@ -80,7 +81,10 @@ pub data IsRefusedSite : Site → KindFault → Type 0 where
   -- K03 at a name of the wrong class
   wrong_class : {env : Environment} {u : Use} {n : RawName} {m : Meaning} →
       meaning env n ≡ Some m → IsFalse (suits u m) → IsRefusedSite (Used env u n) WrongKind
-  -- K04 at the name of an equation called with another number of arguments than it has parameters
+  -- K04 at a constructor with another number of fields than its clause, also where it stands alone
+  bare_constructor : {env : Environment} {n : RawName} {p : ℕ} → constructor_count env n ≡ Some p → p ≢ 0 → IsRefusedSite (Used env AsExpression n) WrongCount
+  constructor : {env : Environment} {k : ℕ} {n : RawName} {p : ℕ} → constructor_count env n ≡ Some p → p ≢ k → IsRefusedSite (Used env (AsConstructor k) n) WrongCount
+  -- at the name of an equation called with another number of arguments than it has parameters
   arguments : {env : Environment} {k : ℕ} {n : RawName} {p : ℕ} → parameter_count env n ≡ Some p → p ≢ k → IsRefusedSite (Used env (AsEquation k) n) WrongCount
   -- at the channel's name of a prefix, of an event in `{..}` or of a side of a renaming with another number of fields than the channel has
   fields : {env : Environment} {k : ℕ} {n : RawName} {p : ℕ} → field_count env n ≡ Some p → p ≢ k → IsRefusedSite (Used env (AsEvent k) n) WrongCount

@@ -1,18 +1,20 @@
 -- The tokens at which names and sets are looked at, in the order of the text.
-use Rattle.std.specs.Prelude.{ℕ, suc, Bool, true, false, ◌&&◌, cond, List, [], ◌∷◌, ◌++◌, length, take, flat_map, slice_get, Option, None, unwrap_or}
+use Rattle.std.specs.Prelude.{ℕ, suc, Bool, true, false, ◌&&◌, cond, List, [], ◌∷◌, ◌++◌, length, take, flat_map, slice_get, Option, None, unwrap_or, option_and_then}
 use Rattle.csp_syntax.specs.Value.{Value}
 use Rattle.csp_syntax.specs.Expression.{Expression}
 use Rattle.csp_syntax.specs.Types.{Types}
 use Rattle.csp_text.specs.Place.{Place}
-use Rattle.csp_text.specs.Raw.{RawName, RawExpression, RawNumber, RawTruth, RawBooleans, RawUse, RawApply, RawCombine, RawSequence, RawSet, RawRange, RawExpressions, no_raw_expressions, raw_expression_and, RawField, RawGiven, RawInput, RawInputFrom, RawEvent, RawEventSet, RawEnumeration, RawProductions, RawEventUnion, RawEventIntersection, RawEventDifference, RawPair, RawProcess, RawStop, RawSkip, RawCall, RawPrefix, RawGuard, RawIf, RawInfix, RawGeneralisedParallel, RawAlphabetisedParallel, RawHiding, RawRenaming, RawReplicated, RawDomain, RawDeclaration, RawDatatype, RawNametype, RawChannels, RawEquation, RawAssertion, RawScript}
+use Rattle.csp_text.specs.Raw.{RawName, RawExpression, RawNumber, RawTruth, RawBooleans, RawUse, RawApply, RawCombine, RawSequence, RawSet, RawRange, RawConstructor, RawExpressions, no_raw_expressions, raw_expression_and, RawField, RawGiven, RawInput, RawInputFrom, RawEvent, RawEventSet, RawEnumeration, RawProductions, RawEventUnion, RawEventIntersection, RawEventDifference, RawPair, RawProcess, RawStop, RawSkip, RawCall, RawPrefix, RawGuard, RawIf, RawInfix, RawGeneralisedParallel, RawAlphabetisedParallel, RawHiding, RawRenaming, RawReplicated, RawDomain, RawProperty, RawRefinementOf, RawClause, RawDeclaration, RawDatatype, RawNametype, RawChannels, RawEquation, RawAssertion, RawScript}
 use Rattle.csp_checking.specs.Names.{Environment, environment_of, environment_above, binding, bound_by_fields}
-use Rattle.csp_checking.specs.Sets.{in_order, types_of, set_expression, nametype_sets, channel_sets, nametype_members, field_members, channel_members}
+use Rattle.csp_checking.specs.Resolving.{number_of}
+use Rattle.csp_checking.specs.Sets.{in_order, datatypes_of, types_of, set_expression, channel_sets, members_above, members_with, field_members_with, field_members, channel_members}
 
--- What a name is used as: a value or set in an expression; the equation of a call with so many arguments; the channel of
+-- What a name is used as: a value or set in an expression; a constructor that is written with so many fields; the equation of a call with so many arguments; the channel of
 -- a prefix, of an event in `{..}` or of a side of a renaming, with so many fields; the channel of an event in `{|..|}`;
 -- the left and the right channel of a renaming of two bare ones, each with the other one.
 pub data Use : Type 0 where
   AsExpression : Use
+  AsConstructor : (fields : ℕ) → Use
   AsEquation : (arguments : ℕ) → Use
   AsEvent : (fields : ℕ) → Use
   AsProductions : (fields : ℕ) → Use
@@ -26,7 +28,7 @@ pub data Site : Type 0 where
   -- a name that is bound by an input or a replicated form, or as a parameter behind those of its head that are bound already
   BoundThere : (environment : Environment) (name : RawName) → Site
   Parameter : (environment : Environment) (name : RawName) → Site
-  -- The first token of the set of a nametype or of a field, with the script's types, the sets so far (those of the declarations above, and of its own
+  -- The first token of the set of a nametype or of a field of a constructor or channel, with the script's types, the sets so far (those of the declarations above, and of its own
   -- one up to this set), its expression, unless a name in it is refused, and its members, if it has some that count.
   NametypeSet : (place : Place) (types : Types) (so_far : RawScript) (set : Option Expression) (members : Option (List Value)) → Site
   FieldSet : (place : Place) (types : Types) (so_far : RawScript) (set : Option Expression) (members : Option (List Value)) → Site
@@ -53,14 +55,11 @@ abbrev mutual
   in_expression env (RawSequence es) = in_expressions env es
   in_expression env (RawSet es) = in_expressions env es
   in_expression env (RawRange e f) = in_expression env e ++ in_expression env f
+  in_expression env (RawConstructor n es) = Used env (AsConstructor (number_of es)) n ∷ in_expressions env es
 
   pub in_expressions : Environment → RawExpressions → List Site
   in_expressions env no_raw_expressions = []
   in_expressions env (raw_expression_and e es) = in_expression env e ++ in_expressions env es
-
-abbrev pub number_of : RawExpressions → ℕ
-number_of no_raw_expressions = 0
-number_of (raw_expression_and e es) = suc (number_of es)
 
 -- An input's set stands outside the scope of its name.
 abbrev pub in_fields : Environment → List RawField → List Site
@@ -125,18 +124,41 @@ in_field_sets raw above names before (d ∷ ds) =
     ∷ in_expression (environment_above above) d.set
     ++ in_field_sets raw above names (before ++ d ∷ []) ds
 
+-- a clause with these fields, behind others of its datatype
+abbrev pub with_clause : RawScript → RawName → List RawClause → RawName → List RawDomain → RawScript
+with_clause above name before constructor fields = above ++ RawDatatype name (before ++ record { name = constructor; fields = fields } ∷ []) ∷ []
+
+-- the sets of the fields of a constructor, where some stand before them in its clause
+abbrev pub in_clause_sets : RawScript → RawScript → RawName → List RawClause → RawName → List RawDomain → List RawDomain → List Site
+in_clause_sets raw above name clauses constructor before [] = []
+in_clause_sets raw above name clauses constructor before (d ∷ ds) =
+    FieldSet d.place (types_of raw) (with_clause above name clauses constructor (before ++ d ∷ [])) (set_expression above d)
+    (field_members_with (datatypes_of raw) (members_above raw above) (set_expression above d))
+    ∷ in_expression (environment_above above) d.set
+    ++ in_clause_sets raw above name clauses constructor (before ++ d ∷ []) ds
+
+-- those of the clauses of a datatype, where some stand before them
+abbrev pub in_clauses : RawScript → RawScript → RawName → List RawClause → List RawClause → List Site
+in_clauses raw above name before [] = []
+in_clauses raw above name before (c ∷ cs) = in_clause_sets raw above name before c.name [] c.fields ++ in_clauses raw above name (before ++ c ∷ []) cs
+
+-- in the specification that an assertion compares with, if there is one
+abbrev pub in_property : Environment → RawProperty → List Site
+in_property env (RawRefinementOf model spec) = in_process env spec
+in_property env _ = []
+
 -- in a declaration of the script, below others
 abbrev pub in_declaration : RawScript → RawScript → RawDeclaration → List Site
-in_declaration raw above (RawDatatype name constructors) = []
+in_declaration raw above (RawDatatype name clauses) = in_clauses raw above name [] clauses
 in_declaration raw above (RawNametype name domain) =
     NametypeSet domain.place (types_of raw) (above ++ RawNametype name domain ∷ []) (set_expression above domain)
-    (unwrap_or (slice_get (nametype_members raw) (length (nametype_sets above))) None)
+    (option_and_then (members_with (datatypes_of raw) (members_above raw above)) (set_expression above domain))
     ∷ in_expression (environment_above above) domain.set
 in_declaration raw above (RawChannels names domains) =
     in_heads raw (above ++ RawChannels names domains ∷ []) (length (channel_sets above)) names ++ in_field_sets raw above names [] domains
 in_declaration raw above (RawEquation name parameters body) =
     in_parameters (environment_of raw) parameters ++ in_process (binding (environment_of raw) parameters) body
-in_declaration raw above (RawAssertion place model p q) = in_process (environment_of raw) p ++ in_process (environment_of raw) q
+in_declaration raw above (RawAssertion place n a p) = in_property (environment_of raw) a ++ in_process (environment_of raw) p
 
 abbrev pub sites : RawScript → List Site
 sites raw = in_order (in_declaration raw) raw

@@ -18,7 +18,7 @@ ghost use Rattle.csp_checking.specs.Inference.Sets.{IsBeginningOf};
 ghost use Rattle.csp_checking.specs.Laws.Searches.{CanBeBound, with_bound, AreSameStates, found_of, sequence_twice, sequence_of_itself, sequences_compared, mixed_sequence};
 ghost use Rattle.csp_checking.specs.Laws.Asking.{ValuesAskForKinds, ExpressionsAskForKinds, ItemsAskForKinds, TurnsAskForKinds, FirstTurnsAskForKinds, FieldsAskForKinds, EventsAskForKinds, EventSetsAskForKinds, PairsAskForKinds, ProcessesAskForKinds, SetsAskForKinds, DeclarationsAskForKinds};
 ghost use Rattle.csp_checking.specs.Laws.FittingKinds.{TreeAsksForSets, AreForSets, AreSolvable, AreUnsolvable, NumberedTree, AskForFit, Fit, IsSolvedFor, IsUnsolvedFor, AreKindsOf, IsMisfitOf, EquationsGoOn, AreOwnersIn, SetsAreDecided, ItemsAreDecided};
-ghost use Rattle.csp_checking.specs.Laws.FirstSets.{AskForFirstSets, AreForFirstSets, AreForABeginning, FirstSetsAreAllSets, FirstFieldsAreABeginning, NametypesAskForTheirSet, FieldsAskForTheirSet, HeadsAskForNothing, OthersAskForNothing, FirstSetsGoOn};
+ghost use Rattle.csp_checking.specs.Laws.FirstSets.{AskForFirstSets, AreForFirstSets, AreForABeginning, FirstSetsAreAllSets, FirstFieldsAreABeginning, FirstClausesAreABeginning, NametypesAskForTheirSet, ClausesAskForNothing, ClauseFieldsAskForTheirSet, FieldsAskForTheirSet, HeadsAskForNothing, OthersAskForNothing, FirstSetsGoOn};
 
 /// Some assignment satisfies each resolved state, whichever kinds the numbers have that are not bound. Where nothing is
 /// known, each does.
@@ -123,7 +123,7 @@ pub fn equations_of_scripts()
     ensures all { (tree : NumberedTree) (xs : List Item) → AskForFit tree xs }
 {}
 
-/// Nametypes, fields of channels and parameters of equations, numbered in a row, are numbers for the tree.
+/// Nametypes, fields of constructors and channels and parameters of equations, numbered in a row, are numbers for the tree.
 pub fn numbers_in_a_row_are_for_the_tree()
     ensures { (owners : List ℕ) (raw : RawScript) → AreNumbersFor raw (next_number raw) (numbers_of owners raw) }
 {}
@@ -172,17 +172,22 @@ pub fn fitting_kinds_of_first_sets_are_found()
     ensures all { (types : Types) (raw : RawScript) (o : Numbering) → FirstSetsAreAllSets types raw o }
 {}
 
-/// Declarations, and channels with their first fields, are the beginning of a tree that goes on with more.
+/// Declarations, channels with their first fields, and datatypes with their first clauses and the first fields of the last
+/// of these, are the beginning of a tree that goes on with more.
 pub fn first_sets_are_a_beginning()
     ensures above { (so_far more : RawScript) → IsBeginningOf (so_far ++ more) so_far }
     ensures fields { (above below : RawScript) → FirstFieldsAreABeginning above below }
+    ensures clauses { (above below : RawScript) → FirstClausesAreABeginning above below }
 {}
 
 /// The equations of the sets, declaration by declaration: none before the first, those of its set with a nametype, those
-/// of each field of each channel with channels, and no more with the others.
+/// of each field of each constructor with a datatype, those of each field of each channel with channels, and no more with
+/// the others.
 pub fn equations_of_first_sets()
     ensures nothing { (types : Types) (o : Numbering) (n : ℕ) → AskForFirstSets types [] o n [] n }
     ensures nametype { (types : Types) (o : Numbering) → AreOwners types o → NametypesAskForTheirSet types o }
+    ensures clause { (types : Types) (o : Numbering) → ClausesAskForNothing types o }
+    ensures clause_field { (types : Types) (o : Numbering) → AreOwners types o → ClauseFieldsAskForTheirSet types o }
     ensures field { (types : Types) (o : Numbering) → AreOwners types o → FieldsAskForTheirSet types o }
     ensures heads { (types : Types) (o : Numbering) → HeadsAskForNothing types o }
     ensures other { (types : Types) (o : Numbering) → OthersAskForNothing types o }

@@ -6,9 +6,10 @@ ghost use Rattle.csp_syntax.specs.Process.{Script};
 ghost use Rattle.csp_text.specs.Place.{Place};
 ghost use Rattle.csp_text.specs.Raw.{RawName, RawDeclaration, RawScript};
 ghost use Rattle.csp_checking.specs.Names.{ConstructorName, names_of, spellings, number_in, has_spelling, with_spellings, bound_spellings, declared_meaning, Environment};
+ghost use Rattle.csp_checking.specs.Resolving.{constructor_count};
 ghost use Rattle.csp_checking.specs.Sets.{datatypes_of, types_of};
 ghost use Rattle.csp_checking.specs.Scripts.{IsScriptOf};
-ghost use Rattle.csp_checking.specs.Sites.{Use, AsExpression, AsEquation, AsEvent, AsProductions, AsBareLeft, AsBareRight, Site, Used, BoundThere, Parameter, sites};
+ghost use Rattle.csp_checking.specs.Sites.{Use, AsExpression, AsConstructor, AsEquation, AsEvent, AsProductions, AsBareLeft, AsBareRight, Site, Used, BoundThere, Parameter, sites};
 ghost use Rattle.csp_checking.specs.Faults.{KindFault, UnknownName, DeclaredTwice, WrongKind, WrongCount, NoneRefused};
 ghost use Rattle.csp_checking.specs.Rules.{all_declared, parameter_count, field_count};
 ghost use Rattle.csp_checking.specs.Refusals.{IsRefusedAt, PassesNames, IsKindRefusal};
@@ -19,7 +20,7 @@ ghost use Rattle.csp_checking.specs.Inference.Equations.{Numbering, AreOwners};
 ghost use Rattle.csp_checking.specs.Inference.Items.{rows_from};
 ghost use Rattle.csp_checking.specs.Laws.DeclaredNames.{AreDeclaredOnce, DeclaresOnce, IsNewBehind, IsFirstRepeated, rows_above, RowsAboveAreMeant, RowsBelowMeanNothing, MeaningsHaveRowsAbove, owners_in_a_row, with_one_spelling, AreItsNamesNumbered};
 ghost use Rattle.csp_checking.specs.Laws.SiteWalks.{Walk, AllFineIn, StopsAt, StopsInADeclaration};
-ghost use Rattle.csp_checking.specs.Laws.UsedNames.{MeansNothing, MeansSomething, Suits, IsUnsuited, IsUndeclared, IsDeclared, IsOtherThan, IsAtLeast, IsLessThan, HaveEqualCounts, HaveUnlikeCounts, AreAlike, HaveUnlikeSets};
+ghost use Rattle.csp_checking.specs.Laws.UsedNames.{MeansNothing, MeansSomething, Suits, IsUnsuited, IsUndeclared, IsDeclared, IsOtherThan, IsAtLeast, IsLessThan, IsNoneOrZero, HaveEqualCounts, HaveUnlikeCounts, AreAlike, HaveUnlikeSets};
 
 /// Each declared name has a row, in the order of the text. The rows of the declarations above are the first of all rows.
 pub fn declared_names_have_rows()
@@ -80,11 +81,18 @@ pub fn walks_stop_at_the_first_refused_site()
 {}
 
 /// A name in use is refused where it means nothing, where what it means does not suit, and where the number of arguments
-/// or fields is another one, and is else fine.
+/// or fields is another one, and is else fine. A constructor with fields cannot stand alone.
 pub fn names_in_use_are_fine_or_refused()
     ensures unknown { (env : Environment) (u : Use) (n : RawName) → MeansNothing env n → StopsAt (Used env u n) UnknownName }
     ensures class { (env : Environment) (u : Use) (n : RawName) → IsUnsuited env u n → StopsAt (Used env u n) WrongKind }
-    ensures expression { (env : Environment) (n : RawName) → Suits env AsExpression n → IsFine (Used env AsExpression n) }
+    ensures expression { (env : Environment) (n : RawName) →
+        Suits env AsExpression n → IsNoneOrZero (constructor_count env n) → IsFine (Used env AsExpression n) }
+    ensures bare { (env : Environment) (n : RawName) →
+        Suits env AsExpression n → IsOtherThan 0 (constructor_count env n) → StopsAt (Used env AsExpression n) WrongCount }
+    ensures constructor { (env : Environment) (k : ℕ) (n : RawName) →
+        Suits env (AsConstructor k) n → constructor_count env n ≡ Some k → IsFine (Used env (AsConstructor k) n) }
+    ensures constructor_fields { (env : Environment) (k : ℕ) (n : RawName) →
+        Suits env (AsConstructor k) n → IsOtherThan k (constructor_count env n) → StopsAt (Used env (AsConstructor k) n) WrongCount }
     ensures equation { (env : Environment) (k : ℕ) (n : RawName) →
         Suits env (AsEquation k) n → parameter_count env n ≡ Some k → IsFine (Used env (AsEquation k) n) }
     ensures arguments { (env : Environment) (k : ℕ) (n : RawName) →

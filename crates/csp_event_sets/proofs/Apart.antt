@@ -1,7 +1,7 @@
 -- The orders of the definitions go by places where those differ.
 use Rattle.std.proofs.Common.{◌≡◌, refl}
 use Rattle.std.specs.Ordering.{nat_cmp}
-use Rattle.csp_syntax.specs.Process.{EventSet, Enumeration, Productions, EventUnion, EventIntersection, EventDifference, Process, Stop, Skip, Omega, Call, Prefix, Guard, If, ExternalChoice, InternalChoice, Sequential, Interleaving, Interrupt, GeneralisedParallel, AlphabetisedParallel, Hiding, Renaming, ReplicatedExternalChoice, ReplicatedInternalChoice, ReplicatedInterleaving}
+use Rattle.csp_syntax.specs.Process.{EventSet, Enumeration, Productions, EventUnion, EventIntersection, EventDifference, Process, Stop, Skip, Omega, Call, Prefix, Guard, If, ExternalChoice, InternalChoice, Sequential, Interleaving, Interrupt, GeneralisedParallel, AlphabetisedParallel, Hiding, Renaming, ReplicatedExternalChoice, ReplicatedInternalChoice, ReplicatedInterleaving, SlidingChoice}
 use Rattle.csp_syntax.specs.Order.{event_set_cmp, event_set_place, process_cmp, process_place}
 use Rattle.csp_expression.proofs.Variants.{Places}
 
@@ -36,6 +36,7 @@ processes_apart (Renaming p rs) (Renaming q ss) differ = absurd (differ refl)
 processes_apart (ReplicatedExternalChoice m e p) (ReplicatedExternalChoice n f q) differ = absurd (differ refl)
 processes_apart (ReplicatedInternalChoice m e p) (ReplicatedInternalChoice n f q) differ = absurd (differ refl)
 processes_apart (ReplicatedInterleaving m e p) (ReplicatedInterleaving n f q) differ = absurd (differ refl)
+processes_apart (SlidingChoice p q) (SlidingChoice r s) differ = absurd (differ refl)
 processes_apart _ _ differ = refl
 
 abbrev pub processes : Places Process

@@ -2,7 +2,7 @@
 use denote.RattleType
 use mir.Syntax
 use lib.Pointwise.{pointwise}
-use Rattle.std.proofs.Common.{◌≡◌, Bool, true, false, List, map, refl, sym, ap, ◌∙◌}
+use Rattle.std.proofs.Common.{◌≡◌, Bool, List, sym, ap, ◌∙◌}
 use Rattle.std.proofs.lemmas.Cmp.{lists_total, tied_itself}
 use Rattle.std.specs.declared.alloc.Allocator as allocator
 use Rattle.std.specs.Cmp.Lexicographic.{slice_cmp}
@@ -19,8 +19,7 @@ use Rattle.csp_value.specs.Value.{members_of}
 use Rattle.csp_value.proofs.Equality.{set_tells}
 use Rattle.csp_value.proofs.Sameness.{Tells, lists_tell}
 use Rattle.csp_value.proofs.Forms.{unlisted}
-use Rattle.csp_term.specs.Script.{field_values}
-use Rattle.csp_event_tests.specs.Testing.{sets_of}
+use Rattle.csp_value.specs.Fields.{field_values, sets_of}
 
 module _ (R : RattleType.RattleType) (A : allocator.Ghosts R.Denot) (ad dd : Syntax.Dict) where
   abbrev field_eq : FieldSet R.Denot → FieldSet R.Denot → Bool

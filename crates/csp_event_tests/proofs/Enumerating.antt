@@ -1,5 +1,5 @@
 -- The results of a list one after the other, and a test of each item of a list.
-use Rattle.std.proofs.Common.{◌≡◌, ℕ, ◌+◌, ◌<◌, length, take, drop, get_or, Bool, true, false, List, [], ◌∷◌, ◌++◌, map, Contains, Result, Ok, Err, refl, sym, ◌∙◌, ap, zero, suc, ⊎_elim, arith}
+use Rattle.std.proofs.Common.{◌≡◌, ℕ, ◌+◌, ◌<◌, length, take, drop, get_or, Bool, true, List, [], ◌∷◌, ◌++◌, map, Contains, Result, Ok, Err, refl, sym, ◌∙◌, ap, zero, suc, ⊎_elim, arith}
 use Rattle.std.proofs.lemmas.List.{drop_more, map-append, take-append-drop, take_more}
 use Rattle.std.proofs.lemmas.Bool.{or_cases, or_left, or_right}
 use Rattle.std.specs.List.{list_any}

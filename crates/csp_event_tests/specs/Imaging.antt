@@ -1,13 +1,11 @@
 -- What an evaluated renaming makes of events.
-use Rattle.std.specs.Prelude.{◌≡◌, ⊤, ◌↔◌, nat_eq, Contains, List, [], ◌∷◌, ◌++◌, cond, Result, Ok, Err}
+use Rattle.std.specs.Prelude.{◌≡◌, ◌↔◌, nat_eq, Contains, List, [], ◌∷◌, ◌++◌, cond, Result, Ok}
 use Rattle.std.specs.List.{flat_map}
 use Rattle.std.specs.List.Sorted.{IsSortedBy}
 use Rattle.std.specs.Ordering.{is_lt, nat_cmp}
-use denote.Ref.{Bor}
 use Rattle.csp_syntax.specs.Value as pure
 use Rattle.csp_semantics.specs.Meaning.Evaluation.{Cause}
 use Rattle.csp_value.specs.declared.action.Event.{Event}
-use Rattle.csp_value.specs.declared.field_set.FieldSet.{FieldSet}
 use Rattle.csp_value.specs.declared.name.ChannelId.{ChannelId}
 use Rattle.csp_value.specs.Action.{event_of}
 use Rattle.csp_expression.specs.Agreement.{AgreesBy}

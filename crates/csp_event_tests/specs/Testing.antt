@@ -1,5 +1,5 @@
 -- The test that an evaluated set of events is, and what it lists.
-use Rattle.std.specs.Prelude.{◌≡◌, ⊤, Bool, not, ◌&&◌, ◌||◌, List, [], ◌∷◌, ◌++◌, map, Result, Ok, Err}
+use Rattle.std.specs.Prelude.{◌≡◌, ⊤, Bool, not, ◌&&◌, ◌||◌, List, [], ◌∷◌, ◌++◌, map, Result, Ok}
 use Rattle.std.specs.Box.{box_value}
 use Rattle.std.specs.declared.boxed.Box.{Box}
 use Rattle.std.specs.List.{list_any}
@@ -8,20 +8,18 @@ use Rattle.std.specs.Ordering.{is_lt}
 use Rattle.smallvec.specs.SmallVec.{SmallVec}
 use denote.Ref.{Bor}
 use Rattle.csp_syntax.specs.Value as pure
-use Rattle.csp_syntax.specs.Expression.{Expression}
-use Rattle.csp_syntax.specs.Types.{Types}
 use Rattle.csp_syntax.specs.declared.event_set_operator.EventSetOperator.{EventSetOperator}
 use Rattle.csp_syntax.specs.declared.event_set_operator.EventSetOperator.TheVariants as operator
-use Rattle.csp_semantics.specs.Meaning.Evaluation.{Cause, ◌and_then◌, value}
-use Rattle.csp_semantics.specs.Meaning.Events.{begins_with, in_field_set}
+use Rattle.csp_semantics.specs.Meaning.Evaluation.{Cause}
+use Rattle.csp_semantics.specs.Meaning.Events.{begins_with}
 use Rattle.csp_value.specs.declared.action.Event.{Event}
 use Rattle.csp_value.specs.declared.field_set.FieldSet.{FieldSet}
 use Rattle.csp_value.specs.declared.name.ChannelId.{ChannelId}
 use Rattle.csp_value.specs.declared.value.Value.{Value}
 use Rattle.csp_value.specs.Action.{event_of}
-use Rattle.csp_value.specs.Value.{value_of, values_of}
+use Rattle.csp_value.specs.Value.{values_of}
 use Rattle.csp_expression.specs.Agreement.{AgreesBy, AgreesWith}
-use Rattle.csp_term.specs.Script.{field_values}
+use Rattle.csp_value.specs.Fields.{sets_of}
 use Rattle.csp_expression.specs.declared.no_value.NoValue.{NoValue}
 use Rattle.csp_event_tests.specs.declared.event_test.EventTest.{EventTest}
 use Rattle.csp_event_tests.specs.declared.event_test.EventTest.TheOpen as layer
@@ -57,22 +55,11 @@ abbrev pub AreSorted : {A : Type 0} → List (List (Event A)) → Type 0
 AreSorted [] = ⊤
 AreSorted (es ∷ ess) = IsSortedBy (λ e f. is_lt (pure.event_cmp (event_of e) (event_of f))) es × AreSorted ess
 
--- the values that a field of each set may have
-abbrev pub sets_of : {A : Type 0} → List (FieldSet A) → List (List pure.Value)
-sets_of ss = map field_values ss
-
 -- the field sets of a channel, or the cause where it has none
 abbrev pub AreSetsOf : {A : Type 0} → Result (Bor (List (FieldSet A))) NoValue → Result (List (List pure.Value)) Cause → Type 0
 AreSetsOf = AgreesWith (λ sets. sets_of sets.now)
 
--- the value of a given field, which has to lie in its field set
-abbrev pub given : Types → Expression → List pure.Value → Result pure.Value Cause
-given types e set = value types e and_then λ v. in_field_set set v
-
-abbrev pub IsGivenBy : {A : Type 0} → Result (Value A) NoValue → Result pure.Value Cause → Type 0
-IsGivenBy = AgreesWith value_of
-
--- the same of several fields
+-- the values of given fields, which have to lie in their sets
 abbrev pub AreGivenBy : {A : Type 0} → Result (SmallVec (Value A)) NoValue → Result (List pure.Value) Cause → Type 0
 AreGivenBy = AgreesWith (λ vs. values_of vs.items)
 

@@ -7,13 +7,15 @@ ghost use Rattle.std.specs.Ordering.{is_lt};
 ghost use Rattle.csp_syntax.specs.Value.{event_cmp, event_eq};
 ghost use Rattle.csp_syntax.specs.Process.{Enumeration, Productions};
 ghost use Rattle.csp_syntax.specs.Expression.{to_expressions};
-ghost use Rattle.csp_semantics.specs.Meaning.Events.{begins_with, beginning_of, event_of as written_event, event_test, field_sets, given_values};
+ghost use Rattle.csp_semantics.specs.Meaning.Evaluation.{given_values};
+ghost use Rattle.csp_semantics.specs.Meaning.Events.{begins_with, beginning_of, event_of as written_event, event_test, field_sets};
 ghost use Rattle.csp_value.specs.Action.{event_of};
 ghost use Rattle.csp_expression.specs.Evaluation.{table_of};
-ghost use Rattle.csp_expression.specs.Expression.{expression_of, expressions_of};
+ghost use Rattle.csp_expression.specs.Expression.{expressions_of};
 ghost use Rattle.csp_event_sets.specs.Events.{event_expression_of, event_expressions_of, event_set_of};
-ghost use Rattle.csp_term.specs.Script.{field_values, script_of_parts};
-ghost use Rattle.csp_event_tests.specs.Testing.{AreGivenBy, AreSetsOf, AreSorted, IsBoxedTestOf, IsEventOf, IsGivenBy, IsTestOf, event_with, given, listed_in, sets_of, test_of};
+ghost use Rattle.csp_value.specs.Fields.{sets_of};
+ghost use Rattle.csp_term.specs.Script.{script_of_parts};
+ghost use Rattle.csp_event_tests.specs.Testing.{AreGivenBy, AreSetsOf, AreSorted, IsBoxedTestOf, IsEventOf, IsTestOf, event_with, listed_in, test_of};
 
 use csp_event_sets::{EventExpression, EventSet, EventSetOperator};
 use csp_expression::{Expr, NoValue, TypeTable};
@@ -46,23 +48,6 @@ pub(crate) fn field_sets<A: AllocHandle>(
     }
 }
 
-/// The value of a given field, which has to lie in its field set.
-fn given_value<A: AllocHandle>(
-    alloc: A,
-    types: &TypeTable<A>,
-    field: &Expr<A>,
-    set: &FieldSet<A>,
-) -> Result<Value<A>, NoValue>
-    ensures { IsGivenBy result (given (table_of types.now) (expression_of field.now) (field_values set.now)) }
-{
-    let value = field.find_value(alloc, types)?;
-    if set.contains(&value) {
-        Ok(value)
-    } else {
-        Err(NoValue::Cause(Cause::Range))
-    }
-}
-
 /// The values of the fields, each evaluated and then compared with its set.
 fn given_values<A: AllocHandle>(
     alloc: A,
@@ -77,7 +62,7 @@ fn given_values<A: AllocHandle>(
         let Some(set) = sets.get(place) else {
             return Err(NoValue::Cause(Cause::Kind));
         };
-        values.push(given_value(alloc, types, field, set)?)?;
+        values.push(field.find_within(alloc, types, set)?)?;
     }
     Ok(values)
 }

@@ -8,7 +8,7 @@ ghost use Rattle.csp_semantics.specs.Meaning.Events.{channel_images, event_image
 ghost use Rattle.csp_value.specs.Action.{event_of};
 ghost use Rattle.csp_event_sets.specs.Events.{event_expression_of, renaming_pair_of, renaming_pairs_of};
 ghost use Rattle.csp_term.specs.Script.{script_of_parts};
-ghost use Rattle.csp_event_tests.specs.Testing.{sets_of};
+ghost use Rattle.csp_value.specs.Fields.{sets_of};
 ghost use Rattle.csp_event_tests.specs.Imaging.{ChannelsRise, EventsRise, MakesMore, IsImagesOf, PairsRise, channel_image, event_image, found_images};
 
 use crate::event_test::{field_sets, whole_event};

@@ -1,7 +1,7 @@
 -- The order of expressions goes by their places where those differ.
 use Rattle.std.proofs.Common.{◌≡◌, refl}
 use Rattle.std.specs.Ordering.{nat_cmp}
-use Rattle.csp_syntax.specs.Expression.{Expression, Literal, Name, Apply, Combine, SequenceOf, SetOf, Range, Datatype, Nametype}
+use Rattle.csp_syntax.specs.Expression.{Expression, Literal, Name, Apply, Combine, SequenceOf, SetOf, Range, Datatype, Nametype, ConstructorOf}
 use Rattle.csp_syntax.specs.Order.{expression_cmp, expression_place}
 use Rattle.csp_expression.proofs.Variants.{Places}
 
@@ -15,6 +15,7 @@ expressions_apart (SetOf es) (SetOf fs) differ = absurd (differ refl)
 expressions_apart (Range e f) (Range g h) differ = absurd (differ refl)
 expressions_apart (Datatype m) (Datatype n) differ = absurd (differ refl)
 expressions_apart (Nametype m) (Nametype n) differ = absurd (differ refl)
+expressions_apart (ConstructorOf k es) (ConstructorOf l fs) differ = absurd (differ refl)
 expressions_apart _ _ differ = refl
 
 abbrev pub expressions : Places Expression

@@ -9,4 +9,4 @@ use Rattle.csp_semantics.proofs.KindedValues.{value_kind}
 use Rattle.csp_expression.specs.Closed.{IsClosedExpression}
 
 pub no_misfit : (types : Types) (e : Expression) → IsClosedExpression types e → value types e ≢ Err IllKinded
-no_misfit types e h = gives_no_misfit (λ v. IsValueOf types v h.1) (value types e) (value_kind types h.0 h.2 e h.1 h.3)
+no_misfit types e h = gives_no_misfit (λ v. IsValueOf types h.0 v h.1) (value types e) (value_kind types h.0 h.2 e h.1 h.3)

@@ -1,14 +1,17 @@
 -- The values of expressions one after the other.
-use Rattle.std.proofs.Common.{◌≡◌, ℕ, ◌+◌, ◌<◌, List, [], ◌∷◌, ◌++◌, length, take, drop, get_or, Result, Ok, Err, refl, sym, ◌∙◌, ap}
+use denote.Param.Weighed.{most}
+use Rattle.std.proofs.Common.{◌≡◌, ℕ, ◌+◌, ◌<◌, List, [], ◌∷◌, ◌++◌, length, take, drop, get_or, Result, Ok, Err, refl, sym, ◌∙◌, ap, max, arith}
 use Rattle.std.proofs.lemmas.List.{take_more, drop_more, take-append-drop, map-append}
 use Rattle.std.specs.declared.vec.Vec.{Vec}
 use Rattle.csp_syntax.specs.Value as pure
-use Rattle.csp_syntax.specs.Expression.{Expression, SequenceOf, SetOf, to_expressions}
+use Rattle.csp_syntax.specs.Expression.{Expression, ConstructorOf, SequenceOf, SetOf, to_expressions}
 use Rattle.csp_syntax.specs.Types.{Types}
-use Rattle.csp_semantics.specs.Meaning.Evaluation.{Cause, ◌and_then◌, sequence, set_of, value, values}
+use Rattle.csp_semantics.specs.Meaning.Evaluation.{Cause, ◌and_then◌, in_field_set, sequence, set_of, value, values}
+use Rattle.csp_value.specs.declared.name.ConId.{ConId}
 use Rattle.csp_value.specs.declared.value.Value.{Value}
 use Rattle.csp_value.specs.Value.{value_of, values_of}
-use Rattle.csp_expression.specs.declared.expr.Expr.{Expr}
+use Rattle.csp_expression.specs.declared.expr.Expr.{Expr, size-Expr}
+use Rattle.csp_expression.specs.declared.expr.Expr.TheViews.{sized-Constructor}
 use Rattle.csp_expression.specs.declared.expr.Expr.TheVariants as views
 use Rattle.csp_expression.specs.declared.no_value.NoValue.{NoValue}
 use Rattle.csp_expression.specs.declared.no_value.NoValue.TheVariants as variant
@@ -16,8 +19,10 @@ use Rattle.csp_expression.specs.Evaluation.{GivesAll, Sees}
 use Rattle.csp_semantics.specs.Meaning.Substitution.{Bindings, put_expression}
 use Rattle.csp_expression.specs.Bindings.{puts}
 use Rattle.csp_expression.specs.Expression.{expression_of}
+use Rattle.csp_expression.specs.Agreement.{AgreesWith}
 use Rattle.csp_expression.specs.Cause.{cause_of}
-use Rattle.csp_expression.proofs.ExpressionForms.{of_sequence, of_set}
+use Rattle.csp_expression.specs.Given.{given}
+use Rattle.csp_expression.proofs.ExpressionForms.{of_constructor, of_sequence, of_set}
 use Rattle.csp_expression.proofs.ExpressionPutting.{put_list}
 
 -- the values of two lists are those of the first, then those of the second
@@ -90,3 +95,24 @@ pub value_of_set_form : {A : Type 0} (types : Types) (bs : Bindings) (self : Exp
     value types (put_expression bs (expression_of self)) ≡ (values types (to_expressions (puts bs read)) and_then λ vs. set_of (pure.sorted_values vs))
 value_of_set_form {A} types bs self members read is same =
     ap (λ e. value types (put_expression bs e)) (ap expression_of is ∙ of_set A members) ∙ ap (λ es. value types (SetOf es)) (sym (put_list bs members.items)) ∙ ap (λ es. value types (SetOf (to_expressions (puts bs es)))) (sym same)
+
+pub value_of_constructor : {A : Type 0} (types : Types) (bs : Bindings) (self : Expr A) (k : ConId) (fields : Vec (Expr A) A) (read : List (Expr A)) → self ≡ views.Constructor k fields → read ≡ fields.items →
+    value types (put_expression bs (expression_of self)) ≡ value types (ConstructorOf k.0 (to_expressions (puts bs read)))
+value_of_constructor {A} types bs self k fields read is same =
+    ap (λ e. value types (put_expression bs e)) (ap expression_of is ∙ of_constructor A k fields) ∙ ap (λ es. value types (ConstructorOf k.0 es)) (sym (put_list bs fields.items)) ∙ ap (λ es. value types (ConstructorOf k.0 (to_expressions (puts bs es)))) (sym same)
+
+-- what has no value has none behind it either
+pub none_behind : {X Y V W : Type 0} (one : V → X) (several : W → Y) (why : NoValue) (r : Result X Cause) (f : X → Result Y Cause) → AgreesWith one (Err why) r → AgreesWith several (Err why) (r and_then f)
+none_behind one several (variant.Cause c) r f none = ap (λ s. s and_then f) none
+none_behind one several variant.Memory r f none = tt
+
+-- the set of a given field decides on its value
+pub given_found : (types : Types) (e : Expression) (set : List pure.Value) (v : pure.Value) → value types e ≡ Ok v → given types e set ≡ in_field_set set v
+given_found types e set v is = ap (λ r. r and_then λ w. in_field_set set w) is
+
+-- the fields of a constructor are smaller than it
+pub fields_smaller : (A : Type 0) (self : Expr A) (k : ConId) (fields : Vec (Expr A) A) (read : List (Expr A)) → self ≡ views.Constructor k fields → read ≡ fields.items → most (size-Expr A) read < size-Expr A self
+fields_smaller A self k fields read is same =
+    let whole : size-Expr A self ≡ max 0 (max (most (size-Expr A) fields.items) 0) + 1 = ap (size-Expr A) is ∙ sized-Constructor A k fields in
+    let part : most (size-Expr A) read ≡ most (size-Expr A) fields.items = ap (most (size-Expr A)) same in
+    omega (arith, whole, part)

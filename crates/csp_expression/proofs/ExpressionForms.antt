@@ -6,6 +6,7 @@ use Rattle.csp_syntax.specs.Expression as pure
 use Rattle.csp_syntax.specs.declared.operator.UnaryOperator.{UnaryOperator}
 use Rattle.csp_syntax.specs.declared.operator.BinaryOperator.{BinaryOperator}
 use Rattle.csp_syntax.specs.Operators.{unary_of, binary_of}
+use Rattle.csp_value.specs.declared.name.ConId.{ConId}
 use Rattle.csp_value.specs.declared.value.Value.{Value}
 use Rattle.csp_value.specs.Value.{value_of}
 use Rattle.csp_expression.specs.declared.name.Name.{Name}
@@ -46,3 +47,6 @@ module _ (A : Type 0) where
 
   pub of_nametype : (n : NametypeId) → expression_of {A = A} (views.Nametype n) ≡ pure.Nametype n.0
   of_nametype n = ap (expression_of {A = A}) (sym (views.rolls-Nametype n)) ∙ fold-roll-Expr A pure.Expression expression_step (layer.Nametype n)
+
+  pub of_constructor : (k : ConId) (es : Vec (Expr A) A) → expression_of {A = A} (views.Constructor k es) ≡ pure.ConstructorOf k.0 (pure.to_expressions (expressions_of es.items))
+  of_constructor k es = ap (expression_of {A = A}) (sym (views.rolls-Constructor k es)) ∙ fold-roll-Expr A pure.Expression expression_step (layer.Constructor k es)

@@ -17,6 +17,7 @@ use Rattle.csp_syntax.specs.declared.operator.BinaryOperator.{BinaryOperator}
 use Rattle.csp_syntax.specs.Operators.{binary_of, unary_of}
 use Rattle.csp_syntax.specs.contracts.operator.UnaryOperatorOrd.TheImpl as unary_impl
 use Rattle.csp_syntax.specs.contracts.operator.BinaryOperatorOrd.TheImpl as binary_impl
+use Rattle.csp_value.specs.declared.name.ConId.{ConId}
 use Rattle.csp_value.specs.declared.value.Value.{Value}
 use Rattle.csp_value.proofs.ValueOrder.{cmp as value_order, ordered as values_ordered}
 use Rattle.csp_expression.specs.declared.name.Name.{Name}
@@ -31,7 +32,7 @@ use Rattle.csp_expression.specs.contracts.expr.ExprOrd.TheImpl as impl
 use Rattle.csp_expression.specs.contracts.expr.ExprOrd.TheImpl.Laws as laws
 use Rattle.csp_expression.specs.contracts.expr.Expr as contract
 use Rattle.csp_expression.specs.Expression.{expression_of, expressions_of}
-use Rattle.csp_expression.proofs.ExpressionForms.{of_literal, of_name, of_apply, of_combine, of_sequence, of_set, of_range, of_booleans, of_datatype, of_nametype}
+use Rattle.csp_expression.proofs.ExpressionForms.{of_literal, of_name, of_apply, of_combine, of_sequence, of_set, of_range, of_booleans, of_datatype, of_nametype, of_constructor}
 use Rattle.csp_expression.proofs.OperatorOrder.{unary_ordered, binary_ordered}
 use Rattle.std.specs.Prelude.{⊤}
 use Rattle.std.specs.declared.cmp.Ordering.TheVariants.{Equal}
@@ -216,16 +217,31 @@ module _ (R : RattleType.RattleType) (A : allocator.Ghosts R.Denot) (ad dd : Syn
   nametype_agrees : (x y : NametypeNamed) → OfNametypeNamed x → nametype_cmp x y ≡ expression_cmp (nametype x) (nametype y)
   nametype_agrees x y h = refl
 
+  abbrev Constructed : Type 0
+  Constructed = ConId × (Operands × Unit {0})
+
+  abbrev constructor_cmp : Constructed → Constructed → Ordering
+  constructor_cmp x y = ordering_then (nat_cmp x.0.0 y.0.0) (slice_cmp cmp x.1.0.items y.1.0.items)
+
+  abbrev constructor : Constructed → pure.Expression
+  constructor x = pure.ConstructorOf x.0.0 (pure.to_expressions (expressions_of x.1.0.items))
+
+  abbrev OfConstructed : Constructed → Type 0
+  OfConstructed x = AreOrdered x.1.0.items
+
+  constructor_agrees : (x y : Constructed) → OfConstructed x → constructor_cmp x y ≡ expression_cmp (constructor x) (constructor y)
+  constructor_agrees x y h = ap (ordering_then (nat_cmp x.0.0 y.0.0)) (h y.1.0.items)
+
   -- ---- all forms
 
   abbrev derived : Parts → Parts → Ordering
-  derived = first_or literal_cmp (first_or name_cmp (first_or apply_cmp (first_or combine_cmp (first_or sequence_cmp (first_or set_cmp (first_or range_cmp (first_or booleans_cmp (first_or datatype_cmp (first_or nametype_cmp no_more)))))))))
+  derived = first_or literal_cmp (first_or name_cmp (first_or apply_cmp (first_or combine_cmp (first_or sequence_cmp (first_or set_cmp (first_or range_cmp (first_or booleans_cmp (first_or datatype_cmp (first_or nametype_cmp (first_or constructor_cmp no_more))))))))))
 
   abbrev meaning : Parts → pure.Expression
-  meaning = either literal (either name (either apply (either combine (either sequence (either set (either range (either booleans (either datatype (either nametype (λ v. absurd v))))))))))
+  meaning = either literal (either name (either apply (either combine (either sequence (either set (either range (either booleans (either datatype (either nametype (either constructor (λ v. absurd v)))))))))))
 
   abbrev OrderedParts : Parts → Type 0
-  OrderedParts = either_holds OfLiteral (either_holds OfNamed (either_holds OfApplied (either_holds OfCombined (either_holds OfSequenced (either_holds OfCollected (either_holds OfRanged (either_holds OfNothing (either_holds OfDatatypeNamed (either_holds OfNametypeNamed (λ v. ⊥))))))))))
+  OrderedParts = either_holds OfLiteral (either_holds OfNamed (either_holds OfApplied (either_holds OfCombined (either_holds OfSequenced (either_holds OfCollected (either_holds OfRanged (either_holds OfNothing (either_holds OfDatatypeNamed (either_holds OfNametypeNamed (either_holds OfConstructed (λ v. ⊥)))))))))))
 
   ranks : Ranks expressions derived meaning OrderedParts 0
   ranks =
@@ -239,7 +255,8 @@ module _ (R : RattleType.RattleType) (A : allocator.Ghosts R.Denot) (ad dd : Syn
       (one_at expressions booleans_cmp booleans OfNothing 7 (λ x. refl) booleans_agrees
       (one_at expressions datatype_cmp datatype OfDatatypeNamed 8 (λ x. refl) datatype_agrees
       (one_at expressions nametype_cmp nametype OfNametypeNamed 9 (λ x. refl) nametype_agrees
-      (none expressions 10))))))))))
+      (one_at expressions constructor_cmp constructor OfConstructed 10 (λ x. refl) constructor_agrees
+      (none expressions 11)))))))))))
 
   stands : (v : Parts) → expression_of (make v) ≡ meaning v
   stands v =
@@ -254,7 +271,8 @@ module _ (R : RattleType.RattleType) (A : allocator.Ghosts R.Denot) (ad dd : Syn
         | inr (inr (inr (inr (inr (inr (inr (inl w))))))) ↦ of_booleans R.Denot
         | inr (inr (inr (inr (inr (inr (inr (inr (inl w)))))))) ↦ of_datatype R.Denot w.0
         | inr (inr (inr (inr (inr (inr (inr (inr (inr (inl w))))))))) ↦ of_nametype R.Denot w.0
-        | inr (inr (inr (inr (inr (inr (inr (inr (inr (inr w))))))))) ↦ absurd w
+        | inr (inr (inr (inr (inr (inr (inr (inr (inr (inr (inl w)))))))))) ↦ of_constructor R.Denot w.0 w.1.0
+        | inr (inr (inr (inr (inr (inr (inr (inr (inr (inr (inr w)))))))))) ↦ absurd w
       ]
 
   unfolds : (v w : Parts) → cmp (make v) (make w) ≡ derived v w
@@ -294,6 +312,7 @@ module _ (R : RattleType.RattleType) (A : allocator.Ghosts R.Denot) (ad dd : Syn
   step x layer.Booleans is = subst IsOrderedLayer is (subst IsOrdered (sym views.rolls-Booleans) (of_parts (inr (inr (inr (inr (inr (inr (inr (inl tt)))))))) tt))
   step x (layer.Datatype d) is = subst IsOrderedLayer is (subst IsOrdered (sym (views.rolls-Datatype d)) (of_parts (inr (inr (inr (inr (inr (inr (inr (inr (inl (d, tt)))))))))) tt))
   step x (layer.Nametype n) is = subst IsOrderedLayer is (subst IsOrdered (sym (views.rolls-Nametype n)) (of_parts (inr (inr (inr (inr (inr (inr (inr (inr (inr (inl (n, tt))))))))))) tt))
+  step x (layer.Constructor k es) is = subst IsOrderedLayer is (subst IsOrdered (sym (views.rolls-Constructor k _)) (of_parts (inr (inr (inr (inr (inr (inr (inr (inr (inr (inr (inl (k, (_, tt))))))))))))) (parts_ordered es.items)))
 
   pub ordered : (a : Expr R.Denot) → IsOrdered a
   ordered = ind-Expr R.Denot IsOrdered step

@@ -8,8 +8,12 @@ pub mod ExpressionOrder
 pub mod ExpressionEquality
 pub mod ValueTests
 pub mod Evaluating
+pub mod GivenFields
+pub mod Choosing
+pub mod Constructing
 pub mod Named
 pub mod Looking
 pub mod Forming
+pub mod Refusing
 pub mod Measures
 pub mod ClosedExpressions

@@ -1,13 +1,12 @@
 -- Sets that are listed in order.
-use Rattle.std.proofs.Common.{◌≡◌, ℕ, zero, suc, ◌+◌, ◌-◌, ◌≤◌, ◌++◌, nat_le, ℤ, pos, ◌+ℤ◌, Bool, true, false, List, [], ◌∷◌, length, Result, Ok, Err, refl, sym, ◌∙◌, ap, arith, add-one}
+use Rattle.std.proofs.Common.{◌≡◌, ℕ, zero, suc, ◌+◌, ◌++◌, nat_le, ℤ, pos, ◌+ℤ◌, Bool, true, false, List, [], ◌∷◌, length, Result, Ok, Err, refl, sym, ◌∙◌, ap, arith, add-one}
 use Rattle.std.proofs.lemmas.Int.{ints}
 use Rattle.std.specs.declared.cmp.Ordering.TheVariants.{Less}
 use Rattle.std.specs.Ordering.{is_lt}
-use Rattle.std.specs.Cmp.{int_cmp_is, nat_cmp_is}
-use Rattle.csp_syntax.specs.Value.{Value, Integer, Constructor, Set, to_values, sorted_values}
-use Rattle.csp_semantics.specs.Meaning.Evaluation.{Cause, Overflow, constructors, count_between, max_members, numbers_from, range, set_of}
+use Rattle.std.specs.Cmp.{int_cmp_is}
+use Rattle.csp_syntax.specs.Value.{Value, Integer, Set, to_values, sorted_values}
+use Rattle.csp_semantics.specs.Meaning.Evaluation.{Cause, Overflow, count_between, max_members, numbers_from, range, set_of}
 use Rattle.csp_value.proofs.Sets.{Rises, rising_alike, sorted_rise, sorted_have}
-use Rattle.csp_expression.specs.Evaluation.{numbers_up}
 
 -- what rises is sorted
 pub sorted_already : (vs : List Value) → Rises vs → sorted_values vs ≡ vs
@@ -42,25 +41,3 @@ pub range_found : (x y : ℤ) (vs : List Value) → nat_le (count_between x y) m
 range_found x y vs few is =
     ap (limited x y) few ∙ set_of_rising (numbers_from x (count_between x y)) (numbers_rise x (count_between x y)) (ap (λ n. nat_le n max_members) (numbers_length x (count_between x y)) ∙ few)
     ∙ ap (λ ws. Ok (Set (to_values (sorted_values ws)))) (sym is)
-
--- ---- constructors
-
-pub constructors_rise : (a n : ℕ) → Rises (constructors (numbers_up a n))
-constructors_rise a zero = tt
-constructors_rise a (suc zero) = tt
-constructors_rise a (suc (suc n)) = (ap is_lt (sym (nat_cmp_is a (suc a) Less (omega arith))), constructors_rise (suc a) (suc n))
-
-pub constructors_length : (a n : ℕ) → length (constructors (numbers_up a n)) ≡ n
-constructors_length a zero = refl
-constructors_length a (suc n) = ap suc (constructors_length (suc a) n)
-
-constructors_next : (a n : ℕ) → constructors (numbers_up a (suc n)) ≡ constructors (numbers_up a n) ++ Constructor (a + n) ∷ []
-constructors_next a zero = ap (λ k. Constructor k ∷ []) (omega arith)
-constructors_next a (suc n) = ap (λ vs. Constructor a ∷ vs) (constructors_next (suc a) n ∙ ap (λ k. constructors (numbers_up (suc a) n) ++ Constructor k ∷ []) (omega arith))
-
--- one more
-pub constructors_more : (a n : ℕ) → constructors (numbers_up a (n + 1)) ≡ constructors (numbers_up a n) ++ Constructor (a + n) ∷ []
-constructors_more a n = rw (add-one n) (constructors_next a n)
-
-pub constructors_found : (a n : ℕ) (vs : List Value) → nat_le n max_members ≡ true → vs ≡ constructors (numbers_up a n) → set_of (constructors (numbers_up a n)) ≡ Ok (Set (to_values (sorted_values vs)))
-constructors_found a n vs few is = rw is (set_of_rising (constructors (numbers_up a n)) (constructors_rise a n) (ap (λ m. nat_le m max_members) (constructors_length a n) ∙ few))

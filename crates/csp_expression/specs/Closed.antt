@@ -4,8 +4,8 @@ use Rattle.csp_syntax.specs.Expression.{Expression}
 use Rattle.csp_syntax.specs.Types.{Types}
 use Rattle.csp_semantics.specs.Kinds.Kind.{Kind, Kinds}
 use Rattle.csp_semantics.specs.Kinds.Expressions.{HasKind}
-use Rattle.csp_semantics.specs.Kinds.Scripts.{NametypesHaveKinds}
+use Rattle.csp_semantics.specs.Kinds.Scripts.{TypesHaveKinds}
 
 -- The expression has a kind where no name has one, with some kinds that fit the types.
 abbrev pub IsClosedExpression : Types → Expression → Type 0
-IsClosedExpression types e = (kinds : Kinds) × (k : Kind) × NametypesHaveKinds types kinds × HasKind types kinds [] e k
+IsClosedExpression types e = (kinds : Kinds) × (k : Kind) × TypesHaveKinds types kinds × HasKind types kinds [] e k

@@ -8,6 +8,7 @@ use Rattle.csp_semantics.specs.Meaning.Evaluation.{Cause}
 use Rattle.csp_value.specs.declared.set.SetOf.{SetOf}
 use Rattle.csp_value.specs.declared.value.Value.{Value}
 use Rattle.csp_value.specs.Value.{value_of, values_of, members_of}
+use Rattle.csp_value.specs.Fields.{sets_of}
 use Rattle.csp_expression.specs.declared.cause.Cause as code
 use Rattle.csp_expression.specs.declared.no_value.NoValue.{NoValue}
 use Rattle.csp_expression.specs.declared.eval_fault.EvalFault.{EvalFault}
@@ -78,4 +79,8 @@ abbrev pub members_listed : {A : Type 0} → SetOf A → List pure.Value
 members_listed s = pure.values_list (members_of s)
 
 abbrev pub table_of : {A : Type 0} → TypeTable A → Types
-table_of t = record { datatypes = map constructors_of t.datatypes.items; nametypes = map members_listed t.nametypes.items }
+table_of t = record {
+  datatypes = map constructors_of t.datatypes.items;
+  nametypes = map members_listed t.nametypes.items;
+  constructors = map (λ c. sets_of c.sets.items) t.constructors.items;
+}

@@ -20,6 +20,7 @@ expression_step (layer.Range e f) = pure.Range (box_value e) (box_value f)
 expression_step layer.Booleans = pure.Booleans
 expression_step (layer.Datatype d) = pure.Datatype d.0
 expression_step (layer.Nametype n) = pure.Nametype n.0
+expression_step (layer.Constructor k es) = pure.ConstructorOf k.0 (pure.to_expressions es.items)
 
 abbrev pub expression_of : {A : Type 0} → Expr A → pure.Expression
 expression_of {A} = fold-Expr A pure.Expression expression_step

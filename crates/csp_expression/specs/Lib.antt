@@ -1,7 +1,9 @@
 pub mod Agreement
 pub mod Bindings
 pub mod Cause
+pub mod Choosing
 pub mod Closed
 pub mod Evaluation
 pub mod Expression
 pub mod Fault
+pub mod Given

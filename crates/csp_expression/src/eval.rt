@@ -1,14 +1,16 @@
 //! The value of an expression.
 
 ghost use Rattle.csp_syntax.specs.Expression as pure;
-ghost use Rattle.csp_syntax.specs.Expression.{to_expressions};
+ghost use Rattle.csp_syntax.specs.Expression.{ConstructorOf, to_expressions};
 ghost use Rattle.csp_syntax.specs.Operators.{binary_of, unary_of};
-ghost use Rattle.csp_semantics.specs.Meaning.Evaluation.{apply, combine, range_of, value, values};
+ghost use Rattle.csp_semantics.specs.Meaning.Evaluation.{apply, combine, given_values, in_field_set, range_of, value, values};
 ghost use Rattle.csp_semantics.specs.Meaning.Substitution.{put_expression};
 ghost use Rattle.csp_expression.specs.Closed.{IsClosedExpression};
 ghost use Rattle.csp_expression.specs.Bindings.{bindings_of, puts};
 ghost use Rattle.std.specs.Prelude.{◌≡◌, true};
+ghost use Rattle.csp_value.specs.Fields.{field_values, sets_of};
 ghost use Rattle.csp_value.specs.Value.{value_of};
+ghost use Rattle.csp_expression.specs.Given.{given};
 ghost use Rattle.csp_expression.specs.Evaluation.{Answers, Gives, GivesAll, IsAnswer, Sees, only_reads, only_reads_operand, seen_value, table_of};
 ghost use Rattle.csp_expression.specs.Expression.{expression_of};
 
@@ -19,9 +21,9 @@ use crate::no_value::NoValue;
 use crate::seen::Seen;
 use crate::substitution::{Binding, bound};
 use crate::types::TypeTable;
-use crate::{arithmetic, comparison, connectives, ranges, sequences, sets};
+use crate::{arithmetic, comparison, connectives, constructors, ranges, sequences, sets};
 use csp_syntax::{BinaryOperator, UnaryOperator};
-use csp_value::Value;
+use csp_value::{ConId, FieldSet, Value};
 use std::alloc::Allocator;
 
 impl<A: Allocator + Copy> Expr<A> {
@@ -96,7 +98,90 @@ impl<A: Allocator + Copy> Expr<A> {
             Expr::Booleans => Ok(Seen::Made(ranges::booleans(alloc)?)),
             Expr::Datatype(datatype) => Ok(Seen::Made(ranges::datatype(alloc, types, *datatype)?)),
             Expr::Nametype(nametype) => Ok(Seen::Made(ranges::nametype(alloc, types, *nametype)?)),
+            Expr::Constructor(constructor, fields) => {
+                look_at_constructor(alloc, *constructor, fields, types, bindings)
+            }
         }
+    }
+
+    /// The same for a given field, whose value has to lie in its set: one that does not is the cause `Range`.
+    pub fn look_within<'e>(
+        &'e self,
+        alloc: A,
+        types: &TypeTable<A>,
+        bindings: &[Binding<'e, A>],
+        set: &FieldSet<A>,
+    ) -> Result<Seen<'e, A>, NoValue>
+        ensures { Sees result (given (table_of types.now) (put_expression (bindings_of bindings.now) (expression_of self.now)) (field_values set.now)) }
+    {
+        let seen = self.look(alloc, types, bindings)?;
+        within(seen, set)
+    }
+
+    /// The value of a given field, which has to lie in its set: one that does not is the cause `Range`.
+    #[tactic(auto, using(csp_semantics::proofs::Putting::put_nothing_in_expression))]
+    pub fn find_within(
+        &self,
+        alloc: A,
+        types: &TypeTable<A>,
+        set: &FieldSet<A>,
+    ) -> Result<Value<A>, NoValue>
+        ensures { Gives result (given (table_of types.now) (expression_of self.now) (field_values set.now)) }
+    {
+        Ok(self.look_within(alloc, types, &[], set)?.into_value(alloc)?)
+    }
+}
+
+/// The constructor with the values of its fields, or the first cause.
+#[cycle(eval)]
+fn look_at_constructor<'e, A: Allocator + Copy>(
+    alloc: A,
+    constructor: ConId,
+    fields: &'e [Expr<A>],
+    types: &TypeTable<A>,
+    bindings: &[Binding<'e, A>],
+) -> Result<Seen<'e, A>, NoValue>
+    ensures { Sees result (value (table_of types.now) (ConstructorOf constructor.0 (to_expressions (puts (bindings_of bindings.now) fields.now)))) }
+{
+    let sets = constructors::field_sets(types, constructor)?;
+    let values = look_at_fields(alloc, fields, sets, types, bindings)?;
+    Ok(Seen::Made(constructors::constructed(constructor, sets, values)?))
+}
+
+/// The value of each given field with the values of the bindings put in, in order, or the first cause.
+#[cycle(eval)]
+fn look_at_fields<'e, A: Allocator + Copy>(
+    alloc: A,
+    fields: &'e [Expr<A>],
+    sets: &[FieldSet<A>],
+    types: &TypeTable<A>,
+    bindings: &[Binding<'e, A>],
+) -> Result<Vec<Value<A>, A>, NoValue>
+    ensures { GivesAll result (given_values (table_of types.now) (to_expressions (puts (bindings_of bindings.now) fields.now)) (sets_of sets.now)) }
+{
+    let mut all = Vec::new(alloc);
+    for (place, field) in fields.iter().enumerate() {
+        let Some(set) = sets.get(place) else {
+            return Err(NoValue::Cause(Cause::Kind));
+        };
+        let seen = field.look(alloc, types, bindings)?;
+        let given = within(seen, set)?;
+        all.push(given.into_value(alloc)?)?;
+    }
+    Ok(all)
+}
+
+/// The value where it lies in the set, else the cause `Range`.
+fn within<'e, A: Allocator + Copy>(
+    seen: Seen<'e, A>,
+    set: &FieldSet<A>,
+) -> Result<Seen<'e, A>, NoValue>
+    ensures { Sees result (in_field_set (field_values set.now) (seen_value seen.entry)) }
+{
+    if set.contains(seen.value()) {
+        Ok(seen)
+    } else {
+        Err(NoValue::Cause(Cause::Range))
     }
 }
 

@@ -5,7 +5,7 @@ ghost use Rattle.csp_expression.specs.Expression.{expression_of};
 
 use crate::name::{DatatypeId, Name, NametypeId};
 use csp_syntax::{BinaryOperator, UnaryOperator};
-use csp_value::{Memory, TryCopy, Value};
+use csp_value::{ConId, Memory, TryCopy, Value};
 use std::alloc::Allocator;
 
 /// An expression as it is written. The order is that of the forms, then of the parts in turn.
@@ -32,6 +32,8 @@ pub enum Expr<A: Allocator> {
     Datatype(DatatypeId),
     /// The set that a nametype names.
     Nametype(NametypeId),
+    /// `(c.e.f)`, the constructor with the values of its fields. One without fields is a value as it is written.
+    Constructor(ConId, Vec<Expr<A>, A>),
 }
 
 impl<A: Allocator + Copy> Expr<A> {

@@ -23,6 +23,7 @@ impl<A: Allocator> Expr<A> {
             }
             Expr::Sequence(items) => room_left_by(items, room.checked_sub(1)?),
             Expr::Set(members) => room_left_by(members, room.checked_sub(1)?),
+            Expr::Constructor(_, fields) => room_left_by(fields, room.checked_sub(1)?),
             Expr::Name(_) | Expr::Booleans | Expr::Datatype(_) | Expr::Nametype(_) => {
                 room.checked_sub(1)
             }
@@ -45,6 +46,7 @@ impl<A: Allocator> Expr<A> {
             }
             Expr::Sequence(items) => are_within_depth(items, most - 1),
             Expr::Set(members) => are_within_depth(members, most - 1),
+            Expr::Constructor(_, fields) => are_within_depth(fields, most - 1),
             Expr::Name(_) | Expr::Booleans | Expr::Datatype(_) | Expr::Nametype(_) => true,
         }
     }

@@ -2,17 +2,18 @@
 
 ghost use Rattle.std.specs.Prelude.{◌≡◌, ◌≤◌, ◌∷◌, [], true, false, map, slice_get};
 ghost use Rattle.csp_syntax.specs.Value.{Truth};
-ghost use Rattle.csp_semantics.specs.Meaning.Evaluation.{constructors, count_between, datatype_set, numbers_from, range, range_of, set_at, set_of};
+ghost use Rattle.csp_semantics.specs.Meaning.Evaluation.{count_between, datatype_set, numbers_from, range, range_of, set_at, set_of};
 ghost use Rattle.csp_value.specs.Value.{value_of};
-ghost use Rattle.csp_expression.specs.Evaluation.{Gives, constructors_of, members_listed, table_of};
+ghost use Rattle.csp_expression.specs.Evaluation.{Gives, members_listed, table_of};
 
 use crate::cause::Cause;
+use crate::constructors;
 use crate::name::{DatatypeId, NametypeId};
 use crate::no_value::NoValue;
 use crate::sequences::MAX_MEMBERS;
 use crate::sets::set;
-use crate::types::{Constructors, TypeTable};
-use csp_value::{ConId, SetOf, Value};
+use crate::types::TypeTable;
+use csp_value::{SetOf, Value};
 use std::alloc::Allocator;
 
 /// `{e..f}`, or `Overflow` where those are more than 1,024 numbers.
@@ -68,36 +69,18 @@ pub(crate) fn booleans<A: Allocator + Copy>(alloc: A) -> Result<Value<A>, NoValu
     Ok(Value::Set(SetOf::from_values(members)))
 }
 
-/// The set of the datatype's constructors, or `Overflow` where they are more than 1,024.
+/// The set of the datatype's values, or `Overflow` where they are more than 1,024.
 pub(crate) fn datatype<A: Allocator + Copy>(
     alloc: A,
     types: &TypeTable<A>,
     datatype: DatatypeId,
 ) -> Result<Value<A>, NoValue>
-    ensures { Gives result (datatype_set (slice_get (table_of types.now).datatypes datatype.0)) }
+    ensures { Gives result (datatype_set (table_of types.now) (slice_get (table_of types.now).datatypes datatype.0)) }
 {
     match types.datatypes.get(datatype.0 as usize) {
-        Some(range) => all_of(alloc, *range),
+        Some(range) => constructors::all_of(alloc, types, *range),
         None => Err(NoValue::Cause(Cause::Kind)),
     }
-}
-
-/// The set of the constructors.
-fn all_of<A: Allocator + Copy>(alloc: A, range: Constructors) -> Result<Value<A>, NoValue>
-    ensures { Gives result (set_of (constructors (constructors_of range))) }
-{
-    if range.following as usize >= MAX_MEMBERS {
-        return Err(NoValue::Cause(Cause::Overflow));
-    }
-    let mut members = Vec::new(alloc);
-    for offset in 0..range.following + 1 {
-        // No memory holds the names of more constructors than have a number, so the last arm is never taken.
-        match range.first.0.checked_add(offset) {
-            Some(constructor) => members.push(Value::Con(ConId(constructor)))?,
-            None => return Err(NoValue::Memory),
-        }
-    }
-    Ok(Value::Set(SetOf::from_values(members)))
 }
 
 /// The set that the nametype names, or `Overflow` where it has more than 1,024 members.

@@ -114,6 +114,10 @@ impl<A: Allocator + Copy> Expr<A> {
             Expr::Booleans => Ok(Expr::Booleans),
             Expr::Datatype(datatype) => Ok(Expr::Datatype(*datatype)),
             Expr::Nametype(nametype) => Ok(Expr::Nametype(*nametype)),
+            Expr::Constructor(constructor, fields) => {
+                let fields = put_in_all(alloc, fields, bindings)?;
+                Ok(Expr::Constructor(*constructor, fields))
+            }
         }
     }
 }

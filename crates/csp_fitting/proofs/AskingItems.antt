@@ -5,7 +5,7 @@ use Rattle.std.proofs.Common.{◌≡◌, ℕ, List, Option, Some, None, sym, sub
 use Rattle.std.proofs.lemmas.Option.{slice_get-map}
 use Rattle.csp_syntax.specs.Process as pure
 use Rattle.csp_checking.specs.Inference.Equations.{when}
-use Rattle.csp_checking.specs.Inference.Items.{behind_item, of_assertion, of_equation, of_item}
+use Rattle.csp_checking.specs.Inference.Items.{behind_assertion, behind_item, of_assertion, of_equation, of_item}
 use Rattle.csp_checking.specs.Inference.Processes.{behind_process}
 use Rattle.csp_term.specs.declared.assertion.Assertion.{Assertion}
 use Rattle.csp_term.specs.declared.script.Equation.{Equation}
@@ -34,10 +34,10 @@ module _ {A : Type 0} (script : ScriptParts A) (o : Numbering A) (s t : Equation
       let Q : Item → Type 0 = λ y. Asks s t (of_item (script_of_parts script) (numbering_of o) s.next (item_of y)) (behind_item (script_of_parts script) s.next (item_of y)) in
       subst Q (sym is) (subst (λ u. P u (slice_get (numbering_of o).parameters n)) (sym there) (subst (P (Some (equation_of q))) (sym row) h))
 
-  pub assertion_asked : x ≡ item.Assertion place n → (a : Assertion A) → slice_get script.assertions.items n ≡ Some a → Asks s t (of_assertion (script_of_parts script) (numbering_of o) s.next (assertion_of a)) (behind_process (behind_process s.next (process_of a.specification)) (process_of a.implementation)) →
+  pub assertion_asked : x ≡ item.Assertion place n → (a : Assertion A) → slice_get script.assertions.items n ≡ Some a → Asks s t (of_assertion (script_of_parts script) (numbering_of o) s.next (assertion_of a)) (behind_assertion s.next (assertion_of a)) →
       Asks s t (of_item (script_of_parts script) (numbering_of o) s.next (item_of x)) (behind_item (script_of_parts script) s.next (item_of x))
   assertion_asked is a found h =
       let there : slice_get (script_of_parts script).assertions n ≡ Some (assertion_of a) = slice_get-map assertion_of script.assertions.items n ∙ ap (option_map assertion_of) found in
-      let P : Option pure.Assertion → Type 0 = λ u. Asks s t (when u (of_assertion (script_of_parts script) (numbering_of o) s.next)) (elim u [ Some z ↦ behind_process (behind_process s.next z.specification) z.implementation | None ↦ s.next ]) in
+      let P : Option pure.Assertion → Type 0 = λ u. Asks s t (when u (of_assertion (script_of_parts script) (numbering_of o) s.next)) (elim u [ Some z ↦ behind_assertion s.next z | None ↦ s.next ]) in
       let Q : Item → Type 0 = λ y. Asks s t (of_item (script_of_parts script) (numbering_of o) s.next (item_of y)) (behind_item (script_of_parts script) s.next (item_of y)) in
       subst Q (sym is) (subst P (sym there) h)

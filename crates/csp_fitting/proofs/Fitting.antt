@@ -46,7 +46,7 @@ fits_at_first raw script start known is = record {
 
 module _ {A : Type 0} (raw : RawScript) (script : Script) (start now : KnownKinds A) (xs : List pure.Item) (h : FitsSoFar raw script start now xs) where
   owners : AreOwners script.types (numbering_of start.numbering)
-  owners = subst (λ ds. (d c : ℕ) → IsConstructorOf (record { datatypes = ds; nametypes = [] }) d c ↔ (slice_get (numbering_of start.numbering).owners c ≡ Some d)) (sym h.is.datatypes) h.known.owners
+  owners = subst (λ ds. (d c : ℕ) → IsConstructorOf (record { datatypes = ds; nametypes = []; constructors = [] }) d c ↔ (slice_get (numbering_of start.numbering).owners c ≡ Some d)) (sym h.is.datatypes) h.known.owners
 
   -- the item's equations, over the numbers at the start
   same_item : (x : pure.Item) → of_item script (numbering_of now.numbering) now.equations.next x ≡ of_item script (numbering_of start.numbering) (behind_items script start.equations.next xs) x

@@ -4,7 +4,6 @@ pub mod Copying
 pub mod Counting
 pub mod Fitting
 pub mod ItemsInTurn
-pub mod Knowing
 pub mod Listing
 pub mod OneMore
 pub mod Rowing

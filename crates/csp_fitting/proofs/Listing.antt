@@ -3,12 +3,9 @@ use Rattle.std.specs.Prelude.{flat_map, OnOk}
 use Rattle.std.specs.declared.boxed.Box.{Box}
 use Rattle.std.specs.declared.vec.Vec.{Vec}
 use Rattle.std.proofs.lemmas.Result.{on_ok_weaker}
-use Rattle.std.proofs.Common.{◌≡◌, ℕ, suc, ◌+◌, ◌<◌, List, [], ◌∷◌, ◌++◌, append-nil, length, length-append, map, take, drop, get_or, Result, refl, sym, subst, ◌∙◌, ap, ap₂, arith}
+use Rattle.std.proofs.Common.{Bool, ◌≡◌, ℕ, suc, ◌+◌, ◌<◌, List, [], ◌∷◌, ◌++◌, append-nil, length, length-append, map, take, drop, get_or, Result, refl, sym, subst, ◌∙◌, ap, ap₂, arith}
 use Rattle.std.proofs.lemmas.List.{drop_more, flat_map_more, length-map, map-append, take-append-drop}
-use Rattle.csp_text.specs.Raw.{RawName, RawProcess, RawDeclaration, RawEquation, RawAssertion, RawScript}
-use Rattle.csp_syntax.specs.Process.{Model}
-use Rattle.csp_syntax.specs.Models.{model_of}
-use Rattle.csp_syntax.specs.declared.model.Model as views
+use Rattle.csp_text.specs.Raw.{RawName, RawProcess, RawProperty, RawDeclaration, RawEquation, RawAssertion, RawScript}
 use Rattle.csp_text.specs.Place as text
 use Rattle.csp_checking.specs.Names.{Class, EquationName, declared_as, names_of}
 use Rattle.csp_checking.specs.Fitting as pure
@@ -17,10 +14,11 @@ use Rattle.csp_checking.proofs.ScriptThere.{behind_one_more}
 use Rattle.csp_lex.specs.declared.places.Place.{Place}
 use Rattle.csp_lex.specs.Places.{place_of}
 use Rattle.csp_parse.specs.declared.declarations.Declaration.{Declaration}
+use Rattle.csp_parse.specs.declared.declarations.Property.{Property}
 use Rattle.csp_parse.specs.declared.declarations.Declaration.TheVariants as declaration
 use Rattle.csp_parse.specs.declared.names.Name.{Name}
 use Rattle.csp_parse.specs.declared.processes.Process.{Process}
-use Rattle.csp_parse.specs.Declarations.{declaration_of}
+use Rattle.csp_parse.specs.Declarations.{declaration_of, property_of}
 use Rattle.csp_parse.specs.Names.{name_of}
 use Rattle.csp_parse.specs.Processes.{process_in}
 use Rattle.csp_value.specs.declared.memory.Memory.{Memory}
@@ -54,9 +52,9 @@ equation_listed name parameters body place old new at adds above are =
       assertions = omega arith;
     }
 
-pub assertion_listed : {A : Type 0} (at : text.Place) (model : Model) (p q : RawProcess) (place : Place) (old new : ItemList A) → at ≡ place_of place → AddsAssertion place old new → AddsItems (RawAssertion at model p q) old new
-assertion_listed at model p q place old new is adds above are =
-    let d = RawAssertion at model p q in
+pub assertion_listed : {A : Type 0} (at : text.Place) (n : Bool) (a : RawProperty) (p : RawProcess) (place : Place) (old new : ItemList A) → at ≡ place_of place → AddsAssertion place old new → AddsItems (RawAssertion at n a p) old new
+assertion_listed at n a p place old new is adds above are =
+    let d = RawAssertion at n a p in
     let named : length (names_of EquationName (above ++ d ∷ [])) ≡ length (names_of EquationName above) + 0 = named_more EquationName above d in
     let asserted : length (flat_map one_assertion (above ++ d ∷ [])) ≡ length (flat_map one_assertion above) + 1 = asserted_more above d in
     let same : new.equations ≡ old.equations = adds.equations in
@@ -86,19 +84,19 @@ module _ {A B : Type 0} (d : Declaration A) (old : ItemList B) where
       let P : Declaration A → Type 0 = λ x. OnOk r (AddsItems (declaration_of x) old new) in
       subst P (sym is) (on_ok_weaker r (equation_listed (name_of name) (map name_of parameters.items) (process_in body) name.place old new refl) h)
 
-  pub assertion_added : (place : Place) (model : views.Model) (p q : Box (Process A) A) (new : ItemList B) (r : Result (Unit {0}) Memory) → d ≡ declaration.Assertion place model p q → OnOk r (AddsAssertion place old new) → OnOk r (AddsItems (declaration_of d) old new)
-  assertion_added place model p q new r is h =
+  pub assertion_added : (place : Place) (n : Bool) (a : Property A) (p : Box (Process A) A) (new : ItemList B) (r : Result (Unit {0}) Memory) → d ≡ declaration.Assertion place n a p → OnOk r (AddsAssertion place old new) → OnOk r (AddsItems (declaration_of d) old new)
+  assertion_added place n a p new r is h =
       let P : Declaration A → Type 0 = λ x. OnOk r (AddsItems (declaration_of x) old new) in
-      subst P (sym is) (on_ok_weaker r (assertion_listed (place_of place) (model_of model) (process_in p) (process_in q) place old new refl) h)
+      subst P (sym is) (on_ok_weaker r (assertion_listed (place_of place) n (property_of a) (process_in p) place old new refl) h)
 
 -- declarations of the other sorts have no item
 pub others_listed : {A B : Type 0} (d : Declaration A) (list : ItemList B) → ((name : Name) (parameters : Vec Name A) (body : Box (Process A) A) → d ≡ declaration.Equation name parameters body → ⊥) →
-    ((place : Place) (model : views.Model) (p q : Box (Process A) A) → d ≡ declaration.Assertion place model p q → ⊥) → AddsItems (declaration_of d) list list
+    ((place : Place) (n : Bool) (a : Property A) (p : Box (Process A) A) → d ≡ declaration.Assertion place n a p → ⊥) → AddsItems (declaration_of d) list list
 others_listed (declaration.Datatype n ns) list h k = nothing_listed (declaration_of (declaration.Datatype n ns)) list (λ above. refl) refl refl
 others_listed (declaration.Nametype n x) list h k = nothing_listed (declaration_of (declaration.Nametype n x)) list (λ above. refl) refl refl
 others_listed (declaration.Channels ns ds) list h k = nothing_listed (declaration_of (declaration.Channels ns ds)) list (λ above. refl) refl refl
 others_listed (declaration.Equation n ns p) list h k = absurd (h n ns p refl)
-others_listed (declaration.Assertion t m p q) list h k = absurd (k t m p q refl)
+others_listed (declaration.Assertion t n a p) list h k = absurd (k t n a p refl)
 
 -- ---- over the declarations in turn
 

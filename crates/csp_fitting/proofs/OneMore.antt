@@ -1,30 +1,36 @@
 -- One set more, over the numbers of the whole tree.
 use Rattle.std.proofs.Common.{◌≡◌, ℕ, zero, suc, ◌+◌, ◌<◌, ◌≤◌, List, [], ◌∷◌, ◌++◌, length, length-append, append_assoc, map, take, drop, slice_get, Option, Some, None, refl, sym, ◌∙◌, ap, ap₂, subst, arith}
 use Rattle.std.specs.Prelude.{replicate}
-use Rattle.std.proofs.lemmas.List.{length-map, length-take-le}
-use Rattle.csp_syntax.specs.Expression.{Expression, Literal, Name, Apply, Combine, SequenceOf, SetOf, Range, Booleans, Datatype, Nametype, Expressions, no_expressions, expression_and}
+use Rattle.std.proofs.lemmas.List.{length-map, length-take-le, map-append}
+use Rattle.csp_syntax.specs.Expression.{Expression, Literal, Name, Apply, Combine, SequenceOf, SetOf, Range, Booleans, Datatype, Nametype, ConstructorOf, Expressions, no_expressions, expression_and}
 use Rattle.csp_syntax.specs.Types.{Types}
 use Rattle.csp_semantics.specs.Kinds.Kind.{BeginsInTurn, Each}
-use Rattle.csp_text.specs.Raw.{RawName, RawDomain, RawDeclaration, RawNametype, RawChannels, RawScript}
+use Rattle.csp_text.specs.Raw.{RawName, RawDomain, RawClause, RawDeclaration, RawDatatype, RawNametype, RawChannels, RawScript}
 use Rattle.csp_checking.specs.Resolving.{of_two}
-use Rattle.csp_checking.specs.Sets.{types_of, set_expression, nametypes_declared, channels_declared, nametype_sets, channel_sets, FitSets}
+use Rattle.csp_checking.specs.Sets.{types_of, set_expression, clause_sets, nametypes_declared, clauses_declared, channels_declared, nametype_sets, constructor_sets, channel_sets, FitSets}
+use Rattle.csp_checking.specs.Sites.{with_clause}
 use Rattle.csp_checking.specs.Rules.{SomeFit, IsRedeclared, all_declared}
 use Rattle.csp_checking.specs.Faults.{NoneRefused}
 use Rattle.csp_checking.specs.ConstructorRows.{constructor_counts}
 use Rattle.csp_checking.specs.Inference.Chain.{Chain, IntEnd, DatatypeEnd, OpenEnd, SequenceOver, SetOver}
 use Rattle.csp_checking.specs.Inference.State.{State, nothing_known, KindEquation, IsSolved, HasNoSolution}
 use Rattle.csp_checking.specs.Inference.Equations.{Ask, Numbering, Numbered, kinds_under, AreOwners, when}
-use Rattle.csp_checking.specs.Inference.Expressions.{behind_unary, operand, unary_value, behind_binary, left_operand, right_operand, binary_value, behind_expression, of_expression, of_expressions}
+use Rattle.csp_checking.specs.Inference.Expressions.{behind_unary, operand, unary_value, behind_binary, left_operand, right_operand, binary_value, behind_expression, of_all, of_expression, of_expressions}
 use Rattle.csp_checking.specs.Inference.Items.{behind_set, of_set, behind_copies, of_copies, AreNumbersFor, next_number, numbers_of, owners_from}
 use Rattle.csp_checking.specs.Inference.Sets.{FitFirstSets, IsBeginningOf, IsColumn}
 use Rattle.csp_checking.proofs.ConstructorRows.{owners_of_tree}
 use Rattle.csp_checking.proofs.AskingItems.{row_numbers_for}
+use Rattle.csp_checking.proofs.Meant.{at_place}
 use Rattle.csp_checking.proofs.ScriptThere.{behind_one_more}
 use Rattle.csp_checking.proofs.Unifying.{nothing_done, nothing_resolved, same_after, solved_then, unsolved_then}
-use Rattle.csp_checking.proofs.AskingSets.{all_asked, beginning_above, beginning_in_fields, field_asked, heads_asked, nametype_asked, no_first_fit, none_asked, other_asked, some_first_fit}
+use Rattle.csp_checking.proofs.AskingSets.{all_asked, beginning_above, beginning_in_clauses, beginning_in_fields, clause_asked, clause_field_asked, field_asked, heads_asked, nametype_asked, no_first_fit, none_asked, other_asked, some_first_fit}
 use Rattle.csp_fitting.specs.Known.{AreKnown, column_of}
 
 -- ---- a set asks the same over other types with the same datatypes
+
+same_when : {X : Type 0} (r : Option X) (f g : X → List KindEquation) → ((x : X) → f x ≡ g x) → when r f ≡ when r g
+same_when (Some x) f g same = same x
+same_when None f g same = refl
 
 module _ (types others : Types) (same : types.datatypes ≡ others.datatypes) (o : Numbering) where
   module _ (names : Numbered) where
@@ -41,10 +47,21 @@ module _ (types others : Types) (same : types.datatypes ≡ others.datatypes) (o
       same_expression Booleans n k = refl
       same_expression (Datatype d) n k = ap (λ ds. when (slice_get ds d) (λ cs. (SetOver (DatatypeEnd d), k) ∷ [])) same
       same_expression (Nametype x) n k = refl
+      same_expression (ConstructorOf c es) n k =
+          same_when (slice_get o.owners c) (λ d. (DatatypeEnd d, k) ∷ when (slice_get o.constructors c) (of_all types o n names es))
+          (λ d. (DatatypeEnd d, k) ∷ when (slice_get o.constructors c) (of_all others o n names es))
+          (λ d. ap (λ fs. (DatatypeEnd d, k) ∷ fs)
+          (same_when (slice_get o.constructors c) (of_all types o n names es) (of_all others o n names es) (λ ms. same_all es n ms)))
 
       same_expressions : (es : Expressions) (n : ℕ) (k : Chain) → of_expressions types o n names es k ≡ of_expressions others o n names es k
       same_expressions no_expressions n k = refl
       same_expressions (expression_and e es) n k = ap₂ (λ xs ys. xs ++ ys) (same_expression e n k) (same_expressions es (behind_expression n e) k)
+
+      same_all : (es : Expressions) (n : ℕ) (ms : List ℕ) → of_all types o n names es ms ≡ of_all others o n names es ms
+      same_all no_expressions n [] = refl
+      same_all no_expressions n (m ∷ ms) = refl
+      same_all (expression_and e es) n [] = refl
+      same_all (expression_and e es) n (m ∷ ms) = ap₂ (λ xs ys. xs ++ ys) (same_expression e n (OpenEnd m)) (same_all es (behind_expression n e) ms)
 
   pub same_set : (e : Option Expression) (n m : ℕ) → of_set types o n e m ≡ of_set others o n e m
   same_set None n m = refl
@@ -81,16 +98,11 @@ column_begins i (suc k) (row ∷ rows) ms e = go (slice_get row i) (column_of i 
         let tail : xs ≡ ns = cc f in
         let r = rest ns (ap Some tail) in ((is ∙ ap Some head, r.0), ap suc r.1)
 
-pub got_within : (xs : List ℕ) (i : ℕ) → i < length xs → (x : ℕ) × (slice_get xs i ≡ Some x)
-got_within [] i small = absurd (omega arith)
-got_within (x ∷ xs) zero small = (x, refl)
-got_within (x ∷ xs) (suc i) small = got_within xs i (omega arith)
-
 -- where each is long enough, all are found
 column_there : (i : ℕ) (rows : List (List ℕ)) → Each (λ row. i < length row) rows → (ms : List ℕ) × (column_of i rows ≡ Some ms)
 column_there i [] long = ([], refl)
 column_there i (row ∷ rows) long =
-    let x = got_within row i long.0 in
+    let x = at_place row i long.0 in
     let xs = column_there i rows long.1 in (x.0 ∷ xs.0, ap₂ (of_two ◌∷◌) x.1 xs.1)
 
 long_rows : {A : Type 0} (xs : List (List A)) (fs : List A) (k i : ℕ) (ys : List (List A)) (rows : List (List ℕ)) → BeginsInTurn (λ r s. length r ≤ length s) (xs ++ replicate k fs) ys → map length rows ≡ map length ys → i < length fs →
@@ -163,9 +175,10 @@ nothing_more : (raw so_far : RawScript) (o : Numbering) (next : ℕ) (s : State)
 nothing_more raw so_far o next s k = nothing_done s [] k.solved.resolved (λ a h. tt)
 
 -- a declaration that declares no sets
-pub known_others : (raw above : RawScript) (o : Numbering) (next : ℕ) (s : State) (d : RawDeclaration) → nametypes_declared above d ≡ [] → channels_declared above d ≡ [] → AreKnown raw above o next s → AreKnown raw (above ++ d ∷ []) o next s
-known_others raw above o next s d e f k =
-    record { owners = k.owners; numbers = k.numbers; met = k.met; asked = other_asked (types_of raw) above o (next_number raw) next k.met k.asked d e f; solved = k.solved }
+pub known_others : (raw above : RawScript) (o : Numbering) (next : ℕ) (s : State) (d : RawDeclaration) → nametypes_declared above d ≡ [] → clauses_declared above d ≡ [] → channels_declared above d ≡ [] →
+    AreKnown raw above o next s → AreKnown raw (above ++ d ∷ []) o next s
+known_others raw above o next s d e g f k =
+    record { owners = k.owners; numbers = k.numbers; met = k.met; asked = other_asked (types_of raw) above o (next_number raw) next k.met k.asked d e g f; solved = k.solved }
 
 -- all sets
 pub known_of_all : (raw : RawScript) (o : Numbering) (next : ℕ) (s : State) (k : AreKnown raw raw o next s) → Ask (next_number raw) k.met next (λ a. FitSets (types_of raw) raw (kinds_under a o))
@@ -205,7 +218,102 @@ module _ (raw above below : RawScript) (name : RawName) (domain : RawDomain) (st
   -- a set in which a name is refused
   pub known_no_set : None ≡ set_expression above domain → AreKnown raw more o next s
   known_no_set is =
-      let x = got_within o.nametypes (length (nametype_sets above)) nametype_within in known_nametype x.0 x.1 (types_of raw) None s refl is (nothing_more raw above o next s k)
+      let x = at_place o.nametypes (length (nametype_sets above)) nametype_within in known_nametype x.0 x.1 (types_of raw) None s refl is (nothing_more raw above o next s k)
+
+-- ---- a field of a constructor
+
+-- the sets of the constructors up to a clause
+rows_of_clause : (above : RawScript) (name : RawName) (before : List RawClause) (c : RawName) (fs : List RawDomain) →
+    constructor_sets (with_clause above name before c fs) ≡ (constructor_sets above ++ map (clause_sets above) before) ++ map (set_expression above) fs ∷ []
+rows_of_clause above name before c fs =
+    let x : RawClause = record { name = c; fields = fs } in
+    behind_one_more clauses_declared above (RawDatatype name (before ++ x ∷ []))
+    ∙ ap (λ z. constructor_sets above ++ z) (map-append (clause_sets above) before (x ∷ []))
+    ∙ sym (append_assoc (constructor_sets above) (map (clause_sets above) before) (map (set_expression above) fs ∷ []))
+
+-- the numbers in the place of the last row
+last_row : {A : Type 0} (xs : List (List A)) (fs : List A) (ys : List (List A)) (rows : List (List ℕ)) →
+    BeginsInTurn (λ r s. length r ≤ length s) (xs ++ fs ∷ []) ys → map length rows ≡ map length ys →
+    (row : List ℕ) × (slice_get rows (length xs) ≡ Some row) × (length fs ≤ length row) × (length xs < length rows)
+last_row [] fs [] rows h same = absurd h
+last_row [] fs (y ∷ ys) [] h same = absurd (cc same)
+last_row [] fs (y ∷ ys) (row ∷ rows) h same =
+    let first : length row ≡ length y = cc same in
+    let le : length fs ≤ length y = h.0 in (row, refl, omega arith, omega arith)
+last_row (x ∷ xs) fs [] rows h same = absurd h
+last_row (x ∷ xs) fs (y ∷ ys) [] h same = absurd (cc same)
+last_row (x ∷ xs) fs (y ∷ ys) (row ∷ rows) h same =
+    let rest : map length rows ≡ map length ys = cc same in
+    let r = last_row xs fs ys rows h.1 rest in
+    let within : length xs < length rows = r.3 in (r.0, r.1, r.2, omega arith)
+
+-- the numbers of a constructor that has these fields at least
+module _ (raw : RawScript) (n : ℕ) (o : Numbering) (above : RawScript) (name : RawName) (before : List RawClause) (c : RawName) (fs : List RawDomain) (numbers : AreNumbersFor raw n o)
+    (begins : IsBeginningOf raw (with_clause above name before c fs)) where
+  place : length (constructor_sets above ++ map (clause_sets above) before) ≡ length (constructor_sets above) + length before
+  place = length-append (constructor_sets above) (map (clause_sets above) before) ∙ ap (λ l. length (constructor_sets above) + l) (length-map before (clause_sets above))
+
+  clause_numbers :
+      (row : List ℕ) × (slice_get o.constructors (length (constructor_sets above) + length before) ≡ Some row) × (length fs ≤ length row)
+      × (length (constructor_sets above) + length before < length o.constructors)
+  clause_numbers =
+      let r = last_row (constructor_sets above ++ map (clause_sets above) before) (map (set_expression above) fs) (constructor_sets raw) o.constructors
+      (subst (λ z. BeginsInTurn (λ r s. length r ≤ length s) z (constructor_sets raw)) (rows_of_clause above name before c fs) begins.constructors) numbers.constructors in
+      let long : length (map (set_expression above) fs) ≤ length r.0 = r.2 in
+      let within : length (constructor_sets above ++ map (clause_sets above) before) < length o.constructors = r.3 in
+      let same = place in
+      let count = length-map fs (set_expression above) in (r.0, ap (slice_get o.constructors) (sym same) ∙ r.1, omega arith, omega arith)
+
+-- the name of a constructor, before its fields
+pub known_clause : (raw above below : RawScript) (name : RawName) (before more : List RawClause) (c : RawName) (fs : List RawDomain) (o : Numbering) (next : ℕ) (s : State) →
+    raw ≡ above ++ RawDatatype name (before ++ record { name = c; fields = fs } ∷ more) ∷ below → AreKnown raw (above ++ RawDatatype name before ∷ []) o next s →
+    AreKnown raw (with_clause above name before c []) o next s
+known_clause raw above below name before more c fs o next s stands k =
+    let begins = subst (λ z. IsBeginningOf z (with_clause above name before c [])) (sym stands) (beginning_in_clauses above name before more c [] fs below) in
+    let within = (clause_numbers raw (next_number raw) o above name before c [] k.numbers begins).3 in
+    record { owners = k.owners; numbers = k.numbers; met = k.met; asked = clause_asked (types_of raw) o above name before c (next_number raw) next k.met within k.asked; solved = k.solved }
+
+module _ (raw above below : RawScript) (name : RawName) (before more : List RawClause) (c : RawName) (fs rest : List RawDomain) (d : RawDomain)
+    (stands : raw ≡ above ++ RawDatatype name (before ++ record { name = c; fields = fs ++ d ∷ rest } ∷ more) ∷ below) (o : Numbering) (next : ℕ) (s : State)
+    (k : AreKnown raw (with_clause above name before c fs) o next s) where
+  abbrev with_field : RawScript
+  with_field = with_clause above name before c (fs ++ d ∷ [])
+
+  clause_begins : IsBeginningOf raw with_field
+  clause_begins =
+      subst (λ z. IsBeginningOf z with_field)
+      (ap (λ ds. above ++ RawDatatype name (before ++ record { name = c; fields = ds } ∷ more) ∷ below) (append_assoc fs (d ∷ []) rest) ∙ sym stands)
+      (beginning_in_clauses above name before more c (fs ++ d ∷ []) rest below)
+
+  -- its numbers, and that of the field
+  pub clause_row : (row : List ℕ) × (x : ℕ) × (slice_get o.constructors (length (constructor_sets above) + length before) ≡ Some row) × (slice_get row (length fs) ≡ Some x)
+  clause_row =
+      let r = clause_numbers raw (next_number raw) o above name before c (fs ++ d ∷ []) k.numbers clause_begins in
+      let one = length-append fs (d ∷ []) in
+      let long : length (fs ++ d ∷ []) ≤ length r.0 = r.2 in
+      let within : length fs < length r.0 = omega arith in
+      let x = at_place r.0 (length fs) within in (r.0, x.0, r.1, x.1)
+
+  module _ (row : List ℕ) (x : ℕ) (found : slice_get o.constructors (length (constructor_sets above) + length before) ≡ Some row) (got : slice_get row (length fs) ≡ Some x) where
+    asked_in_clause : Ask (next_number raw) (k.met ++ of_set (types_of raw) o next (set_expression above d) x) (behind_set next (set_expression above d)) (λ a. FitFirstSets (types_of raw) with_field (kinds_under a o))
+    asked_in_clause = clause_field_asked (types_of raw) o above name before c row found (next_number raw) next x k.met fs d k.owners k.numbers.below got k.asked
+
+    pub known_clause_field : (types : Types) (e : Option Expression) (t : State) → types.datatypes ≡ (types_of raw).datatypes → e ≡ set_expression above d → IsSolved s (of_set types o next e x) t → AreKnown raw with_field o (behind_set next e) t
+    known_clause_field types e t same is solved =
+        let P : Option Expression → Type 0 = λ z. IsSolved s (of_set types o next z x) t → AreKnown raw with_field o (behind_set next z) t in
+        subst P (sym is) (λ here.
+        known_then raw (with_clause above name before c fs) with_field o next (behind_set next (set_expression above d)) s (of_set (types_of raw) o next (set_expression above d) x) k asked_in_clause t
+        (subst (λ es. IsSolved s es t) (same_set types (types_of raw) same o (set_expression above d) next x) here)) solved
+
+    pub unfit_clause_field : (types : Types) (e : Option Expression) → types.datatypes ≡ (types_of raw).datatypes → e ≡ set_expression above d → HasNoSolution s (of_set types o next e x) → ¬ (SomeFit (types_of raw) with_field)
+    unfit_clause_field types e same is none =
+        unfit_then raw (with_clause above name before c fs) with_field o next (behind_set next (set_expression above d)) s (of_set (types_of raw) o next (set_expression above d) x) k asked_in_clause clause_begins
+        (subst (λ es. HasNoSolution s es) (ap (λ z. of_set types o next z x) is ∙ same_set types (types_of raw) same o (set_expression above d) next x) none)
+
+  -- a set in which a name is refused
+  pub known_no_clause_field : None ≡ set_expression above d → AreKnown raw with_field o next s
+  known_no_clause_field is =
+      let r = clause_row in known_clause_field r.0 r.1 r.2 r.3 (types_of raw) None s refl is (nothing_more raw (with_clause above name before c fs) o next s k)
 
 -- ---- a field of channels
 

@@ -79,8 +79,8 @@ rows_all {A} rows next first ks i over left =
 
 -- ---- all numbers of a tree
 
-abbrev pub made_of : List ℕ → List ℕ → List (List ℕ) → List (List ℕ) → Numbering
-made_of owners nametypes channels parameters = record { owners = owners; nametypes = nametypes; channels = channels; parameters = parameters }
+abbrev pub made_of : List ℕ → List ℕ → List (List ℕ) → List (List ℕ) → List (List ℕ) → Numbering
+made_of owners nametypes constructors channels parameters = record { owners = owners; nametypes = nametypes; constructors = constructors; channels = channels; parameters = parameters }
 
-pub same_numbers : (a b c d : List ℕ) (e f g h : List (List ℕ)) → a ≡ b → c ≡ d → e ≡ f → g ≡ h → made_of a c e g ≡ made_of b d f h
-same_numbers a b c d e f g h p q r s = ap₂ (λ x y. made_of x y e g) p q ∙ ap₂ (λ x y. made_of b d x y) r s
+pub same_numbers : (a b c d : List ℕ) (i j e f g h : List (List ℕ)) → a ≡ b → c ≡ d → i ≡ j → e ≡ f → g ≡ h → made_of a c i e g ≡ made_of b d j f h
+same_numbers a b c d i j e f g h p q t r s = ap₂ (λ x y. made_of x y i e g) p q ∙ ap (λ x. made_of b d x e g) t ∙ ap₂ (λ x y. made_of b d j x y) r s

@@ -7,9 +7,11 @@ use Rattle.std.proofs.lemmas.Option.{slice_get-map}
 use Rattle.csp_syntax.specs.Expression.{Expression}
 use Rattle.csp_syntax.specs.Types.{Types}
 use Rattle.csp_text.specs.Raw.{RawName, RawDomain, RawNametype, RawChannels, RawScript}
-use Rattle.csp_checking.specs.Sets.{nametype_sets, channel_sets}
+use Rattle.csp_checking.specs.Sets.{nametype_sets, constructor_sets, channel_sets}
+use Rattle.csp_checking.specs.Sites.{with_clause}
 use Rattle.csp_checking.specs.Inference.State.{KindEquation}
 use Rattle.csp_checking.specs.Inference.Items.{behind_copies, behind_set, of_copies, of_set}
+use Rattle.csp_checking.proofs.Meant.{at_place}
 use Rattle.csp_inference.specs.declared.chain.KindNumber.{KindNumber}
 use Rattle.csp_inference.specs.declared.misfit.Misfit.{Misfit}
 use Rattle.csp_inference.specs.declared.misfit.Misfit.TheVariants as misfit
@@ -18,10 +20,10 @@ use Rattle.csp_inference.specs.State.{state_in}
 use Rattle.csp_fitting.specs.declared.known_kinds.KnownKinds.{KnownKinds}
 use Rattle.csp_fitting.specs.declared.sets.Column.{Column}
 use Rattle.csp_fitting.specs.Known.{AreKnown, column_of}
-use Rattle.csp_fitting.specs.KnownKinds.{Fits, FitsField, FitsNametype, IsColumnOf, KnowsKinds}
+use Rattle.csp_fitting.specs.KnownKinds.{Fits, FitsClauseField, FitsField, FitsNametype, IsColumnOf, KnowsKinds}
 use Rattle.csp_fitting.specs.Numbering.{IsColumnFound, row_numbers}
 use Rattle.csp_fitting.specs.Solving.{SolvedFor, SolvesMore}
-use Rattle.csp_fitting.proofs.OneMore.{channels_within, column_found, got_within, known_field, known_nametype, known_no_field, known_no_set, nametype_within, some_known, unfit_field, unfit_nametype}
+use Rattle.csp_fitting.proofs.OneMore.{channels_within, clause_row, column_found, known_clause_field, known_field, known_nametype, known_no_clause_field, known_no_field, known_no_set, nametype_within, some_known, unfit_clause_field, unfit_field, unfit_nametype}
 
 -- what is known of other numbers of the same names, with the same next number
 known_of_same : {A : Type 0} (raw so_far : RawScript) (old new : KnownKinds A) (es : List KindEquation) (m : ℕ) → SolvesMore old es m new → AreKnown raw so_far (numbering_of old.numbering) m (state_in new.state) → KnowsKinds raw so_far new
@@ -50,7 +52,7 @@ module _ {A : Type 0} (types : Types) (nametype : ℕ) (set : Option Expression)
     pub no_number : (new : KnownKinds A) → None ≡ slice_get numbers nametype → FitsNametype types nametype set old new (Err misfit.NoKinds)
     no_number new missing raw above below name domain stands same count is k =
         let within = nametype_within raw above below name domain stands (numbering_of old.numbering) old.equations.next (state_in old.state) k in
-        let there = got_within (numbering_of old.numbering).nametypes (length (nametype_sets above)) within in
+        let there = at_place (numbering_of old.numbering).nametypes (length (nametype_sets above)) within in
         absurd (cc (sym there.1 ∙ number_found None missing above count))
 
     pub nametype_fits : (new : KnownKinds A) (x : KindNumber) → Some x ≡ slice_get numbers nametype → (given : Option Expression) → set ≡ given → (r : Result (Unit {0}) Misfit) →
@@ -63,6 +65,56 @@ module _ {A : Type 0} (types : Types) (nametype : ℕ) (set : Option Expression)
     nametype_fits new x found given alike (Err misfit.NoKinds) none raw above below name domain stands same count is k =
         unfit_nametype raw above below name domain stands (numbering_of old.numbering) old.equations.next (state_in old.state) k x.0 (number_found (Some x) found above count) types given same (sym alike ∙ is) none
     nametype_fits new x found given alike (Err misfit.Memory) h raw above below name domain stands same count is k = tt
+
+-- ---- a field of a constructor
+
+module _ {A : Type 0} (types : Types) (constructor field : ℕ) (set : Option Expression) (old : KnownKinds A) where
+  pub no_clause_set : set ≡ None → FitsClauseField types constructor field set old old (Ok tt)
+  no_clause_set none raw above below name clauses more c before rest d stands same count at is k =
+      known_fits raw (with_clause above name clauses c (before ++ d ∷ [])) old
+      (known_no_clause_field raw above below name clauses more c before rest d stands (numbering_of old.numbering) old.equations.next (state_in old.state) k (sym none ∙ is))
+
+  -- what is found at the constructor's place, in the rows as the call lends them
+  module _ (rows : List (Vec KindNumber A)) (lent : rows ≡ old.numbering.constructors.items) where
+    row_found : (found : Option (Vec KindNumber A)) → found ≡ slice_get rows constructor → (i : ℕ) → constructor ≡ i →
+        slice_get (numbering_of old.numbering).constructors i ≡ option_map (λ ns. row_numbers ns.items) found
+    row_found found is i count =
+        let f : Vec KindNumber A → List ℕ = λ ns. row_numbers ns.items in
+        slice_get-map f old.numbering.constructors.items i ∙ ap (option_map f) (sym (is ∙ ap₂ (λ xs j. slice_get xs j) lent count))
+
+    -- each constructor has its row
+    pub no_row : (new : KnownKinds A) → None ≡ slice_get rows constructor → FitsClauseField types constructor field set old new (Err misfit.NoKinds)
+    no_row new missing raw above below name clauses more c before rest d stands same count at is k =
+        let there = clause_row raw above below name clauses more c before rest d stands (numbering_of old.numbering) old.equations.next (state_in old.state) k in
+        absurd (cc (sym there.2 ∙ row_found None missing (length (constructor_sets above) + length clauses) count))
+
+    module _ (row : Vec KindNumber A) (is_row : Some row ≡ slice_get rows constructor) (numbers : List KindNumber) (read : numbers ≡ row.items) where
+      place_found : (found : Option KindNumber) → found ≡ slice_get numbers field → (i : ℕ) → field ≡ i → slice_get (row_numbers row.items) i ≡ option_map (λ n. n.0) found
+      place_found found is i at =
+          slice_get-map (λ (n : KindNumber). n.0) row.items i ∙ ap (option_map (λ (n : KindNumber). n.0)) (sym (is ∙ ap₂ (λ xs j. slice_get xs j) read at))
+
+      -- with a number for each field
+      pub no_place : (new : KnownKinds A) → None ≡ slice_get numbers field → FitsClauseField types constructor field set old new (Err misfit.NoKinds)
+      no_place new missing raw above below name clauses more c before rest d stands same count at is k =
+          let there = clause_row raw above below name clauses more c before rest d stands (numbering_of old.numbering) old.equations.next (state_in old.state) k in
+          let rows_same : Some there.0 ≡ Some (row_numbers row.items) = sym there.2 ∙ row_found (Some row) is_row (length (constructor_sets above) + length clauses) count in
+          let one : there.0 ≡ row_numbers row.items = cc rows_same in
+          absurd (cc (sym there.3 ∙ ap (λ xs. slice_get xs (length before)) one ∙ place_found None missing (length before) at))
+
+      pub clause_field_fits : (new : KnownKinds A) (x : KindNumber) → Some x ≡ slice_get numbers field → (given : Option Expression) → set ≡ given → (r : Result (Unit {0}) Misfit) →
+          SolvedFor old (of_set types (numbering_of old.numbering) old.equations.next given x.0) (behind_set old.equations.next given) new r → FitsClauseField types constructor field set old new r
+      clause_field_fits new x found given alike (Ok u) solves raw above below name clauses more c before rest d stands same count at is k =
+          let o = numbering_of old.numbering in
+          let so_far = with_clause above name clauses c (before ++ d ∷ []) in
+          known_fits raw so_far new
+          (known_of_same raw so_far old new (of_set types o old.equations.next given x.0) (behind_set old.equations.next given) solves
+          (known_clause_field raw above below name clauses more c before rest d stands o old.equations.next (state_in old.state) k (row_numbers row.items) x.0
+          (row_found (Some row) is_row (length (constructor_sets above) + length clauses) count) (place_found (Some x) found (length before) at) types given (state_in new.state) same
+          (sym alike ∙ is) solves.solved))
+      clause_field_fits new x found given alike (Err misfit.NoKinds) none raw above below name clauses more c before rest d stands same count at is k =
+          unfit_clause_field raw above below name clauses more c before rest d stands (numbering_of old.numbering) old.equations.next (state_in old.state) k (row_numbers row.items) x.0
+          (row_found (Some row) is_row (length (constructor_sets above) + length clauses) count) (place_found (Some x) found (length before) at) types given same (sym alike ∙ is) none
+      clause_field_fits new x found given alike (Err misfit.Memory) h raw above below name clauses more c before rest d stands same count at is k = tt
 
 -- ---- a field of channels
 

@@ -1,9 +1,10 @@
 -- What is known of the kinds of a tree's parts.
-use Rattle.std.specs.Prelude.{◌≡◌, ℕ, ⊤, List, [], ◌∷◌, ◌++◌, length, Option, Result, Ok, Err}
+use Rattle.std.specs.Prelude.{◌+◌, ◌≡◌, ℕ, ⊤, List, [], ◌∷◌, ◌++◌, length, Option, Result, Ok, Err}
 use Rattle.csp_syntax.specs.Expression.{Expression}
 use Rattle.csp_syntax.specs.Types.{Types}
-use Rattle.csp_text.specs.Raw.{RawName, RawDomain, RawNametype, RawChannels, RawScript}
-use Rattle.csp_checking.specs.Sets.{types_of, set_expression, nametype_sets, channel_sets}
+use Rattle.csp_text.specs.Raw.{RawClause, RawDatatype, RawName, RawDomain, RawNametype, RawChannels, RawScript}
+use Rattle.csp_checking.specs.Sets.{constructor_sets, types_of, set_expression, nametype_sets, channel_sets}
+use Rattle.csp_checking.specs.Sites.{with_clause}
 use Rattle.csp_checking.specs.Rules.{SomeFit}
 use Rattle.csp_checking.specs.Inference.State.{IsResolved}
 use Rattle.csp_inference.specs.declared.misfit.Misfit.{Misfit}
@@ -34,6 +35,14 @@ abbrev pub FitsNametype : {A : Type 0} → Types → ℕ → Option Expression �
 FitsNametype types nametype set old new result =
     (raw above below : RawScript) (name : RawName) (domain : RawDomain) → raw ≡ above ++ RawNametype name domain ∷ below → types.datatypes ≡ (types_of raw).datatypes → nametype ≡ length (nametype_sets above) →
     set ≡ set_expression above domain → KnowsKinds raw above old → Fits raw (above ++ RawNametype name domain ∷ []) new result
+
+-- Over a tree in which a constructor has this set as its next field, or one in which a name is refused: whether some
+-- kinds fit the sets up to it.
+abbrev pub FitsClauseField : {A : Type 0} → Types → ℕ → ℕ → Option Expression → KnownKinds A → KnownKinds A → Result (Unit {0}) Misfit → Type 0
+FitsClauseField types constructor field set old new result =
+    (raw above below : RawScript) (name : RawName) (clauses more : List RawClause) (c : RawName) (before rest : List RawDomain) (d : RawDomain) → raw ≡ above ++ RawDatatype name (clauses ++ record { name = c; fields = before ++ d ∷ rest } ∷ more) ∷ below →
+    types.datatypes ≡ (types_of raw).datatypes → constructor ≡ length (constructor_sets above) + length clauses → field ≡ length before → set ≡ set_expression above d →
+    KnowsKinds raw (with_clause above name clauses c before) old → Fits raw (with_clause above name clauses c (before ++ d ∷ [])) new result
 
 -- The column is that of the field behind so many others, of channels behind so many others.
 pub record IsColumnOf (column : Column) (above : RawScript) (names : List RawName) (before : List RawDomain) : Type 0 where

@@ -1,11 +1,11 @@
 //! How many constructors, nametypes, fields and parameters a tree has.
 
 ghost use Rattle.std.specs.Prelude.{IfOk, OnOk, map};
-ghost use Rattle.csp_parse.specs.Declarations.{declaration_of};
-ghost use Rattle.csp_fitting.specs.Counts.{AddsCounts, AreCountsOf};
+ghost use Rattle.csp_parse.specs.Declarations.{clause_of, declaration_of};
+ghost use Rattle.csp_fitting.specs.Counts.{AddsClauses, AddsCounts, AreCountsOf};
 
 use crate::copies::push_copies;
-use csp_parse::Declaration;
+use csp_parse::{Clause, Declaration};
 use csp_value::Memory;
 use std::alloc::Allocator;
 
@@ -15,6 +15,8 @@ pub(crate) struct Counts<A: Allocator> {
     /// The constructors of each datatype.
     pub(crate) constructors: Vec<usize, A>,
     pub(crate) nametypes: usize,
+    /// The fields of each constructor.
+    pub(crate) constructor_fields: Vec<usize, A>,
     /// The fields of each channel.
     pub(crate) fields: Vec<usize, A>,
     /// The parameters of each equation.
@@ -29,6 +31,7 @@ impl<A: Allocator + Copy> Counts<A> {
         let mut counts = Counts {
             constructors: Vec::new(alloc),
             nametypes: 0,
+            constructor_fields: Vec::new(alloc),
             fields: Vec::new(alloc),
             parameters: Vec::new(alloc),
         };
@@ -42,9 +45,9 @@ impl<A: Allocator + Copy> Counts<A> {
         ensures { OnOk result (AddsCounts (declaration_of declaration.now) self.old self.new) }
     {
         match declaration {
-            Declaration::Datatype { constructors, .. } => {
-                self.constructors.push(constructors.len())?;
-                Ok(())
+            Declaration::Datatype { clauses, .. } => {
+                self.constructors.push(clauses.len())?;
+                self.add_clauses(clauses)
             }
             Declaration::Nametype { .. } => {
                 self.nametypes = self.nametypes.checked_add(1).ok_or(Memory)?;
@@ -59,5 +62,14 @@ impl<A: Allocator + Copy> Counts<A> {
             }
             Declaration::Assertion { .. } => Ok(()),
         }
+    }
+
+    fn add_clauses(&mut self, clauses: &[Clause<'_, A>]) -> Result<(), Memory>
+        ensures { OnOk result (AddsClauses (map clause_of clauses.now) self.old self.new) }
+    {
+        for clause in clauses {
+            self.constructor_fields.push(clause.fields.len())?;
+        }
+        Ok(())
     }
 }

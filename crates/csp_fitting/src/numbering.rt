@@ -27,11 +27,13 @@ pub fn number<A: Allocator + Copy>(
     let counts = Counts::of(alloc, &raw.declarations)?;
     let owners = owners_of(alloc, &counts.constructors)?;
     let (nametypes, next) = numbers_in_a_row(alloc, 0, counts.nametypes)?;
+    let (constructors, next) = rows_in_a_row(alloc, next, &counts.constructor_fields)?;
     let (channels, next) = rows_in_a_row(alloc, next, &counts.fields)?;
     let (parameters, next) = rows_in_a_row(alloc, next, &counts.parameters)?;
     let numbering = Numbering {
         owners,
         nametypes,
+        constructors,
         channels,
         parameters,
     };

@@ -3,7 +3,7 @@
 ghost use Rattle.std.specs.Prelude.{◌≡◌, IfOk, slice_get};
 ghost use Rattle.csp_expression.specs.Evaluation.{table_of};
 ghost use Rattle.csp_expression.specs.Expression.{expression_of};
-ghost use Rattle.csp_fitting.specs.KnownKinds.{FitsField, FitsNametype, HasResolvedKinds};
+ghost use Rattle.csp_fitting.specs.KnownKinds.{FitsClauseField, FitsField, FitsNametype, HasResolvedKinds};
 ghost use Rattle.csp_fitting.specs.Numbering.{IsColumnFound, IsFound, number_rows, row_numbers};
 ghost use Rattle.csp_fitting.specs.Solving.{SolvedForCopies, SolvedForSet, lent_expression};
 
@@ -61,6 +61,32 @@ impl<A: Allocator + Copy> KnownKinds<A> {
         self.equations
             .ask_set(types, &self.numbering, set, members)?;
         self.state.solve(alloc, self.equations.met())
+    }
+
+    /// Takes up the field at this place of the constructor of this number with its set, if no name in the set is
+    /// refused. `NoKinds` where no kinds fit the sets up to it, and `Memory` where there is no room; then this is of no
+    /// more use.
+    pub fn add_clause_field(
+        &mut self,
+        alloc: A,
+        types: &TypeTable<A>,
+        constructor: usize,
+        field: usize,
+        set: Option<&Expr<A>>,
+    ) -> Result<(), Misfit>
+        requires { HasResolvedKinds self.old }
+        ensures { FitsClauseField (table_of types.now) constructor field (lent_expression set.entry) self.old self.new result }
+    {
+        let Some(set) = set else {
+            return Ok(());
+        };
+        let Some(numbers) = self.numbering.constructors.get(constructor) else {
+            return Err(Misfit::NoKinds);
+        };
+        let Some(members) = number_at(numbers, field) else {
+            return Err(Misfit::NoKinds);
+        };
+        self.solve_set(alloc, types, set, members)
     }
 
     /// Takes up a field of channels with its set, if no name in the set is refused. `NoKinds` where no kinds fit the

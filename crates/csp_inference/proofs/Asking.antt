@@ -1,18 +1,20 @@
 -- Parts ask one after the other, and some have no solution.
-use Rattle.std.proofs.Common.{◌≡◌, ◌≢◌, ℕ, suc, ◌+◌, ◌<◌, ◌≤◌, List, [], ◌∷◌, ◌++◌, length, drop, get_or, refl, sym, subst, ◌∙◌, ap, ap₂, append_assoc, append-nil, arith}
+use Rattle.std.proofs.Common.{◌≡◌, ◌≢◌, ℕ, suc, ◌+◌, ◌<◌, ◌≤◌, List, [], ◌∷◌, ◌++◌, length, map, drop, get_or, Option, Some, None, refl, sym, subst, ◌∙◌, ap, ap₂, append_assoc, append-nil, arith}
+use Rattle.std.specs.Prelude.{slice_get, option_map}
 use Rattle.std.proofs.lemmas.List.{drop_more, drop_all}
+use Rattle.std.proofs.lemmas.Option.{slice_get-get_or, slice_get-map, slice_get_past}
 use Rattle.csp_syntax.specs.Expression as expression
 use Rattle.csp_syntax.specs.Expression.{to_expressions}
 use Rattle.csp_syntax.specs.Types.{Types}
 use Rattle.csp_checking.specs.Inference.Chain as chain
 use Rattle.csp_checking.specs.Inference.State as pure
 use Rattle.csp_checking.specs.Inference.Equations as numbers
-use Rattle.csp_checking.specs.Inference.Equations.{never}
+use Rattle.csp_checking.specs.Inference.Equations.{never, when}
 use Rattle.csp_checking.specs.Inference.Expressions.{behind_expression, of_expression, of_all, of_first}
 use Rattle.csp_checking.proofs.Unifying.{solves_back, solves_front}
 use Rattle.csp_inference.specs.declared.equations.Equations.{Equations}
 use Rattle.csp_inference.specs.Equations.{Adds, AreHopeless, Asks, exactly, hopelessly, equations_of}
-use Rattle.csp_inference.proofs.Adding.{adds_then, adds_same, Rests, rests_more, rests_none}
+use Rattle.csp_inference.proofs.Adding.{adds_then, adds_same}
 
 -- ---- equations with no solution
 
@@ -51,33 +53,95 @@ pub asks_same : {A : Type 0} (s t : Equations A) (es fs : List pure.KindEquation
 asks_same s t es fs n m same next (exactly h) = exactly (adds_same s t es fs n m same next h)
 asks_same s t es fs n m same next (hopelessly h now) = hopelessly (hopeless_same (equations_of s ++ es) (equations_of s ++ fs) (ap (λ xs. equations_of s ++ xs) same) h) now
 
--- What is left of a list of parts gives those of the whole list, or there is no solution anyway.
-pub data Left {A X : Type 0} (F : ℕ → List X → List pure.KindEquation) (M : ℕ → List X → ℕ) (start now : Equations A) (xs : List X) (i : ℕ) : Type 0 where
-  exact : Rests F M start now xs i → Left F M start now xs i
-  hopeless : AreHopeless (equations_of start ++ F start.next xs) → AreHopeless (equations_of now) → Left F M start now xs i
+-- ---- what is left to ask for
+
+-- What is left gives, behind the equations so far, all that is asked for; or there is no solution anyway.
+pub data Remains {A : Type 0} (start now : Equations A) (whole rest : List pure.KindEquation) (last after : ℕ) : Type 0 where
+  exact : equations_of now ++ rest ≡ equations_of start ++ whole → after ≡ last → Remains start now whole rest last after
+  hopeless : AreHopeless (equations_of start ++ whole) → AreHopeless (equations_of now) → Remains start now whole rest last after
+
+module _ {A : Type 0} (start now : Equations A) (whole : List pure.KindEquation) (last : ℕ) where
+  pub remains_same : (rest more : List pure.KindEquation) (after behind : ℕ) → rest ≡ more → after ≡ behind → Remains start now whole rest last after → Remains start now whole more last behind
+  remains_same rest more after behind same next (exact met end) = exact (ap (λ es. equations_of now ++ es) (sym same) ∙ met) (sym next ∙ end)
+  remains_same rest more after behind same next (hopeless all none) = hopeless all none
+
+  -- one part more
+  pub remains_more : (new : Equations A) (part : List pure.KindEquation) (n : ℕ) (F : ℕ → List pure.KindEquation) (M : ℕ → ℕ) →
+      Remains start now whole (part ++ F n) last (M n) → Asks now new part n → Remains start new whole (F new.next) last (M new.next)
+  remains_more new part n F M (exact met end) (exactly adds) =
+      exact (ap₂ (λ es m. es ++ F m) adds.met adds.next ∙ append_assoc (equations_of now) part (F n) ∙ met) (ap M adds.next ∙ end)
+  remains_more new part n F M (exact met end) (hopelessly one then) =
+      hopeless (hopeless_same ((equations_of now ++ part) ++ F n) (equations_of start ++ whole) (append_assoc (equations_of now) part (F n) ∙ met)
+      (hopeless_front (equations_of now ++ part) (F n) one)) then
+  remains_more new part n F M (hopeless all none) (exactly adds) =
+      hopeless all (hopeless_same (equations_of now ++ part) (equations_of new) (sym adds.met) (hopeless_front (equations_of now) part none))
+  remains_more new part n F M (hopeless all none) (hopelessly one then) = hopeless all then
+
+  -- nothing is left
+  pub remains_none : (rest : List pure.KindEquation) (after : ℕ) → rest ≡ [] → after ≡ now.next → Remains start now whole rest last after → Asks start now whole last
+  remains_none rest after none still (exact met end) =
+      exactly (record { met = sym (ap (λ es. equations_of now ++ es) none ∙ append-nil (equations_of now)) ∙ met; next = sym still ∙ end })
+  remains_none rest after none still (hopeless all now_none) = hopelessly all now_none
+
+-- what is left of a list of parts
+abbrev pub Left : {A X : Type 0} → (ℕ → List X → List pure.KindEquation) → (ℕ → List X → ℕ) → Equations A → Equations A → List X → ℕ → Type 0
+Left F M start now xs i = Remains start now (F start.next xs) (F now.next (drop i xs)) (M start.next xs) (M now.next (drop i xs))
 
 module _ {A X : Type 0} (F : ℕ → List X → List pure.KindEquation) (M : ℕ → List X → ℕ) (start now : Equations A) (xs : List X) (i : ℕ) where
   pub left_more : (G : ℕ → X → List pure.KindEquation) (B : ℕ → X → ℕ) (new : Equations A) (x : X) →
       ((n : ℕ) (ys : List X) → F n (x ∷ ys) ≡ G n x ++ F (B n x) ys) → ((n : ℕ) (ys : List X) → M n (x ∷ ys) ≡ M (B n x) ys) →
       i < length xs → x ≡ get_or xs i x → Left F M start now xs i → Asks now new (G now.next x) (B now.next x) → Left F M start new xs (i + 1)
-  left_more G B new x first behind within read (exact rests) (exactly adds) = exact (rests_more F M start now xs i G B new x first behind within read rests adds)
-  left_more G B new x first behind within read (exact rests) (hopelessly part then) =
-      let cut = ap (λ z. z ∷ drop (i + 1) xs) read ∙ sym (drop_more xs i x within) in
-      hopeless (hopeless_same ((equations_of now ++ G now.next x) ++ F (B now.next x) (drop (i + 1) xs)) (equations_of start ++ F start.next xs)
-      (append_assoc (equations_of now) (G now.next x) (F (B now.next x) (drop (i + 1) xs))
-      ∙ ap (λ es. equations_of now ++ es) (sym (first now.next (drop (i + 1) xs)) ∙ ap (F now.next) cut) ∙ rests.met)
-      (hopeless_front (equations_of now ++ G now.next x) (F (B now.next x) (drop (i + 1) xs)) part)) then
-  left_more G B new x first behind within read (hopeless whole none) (exactly adds) =
-      hopeless whole (hopeless_same (equations_of now ++ G now.next x) (equations_of new) (sym adds.met) (hopeless_front (equations_of now) (G now.next x) none))
-  left_more G B new x first behind within read (hopeless whole none) (hopelessly part then) = hopeless whole then
+  left_more G B new x first behind within read left asks =
+      let ys = drop (i + 1) xs in
+      let cut = drop_more xs i x within ∙ ap (λ z. z ∷ ys) (sym read) in
+      remains_more start now (F start.next xs) (M start.next xs) new (G now.next x) (B now.next x) (λ n. F n ys) (λ n. M n ys)
+      (remains_same start now (F start.next xs) (M start.next xs) (F now.next (drop i xs)) (G now.next x ++ F (B now.next x) ys) (M now.next (drop i xs))
+      (M (B now.next x) ys) (ap (F now.next) cut ∙ first now.next ys) (ap (M now.next) cut ∙ behind now.next ys) left) asks
 
   pub left_none : ((n : ℕ) → F n [] ≡ []) → ((n : ℕ) → M n [] ≡ n) → length xs ≤ i → Left F M start now xs i → Asks start now (F start.next xs) (M start.next xs)
-  left_none none still over (exact rests) = exactly (rests_none F M start now xs i none still over rests)
-  left_none none still over (hopeless whole now) = hopelessly whole now
+  left_none none still over left =
+      let cut = drop_all i xs over in
+      remains_none start now (F start.next xs) (M start.next xs) (F now.next (drop i xs)) (M now.next (drop i xs)) (ap (F now.next) cut ∙ none now.next)
+      (ap (M now.next) cut ∙ still now.next) left
 
--- nothing is done yet
-pub left_all : {A X : Type 0} (F : ℕ → List X → List pure.KindEquation) (M : ℕ → List X → ℕ) (start : Equations A) (xs : List X) → Left F M start start xs 0
-left_all F M start xs = exact (record { met = refl; next = refl })
+-- what is left of two lists of parts
+abbrev pub LeftBoth : {A X Y : Type 0} → (ℕ → List X → List Y → List pure.KindEquation) → (ℕ → List X → ℕ) → Equations A → Equations A → List X → List Y → ℕ → Type 0
+LeftBoth F M start now xs ys i = Remains start now (F start.next xs ys) (F now.next (drop i xs) (drop i ys)) (M start.next xs) (M now.next (drop i xs))
+
+module _ {A X Y : Type 0} (F : ℕ → List X → List Y → List pure.KindEquation) (M : ℕ → List X → ℕ) (start now : Equations A) (xs : List X) (ys : List Y) (i : ℕ) where
+  pub both_more : (G : ℕ → X → Y → List pure.KindEquation) (B : ℕ → X → ℕ) (new : Equations A) (x : X) (y : Y) →
+      ((n : ℕ) (us : List X) (vs : List Y) → F n (x ∷ us) (y ∷ vs) ≡ G n x y ++ F (B n x) us vs) → ((n : ℕ) (us : List X) → M n (x ∷ us) ≡ M (B n x) us) →
+      i < length xs → i < length ys → x ≡ get_or xs i x → y ≡ get_or ys i y → LeftBoth F M start now xs ys i → Asks now new (G now.next x y) (B now.next x) → LeftBoth F M start new xs ys (i + 1)
+  both_more G B new x y first behind in_xs in_ys read seen left asks =
+      let us = drop (i + 1) xs in
+      let vs = drop (i + 1) ys in
+      let cut = drop_more xs i x in_xs ∙ ap (λ z. z ∷ us) (sym read) in
+      let slice = drop_more ys i y in_ys ∙ ap (λ z. z ∷ vs) (sym seen) in
+      remains_more start now (F start.next xs ys) (M start.next xs) new (G now.next x y) (B now.next x) (λ n. F n us vs) (λ n. M n us)
+      (remains_same start now (F start.next xs ys) (M start.next xs) (F now.next (drop i xs) (drop i ys)) (G now.next x y ++ F (B now.next x) us vs)
+      (M now.next (drop i xs)) (M (B now.next x) us) (ap₂ (F now.next) cut slice ∙ first now.next us vs) (ap (M now.next) cut ∙ behind now.next us) left) asks
+
+  pub both_none : ((n : ℕ) (vs : List Y) → F n [] vs ≡ []) → ((n : ℕ) → M n [] ≡ n) → length xs ≤ i → LeftBoth F M start now xs ys i → Asks start now (F start.next xs ys) (M start.next xs)
+  both_none none still over left =
+      let cut = drop_all i xs over in
+      remains_none start now (F start.next xs ys) (M start.next xs) (F now.next (drop i xs) (drop i ys)) (M now.next (drop i xs))
+      (ap (λ us. F now.next us (drop i ys)) cut ∙ none now.next (drop i ys)) (ap (M now.next) cut ∙ still now.next) left
+
+-- ---- what is asked where something is found
+
+-- what a look at a place of a list finds
+pub found_at : {X : Type 0} (xs ys : List X) (i : ℕ) (x : X) → xs ≡ ys → i < length xs → x ≡ get_or xs i x → slice_get ys i ≡ Some x
+found_at xs ys i x same within read = ap (λ zs. slice_get zs i) (sym same) ∙ slice_get-get_or xs i x within ∙ ap Some (sym read)
+
+pub not_found : {X Y : Type 0} (f : X → Y) (xs ys : List X) (i : ℕ) → xs ≡ ys → length xs ≤ i → slice_get (map f ys) i ≡ None
+not_found f xs ys i same le = slice_get-map f ys i ∙ ap (option_map f) (ap (λ zs. slice_get zs i) (sym same) ∙ slice_get_past xs i le)
+
+-- what is asked where something is found, or not
+pub found_asks : {A X : Type 0} (s t : Equations A) (o : Option X) (x : X) (f : X → List pure.KindEquation) (m : ℕ) → o ≡ Some x → Asks s t (f x) m → Asks s t (when o f) m
+found_asks s t o x f m is h = asks_same s t (f x) (when o f) m m (ap (λ p. when p f) (sym is)) refl h
+
+pub none_asks : {A X : Type 0} (s t : Equations A) (o : Option X) (f : X → List pure.KindEquation) (n m : ℕ) → o ≡ None → Adds s t never n → Asks s t (when o f) m
+none_asks s t o f n m is h = never_asks s t (when o f) n m (hopeless_same never (when o f) (ap (λ p. when p f) (sym is)) never_hopeless) h
 
 -- ---- expressions with the kinds of numbers in turn
 
@@ -102,32 +166,3 @@ module _ (types : Types) (o : numbers.Numbering) (names : numbers.Numbered) wher
   all_are_first n [] (m ∷ ms) same = absurd (omega arith)
   all_are_first n (e ∷ es) [] same = absurd (omega arith)
   all_are_first n (e ∷ es) (m ∷ ms) same = ap (λ xs. of_expression types o n names e (chain.OpenEnd m) ++ xs) (all_are_first (behind_expression n e) es ms (omega arith))
-
--- What is left of two lists of parts gives, behind the equations so far, those of the whole lists.
-pub record RestsBoth {A X Y : Type 0} (F : ℕ → List X → List Y → List pure.KindEquation) (M : ℕ → List X → ℕ) (start now : Equations A) (xs : List X) (ys : List Y) (i : ℕ) : Type 0 where
-  pub met : equations_of now ++ F now.next (drop i xs) (drop i ys) ≡ equations_of start ++ F start.next xs ys
-  pub next : M now.next (drop i xs) ≡ M start.next xs
-
-module _ {A X Y : Type 0} (F : ℕ → List X → List Y → List pure.KindEquation) (M : ℕ → List X → ℕ) (start now : Equations A) (xs : List X) (ys : List Y) (i : ℕ) where
-  pub both_more : (G : ℕ → X → Y → List pure.KindEquation) (B : ℕ → X → ℕ) (new : Equations A) (x : X) (y : Y) →
-      ((n : ℕ) (us : List X) (vs : List Y) → F n (x ∷ us) (y ∷ vs) ≡ G n x y ++ F (B n x) us vs) → ((n : ℕ) (us : List X) → M n (x ∷ us) ≡ M (B n x) us) →
-      i < length xs → i < length ys → x ≡ get_or xs i x → y ≡ get_or ys i y → RestsBoth F M start now xs ys i → Adds now new (G now.next x y) (B now.next x) → RestsBoth F M start new xs ys (i + 1)
-  both_more G B new x y first behind in_xs in_ys read seen rests adds =
-      let cut = ap (λ z. z ∷ drop (i + 1) xs) read ∙ sym (drop_more xs i x in_xs) in
-      let slice = ap (λ z. z ∷ drop (i + 1) ys) seen ∙ sym (drop_more ys i y in_ys) in
-      record {
-        met =
-            ap (λ es. es ++ F new.next (drop (i + 1) xs) (drop (i + 1) ys)) adds.met
-            ∙ append_assoc (equations_of now) (G now.next x y) (F new.next (drop (i + 1) xs) (drop (i + 1) ys))
-            ∙ ap (λ m. equations_of now ++ (G now.next x y ++ F m (drop (i + 1) xs) (drop (i + 1) ys))) adds.next
-            ∙ ap (λ es. equations_of now ++ es) (sym (first now.next (drop (i + 1) xs) (drop (i + 1) ys)) ∙ ap₂ (F now.next) cut slice) ∙ rests.met;
-        next = ap (λ m. M m (drop (i + 1) xs)) adds.next ∙ sym (behind now.next (drop (i + 1) xs)) ∙ ap (M now.next) cut ∙ rests.next;
-      }
-
-  pub both_none : ((n : ℕ) (vs : List Y) → F n [] vs ≡ []) → ((n : ℕ) → M n [] ≡ n) → length xs ≤ i → RestsBoth F M start now xs ys i → Adds start now (F start.next xs ys) (M start.next xs)
-  both_none none still over rests =
-      let left = drop_all i xs over in
-      record {
-        met = sym (ap (λ es. equations_of now ++ es) (ap (λ us. F now.next us (drop i ys)) left ∙ none now.next (drop i ys)) ∙ append-nil (equations_of now)) ∙ rests.met;
-        next = sym (ap (M now.next) left ∙ still now.next) ∙ rests.next;
-      }

@@ -1,5 +1,5 @@
 -- Events and sets of events ask part by part.
-use Rattle.std.proofs.Common.{◌≡◌, ℕ, zero, suc, ◌<◌, ◌≤◌, length, get_or, arith, List, [], ◌∷◌, ◌++◌, map, Option, Some, None, refl, sym, ◌∙◌, ap, ap₂}
+use Rattle.std.proofs.Common.{◌≡◌, ℕ, List, ◌++◌, map, Some, refl, sym, ◌∙◌, ap, ap₂}
 use Rattle.std.specs.Prelude.{slice_get, option_map}
 use Rattle.std.specs.declared.boxed.Box.{Box}
 use Rattle.std.specs.declared.vec.Vec.{Vec}
@@ -7,7 +7,7 @@ use Rattle.csp_syntax.specs.Process as pure
 use Rattle.csp_syntax.specs.Types.{Types}
 use Rattle.csp_checking.specs.Inference.State.{KindEquation}
 use Rattle.csp_checking.specs.Inference.Equations as numbers
-use Rattle.csp_checking.specs.Inference.Equations.{never, when}
+use Rattle.csp_checking.specs.Inference.Equations.{when}
 use Rattle.csp_checking.specs.Inference.Expressions.{behind_expressions, of_all, of_first}
 use Rattle.csp_checking.specs.Inference.Processes.{behind_event, behind_event_set, behind_events, of_beginning, of_beginnings, of_event, of_event_set, of_events}
 use Rattle.csp_event_sets.specs.declared.event_expression.EventExpression.{EventExpression}
@@ -19,15 +19,15 @@ use Rattle.csp_event_sets.specs.Events.{event_expression_of, event_expressions_o
 use Rattle.csp_syntax.specs.Operators.{combined}
 use Rattle.csp_event_sets.proofs.EventForms as forms
 use Rattle.csp_syntax.specs.Expression.{to_expressions}
-use Rattle.std.proofs.lemmas.Option.{slice_get-get_or, slice_get-map}
+use Rattle.std.proofs.lemmas.Option.{slice_get-map}
 use Rattle.csp_expression.specs.declared.expr.Expr.{Expr}
 use Rattle.csp_expression.specs.Expression.{expressions_of}
 use Rattle.csp_inference.specs.declared.chain.KindNumber.{KindNumber}
 use Rattle.csp_inference.specs.declared.numbering.Numbering.{Numbering}
 use Rattle.csp_inference.specs.Numbering.{numbering_of}
 use Rattle.csp_inference.specs.declared.equations.Equations.{Equations}
-use Rattle.csp_inference.specs.Equations.{Adds, Asks}
-use Rattle.csp_inference.proofs.Asking.{asks_same, asks_then, hopeless_same, never_asks, never_hopeless}
+use Rattle.csp_inference.specs.Equations.{Asks}
+use Rattle.csp_inference.proofs.Asking.{asks_same, asks_then, found_asks}
 
 abbrev pub asked_events : {A : Type 0} → Types → numbers.Numbering → numbers.Numbered → ℕ → List (EventExpression A) → List KindEquation
 asked_events types o names n es = of_events types o n names (event_expressions_of es)
@@ -37,25 +37,6 @@ asked_beginnings types o names n es = of_beginnings types o n names (event_expre
 
 abbrev pub behind_asked_events : {A : Type 0} → ℕ → List (EventExpression A) → ℕ
 behind_asked_events n es = behind_events n (event_expressions_of es)
-
--- what a look at a place of a list finds
-pub found_at : {X : Type 0} (xs ys : List X) (i : ℕ) (x : X) → xs ≡ ys → i < length xs → x ≡ get_or xs i x → slice_get ys i ≡ Some x
-found_at xs ys i x same within read = ap (λ zs. slice_get zs i) (sym same) ∙ slice_get-get_or xs i x within ∙ ap Some (sym read)
-
-past : {X : Type 0} (xs : List X) (i : ℕ) → length xs ≤ i → slice_get xs i ≡ None
-past [] i le = refl
-past (x ∷ xs) zero le = absurd (omega arith)
-past (x ∷ xs) (suc i) le = past xs i (omega arith)
-
-pub not_found : {X Y : Type 0} (f : X → Y) (xs ys : List X) (i : ℕ) → xs ≡ ys → length xs ≤ i → slice_get (map f ys) i ≡ None
-not_found f xs ys i same le = slice_get-map f ys i ∙ ap (option_map f) (ap (λ zs. slice_get zs i) (sym same) ∙ past xs i le)
-
--- what is asked where something is found, or not
-pub found_asks : {A X : Type 0} (s t : Equations A) (o : Option X) (x : X) (f : X → List KindEquation) (m : ℕ) → o ≡ Some x → Asks s t (f x) m → Asks s t (when o f) m
-found_asks s t o x f m is h = asks_same s t (f x) (when o f) m m (ap (λ p. when p f) (sym is)) refl h
-
-pub none_asks : {A X : Type 0} (s t : Equations A) (o : Option X) (f : X → List KindEquation) (n m : ℕ) → o ≡ None → Adds s t never n → Asks s t (when o f) m
-none_asks s t o f n m is h = never_asks s t (when o f) n m (hopeless_same never (when o f) (ap (λ p. when p f) (sym is)) never_hopeless) h
 
 module _ {A : Type 0} (types : Types) (o : numbers.Numbering) (names : numbers.Numbered) where
   -- two sets under an operator

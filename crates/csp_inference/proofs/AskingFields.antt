@@ -1,5 +1,5 @@
 -- Fields of prefixes ask in turn.
-use Rattle.std.proofs.Common.{◌≡◌, ◌≢◌, ℕ, suc, ◌+◌, ◌<◌, ◌≤◌, List, [], ◌∷◌, ◌++◌, length, map, drop, get_or, refl, sym, subst, inr, ◌∙◌, ap, ap₂, append_assoc, append-nil, arith}
+use Rattle.std.proofs.Common.{◌≡◌, ◌≢◌, ℕ, suc, ◌+◌, ◌<◌, ◌≤◌, List, [], ◌∷◌, ◌++◌, length, map, drop, get_or, refl, sym, subst, inr, ◌∙◌, ap, ap₂, append-nil, arith}
 use Rattle.std.proofs.lemmas.List.{drop_more, drop_all, drop-map, get_or_default}
 use Rattle.csp_syntax.specs.Process.{Field, Given, Input, InputFrom}
 use Rattle.csp_syntax.specs.Types.{Types}
@@ -9,19 +9,18 @@ use Rattle.csp_checking.specs.Inference.Expressions.{behind_expression, of_expre
 use Rattle.csp_checking.specs.Inference.Processes.{behind_fields, names_behind, of_fields}
 use Rattle.csp_inference.specs.declared.chain.KindNumber.{KindNumber}
 use Rattle.csp_inference.specs.declared.equations.Equations.{Equations}
-use Rattle.csp_inference.specs.Equations.{Adds, AreHopeless, Asks, HasNames, equations_of, names_behind_prefix}
+use Rattle.csp_inference.specs.Equations.{Adds, AreHopeless, Asks, HasNames, equations_of, exactly, names_behind_prefix}
 use Rattle.csp_inference.specs.declared.numbering.Numbering.{Numbering}
 use Rattle.csp_inference.specs.Numbering.{numbering_of}
-use Rattle.csp_inference.proofs.AskingEvents.{found_asks}
 use Rattle.csp_checking.specs.Inference.Equations.{never, when}
 use Rattle.csp_checking.specs.Inference.Expressions.{behind_expressions, of_all}
-use Rattle.csp_syntax.specs.Expression.{to_expressions}
+use Rattle.csp_syntax.specs.Expression.{Expression, to_expressions}
 use Rattle.csp_expression.specs.declared.expr.Expr.{Expr}
 use Rattle.csp_expression.specs.Expression.{expressions_of}
 use Rattle.std.specs.declared.vec.Vec.{Vec}
 use Rattle.std.specs.Prelude.{slice_get, option_map, Some, None}
 use Rattle.std.proofs.lemmas.Option.{slice_get-map}
-use Rattle.csp_inference.proofs.Asking.{asks_same, hopeless_back, hopeless_same, never_hopeless}
+use Rattle.csp_inference.proofs.Asking.{Remains, asks_same, found_asks, hopeless_back, hopeless_same, never_hopeless, remains_more, remains_none, remains_same}
 
 module _ (types : Types) (o : numbers.Numbering) where
   -- the first field, and then the others
@@ -61,39 +60,71 @@ no_names_more : (names : numbers.Numbered) (ms : List ℕ) → names_behind name
 no_names_more names [] = refl
 no_names_more names (m ∷ ms) = refl
 
--- What is left of the fields gives, behind the equations so far and with the names so far, those of all fields.
-pub record RestsFields {A : Type 0} (types : Types) (o : numbers.Numbering) (start now : Equations A) (outer inner : numbers.Numbered) (fs : List Field) (ms : List ℕ) (i : ℕ) : Type 0 where
-  pub met : equations_of now ++ of_fields types o now.next inner (drop i fs) (drop i ms) ≡ equations_of start ++ of_fields types o start.next outer fs ms
-  pub next : behind_fields now.next (drop i fs) ≡ behind_fields start.next fs
+-- What is left of the fields, and the names behind them from those so far on.
+pub record LeftFields {A : Type 0} (types : Types) (o : numbers.Numbering) (start now : Equations A) (outer inner : numbers.Numbered) (fs : List Field) (ms : List ℕ) (i : ℕ) : Type 0 where
+  pub asks : Remains start now (of_fields types o start.next outer fs ms) (of_fields types o now.next inner (drop i fs) (drop i ms)) (behind_fields start.next fs) (behind_fields now.next (drop i fs))
   pub names : names_behind inner (drop i fs) (drop i ms) ≡ names_behind outer fs ms
 
 module _ {A : Type 0} (types : Types) (o : numbers.Numbering) (start now : Equations A) (outer inner : numbers.Numbered) (fs : List Field) (ms : List ℕ) (i : ℕ) where
   pub fields_more : (new : Equations A) (names : numbers.Numbered) (f : Field) (m : ℕ) →
-      f ∷ drop (i + 1) fs ≡ drop i fs → m ∷ drop (i + 1) ms ≡ drop i ms → RestsFields types o start now outer inner fs ms i →
-      Adds now new (of_fields types o now.next inner (f ∷ []) (m ∷ [])) (behind_fields now.next (f ∷ [])) → names ≡ names_behind inner (f ∷ []) (m ∷ []) →
-      RestsFields types o start new outer names fs ms (i + 1)
-  fields_more new names f m cut slice rests adds bound =
+      f ∷ drop (i + 1) fs ≡ drop i fs → m ∷ drop (i + 1) ms ≡ drop i ms → LeftFields types o start now outer inner fs ms i →
+      Asks now new (of_fields types o now.next inner (f ∷ []) (m ∷ [])) (behind_fields now.next (f ∷ [])) → names ≡ names_behind inner (f ∷ []) (m ∷ []) →
+      LeftFields types o start new outer names fs ms (i + 1)
+  fields_more new names f m cut slice left asks bound =
+      let gs = drop (i + 1) fs in
+      let ks = drop (i + 1) ms in
+      let whole = of_fields types o start.next outer fs ms in
+      let last = behind_fields start.next fs in
       let one = of_fields types o now.next inner (f ∷ []) (m ∷ []) in
+      let behind = behind_fields now.next (f ∷ []) in
+      let first = remains_same start now whole last (of_fields types o now.next inner (drop i fs) (drop i ms)) (one ++ of_fields types o behind names gs ks)
+      (behind_fields now.next (drop i fs)) (behind_fields behind gs)
+      (ap₂ (of_fields types o now.next inner) (sym cut) (sym slice) ∙ first_field types o now.next inner f gs m ks ∙ ap (λ x. one ++ of_fields types o behind x gs ks) (sym bound))
+      (ap (behind_fields now.next) (sym cut) ∙ behind_first now.next f gs) left.asks in
       record {
-        met = ap₂ (λ es k. es ++ of_fields types o k names (drop (i + 1) fs) (drop (i + 1) ms)) adds.met adds.next
-            ∙ ap (λ x. (equations_of now ++ one) ++ of_fields types o (behind_fields now.next (f ∷ [])) x (drop (i + 1) fs) (drop (i + 1) ms)) bound
-            ∙ append_assoc (equations_of now) one (of_fields types o (behind_fields now.next (f ∷ [])) (names_behind inner (f ∷ []) (m ∷ [])) (drop (i + 1) fs) (drop (i + 1) ms))
-            ∙ ap (λ es. equations_of now ++ es) (sym (first_field types o now.next inner f (drop (i + 1) fs) m (drop (i + 1) ms)) ∙ ap₂ (of_fields types o now.next inner) cut slice) ∙ rests.met;
-        next = ap (λ k. behind_fields k (drop (i + 1) fs)) adds.next ∙ sym (behind_first now.next f (drop (i + 1) fs)) ∙ ap (behind_fields now.next) cut ∙ rests.next;
-        names = ap (λ x. names_behind x (drop (i + 1) fs) (drop (i + 1) ms)) bound ∙ sym (names_first inner f (drop (i + 1) fs) m (drop (i + 1) ms)) ∙ ap₂ (names_behind inner) cut slice ∙ rests.names;
+        asks = remains_more start now whole last new one behind (λ n. of_fields types o n names gs ks) (λ n. behind_fields n gs) first asks;
+        names = ap (λ x. names_behind x gs ks) bound ∙ sym (names_first inner f gs m ks) ∙ ap₂ (names_behind inner) cut slice ∙ left.names;
       }
 
-  pub fields_all : length fs ≤ i → length fs ≡ length ms → RestsFields types o start now outer inner fs ms i → Adds start now (of_fields types o start.next outer fs ms) (behind_fields start.next fs)
-  fields_all over same rests =
-      let left = drop_all i fs over in
-      let none = drop_all i ms (omega arith) in
-      record {
-        met = sym (ap (λ es. equations_of now ++ es) (ap₂ (of_fields types o now.next inner) left none) ∙ append-nil (equations_of now)) ∙ rests.met;
-        next = sym (ap (behind_fields now.next) left) ∙ rests.next;
-      }
+  pub fields_all : length fs ≤ i → length fs ≡ length ms → LeftFields types o start now outer inner fs ms i → Asks start now (of_fields types o start.next outer fs ms) (behind_fields start.next fs)
+  fields_all over same left =
+      let none = drop_all i fs over in
+      let past : length ms ≤ i = omega arith in
+      remains_none start now (of_fields types o start.next outer fs ms) (behind_fields start.next fs) (of_fields types o now.next inner (drop i fs) (drop i ms))
+      (behind_fields now.next (drop i fs)) (ap₂ (of_fields types o now.next inner) none (drop_all i ms past)) (ap (behind_fields now.next) none) left.asks
 
-  pub fields_names : length fs ≤ i → RestsFields types o start now outer inner fs ms i → inner ≡ names_behind outer fs ms
-  fields_names over rests = sym (ap (λ xs. names_behind inner xs (drop i ms)) (drop_all i fs over) ∙ no_names_more inner (drop i ms)) ∙ rests.names
+  pub fields_names : length fs ≤ i → LeftFields types o start now outer inner fs ms i → inner ≡ names_behind outer fs ms
+  fields_names over left = sym (ap (λ xs. names_behind inner xs (drop i ms)) (drop_all i fs over) ∙ no_names_more inner (drop i ms)) ∙ left.names
+
+-- ---- one field
+
+module _ {A : Type 0} (types : Types) (o : numbers.Numbering) (s t : Equations A) (names lent : numbers.Numbered) (f : Field) (m : ℕ) (same : lent ≡ names) where
+  abbrev pub FieldAsks : Type 0
+  FieldAsks = Asks s t (of_fields types o s.next names (f ∷ []) (m ∷ [])) (behind_fields s.next (f ∷ []))
+
+  whole_field : (g : Field) → f ≡ g → Asks s t (of_fields types o s.next names (g ∷ []) (m ∷ [])) (behind_fields s.next (g ∷ [])) → FieldAsks
+  whole_field g is h =
+      asks_same s t (of_fields types o s.next names (g ∷ []) (m ∷ [])) (of_fields types o s.next names (f ∷ []) (m ∷ [])) (behind_fields s.next (g ∷ []))
+      (behind_fields s.next (f ∷ [])) (ap (λ x. of_fields types o s.next names (x ∷ []) (m ∷ [])) (sym is)) (ap (λ x. behind_fields s.next (x ∷ [])) (sym is)) h
+
+  one_expression : (e : Expression) (k : chain.Chain) → Asks s t (of_expression types o s.next lent e k) (behind_expression s.next e) →
+      Asks s t (of_expression types o s.next names e k ++ []) (behind_expression s.next e)
+  one_expression e k h =
+      asks_same s t (of_expression types o s.next lent e k) (of_expression types o s.next names e k ++ []) (behind_expression s.next e) (behind_expression s.next e)
+      (ap (λ x. of_expression types o s.next x e k) same ∙ sym (append-nil (of_expression types o s.next names e k))) refl h
+
+  pub given_asked : (e : Expression) → f ≡ Given e → Asks s t (of_expression types o s.next lent e (chain.OpenEnd m)) (behind_expression s.next e) → FieldAsks
+  given_asked e is h = whole_field (Given e) is (one_expression e (chain.OpenEnd m) h)
+
+  pub input_from_asked : (x : ℕ) (e : Expression) → f ≡ InputFrom x e →
+      Asks s t (of_expression types o s.next lent e (chain.SetOver (chain.OpenEnd m))) (behind_expression s.next e) → FieldAsks
+  input_from_asked x e is h = whole_field (InputFrom x e) is (one_expression e (chain.SetOver (chain.OpenEnd m)) h)
+
+-- an input without a set asks nothing
+pub input_asked : {A : Type 0} (types : Types) (o : numbers.Numbering) (s : Equations A) (names : numbers.Numbered) (f : Field) (m x : ℕ) → f ≡ Input x →
+    FieldAsks types o s s names names f m refl
+input_asked types o s names f m x is =
+    whole_field types o s s names names f m refl (Input x) is (exactly (record { met = sym (append-nil (equations_of s)); next = refl }))
 
 -- the next part, as it is read, and those behind it
 pub cut_map : {X Y : Type 0} (f : X → Y) (xs : List X) (i : ℕ) (x : X) → i < length xs → x ≡ get_or xs i x → f x ∷ drop (i + 1) (map f xs) ≡ drop i (map f xs)

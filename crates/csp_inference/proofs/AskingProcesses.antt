@@ -2,7 +2,7 @@
 use Rattle.std.proofs.Common.{◌≡◌, ℕ, suc, List, [], ◌∷◌, ◌++◌, Option, Some, None, refl, sym, inl, inr, ◌∙◌, ap, append_assoc}
 use Rattle.std.specs.Prelude.{slice_get}
 use Rattle.csp_syntax.specs.Expression.{Expression}
-use Rattle.csp_syntax.specs.Process.{Field, EventSet, RenamingPair, Script, Process, Prefix, Guard, If, GeneralisedParallel, AlphabetisedParallel, Hiding, Renaming}
+use Rattle.csp_syntax.specs.Process.{Field, EventSet, RenamingPair, Script, Process, Prefix, Guard, If, GeneralisedParallel, AlphabetisedParallel, Hiding, Renaming, SlidingChoice}
 use Rattle.csp_checking.specs.Inference.Chain as chain
 use Rattle.csp_checking.specs.Inference.State.{KindEquation}
 use Rattle.csp_checking.specs.Inference.Equations as numbers
@@ -43,7 +43,7 @@ module _ {A : Type 0} (script : Script) (o : numbers.Numbering) (names : numbers
   Part t u q = Asks t u (of_process script o t.next names q) (behind_process t.next q)
 
   abbrev pub Condition : Equations A → Equations A → Expression → chain.Chain → Type 0
-  Condition t u e k = Adds t u (of_expression script.types o t.next names e k) (behind_expression t.next e)
+  Condition t u e k = Asks t u (of_expression script.types o t.next names e k) (behind_expression t.next e)
 
   abbrev pub Events : Equations A → Equations A → EventSet → Type 0
   Events t u a = Asks t u (of_event_set script.types o t.next names a) (behind_event_set t.next a)
@@ -60,11 +60,11 @@ module _ {A : Type 0} (script : Script) (o : numbers.Numbering) (names : numbers
   next_events t u es n a first second = asks_then s t u es n (λ m. of_event_set script.types o m names a) (λ m. behind_event_set m a) first second
 
   pub asked_guard : (t u : Equations A) (e : Expression) (q : Process) → p ≡ Guard e q → Condition s t e chain.BoolEnd → Part t u q → Asked u
-  asked_guard t u e q is first second = whole u (Guard e q) is (next_part t u (of_expression script.types o s.next names e chain.BoolEnd) (behind_expression s.next e) q (exactly first) second)
+  asked_guard t u e q is first second = whole u (Guard e q) is (next_part t u (of_expression script.types o s.next names e chain.BoolEnd) (behind_expression s.next e) q first second)
 
   pub asked_if : (t u v : Equations A) (e : Expression) (q r : Process) → p ≡ If e q r → Condition s t e chain.BoolEnd → Part t u q → Part u v r → Asked v
   asked_if t u v e q r is first second third =
-      let front = next_part t u (of_expression script.types o s.next names e chain.BoolEnd) (behind_expression s.next e) q (exactly first) second in
+      let front = next_part t u (of_expression script.types o s.next names e chain.BoolEnd) (behind_expression s.next e) q first second in
       whole v (If e q r) is
       (next_part u v (of_expression script.types o s.next names e chain.BoolEnd ++ of_process script o (behind_expression s.next e) names q)
       (behind_process (behind_expression s.next e) q) r front third)
@@ -90,6 +90,10 @@ module _ {A : Type 0} (script : Script) (o : numbers.Numbering) (names : numbers
       behind_operator binary.Sequential = refl
       behind_operator binary.Interleaving = refl
       behind_operator binary.Interrupt = refl
+
+  pub asked_sliding : (t u : Equations A) (q r : Process) → p ≡ SlidingChoice q r → Part s t q → Part t u r → Asked u
+  asked_sliding t u q r is first second =
+      whole u (SlidingChoice q r) is (next_part t u (of_process script o s.next names q) (behind_process s.next q) r first second)
 
   pub asked_generalised : (t u v : Equations A) (q r : Process) (a : EventSet) → p ≡ GeneralisedParallel q a r → Part s t q → Events t u a → Part u v r → Asked v
   asked_generalised t u v q r a is first second third =
@@ -123,7 +127,7 @@ module _ {A : Type 0} (script : Script) (o : numbers.Numbering) (names : numbers
       let kind = ap (λ m. of_expression script.types o t.next names e (chain.SetOver (chain.OpenEnd m))) numbered in
       let set = asks_same t u (of_expression script.types o t.next names e (chain.SetOver (chain.OpenEnd n)))
       (of_expression script.types o t.next names e (chain.SetOver (chain.OpenEnd s.next))) (behind_expression t.next e) (behind_expression t.next e) kind refl
-      (exactly first) in
+      first in
       let front = asks_then s t u [] (suc s.next) (λ m. of_expression script.types o m names e (chain.SetOver (chain.OpenEnd s.next))) (λ m. behind_expression m e) (exactly fresh) set in
       let body = asks_same u v (of_process script o u.next inner q) (of_process script o u.next ((x, s.next) ∷ names) q) (behind_process u.next q)
       (behind_process u.next q) (ap (λ ns. of_process script o u.next ns q) named_here) refl second in

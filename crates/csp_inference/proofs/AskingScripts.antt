@@ -1,17 +1,17 @@
 -- Equations and assertions ask what their processes ask.
-use Rattle.std.proofs.Common.{◌≡◌, ◌≢◌, ℕ, ◌+◌, ◌<◌, ◌≤◌, nat_eq, List, [], ◌∷◌, ◌++◌, length, map, drop, get_or, refl, sym, ◌∙◌, ap, ap₂, append_assoc, append-nil, arith}
+use Rattle.std.proofs.Common.{Option, Some, None, subst, ◌≡◌, ◌≢◌, ℕ, ◌+◌, ◌<◌, ◌≤◌, nat_eq, List, [], ◌∷◌, ◌++◌, length, map, drop, get_or, refl, sym, ◌∙◌, ap, ap₂, append_assoc, append-nil, arith}
 use Rattle.std.proofs.lemmas.Bool.{cond-true, cond-false, eq-eqb, ne_eqb}
 use Rattle.std.proofs.lemmas.List.{drop_more, drop_all, map-append}
-use Rattle.csp_syntax.specs.Process.{Script, Equation, Assertion}
+use Rattle.csp_syntax.specs.Process.{Script, Process, Equation, Assertion, specification_of}
 use Rattle.csp_checking.specs.Inference.Equations as numbers
 use Rattle.csp_checking.specs.Inference.Equations.{never}
-use Rattle.csp_checking.specs.Inference.Items.{numbered, of_assertion, of_equation}
+use Rattle.csp_checking.specs.Inference.Items.{numbered, of_assertion, of_equation, of_specification, behind_assertion, behind_specification}
 use Rattle.csp_checking.specs.Inference.Processes.{behind_process, of_process}
 use Rattle.csp_expression.specs.declared.name.Name.{Name}
 use Rattle.csp_inference.specs.declared.chain.KindNumber.{KindNumber}
 use Rattle.csp_inference.specs.declared.numbering.NumberedName.{NumberedName}
 use Rattle.csp_inference.specs.declared.equations.Equations.{Equations}
-use Rattle.csp_inference.specs.Equations.{Adds, Asks}
+use Rattle.csp_inference.specs.Equations.{Adds, Asks, exactly, equations_of}
 use Rattle.csp_inference.specs.Numbering.{names_of}
 use Rattle.csp_inference.proofs.Asking.{asks_same, asks_then, hopeless_same, never_asks, never_hopeless}
 
@@ -51,15 +51,26 @@ module _ {A : Type 0} (script : Script) (o : numbers.Numbering) (s : Equations A
       (sym (cond-false (nat_eq (length q.parameters) (length ms)) (of_process script o s.next (numbered q.parameters ms) q.body) never (ne_eqb (length q.parameters) (length ms) differ)))
       never_hopeless) h
 
-  pub asked_assertion : (t u : Equations A) (a : Assertion) (none others : numbers.Numbered) →
-      none ≡ [] → others ≡ [] → Asks s t (of_process script o s.next none a.specification) (behind_process s.next a.specification) →
+  -- a specification, where there is one
+  pub asked_specification : (t : Equations A) (p : Process) (x : Option Process) (none : numbers.Numbered) → none ≡ [] → x ≡ Some p →
+      Asks s t (of_process script o s.next none p) (behind_process s.next p) → Asks s t (of_specification script o s.next x) (behind_specification s.next x)
+  asked_specification t p x none empty is h =
+      subst (λ y. Asks s t (of_specification script o s.next y) (behind_specification s.next y)) (sym is)
+      (asks_same s t (of_process script o s.next none p) (of_process script o s.next [] p) (behind_process s.next p) (behind_process s.next p) (ap (λ ns. of_process script o s.next ns p) empty) refl h)
+
+  pub no_specification : (x : Option Process) → x ≡ None → Asks s s (of_specification script o s.next x) (behind_specification s.next x)
+  no_specification x is =
+      subst (λ y. Asks s s (of_specification script o s.next y) (behind_specification s.next y)) (sym is)
+      (exactly (record { met = sym (append-nil (equations_of s)); next = refl }))
+
+  pub asked_assertion : (t u : Equations A) (a : Assertion) (x : Option Process) (others : numbers.Numbered) →
+      x ≡ specification_of a.property → others ≡ [] → Asks s t (of_specification script o s.next x) (behind_specification s.next x) →
       Asks t u (of_process script o t.next others a.implementation) (behind_process t.next a.implementation) →
-      Asks s u (of_assertion script o s.next a) (behind_process (behind_process s.next a.specification) a.implementation)
-  asked_assertion t u a none others empty alike first second =
-      asks_then s t u (of_process script o s.next [] a.specification) (behind_process s.next a.specification) (λ m. of_process script o m [] a.implementation) (λ m. behind_process m a.implementation)
-      (asks_same s t (of_process script o s.next none a.specification) (of_process script o s.next [] a.specification)
-      (behind_process s.next a.specification) (behind_process s.next a.specification) (ap (λ ns. of_process script o s.next ns a.specification) empty) refl
-      first)
+      Asks s u (of_assertion script o s.next a) (behind_assertion s.next a)
+  asked_assertion t u a x others is alike first second =
+      let y = specification_of a.property in
+      asks_then s t u (of_specification script o s.next y) (behind_specification s.next y) (λ m. of_process script o m [] a.implementation) (λ m. behind_process m a.implementation)
+      (subst (λ z. Asks s t (of_specification script o s.next z) (behind_specification s.next z)) is first)
       (asks_same t u (of_process script o t.next others a.implementation) (of_process script o t.next [] a.implementation)
       (behind_process t.next a.implementation) (behind_process t.next a.implementation) (ap (λ ns. of_process script o t.next ns a.implementation) alike)
       refl second)

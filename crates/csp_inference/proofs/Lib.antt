@@ -3,9 +3,10 @@ pub mod Finding
 pub mod Uniting
 pub mod Solving
 pub mod Adding
+pub mod Asking
+pub mod Constructing
 pub mod AskingValues
 pub mod AskingExpressions
-pub mod Asking
 pub mod AskingArguments
 pub mod AskingEvents
 pub mod AskingFields

@@ -8,6 +8,7 @@ abbrev pub numbering_of : {A : Type 0} → Numbering A → pure.Numbering
 numbering_of o = record {
   owners = map (λ d. d.0) o.owners.items;
   nametypes = map (λ n. n.0) o.nametypes.items;
+  constructors = map (λ ns. map (λ n. n.0) ns.items) o.constructors.items;
   channels = map (λ ns. map (λ n. n.0) ns.items) o.channels.items;
   parameters = map (λ ns. map (λ n. n.0) ns.items) o.parameters.items;
 }

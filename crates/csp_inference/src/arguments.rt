@@ -1,7 +1,7 @@
 //! What expressions in the places of fields and parameters ask for.
 
 ghost use Rattle.std.specs.Prelude.{◌≤◌, IfOk, length};
-ghost use Rattle.csp_inference.specs.Question.{AddsQuestion, AsksQuestion};
+ghost use Rattle.csp_inference.specs.Question.{AsksQuestion};
 ghost use Rattle.csp_inference.specs.Questions.Arguments.{arguments_question, leading_arguments_question};
 
 use crate::chain::{Demand, End, KindNumber};
@@ -14,6 +14,7 @@ use std::alloc::Allocator;
 impl<A: Allocator + Copy> Equations<A> {
     /// Adds the equations for expressions that are to have the kinds of the numbers in turn. No kinds fit where there
     /// are more expressions than numbers, or fewer. `Memory` where there is no room.
+    #[cycle(ask_expression)]
     pub(crate) fn ask_all(
         &mut self,
         types: &TypeTable<A>,
@@ -52,6 +53,7 @@ impl<A: Allocator + Copy> Equations<A> {
     }
 
     /// Adds the equations for expressions that are to have the kinds of the first numbers in turn.
+    #[cycle(ask_expression)]
     fn ask_each(
         &mut self,
         types: &TypeTable<A>,
@@ -61,7 +63,7 @@ impl<A: Allocator + Copy> Equations<A> {
         numbers: &[KindNumber],
     ) -> Result<(), Memory>
         requires { length expressions.now ≤ length numbers.now }
-        ensures { IfOk result (λ _. AddsQuestion self.old self.new (leading_arguments_question types.now numbering.now names.now expressions.now numbers.now)) }
+        ensures { IfOk result (λ _. AsksQuestion self.old self.new (leading_arguments_question types.now numbering.now names.now expressions.now numbers.now)) }
     {
         for (index, expression) in expressions.iter().enumerate() {
             let kind = Demand::Plain(End::Open(numbers[index]));

@@ -1,15 +1,15 @@
 //! What expressions ask for.
 
 ghost use Rattle.std.specs.Prelude.{IfOk};
-ghost use Rattle.csp_inference.specs.Question.{AddsQuestion};
-ghost use Rattle.csp_inference.specs.Questions.Expressions.{datatype_question, expression_question, expressions_question, name_question, nametype_question};
+ghost use Rattle.csp_inference.specs.Question.{AddsQuestion, AsksQuestion};
+ghost use Rattle.csp_inference.specs.Questions.Expressions.{constructed_question, datatype_question, expression_question, expressions_question, name_question, nametype_question};
 
 use crate::chain::{Demand, End};
 use crate::equations::Equations;
 use crate::numbering::{NumberedName, Numbering, number_of_name};
 use crate::operators::{left_operand, operand, right_operand};
 use csp_expression::{DatatypeId, Expr, Name, NametypeId, TypeTable};
-use csp_value::Memory;
+use csp_value::{ConId, Memory};
 use std::alloc::Allocator;
 
 impl<A: Allocator + Copy> Equations<A> {
@@ -24,7 +24,7 @@ impl<A: Allocator + Copy> Equations<A> {
         expression: &Expr<A>,
         kind: Demand,
     ) -> Result<(), Memory>
-        ensures { IfOk result (λ _. AddsQuestion self.old self.new (expression_question types.now numbering.now names.now expression.now kind)) }
+        ensures { IfOk result (λ _. AsksQuestion self.old self.new (expression_question types.now numbering.now names.now expression.now kind)) }
     {
         match expression {
             Expr::Literal(value) => self.ask_value(numbering, value, kind),
@@ -58,6 +58,9 @@ impl<A: Allocator + Copy> Equations<A> {
             Expr::Booleans => self.push(Demand::SetOf(End::Bool), kind),
             Expr::Datatype(datatype) => self.ask_datatype(types, *datatype, kind),
             Expr::Nametype(nametype) => self.ask_nametype(numbering, *nametype, kind),
+            Expr::Constructor(constructor, fields) => {
+                self.ask_constructed(types, numbering, names, *constructor, fields, kind)
+            }
         }
     }
 
@@ -71,12 +74,35 @@ impl<A: Allocator + Copy> Equations<A> {
         expressions: &[Expr<A>],
         kind: Demand,
     ) -> Result<(), Memory>
-        ensures { IfOk result (λ _. AddsQuestion self.old self.new (expressions_question types.now numbering.now names.now expressions.now kind)) }
+        ensures { IfOk result (λ _. AsksQuestion self.old self.new (expressions_question types.now numbering.now names.now expressions.now kind)) }
     {
         for expression in expressions {
             self.ask_expression(types, numbering, names, expression, kind)?;
         }
         Ok(())
+    }
+
+    /// Adds the equations for a constructor with these fields that is to have the kind.
+    #[cycle(ask_expression)]
+    fn ask_constructed(
+        &mut self,
+        types: &TypeTable<A>,
+        numbering: &Numbering<A>,
+        names: &[NumberedName],
+        constructor: ConId,
+        fields: &[Expr<A>],
+        kind: Demand,
+    ) -> Result<(), Memory>
+        ensures { IfOk result (λ _. AsksQuestion self.old self.new (constructed_question types.now numbering.now names.now constructor fields.now kind)) }
+    {
+        let Some(datatype) = numbering.owners.get(constructor.0 as usize) else {
+            return self.push_never();
+        };
+        self.push(Demand::Plain(End::Datatype(*datatype)), kind)?;
+        let Some(numbers) = numbering.constructors.get(constructor.0 as usize) else {
+            return self.push_never();
+        };
+        self.ask_all(types, numbering, names, fields, numbers)
     }
 
     /// Adds the equation for a bound name that is to have the kind.

@@ -3,7 +3,7 @@
 ghost use Rattle.std.specs.Prelude.{◌≡◌, ◌∷◌, IfOk};
 ghost use Rattle.csp_inference.specs.Equations.{HasNames};
 ghost use Rattle.csp_inference.specs.Numbering.{names_of};
-ghost use Rattle.csp_inference.specs.Question.{AddsQuestion, AsksQuestion};
+ghost use Rattle.csp_inference.specs.Question.{AsksQuestion};
 ghost use Rattle.csp_inference.specs.Questions.Fields.{field_question, fields_question, names_behind_field, names_behind_fields};
 
 use crate::chain::{Demand, End, KindNumber};
@@ -62,21 +62,20 @@ impl<A: Allocator + Copy> Equations<A> {
         field: &Field<A>,
         number: KindNumber,
     ) -> Result<(), Memory>
-        ensures asks { IfOk result (λ _. AddsQuestion self.old self.new (field_question types.now numbering.now names.old.items field.now number)) }
+        ensures asks { IfOk result (λ _. AsksQuestion self.old self.new (field_question types.now numbering.now names.old.items field.now number)) }
         ensures names { IfOk result (λ _. names_of names.new.items ≡ names_behind_field names.old.items field.now number) }
     {
         match field {
             Field::Given(value) => {
                 let kind = Demand::Plain(End::Open(number));
-                self.ask_expression(types, numbering, names, value, kind)?;
+                self.ask_expression(types, numbering, names, value, kind)
             }
-            Field::Input(name) => bind_name(names, *name, number)?,
+            Field::Input(name) => bind_name(names, *name, number),
             Field::InputFrom(name, set) => {
                 let kind = Demand::SetOf(End::Open(number));
                 self.ask_expression(types, numbering, names, set, kind)?;
-                bind_name(names, *name, number)?;
+                bind_name(names, *name, number)
             }
         }
-        Ok(())
     }
 }

@@ -4,13 +4,13 @@ ghost use Rattle.std.specs.Prelude.{◌≡◌, IfOk, length, map};
 ghost use Rattle.csp_checking.specs.Inference.Items.{numbered};
 ghost use Rattle.csp_inference.specs.Numbering.{names_of};
 ghost use Rattle.csp_inference.specs.Question.{AsksQuestion};
-ghost use Rattle.csp_inference.specs.Questions.Items.{assertion_question, equation_question};
+ghost use Rattle.csp_inference.specs.Questions.Items.{assertion_question, equation_question, specification_question};
 
 use crate::chain::KindNumber;
 use crate::equations::Equations;
 use crate::numbering::{NumberedName, Numbering};
 use csp_expression::Name;
-use csp_term::{Assertion, Equation, ScriptParts};
+use csp_term::{Assertion, Equation, ScriptParts, Term};
 use csp_value::Memory;
 use std::alloc::Allocator;
 
@@ -54,7 +54,7 @@ impl<A: Allocator + Copy> Equations<A> {
         Ok(())
     }
 
-    /// Adds the equations for both processes of an assertion, or is `Memory` where there is no room for them.
+    /// Adds the equations for the one or two processes of an assertion, or is `Memory` where there is no room for them.
     pub fn ask_assertion(
         &mut self,
         alloc: A,
@@ -64,8 +64,26 @@ impl<A: Allocator + Copy> Equations<A> {
     ) -> Result<(), Memory>
         ensures { IfOk result (λ _. AsksQuestion self.old self.new (assertion_question script.now numbering.now assertion.now)) }
     {
-        self.ask_process(alloc, script, numbering, &[], &assertion.specification)?;
+        self.ask_specification(alloc, script, numbering, assertion.property.specification())?;
         self.ask_process(alloc, script, numbering, &[], &assertion.implementation)?;
         Ok(())
+    }
+
+    /// Adds the equations for the specification of an assertion, if it has one.
+    fn ask_specification(
+        &mut self,
+        alloc: A,
+        script: &ScriptParts<A>,
+        numbering: &Numbering<A>,
+        specification: Option<&Term<A>>,
+    ) -> Result<(), Memory>
+        ensures { IfOk result (λ _. AsksQuestion self.old self.new (specification_question script.now numbering.now specification.entry)) }
+    {
+        match specification {
+            Some(specification) => {
+                self.ask_process(alloc, script, numbering, &[], specification)
+            }
+            None => Ok(()),
+        }
     }
 }

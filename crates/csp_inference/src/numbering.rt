@@ -15,6 +15,8 @@ pub struct Numbering<A: Allocator> {
     pub owners: Vec<DatatypeId, A>,
     /// The kind of the members of each nametype.
     pub nametypes: Vec<KindNumber, A>,
+    /// The kinds of the fields of each constructor.
+    pub constructors: Vec<Vec<KindNumber, A>, A>,
     /// The kinds of the fields of each channel.
     pub channels: Vec<Vec<KindNumber, A>, A>,
     /// The kinds of the parameters of each equation.

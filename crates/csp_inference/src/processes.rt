@@ -77,6 +77,10 @@ impl<A: Allocator + Copy> Equations<A> {
                 bind_name(&mut inner, *name, number)?;
                 self.ask_process(alloc, script, numbering, &inner, body)
             }
+            TermForm::SlidingChoice(left, right) => {
+                self.ask_process(alloc, script, numbering, names, left)?;
+                self.ask_process(alloc, script, numbering, names, right)
+            }
         }
     }
 }

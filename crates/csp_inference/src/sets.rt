@@ -1,7 +1,7 @@
 //! What the sets of nametypes and fields ask for.
 
 ghost use Rattle.std.specs.Prelude.{IfOk};
-ghost use Rattle.csp_inference.specs.Question.{AddsQuestion};
+ghost use Rattle.csp_inference.specs.Question.{AsksQuestion};
 ghost use Rattle.csp_inference.specs.Questions.Sets.{copies_question, set_question};
 
 use crate::chain::{Demand, End, KindNumber};
@@ -21,7 +21,7 @@ impl<A: Allocator + Copy> Equations<A> {
         set: &Expr<A>,
         members: KindNumber,
     ) -> Result<(), Memory>
-        ensures { IfOk result (λ _. AddsQuestion self.old self.new (set_question types.now numbering.now set.now members)) }
+        ensures { IfOk result (λ _. AsksQuestion self.old self.new (set_question types.now numbering.now set.now members)) }
     {
         self.ask_expression(
             types,
@@ -42,7 +42,7 @@ impl<A: Allocator + Copy> Equations<A> {
         set: &Expr<A>,
         numbers: &[KindNumber],
     ) -> Result<(), Memory>
-        ensures { IfOk result (λ _. AddsQuestion self.old self.new (copies_question types.now numbering.now set.now numbers.now)) }
+        ensures { IfOk result (λ _. AsksQuestion self.old self.new (copies_question types.now numbering.now set.now numbers.now)) }
     {
         for members in numbers {
             self.ask_set(types, numbering, set, *members)?;

@@ -47,7 +47,7 @@ stands_at raw i d within read = sym (take-append-drop i raw) ∙ ap (λ xs. take
 pub item_stops : (raw above below : RawScript) (d : RawDeclaration) (r : Refused) → raw ≡ above ++ d ∷ below → AllFine (in_order (in_declaration raw) above) → Stops (in_processes raw d) r → Stops (sites raw) r
 item_stops raw above below d refused.Memory stands fine h = tt
 item_stops raw above below (RawEquation name parameters body) (refused.Fault f p) stands fine h = stopped_in_declaration raw above below (RawEquation name parameters body) stands fine h
-item_stops raw above below (RawAssertion place model p q) (refused.Fault f k) stands fine h = stopped_in_declaration raw above below (RawAssertion place model p q) stands fine h
+item_stops raw above below (RawAssertion place n a p) (refused.Fault f k) stands fine h = stopped_in_declaration raw above below (RawAssertion place n a p) stands fine h
 item_stops raw above below (RawDatatype name constructors) (refused.Fault f p) stands fine h = absurd (stopped_is_not_fine [] h tt)
 item_stops raw above below (RawNametype name domain) (refused.Fault f p) stands fine h = absurd (stopped_is_not_fine [] h tt)
 item_stops raw above below (RawChannels names domains) (refused.Fault f p) stands fine h = absurd (stopped_is_not_fine [] h tt)

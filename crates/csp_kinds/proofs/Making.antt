@@ -46,6 +46,7 @@ pub script_made : {A : Type 0} (raw : RawScript) (types : TypeTable A) (sets : L
 script_made raw types sets items constructors channels ks cs of_types of_sets of_items named_ks spelled_ks named_cs spelled_cs same = record {
   datatypes = of_types.datatypes;
   nametypes = of_types.nametypes;
+  constructors = of_types.constructors;
   channels = same ∙ of_sets.members;
   equations = of_items.equations;
   assertions = of_items.assertions;
@@ -56,7 +57,7 @@ script_made raw types sets items constructors channels ks cs of_types of_sets of
 -- ---- the sets that were evaluated are the script's
 
 pub types_evaluated : {A : Type 0} (raw : RawScript) (sets : Sets A) → AreSetsOf raw sets → AreUnrefused raw sets → AreTypesOf raw sets.types
-types_evaluated raw sets are unrefused = record { datatypes = ap (λ t. t.datatypes) are.types; nametypes = unrefused.nametypes }
+types_evaluated raw sets are unrefused = record { datatypes = ap (λ t. t.datatypes) are.types; nametypes = unrefused.nametypes; constructors = unrefused.constructors }
 
 some_of_known : {A : Type 0} (o : Option (Vec (FieldSet A) A)) (values : List (List Value)) → known_sets o ≡ Some values → IsSome o
 some_of_known (Some fields) values is = refl

@@ -60,11 +60,11 @@ nothing_passed raw first bound items none equations assertions = record {
 
 -- A declaration is fine once its processes are, since its sets are not refused.
 declaration_fine : {A : Type 0} (raw above below : RawScript) (d : RawDeclaration) (sets : Sets A) → AreSetsOf raw sets → raw ≡ above ++ d ∷ below → IsNotAbove sets.refused (length above + 1) → AllFine (in_processes raw d) → AllFine (in_declaration raw above d)
-declaration_fine raw above below (RawDatatype name constructors) sets are stands passed fine = tt
+declaration_fine raw above below (RawDatatype name clauses) sets are stands passed fine = passed_sets_fine raw above below (RawDatatype name clauses) sets are stands refl passed
 declaration_fine raw above below (RawNametype name domain) sets are stands passed fine = passed_sets_fine raw above below (RawNametype name domain) sets are stands refl passed
 declaration_fine raw above below (RawChannels names domains) sets are stands passed fine = passed_sets_fine raw above below (RawChannels names domains) sets are stands refl passed
 declaration_fine raw above below (RawEquation name parameters body) sets are stands passed fine = fine
-declaration_fine raw above below (RawAssertion place model p q) sets are stands passed fine = fine
+declaration_fine raw above below (RawAssertion place n a p) sets are stands passed fine = fine
 
 module _ {A : Type 0} (raw : RawScript) (sets : Sets A) (scope : Scope A) (are : AreSetsOf raw sets) (whole : IsWhole raw scope) (n : ℕ) (bound : BoundNames A) (items : Items A) (passed : Passed raw sets.refused n bound items) where
   -- the walk stops at a refused set

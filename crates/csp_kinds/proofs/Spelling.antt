@@ -4,15 +4,16 @@ use Rattle.std.specs.Str.{chars, encode_utf8_all}
 use Rattle.std.specs.String.{string_bytes}
 use Rattle.std.specs.declared.string.String.{String}
 use Rattle.std.specs.declared.vec.Vec.{Vec}
-use Rattle.std.proofs.lemmas.List.{map-append, take_more, take_all}
+use Rattle.std.proofs.lemmas.List.{append_assoc, map-append, take_more, take_all}
 use Rattle.std.proofs.lemmas.Str.{encodes-chars, IsUtf8-had}
 use Rattle.std.proofs.Common.{◌≡◌, ◌+◌, ◌<◌, ◌≤◌, ℕ, List, [], ◌∷◌, ◌++◌, length, get_or, map, Result, Ok, Err, refl, sym, ap, ◌∙◌}
 use Rattle.csp_text.specs.Raw.{RawName, RawDeclaration}
-use Rattle.csp_checking.specs.Names.{ChannelName, ConstructorName, declared_as, spellings}
+use Rattle.csp_checking.specs.Names.{ChannelName, ConstructorName, clause_names, declared_as, spellings}
 use Rattle.csp_checking.proofs.OneMore.{flat_map_one_more}
 use Rattle.csp_parse.specs.declared.declarations.Declaration.{Declaration}
 use Rattle.csp_parse.specs.declared.names.Name.{Name}
-use Rattle.csp_parse.specs.Declarations.{declaration_of}
+use Rattle.csp_parse.specs.declared.declarations.Clause.{Clause}
+use Rattle.csp_parse.specs.Declarations.{clause_of, declaration_of}
 use Rattle.csp_parse.specs.Names.{name_of}
 use Rattle.csp_parse.specs.declared.declarations.Domain.{Domain}
 use Rattle.csp_parse.specs.declared.declarations.Declaration.TheVariants as declaration
@@ -36,9 +37,10 @@ module _ {A : Type 0} (f : RawDeclaration → List RawName) (ds : List (Declarat
       ∙ ap (flat_map f) (map-append declaration_of (take n ds) (d ∷ []))
       ∙ flat_map_one_more f (map declaration_of (take n ds)) (declaration_of d)
 
-  pub some_more_named : (d : Declaration A) (old more : List Name) (all all' : Vec Name A) → n < length ds → d ≡ get_or ds n d → AreNamed f ds n old → f (declaration_of d) ≡ map name_of more → all ≡ all' → all'.items ≡ old ++ more → AreNamed f ds (n + 1) all.items
+  pub some_more_named : (d : Declaration A) (old : List Name) (more : List RawName) (all all' : Vec Name A) → n < length ds → d ≡ get_or ds n d → AreNamed f ds n old → f (declaration_of d) ≡ more → all ≡ all' →
+      map name_of all'.items ≡ map name_of old ++ more → AreNamed f ds (n + 1) all.items
   some_more_named d old more all all' within read are is same pushed =
-      ap (λ v. map name_of v.items) same ∙ ap (map name_of) pushed ∙ map-append name_of old more ∙ ap (λ xs. xs ++ map name_of more) are ∙ ap (λ xs. flat_map f (map declaration_of (take n ds)) ++ xs) (sym is)
+      ap (λ v. map name_of v.items) same ∙ pushed ∙ ap (λ xs. xs ++ more) are ∙ ap (λ xs. flat_map f (map declaration_of (take n ds)) ++ xs) (sym is)
       ∙ sym (declarations_with_one_more d within read)
 
   pub all_named : (names : List Name) → length ds ≤ n → AreNamed f ds n names → map name_of names ≡ flat_map f (map declaration_of ds)
@@ -48,8 +50,8 @@ module _ {A : Type 0} (f : RawDeclaration → List RawName) (ds : List (Declarat
 pub channels_declared : {A : Type 0} (d : Declaration A) (ns : Vec Name A) (ds : Vec (Domain A) A) (names : List Name) → d ≡ declaration.Channels ns ds → names ≡ ns.items → declared_as ChannelName (declaration_of d) ≡ map name_of names
 channels_declared d ns ds names is same = ap (λ x. declared_as ChannelName (declaration_of x)) is ∙ ap (map name_of) (sym same)
 
-pub constructors_declared : {A : Type 0} (d : Declaration A) (n : Name) (ns : Vec Name A) (names : List Name) → d ≡ declaration.Datatype n ns → names ≡ ns.items → declared_as ConstructorName (declaration_of d) ≡ map name_of names
-constructors_declared d n ns names is same = ap (λ x. declared_as ConstructorName (declaration_of x)) is ∙ ap (map name_of) (sym same)
+pub constructors_declared : {A : Type 0} (d : Declaration A) (n : Name) (cs : Vec (Clause A) A) (clauses : List (Clause A)) → d ≡ declaration.Datatype n cs → clauses ≡ cs.items → declared_as ConstructorName (declaration_of d) ≡ clause_names (map clause_of clauses)
+constructors_declared d n cs clauses is same = ap (λ x. declared_as ConstructorName (declaration_of x)) is ∙ ap (λ xs. clause_names (map clause_of xs)) (sym same)
 
 -- other declarations have none
 pub no_channels : {A : Type 0} (d : Declaration A) → ((ns : Vec Name A) (ds : Vec (Domain A) A) → d ≡ declaration.Channels ns ds → ⊥) → declared_as ChannelName (declaration_of d) ≡ []
@@ -57,14 +59,26 @@ no_channels (declaration.Channels ns ds) other = absurd (other ns ds refl)
 no_channels (declaration.Datatype n ns) other = refl
 no_channels (declaration.Nametype n d) other = refl
 no_channels (declaration.Equation n ns p) other = refl
-no_channels (declaration.Assertion t m p q) other = refl
+no_channels (declaration.Assertion t n a p) other = refl
 
-pub no_constructors : {A : Type 0} (d : Declaration A) → ((n : Name) (ns : Vec Name A) → d ≡ declaration.Datatype n ns → ⊥) → declared_as ConstructorName (declaration_of d) ≡ []
+pub no_constructors : {A : Type 0} (d : Declaration A) → ((n : Name) (cs : Vec (Clause A) A) → d ≡ declaration.Datatype n cs → ⊥) → declared_as ConstructorName (declaration_of d) ≡ []
 no_constructors (declaration.Datatype n ns) other = absurd (other n ns refl)
 no_constructors (declaration.Channels ns ds) other = refl
 no_constructors (declaration.Nametype n d) other = refl
 no_constructors (declaration.Equation n ns p) other = refl
-no_constructors (declaration.Assertion t m p q) other = refl
+no_constructors (declaration.Assertion t n a p) other = refl
+
+-- the constructors of clauses so far, and one more
+pub one_more_clause : {A : Type 0} (start : List RawName) (cs : List (Clause A)) (n : ℕ) (c : Clause A) (old new : List Name) → n < length cs → c ≡ get_or cs n c → map name_of old ≡ start ++ clause_names (map clause_of (take n cs)) →
+    new ≡ old ++ c.name ∷ [] → map name_of new ≡ start ++ clause_names (map clause_of (take (n + 1) cs))
+one_more_clause start cs n c old new within read are pushed =
+    ap (map name_of) pushed ∙ map-append name_of old (c.name ∷ []) ∙ ap (λ xs. xs ++ name_of c.name ∷ []) are ∙ append_assoc start (clause_names (map clause_of (take n cs))) (name_of c.name ∷ [])
+    ∙ ap (λ xs. start ++ xs)
+    (sym (ap (λ xs. clause_names (map clause_of xs)) (take_more cs n c within ∙ ap (λ x. take n cs ++ x ∷ []) (sym read)) ∙ ap clause_names (map-append clause_of (take n cs) (c ∷ []))
+    ∙ map-append (λ x. x.name) (map clause_of (take n cs)) (clause_of c ∷ [])))
+
+pub all_clauses : {A : Type 0} (start : List RawName) (cs : List (Clause A)) (n : ℕ) (names : List Name) → length cs ≤ n → map name_of names ≡ start ++ clause_names (map clause_of (take n cs)) → map name_of names ≡ start ++ clause_names (map clause_of cs)
+all_clauses start cs n names over are = are ∙ ap (λ xs. start ++ clause_names (map clause_of xs)) (take_all n cs over)
 
 -- ---- names in turn
 

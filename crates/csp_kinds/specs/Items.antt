@@ -5,7 +5,7 @@ use Rattle.csp_text.specs.Raw.{RawDeclaration, RawEquation, RawAssertion, RawScr
 use Rattle.csp_checking.specs.Names.{binding, bound_in_declaration, environment_of, spellings}
 use Rattle.csp_checking.specs.Scripts.{assertion_declared, equation_declared}
 use Rattle.csp_checking.specs.Sets.{in_order}
-use Rattle.csp_checking.specs.Sites.{Site, in_declaration, in_parameters, in_process}
+use Rattle.csp_checking.specs.Sites.{Site, in_declaration, in_parameters, in_process, in_property}
 use Rattle.csp_checking.specs.Walks.{AllFine}
 use Rattle.csp_term.specs.Script.{assertion_of, equation_of}
 use Rattle.csp_names.specs.declared.bound_names.BoundNames.{BoundNames}
@@ -31,7 +31,7 @@ pub record AreItemsOf {A : Type 0} (raw above : RawScript) (items : Items A) : T
 -- the sites of a declaration's processes
 abbrev pub in_processes : RawScript → RawDeclaration → List Site
 in_processes raw (RawEquation name parameters body) = in_parameters (environment_of raw) parameters ++ in_process (binding (environment_of raw) parameters) body
-in_processes raw (RawAssertion place model p q) = in_process (environment_of raw) p ++ in_process (environment_of raw) q
+in_processes raw (RawAssertion place n a p) = in_property (environment_of raw) a ++ in_process (environment_of raw) p
 in_processes raw _ = []
 
 -- The sites of the declaration's processes are fine, and it is added if it is an equation or an assertion.

@@ -7,10 +7,10 @@ use Rattle.std.specs.declared.vec.Vec.{Vec}
 use Rattle.csp_syntax.specs.Value.{Value}
 use Rattle.csp_text.specs.Raw.{RawScript}
 use Rattle.csp_checking.specs.Names.{spellings}
-use Rattle.csp_checking.specs.Sets.{channel_members, datatypes_of, nametype_members}
+use Rattle.csp_checking.specs.Sets.{channel_members, constructor_members, datatypes_of, nametype_members}
 use Rattle.csp_value.specs.declared.field_set.FieldSet.{FieldSet}
 use Rattle.csp_expression.specs.declared.types.TypeTable.{TypeTable}
-use Rattle.csp_expression.specs.Evaluation.{constructors_of, members_listed}
+use Rattle.csp_expression.specs.Evaluation.{constructors_of, members_listed, table_of}
 use Rattle.csp_parse.specs.declared.names.Name.{Name}
 use Rattle.csp_parse.specs.Names.{name_of}
 use Rattle.csp_term.specs.declared.script.Channel.{Channel}
@@ -22,6 +22,7 @@ use Rattle.csp_names.specs.Scopes.{known_sets}
 pub record AreTypesOf {A : Type 0} (raw : RawScript) (types : TypeTable A) : Type 0 where
   pub datatypes : map constructors_of types.datatypes.items ≡ datatypes_of raw
   pub nametypes : map Some (map members_listed types.nametypes.items) ≡ nametype_members raw
+  pub constructors : map Some (table_of types).constructors ≡ constructor_members raw
 
 -- They are the field sets of the tree's channels, and each is known.
 pub record AreFieldSetsOf {A : Type 0} (raw : RawScript) (field_sets : List (Option (Vec (FieldSet A) A))) : Type 0 where

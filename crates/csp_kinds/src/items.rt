@@ -69,16 +69,16 @@ impl<A: Allocator + Copy> Items<A> {
                 Ok(())
             }
             Declaration::Assertion {
-                model,
-                specification,
+                negated,
+                property,
                 implementation,
                 ..
             } => {
                 let assertion = scope.resolve_assertion(
                     alloc,
                     bound,
-                    *model,
-                    specification,
+                    *negated,
+                    property,
                     implementation,
                 )?;
                 self.assertions.push(assertion)?;

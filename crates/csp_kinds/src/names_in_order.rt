@@ -1,11 +1,11 @@
 //! The names of the channels and of the constructors of a tree, in the order of the text.
 
-ghost use Rattle.std.specs.Prelude.{◌≡◌, IfOk, flat_map, map};
-ghost use Rattle.csp_checking.specs.Names.{ChannelName, ConstructorName, declared_as};
-ghost use Rattle.csp_parse.specs.Declarations.{script_of};
+ghost use Rattle.std.specs.Prelude.{◌≡◌, ◌++◌, IfOk, OnOk, flat_map, map};
+ghost use Rattle.csp_checking.specs.Names.{ChannelName, ConstructorName, clause_names, declared_as};
+ghost use Rattle.csp_parse.specs.Declarations.{clause_of, script_of};
 ghost use Rattle.csp_parse.specs.Names.{name_of};
 
-use csp_parse::{Declaration, Name, Raw};
+use csp_parse::{Clause, Declaration, Name, Raw};
 use std::alloc::{AllocError, Allocator};
 
 /// The names of all channels.
@@ -33,9 +33,22 @@ pub(crate) fn constructor_names<'t, A: Allocator + Copy>(
 {
     let mut all = Vec::new(alloc);
     for declaration in &raw.declarations {
-        if let Declaration::Datatype { constructors, .. } = declaration {
-            all.extend_from_slice(constructors)?;
+        if let Declaration::Datatype { clauses, .. } = declaration {
+            add_clauses(&mut all, clauses)?;
         }
     }
     Ok(all)
+}
+
+/// Adds the constructors of clauses.
+fn add_clauses<'t, A: Allocator + Copy>(
+    all: &mut Vec<Name<'t>, A>,
+    clauses: &[Clause<'t, A>],
+) -> Result<(), AllocError>
+    ensures { OnOk result (map name_of all.new.items ≡ map name_of all.old.items ++ clause_names (map clause_of clauses.now)) }
+{
+    for clause in clauses {
+        all.push(clause.name)?;
+    }
+    Ok(())
 }

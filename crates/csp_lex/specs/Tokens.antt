@@ -53,6 +53,7 @@ sign_of sign.CloseProductions = text.CloseProductionsSign
 sign_of sign.Traces = text.TracesSign
 sign_of sign.Failures = text.FailuresSign
 sign_of sign.Interrupt = text.InterruptSign
+sign_of sign.Sliding = text.SlidingSign
 sign_of sign.Hiding = text.HidingSign
 sign_of sign.Semicolon = text.SemicolonSign
 sign_of sign.Guard = text.GuardSign

@@ -67,6 +67,7 @@ fn of_two(first: char, second: char) -> Option<Mark>
         ('{', '|') => Some(Mark::Sign(Sign::OpenProductions)),
         ('|', '}') => Some(Mark::Sign(Sign::CloseProductions)),
         ('/', '\\') => Some(Mark::Sign(Sign::Interrupt)),
+        ('[', '>') => Some(Mark::Sign(Sign::Sliding)),
         ('=', '=') => Some(Mark::Sign(Sign::Same)),
         ('!', '=') => Some(Mark::Sign(Sign::Differs)),
         ('<', '=') => Some(Mark::Sign(Sign::AtMost)),

@@ -37,6 +37,8 @@ pub enum Sign {
     Failures,
     /// `/\`
     Interrupt,
+    /// `[>`
+    Sliding,
     /// `\`
     Hiding,
     /// `;`
@@ -123,6 +125,7 @@ impl Sign {
             Sign::Traces => "[T=",
             Sign::Failures => "[F=",
             Sign::Interrupt => "/\\",
+            Sign::Sliding => "[>",
             Sign::Hiding => "\\",
             Sign::Semicolon => ";",
             Sign::Guard => "&",

@@ -8,7 +8,8 @@ use Rattle.csp_syntax.specs.Process as process
 use Rattle.csp_text.specs.Raw.{RawName, RawCall}
 use Rattle.csp_checking.specs.Names.{Environment, meaning}
 use Rattle.csp_checking.specs.Resolving as resolving
-use Rattle.csp_checking.specs.Sites.{AsEquation, Site, Used, in_expressions, in_process, number_of}
+use Rattle.csp_checking.specs.Resolving.{number_of}
+use Rattle.csp_checking.specs.Sites.{AsEquation, Site, Used, in_expressions, in_process}
 use Rattle.csp_parse.specs.declared.expressions.Expression.{Expression}
 use Rattle.csp_parse.specs.Expressions.{expressions_of}
 use Rattle.csp_expression.specs.declared.expr.Expr.{Expr}

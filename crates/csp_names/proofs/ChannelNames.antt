@@ -2,16 +2,15 @@
 use Rattle.std.specs.Prelude.{flat_map, nat_lt, not, slice_get, option_and_then}
 use Rattle.std.proofs.lemmas.Bool.{eqb-true, eqb-false, ltb-true, ltb-false}
 use Rattle.std.proofs.Common.{◌≡◌, ◌<◌, ◌≤◌, ℕ, Bool, true, false, List, [], ◌∷◌, Option, Some, None, refl, sym, ap, ◌∙◌, subst}
-use Rattle.csp_syntax.specs.Expression.{Expression}
 use Rattle.csp_text.specs.Raw.{RawName}
 use Rattle.csp_lex.specs.declared.places.Place.{Place}
 use Rattle.csp_lex.specs.Places.{place_of}
 use Rattle.csp_checking.specs.Names.{DatatypeName, ConstructorName, NametypeName, ChannelName, EquationName, Meaning, Declared, Bound, Environment, meaning}
-use Rattle.csp_checking.specs.Resolving.{as_channel, as_equation, as_expression}
+use Rattle.csp_checking.specs.Resolving.{as_channel, as_equation}
 use Rattle.csp_checking.specs.Rules.{suits, parameters_declared, fields_declared, parameter_count, field_count, unknown, wrong_class, arguments, fields, too_many_fields}
-use Rattle.csp_checking.specs.Sites.{Use, AsExpression, AsEquation, AsEvent, AsProductions, AsBareLeft, AsBareRight, Site, Used}
+use Rattle.csp_checking.specs.Sites.{Use, AsExpression, AsConstructor, AsEquation, AsEvent, AsProductions, AsBareLeft, AsBareRight, Site, Used}
 use Rattle.csp_checking.specs.Walks.{IsFine, IsStoppedAt}
-use Rattle.csp_checking.proofs.FineSites.{equation_fine, event_fine, expression_fine}
+use Rattle.csp_checking.proofs.FineSites.{equation_fine, event_fine}
 use Rattle.csp_checking.proofs.SingleSites.{arguments_stop, class_stops, fields_stop, productions_fine, productions_stop}
 use Rattle.csp_names.specs.declared.refusals.KindFault.{KindFault}
 use Rattle.csp_names.specs.declared.refusals.KindFault.TheVariants as fault
@@ -46,6 +45,7 @@ is_equation (Declared EquationName k) q e = let same : q ≡ k = cc e in ap (Dec
 
 channel_suits : (u : Use) (c : ℕ) → uses_channel u ≡ true → suits u (Declared ChannelName c) ≡ true
 channel_suits AsExpression c is = absurd (cc is)
+channel_suits (AsConstructor k) c is = absurd (cc is)
 channel_suits (AsEquation k) c is = absurd (cc is)
 channel_suits (AsEvent k) c is = refl
 channel_suits (AsProductions k) c is = refl
@@ -55,6 +55,7 @@ channel_suits (AsBareRight n) c is = refl
 no_channel : (u : Use) (m : Meaning) → uses_channel u ≡ true → None ≡ as_channel (Some m) → suits u m ≡ false
 no_channel u (Declared ChannelName k) is none = absurd (cc none)
 no_channel AsExpression m is none = absurd (cc is)
+no_channel (AsConstructor k) m is none = absurd (cc is)
 no_channel (AsEquation k) m is none = absurd (cc is)
 no_channel (AsEvent k) (Bound j) is none = refl
 no_channel (AsEvent k) (Declared DatatypeName j) is none = refl
@@ -161,28 +162,3 @@ module _ (env : Environment) (n : RawName) (k : ℕ) where
     pub call_disagrees : (count : Option ℕ) → parameter_count env n ≡ count → agree count k ≡ false → IsStoppedAt (Used env (AsEquation k) n ∷ []) (fault_of fault.WrongCount) n.place
     call_disagrees None counted so = absurd (cc so)
     call_disagrees (Some p) counted so = arguments_stop env k n (Declared EquationName q) p is refl counted (eqb-false p k so)
-
--- ---- a name that is an expression
-
-module _ (env : Environment) (n : RawName) (m : Meaning) (is : meaning env n ≡ Some m) where
-  pub no_expression : None ≡ as_expression (Some m) → IsStoppedAt (Used env AsExpression n ∷ []) (fault_of fault.WrongKind) n.place
-  no_expression none = class_stops env AsExpression n m is (unsuited m none)
-    where
-      unsuited : (x : Meaning) → None ≡ as_expression (Some x) → suits AsExpression x ≡ false
-      unsuited (Bound j) e = absurd (cc e)
-      unsuited (Declared DatatypeName j) e = absurd (cc e)
-      unsuited (Declared ConstructorName j) e = absurd (cc e)
-      unsuited (Declared NametypeName j) e = absurd (cc e)
-      unsuited (Declared ChannelName j) e = refl
-      unsuited (Declared EquationName j) e = refl
-
-  pub expression_is_fine : (e : Expression) → Some e ≡ as_expression (Some m) → IsFine (Used env AsExpression n)
-  expression_is_fine e there = expression_fine env n m is (suited m there)
-    where
-      suited : (x : Meaning) → Some e ≡ as_expression (Some x) → suits AsExpression x ≡ true
-      suited (Bound j) h = refl
-      suited (Declared DatatypeName j) h = refl
-      suited (Declared ConstructorName j) h = refl
-      suited (Declared NametypeName j) h = refl
-      suited (Declared ChannelName j) h = absurd (cc h)
-      suited (Declared EquationName j) h = absurd (cc h)

@@ -6,7 +6,8 @@ use Rattle.csp_syntax.specs.Process as pure
 use Rattle.csp_text.specs.Raw.{RawName, RawExpressions}
 use Rattle.csp_checking.specs.Names.{Environment, meaning}
 use Rattle.csp_checking.specs.Resolving as resolving
-use Rattle.csp_checking.specs.Sites.{Use, Site, Used, in_expressions, number_of}
+use Rattle.csp_checking.specs.Resolving.{number_of}
+use Rattle.csp_checking.specs.Sites.{Use, Site, Used, in_expressions}
 use Rattle.csp_parse.specs.declared.expressions.Expression as raw
 use Rattle.csp_parse.specs.Expressions as written
 use Rattle.csp_value.specs.declared.name.ChannelId.{ChannelId}

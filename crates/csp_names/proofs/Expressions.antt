@@ -5,15 +5,16 @@ use Rattle.std.specs.declared.vec.Vec.{Vec}
 use Rattle.csp_syntax.specs.Expression as pure
 use Rattle.csp_syntax.specs.Expression.{to_expressions}
 use Rattle.csp_syntax.specs.Value.{Integer, Truth}
-use Rattle.csp_text.specs.Raw.{RawExpression, RawNumber, RawTruth, RawBooleans, RawApply, RawExpressions}
+use Rattle.csp_text.specs.Raw.{RawName, RawExpression, RawNumber, RawTruth, RawBooleans, RawApply, RawConstructor, RawExpressions}
 use Rattle.csp_checking.specs.Names.{Environment}
 use Rattle.csp_checking.specs.Resolving as resolving
-use Rattle.csp_checking.specs.Resolving.{of_two, every}
-use Rattle.csp_checking.specs.Sites.{Site, in_expression, in_expressions}
+use Rattle.csp_checking.specs.Resolving.{of_two, every, number_of}
+use Rattle.csp_checking.specs.Sites.{AsConstructor, Site, Used, in_expression, in_expressions}
 use Rattle.csp_checking.specs.Walks.{AllFine}
 use Rattle.csp_checking.proofs.Walking.{fine_both}
 use Rattle.csp_parse.specs.declared.expressions.Expression.{Expression}
 use Rattle.csp_parse.specs.Expressions.{expression_of, expressions_of}
+use Rattle.csp_value.specs.declared.name.ConId.{ConId}
 use Rattle.csp_expression.specs.declared.expr.Expr.{Expr}
 use Rattle.csp_expression.specs.Expression as terms
 use Rattle.csp_names.specs.declared.bound_names.BoundNames.{BoundNames}
@@ -21,7 +22,8 @@ use Rattle.csp_names.specs.declared.refusals.Refused.{Refused}
 use Rattle.csp_names.specs.declared.refusals.Refused.TheVariants as refused
 use Rattle.csp_names.specs.declared.scope.Scope.{Scope}
 use Rattle.csp_names.specs.Scopes.{StandsFor}
-use Rattle.csp_names.specs.Walks.{ResolvesExpression, ResolvesExpressions, Stops}
+use Rattle.csp_names.specs.Walks.{ResolvesConstructor, ResolvesExpression, ResolvesExpressions, Stops}
+use Rattle.csp_names.proofs.Resolves.{number_of_list}
 use Rattle.csp_names.proofs.Walking.{all_passed, made, one_passed, Passed, passed_stops, stops_behind, stops_first, stops_for_room}
 
 -- ---- several expressions
@@ -134,3 +136,25 @@ module _ {A : Type 0} (scope : Scope A) (bound : BoundNames A) (e : RawExpressio
         let part = h env stands in
         let P : List Site → Type 0 = AllFine in
         (subst P (sym (holds env)) part.0, means env ∙ ap (option_map f) part.1 ∙ ap Some (sym makes)))
+
+  -- a constructor with its fields
+  module _ (n : RawName) (es : List (Expression A)) (count : ℕ) (counted : count ≡ length es) (is : e ≡ RawConstructor n (expressions_of es)) where
+    abbrev head : Environment → List Site
+    head env = Used env (AsConstructor (number_of (expressions_of es))) n ∷ []
+
+    named : (r : Result ConId Refused) → ResolvesConstructor scope bound count n r → ResolvesConstructor scope bound (number_of (expressions_of es)) n r
+    named r h = let P : ℕ → Type 0 = λ k. ResolvesConstructor scope bound k n r in subst P (counted ∙ number_of_list es) h
+
+    pub constructor_stops : (f : Refused) → ResolvesConstructor scope bound count n (Err f) → Resolved (Err f)
+    constructor_stops f h = whole (RawConstructor n (expressions_of es)) (Err f) is (λ env stands. stops_first (head env) (in_expressions env (expressions_of es)) f (named (Err f) h env stands))
+
+    pub fields_stop : (k : ConId) (f : Refused) → ResolvesConstructor scope bound count n (Ok k) → ResolvesExpressions scope bound (expressions_of es) (Err f) → Resolved (Err f)
+    fields_stop k f h rest = whole (RawConstructor n (expressions_of es)) (Err f) is (λ env stands.
+        stops_behind (head env) (in_expressions env (expressions_of es)) f (named (Ok k) h env stands).0 (rest env stands))
+
+    pub constructor_resolved : (k : ConId) (v : Vec (Expr A) A) (t : Expr A) → ResolvesConstructor scope bound count n (Ok k) → ResolvesExpressions scope bound (expressions_of es) (Ok v) →
+        terms.expression_of t ≡ pure.ConstructorOf k.0 (to_expressions (terms.expressions_of v.items)) → Resolved (Ok t)
+    constructor_resolved k v t h rest makes = whole (RawConstructor n (expressions_of es)) (Ok t) is (λ env stands.
+        let first = named (Ok k) h env stands in
+        let fields = rest env stands in
+        (fine_both (head env) (in_expressions env (expressions_of es)) first.0 fields.0, ap₂ (of_two pure.ConstructorOf) first.1 fields.1 ∙ ap Some (sym makes)))

@@ -5,7 +5,7 @@ use Rattle.std.proofs.lemmas.List.{drop_more, get_or-map, length-map, take_more,
 use Rattle.std.proofs.Common.{◌≡◌, ◌<◌, ◌≤◌, ℕ, suc, ◌+◌, Bool, true, false, List, [], ◌∷◌, ◌++◌, get_or, length, map, Option, Some, None, Result, Ok, Err, refl, sym, ap, ap₂, ◌∙◌, subst, arith}
 use Rattle.csp_syntax.specs.Process as pure
 use Rattle.csp_text.specs.Raw.{RawName, RawExpression, RawField, RawGiven, RawInput, RawInputFrom}
-use Rattle.csp_checking.specs.Names.{Environment, binding, bound_by_fields, declared_meaning, number_in, spellings, with_spellings}
+use Rattle.csp_checking.specs.Names.{Environment, binding, bound_by_fields, declared_meaning, fields_of_constructor, number_in, spellings, with_spellings}
 use Rattle.csp_checking.specs.Resolving as resolving
 use Rattle.csp_checking.specs.Sites.{BoundThere, Site, in_expression, in_fields}
 use Rattle.csp_checking.specs.Walks.{AllFine, IsFine, IsStoppedAt}
@@ -54,6 +54,7 @@ module _ {A : Type 0} (scope : Scope A) (env : Environment) (old new : BoundName
         stands = record {
           texts = h.stands.texts;
           declared = λ s. ap (λ ds. declared_meaning ds s) D ∙ h.stands.declared s;
+          constructors = λ s k means. ap (λ ds. fields_of_constructor ds k) D ∙ h.stands.constructors s k (sym (ap (λ ds. declared_meaning ds s) D) ∙ means);
           in_order = binds.in_order;
           numbered = λ s i e. ap (λ t. number_in t s) (same_table env ns) ∙ numbers_of_first (bound_spellings old) (spellings ns) bs env.numbered h.numbers s i (sym (ap (λ ss. number_in ss s) binds.spellings) ∙ e);
           times = λ s. binds.times s ∙ ap (λ k. occurrences (spellings ns) s + k) (h.stands.times s) ∙ sym (bound_inside env ns s);

@@ -14,6 +14,7 @@ use Rattle.csp_checking.specs.Names.{Environment, bound_in, spellings}
 use Rattle.csp_checking.specs.Resolving as resolving
 use Rattle.csp_checking.specs.Resolving.{of_two}
 use Rattle.csp_checking.specs.Sites.{Site, in_event_set, in_expression, in_pair, in_process}
+use Rattle.csp_parse.specs.declared.processes.Infix.TheVariants as joining
 use Rattle.csp_parse.specs.Processes.{infix_of, replicator_of}
 use Rattle.csp_expression.specs.declared.expr.Expr.{Expr}
 use Rattle.csp_expression.specs.Expression as terms
@@ -39,7 +40,7 @@ made_of_form (Ok t) form p is makes = makes ∙ is
 made_of_form (Err f) form p is makes = makes
 
 -- the operators of the code and of the definitions
-pub infix_term : (op : ProcessOperator) (p q : process.Process) → operators.binary_process op p q ≡ resolving.infix_process (infix_of op) p q
+pub infix_term : (op : ProcessOperator) (p q : process.Process) → operators.binary_process op p q ≡ resolving.infix_process (infix_of (joining.Operator op)) p q
 infix_term chaining.ExternalChoice p q = refl
 infix_term chaining.InternalChoice p q = refl
 infix_term chaining.Sequential p q = refl

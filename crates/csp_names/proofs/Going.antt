@@ -81,6 +81,7 @@ module _ {A : Type 0} (scope : Scope A) (env : Environment) where
         stands = record {
           texts = h.stands.texts;
           declared = h.stands.declared;
+          constructors = h.stands.constructors;
           in_order = binds.in_order;
           numbered = subst P (sym binds.spellings) (numbers_of_first (bound_spellings old) ms ns env.numbered h.numbers);
           times = λ s. binds.times s ∙ omega arith ∙ h.stands.times s;

@@ -1,6 +1,7 @@
 pub mod Rows
 pub mod BoundRows
 pub mod NamesAdded
+pub mod ConstructorsAdded
 pub mod DeclarationsAdded
 pub mod Walking
 pub mod Written
@@ -8,6 +9,7 @@ pub mod Expressions
 pub mod Going
 pub mod NameMeanings
 pub mod ChannelNames
+pub mod ConstructorNames
 pub mod Sizes
 pub mod Fields
 pub mod Resolves

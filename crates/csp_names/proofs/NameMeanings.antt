@@ -1,11 +1,12 @@
 -- What a name means in a scope.
-use Rattle.std.specs.Prelude.{cond, is_some, nat_lt, option_map}
+use Rattle.std.specs.Prelude.{cond, is_some, nat_lt, option_and_then, option_map, slice_get}
 use Rattle.std.specs.Option.{option_map_or}
 use Rattle.std.specs.Str.{bytes_eq}
 use Rattle.std.proofs.Common.{◌≡◌, ℕ, suc, Bool, true, false, List, [], ◌∷◌, Option, Some, None, refl, sym, ap, ◌∙◌, arith}
 use Rattle.std.proofs.lemmas.Bool.{lt-ltb}
 use Rattle.csp_text.specs.Raw.{RawName}
-use Rattle.csp_checking.specs.Names.{Bound, declared_meaning, Environment, has_spelling, meaning, number_in}
+use Rattle.csp_checking.specs.Names.{Bound, Class, ConstructorName, Declared, declared_meaning, Environment, fields_of_constructor, has_spelling, Meaning, meaning, number_in}
+use Rattle.csp_checking.specs.Resolving.{as_constructor, constructor_count}
 use Rattle.csp_names.specs.declared.bound_names.BoundName.{BoundName}
 use Rattle.csp_names.specs.declared.bound_names.BoundNames.{BoundNames}
 use Rattle.csp_names.specs.declared.scope.Scope.{Scope}
@@ -49,3 +50,14 @@ module _ {A : Type 0} (scope : Scope A) (bound : BoundNames A) (env : Environmen
       go : (b : Bool) → nat_lt 0 (times_at bound n.spelling) ≡ b → None ≡ cond b (number_at bound n.spelling) None → meaning env n ≡ declared_at scope.names.now scope.visible n.spelling
       go true e here = let none : times_at bound n.spelling ≡ 0 = no_times (row_at (bound_rows bound) n.spelling) (sym here) in let both : true ≡ false = sym e ∙ ap (nat_lt 0) none in absurd (cc both)
       go false e here = ap (λ b. cond b (option_map Bound (number_in env.numbered n.spelling)) (declared_meaning env.declarations n.spelling)) (is_bound false e) ∙ stands.declared n.spelling
+
+  -- a constructor that a name means has the number of fields that the table tells
+  declared_one : (class : Class) (k : ℕ) (b : Bool) (o : Option ℕ) (d : Option Meaning) → cond b (option_map Bound o) d ≡ Some (Declared class k) → d ≡ Some (Declared class k)
+  declared_one class k true (Some j) d e = let both : Bound j ≡ Declared class k = cc e in absurd (cc both)
+  declared_one class k true None d e = absurd (cc e)
+  declared_one class k false o d e = e
+
+  pub constructor_has : (k : ℕ) → meaning env n ≡ Some (Declared ConstructorName k) → constructor_count env n ≡ slice_get scope.names.now.constructors.items k
+  constructor_has k means =
+      ap (λ m. option_and_then (fields_of_constructor env.declarations) (as_constructor m)) means
+      ∙ stands.constructors n.spelling k (declared_one ConstructorName k (has_spelling env.bound n.spelling) (number_in env.numbered n.spelling) (declared_meaning env.declarations n.spelling) means)

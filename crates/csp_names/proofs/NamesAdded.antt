@@ -89,8 +89,9 @@ module _ {A : Type 0} where
   pub redeclares_in_first : (names : Names A) (ns more : List RawName) (r : Refused) → Redeclares names ns r → Redeclares names (ns ++ more) r
   redeclares_in_first names ns more r h before held = let P : List RawName → Type 0 = λ zs. IsRedeclaration zs r in subst P (append_assoc before ns more) (redeclared_more (before ++ ns) more r (h before held))
 
-  pub redeclares_behind : (old new : Names A) (rows : List Row) (added more : List RawName) (parameters fields : List ℕ) (r : Refused) → Adds old new rows added parameters fields → Redeclares new more r → Redeclares old (added ++ more) r
-  redeclares_behind old new rows added more parameters fields r adds h before held =
+  pub redeclares_behind : (old new : Names A) (rows : List Row) (added more : List RawName) (parameters constructors fields : List ℕ) (r : Refused) →
+      Adds old new rows added parameters constructors fields → Redeclares new more r → Redeclares old (added ++ more) r
+  redeclares_behind old new rows added more parameters constructors fields r adds h before held =
       let P : List RawName → Type 0 = λ zs. IsRedeclaration zs r in subst P (append_assoc before added more) (h (before ++ added) (adds.held before held))
 
   -- a name that is there
@@ -99,18 +100,21 @@ module _ {A : Type 0} where
 
   -- ---- names that are added
 
-  pub nothing_added : (names : Names A) → Adds names names [] [] [] []
+  pub nothing_added : (names : Names A) → Adds names names [] [] [] [] []
   nothing_added names = record {
     rows = sym (append-nil (rows_of names));
     parameters = sym (append-nil names.parameters.items);
+    constructors = sym (append-nil names.constructors.items);
     fields = sym (append-nil names.fields.items);
     held = λ ns h. let P : List RawName → Type 0 = Holds names in subst P (sym (append-nil ns)) h;
   }
 
-  pub added_both : (a b c : Names A) (r s : List Row) (ns ms : List RawName) (p q f g : List ℕ) → Adds a b r ns p f → Adds b c s ms q g → Adds a c (r ++ s) (ns ++ ms) (p ++ q) (f ++ g)
-  added_both a b c r s ns ms p q f g x y = record {
+  pub added_both : (a b c : Names A) (r s : List Row) (ns ms : List RawName) (p q k l f g : List ℕ) → Adds a b r ns p k f → Adds b c s ms q l g →
+      Adds a c (r ++ s) (ns ++ ms) (p ++ q) (k ++ l) (f ++ g)
+  added_both a b c r s ns ms p q k l f g x y = record {
     rows = y.rows ∙ ap (λ z. z ++ s) x.rows ∙ append_assoc (rows_of a) r s;
     parameters = y.parameters ∙ ap (λ z. z ++ q) x.parameters ∙ append_assoc a.parameters.items p q;
+    constructors = y.constructors ∙ ap (λ z. z ++ l) x.constructors ∙ append_assoc a.constructors.items k l;
     fields = y.fields ∙ ap (λ z. z ++ g) x.fields ∙ append_assoc a.fields.items f g;
     held = λ zs h. let P : List RawName → Type 0 = Holds c in subst P (append_assoc zs ns ms) (y.held (zs ++ ns) (x.held zs h));
   }
@@ -123,28 +127,23 @@ module _ {A : Type 0} where
     once = h.once;
   }
 
-  pub parameters_added : (a b : Names A) (k : ℕ) → b.table ≡ a.table → b.parameters.items ≡ a.parameters.items ++ k ∷ [] → b.fields.items ≡ a.fields.items → Adds a b [] [] (k ∷ []) []
-  parameters_added a b k same parameters fields = record {
+  pub counts_added : (a b : Names A) (ps ks fs : List ℕ) → b.table ≡ a.table → b.parameters.items ≡ a.parameters.items ++ ps → b.constructors.items ≡ a.constructors.items ++ ks →
+      b.fields.items ≡ a.fields.items ++ fs → Adds a b [] [] ps ks fs
+  counts_added a b ps ks fs same parameters constructors fields = record {
     rows = ap (λ t. map row_of_entry t.entries) same ∙ sym (append-nil (rows_of a));
     parameters = parameters;
-    fields = fields ∙ sym (append-nil a.fields.items);
-    held = λ ns h. let P : List RawName → Type 0 = Holds b in subst P (sym (append-nil ns)) (held_in a b ns same h);
-  }
-
-  pub fields_added : (a b : Names A) (k : ℕ) → b.table ≡ a.table → b.parameters.items ≡ a.parameters.items → b.fields.items ≡ a.fields.items ++ k ∷ [] → Adds a b [] [] [] (k ∷ [])
-  fields_added a b k same parameters fields = record {
-    rows = ap (λ t. map row_of_entry t.entries) same ∙ sym (append-nil (rows_of a));
-    parameters = parameters ∙ sym (append-nil a.parameters.items);
+    constructors = constructors;
     fields = fields;
     held = λ ns h. let P : List RawName → Type 0 = Holds b in subst P (sym (append-nil ns)) (held_in a b ns same h);
   }
 
   -- a name that is not there
   pub name_added : (a b : Names A) (n : RawName) (row : Row) → row.0 ≡ n.spelling → (AreTexts a.table.entries → AreTexts b.table.entries) → (AreTexts a.table.entries → has_spelling (row_spellings (rows_of a)) n.spelling ≡ false) →
-      rows_of b ≡ rows_of a ++ row ∷ [] → b.parameters.items ≡ a.parameters.items → b.fields.items ≡ a.fields.items → Adds a b (row ∷ []) (n ∷ []) [] []
-  name_added a b n row spelling texts new rows parameters fields = record {
+      rows_of b ≡ rows_of a ++ row ∷ [] → b.parameters.items ≡ a.parameters.items → b.constructors.items ≡ a.constructors.items → b.fields.items ≡ a.fields.items → Adds a b (row ∷ []) (n ∷ []) [] [] []
+  name_added a b n row spelling texts new rows parameters constructors fields = record {
     rows = rows;
     parameters = parameters ∙ sym (append-nil a.parameters.items);
+    constructors = constructors ∙ sym (append-nil a.constructors.items);
     fields = fields ∙ sym (append-nil a.fields.items);
     held = λ ns h. record {
       texts = texts h.texts;
@@ -157,56 +156,64 @@ module _ {A : Type 0} where
 
   -- a name whose text is not there is put behind the others
   pub name_put : (a b : Names A) (q : Bor (List ℕ)) (n : RawName) (d : meanings.Declared) → IsUtf8 q.now → chars q.now ≡ n.spelling → is_some (lookup (is_key q.now) a.table.entries) ≡ false → b.table.entries ≡ insert_entry same_key a.table.entries q d →
-      b.parameters.items ≡ a.parameters.items → b.fields.items ≡ a.fields.items → Adds a b (row_of n d ∷ []) (n ∷ []) [] []
-  name_put a b q n d u spelling new put parameters fields =
+      b.parameters.items ≡ a.parameters.items → b.constructors.items ≡ a.constructors.items → b.fields.items ≡ a.fields.items → Adds a b (row_of n d ∷ []) (n ∷ []) [] [] []
+  name_put a b q n d u spelling new put parameters constructors fields =
       let behind : b.table.entries ≡ a.table.entries ++ (q, d) ∷ [] = put ∙ entry_behind q d a.table.entries new in
       name_added a b n (row_of n d) refl
       (λ texts. subst AreTexts (sym behind) (texts_behind a.table.entries (q, d) texts u))
       (λ texts. ap (has_spelling (row_spellings (rows_of a))) (sym spelling) ∙ sym (has_row q.now u a.table.entries texts) ∙ new)
       (ap (map row_of_entry) behind ∙ map-append row_of_entry a.table.entries ((q, d) ∷ []) ∙ ap (λ s. rows_of a ++ (s, declared_of d) ∷ []) spelling)
-      parameters fields
+      parameters constructors fields
 
--- ---- the names of a list, one behind the other
+-- ---- the names of the things of a list, one behind the other
 
-module _ (items : List Name) (i : ℕ) (x : Name) (within : i < length items) where
-  pub one_more_name : map name_of (take (i + 1) items) ≡ map name_of (take i items) ++ name_of (get_or items i x) ∷ []
-  one_more_name = ap (map name_of) (take_more items i x within) ∙ map-append name_of (take i items) (get_or items i x ∷ [])
+module _ {I : Type 0} (name : I → RawName) (items : List I) (i : ℕ) (x : I) (within : i < length items) where
+  pub one_more_name : map name (take (i + 1) items) ≡ map name (take i items) ++ name (get_or items i x) ∷ []
+  one_more_name = ap (map name) (take_more items i x within) ∙ map-append name (take i items) (get_or items i x ∷ [])
 
-  pub names_cut : map name_of items ≡ (map name_of (take i items) ++ name_of (get_or items i x) ∷ []) ++ map name_of (drop (i + 1) items)
-  names_cut = ap (map name_of) (sym (take-append-drop (i + 1) items)) ∙ map-append name_of (take (i + 1) items) (drop (i + 1) items) ∙ ap (λ ns. ns ++ map name_of (drop (i + 1) items)) one_more_name
+  pub names_cut : map name items ≡ (map name (take i items) ++ name (get_or items i x) ∷ []) ++ map name (drop (i + 1) items)
+  names_cut = ap (map name) (sym (take-append-drop (i + 1) items)) ∙ map-append name (take (i + 1) items) (drop (i + 1) items) ∙ ap (λ ns. ns ++ map name (drop (i + 1) items)) one_more_name
 
--- the names so far have been added, with numbers of a class from this one on
-abbrev pub AddsFirst : {A : Type 0} → Class → ℕ → List Name → ℕ → Names A → Names A → List ℕ → List ℕ → Type 0
-AddsFirst class first items i a b ps fs = Adds a b (numbered_rows class first (map name_of (take i items))) (map name_of (take i items)) ps fs
+-- the names so far have been added, with numbers of a class from this one on, and so many fields of constructors and of channels
+abbrev pub AddsFirst : {A I : Type 0} → (I → RawName) → Class → ℕ → List I → ℕ → Names A → Names A → List ℕ → List ℕ → Type 0
+AddsFirst name class first items i a b ks fs = Adds a b (numbered_rows class first (map name (take i items))) (map name (take i items)) [] ks fs
 
-module _ {A : Type 0} (class : Class) (first : ℕ) (items : List Name) (i : ℕ) (x : Name) (within : i < length items) (a b : Names A) (ps fs : List ℕ) where
-  pub one_more_added : (c : Names A) (k : ℕ) (qs gs : List ℕ) → AddsFirst class first items i a b ps fs → k ≡ first + i → Adds b c (((name_of (get_or items i x)).spelling, Declared class k) ∷ []) (name_of (get_or items i x) ∷ []) qs gs →
-      AddsFirst class first items (i + 1) a c (ps ++ qs) (fs ++ gs)
-  one_more_added c k qs gs so_far number one =
-      let names : map name_of (take (i + 1) items) ≡ map name_of (take i items) ++ name_of (get_or items i x) ∷ [] = one_more_name items i x within in
-      let counted : length (map name_of (take i items)) ≡ i = length-map (take i items) name_of ∙ length-take-le i items (omega (arith, within)) in
-      let rows : numbered_rows class first (map name_of (take (i + 1) items)) ≡ numbered_rows class first (map name_of (take i items)) ++ ((name_of (get_or items i x)).spelling, Declared class k) ∷ [] =
-      ap (numbered_rows class first) names ∙ numbered_one_more class first (map name_of (take i items)) (name_of (get_or items i x))
-      ∙ ap (λ m. numbered_rows class first (map name_of (take i items)) ++ ((name_of (get_or items i x)).spelling, Declared class m) ∷ []) (ap (λ m. first + m) counted ∙ sym number) in
-      let P : List Row → Type 0 = λ rs. Adds a c rs (map name_of (take (i + 1) items)) (ps ++ qs) (fs ++ gs) in
-      let Q : List RawName → Type 0 = λ ns. Adds a c (numbered_rows class first (map name_of (take i items)) ++ ((name_of (get_or items i x)).spelling, Declared class k) ∷ []) ns (ps ++ qs) (fs ++ gs) in
-      subst P (sym rows) (subst Q (sym names) (added_both a b c _ _ _ _ _ _ _ _ so_far one))
+module _ {A I : Type 0} (name : I → RawName) (class : Class) (first : ℕ) (items : List I) (i : ℕ) (x : I) (within : i < length items) (a b : Names A) (ks fs : List ℕ) where
+  pub one_more_added : (c : Names A) (k : ℕ) (ls gs : List ℕ) → AddsFirst name class first items i a b ks fs → k ≡ first + i →
+      Adds b c (((name (get_or items i x)).spelling, Declared class k) ∷ []) (name (get_or items i x) ∷ []) [] ls gs → AddsFirst name class first items (i + 1) a c (ks ++ ls) (fs ++ gs)
+  one_more_added c k ls gs so_far number one =
+      let names : map name (take (i + 1) items) ≡ map name (take i items) ++ name (get_or items i x) ∷ [] = one_more_name name items i x within in
+      let counted : length (map name (take i items)) ≡ i = length-map (take i items) name ∙ length-take-le i items (omega (arith, within)) in
+      let rows : numbered_rows class first (map name (take (i + 1) items)) ≡ numbered_rows class first (map name (take i items)) ++ ((name (get_or items i x)).spelling, Declared class k) ∷ [] =
+      ap (numbered_rows class first) names ∙ numbered_one_more class first (map name (take i items)) (name (get_or items i x))
+      ∙ ap (λ m. numbered_rows class first (map name (take i items)) ++ ((name (get_or items i x)).spelling, Declared class m) ∷ []) (ap (λ m. first + m) counted ∙ sym number) in
+      let P : List Row → Type 0 = λ rs. Adds a c rs (map name (take (i + 1) items)) [] (ks ++ ls) (fs ++ gs) in
+      let Q : List RawName → Type 0 = λ ns. Adds a c (numbered_rows class first (map name (take i items)) ++ ((name (get_or items i x)).spelling, Declared class k) ∷ []) ns [] (ks ++ ls) (fs ++ gs) in
+      subst P (sym rows) (subst Q (sym names) (added_both a b c _ _ _ _ [] [] ks ls fs gs so_far one))
 
-  pub one_redeclares : (r : Refused) → AddsFirst class first items i a b ps fs → Redeclares b (name_of (get_or items i x) ∷ []) r → Redeclares a (map name_of items) r
+  pub one_redeclares : (r : Refused) → AddsFirst name class first items i a b ks fs → Redeclares b (name (get_or items i x) ∷ []) r → Redeclares a (map name items) r
   one_redeclares r so_far h =
       let P : List RawName → Type 0 = λ ns. Redeclares a ns r in
-      subst P (sym (names_cut items i x within))
-      (redeclares_in_first a (map name_of (take i items) ++ name_of (get_or items i x) ∷ []) (map name_of (drop (i + 1) items)) r (redeclares_behind a b _ (map name_of (take i items)) (name_of (get_or items i x) ∷ []) ps fs r so_far h))
+      subst P (sym (names_cut name items i x within))
+      (redeclares_in_first a (map name (take i items) ++ name (get_or items i x) ∷ []) (map name (drop (i + 1) items)) r
+      (redeclares_behind a b _ (map name (take i items)) (name (get_or items i x) ∷ []) [] ks fs r so_far h))
 
-pub all_added : {A : Type 0} (class : Class) (first : ℕ) (items : List Name) (i : ℕ) (a b : Names A) (ps fs : List ℕ) → length items ≤ i → AddsFirst class first items i a b ps fs → Adds a b (numbered_rows class first (map name_of items)) (map name_of items) ps fs
-all_added class first items i a b ps fs over so_far = let P : List Name → Type 0 = λ ns. Adds a b (numbered_rows class first (map name_of ns)) (map name_of ns) ps fs in subst P (take_all i items over) so_far
+pub all_added : {A I : Type 0} (name : I → RawName) (class : Class) (first : ℕ) (items : List I) (i : ℕ) (a b : Names A) (ks fs : List ℕ) → length items ≤ i → AddsFirst name class first items i a b ks fs →
+    Adds a b (numbered_rows class first (map name items)) (map name items) [] ks fs
+all_added {A} {I} name class first items i a b ks fs over so_far =
+    let P : List I → Type 0 = λ xs. Adds a b (numbered_rows class first (map name xs)) (map name xs) [] ks fs in subst P (take_all i items over) so_far
 
 -- one channel more, with its number of fields
-pub one_more_channel : {A : Type 0} (items : List Name) (i : ℕ) (x : Name) → i < length items → (a b m c : Names A) (k fields : ℕ) → AddsFirst ChannelName (length a.fields.items) items i a b [] (replicate i fields) →
-    k ≡ vec_len b.fields → Adds b m (((name_of (get_or items i x)).spelling, Declared ChannelName k) ∷ []) (name_of (get_or items i x) ∷ []) [] [] →
-    c.table ≡ m.table → c.parameters.items ≡ m.parameters.items → c.fields.items ≡ m.fields.items ++ fields ∷ [] → AddsFirst ChannelName (length a.fields.items) items (i + 1) a c [] (replicate (i + 1) fields)
-one_more_channel items i x within a b m c k fields so_far number one same parameters pushed =
-    let count : vec_len b.fields ≡ length a.fields.items + i = b.fields.ok.0 ∙ ap length so_far.fields ∙ length-append a.fields.items (replicate i fields) ∙ ap (λ n. length a.fields.items + n) (length-replicate i fields) in
-    let P : List ℕ → Type 0 = λ fs. AddsFirst ChannelName (length a.fields.items) items (i + 1) a c [] fs in
+pub one_more_channel : {A : Type 0} (items : List Name) (i : ℕ) (x : Name) → i < length items → (a b m c : Names A) (k fields : ℕ) → AddsFirst name_of ChannelName (length a.fields.items) items i a b [] (replicate i fields) →
+    k ≡ vec_len b.fields → Adds b m (((name_of (get_or items i x)).spelling, Declared ChannelName k) ∷ []) (name_of (get_or items i x) ∷ []) [] [] [] →
+    c.table ≡ m.table → c.parameters.items ≡ m.parameters.items → c.constructors.items ≡ m.constructors.items → c.fields.items ≡ m.fields.items ++ fields ∷ [] →
+    AddsFirst name_of ChannelName (length a.fields.items) items (i + 1) a c [] (replicate (i + 1) fields)
+one_more_channel items i x within a b m c k fields so_far number one same parameters constructors pushed =
+    let count : vec_len b.fields ≡ length a.fields.items + i =
+    b.fields.ok.0 ∙ ap length so_far.fields ∙ length-append a.fields.items (replicate i fields) ∙ ap (λ n. length a.fields.items + n) (length-replicate i fields) in
+    let added : Adds m c [] [] [] [] (fields ∷ []) =
+    counts_added m c [] [] (fields ∷ []) same (parameters ∙ sym (append-nil m.parameters.items)) (constructors ∙ sym (append-nil m.constructors.items)) pushed in
+    let P : List ℕ → Type 0 = λ fs. AddsFirst name_of ChannelName (length a.fields.items) items (i + 1) a c [] fs in
     subst P (replicate_more i fields)
-    (one_more_added ChannelName (length a.fields.items) items i x within a b [] (replicate i fields) c k [] (fields ∷ []) so_far (number ∙ count) (added_both b m c _ _ _ _ _ _ _ _ one (fields_added m c fields same parameters pushed)))
+    (one_more_added name_of ChannelName (length a.fields.items) items i x within a b [] (replicate i fields) c k [] (fields ∷ []) so_far (number ∙ count)
+    (added_both b m c _ _ _ _ [] [] [] [] [] (fields ∷ []) one added))

@@ -5,22 +5,23 @@ use Rattle.std.specs.Option.{option_map_or}
 use Rattle.std.specs.Str.{bytes_eq, chars}
 use Rattle.std.proofs.lemmas.Grind.{flat_map-append}
 use Rattle.std.proofs.lemmas.List.{append_assoc, length-map, map-append}
-use Rattle.std.proofs.Common.{◌≡◌, ℕ, zero, suc, ◌+◌, ◌≤◌, Bool, true, false, List, [], ◌∷◌, ◌++◌, append-nil, arith, length, length-append, map, Some, None, refl, sym, ap, ◌∙◌, subst}
-use Rattle.csp_syntax.specs.Process.{Model}
+use Rattle.std.proofs.Common.{◌≡◌, ℕ, zero, suc, ◌+◌, ◌<◌, ◌≤◌, Bool, true, false, List, [], ◌∷◌, ◌++◌, append-nil, arith, length, length-append, map, Some, None, refl, sym, ap, ◌∙◌, subst}
 use Rattle.csp_syntax.specs.Value.{Value}
 use Rattle.csp_text.specs.Place.{Place}
-use Rattle.csp_text.specs.Raw.{RawName, RawDeclaration, RawEquation, RawAssertion, RawProcess, RawScript}
+use Rattle.csp_text.specs.Raw.{RawName, RawDeclaration, RawEquation, RawAssertion, RawProcess, RawProperty, RawScript}
 use Rattle.csp_checking.specs.DeclaredRows.{meaning_in}
 use Rattle.csp_checking.specs.Names as checking
-use Rattle.csp_checking.specs.Names.{bound_in_declaration, declared, declared_meaning, Environment, environment_above, environment_of, number_in, spellings, with_spellings}
+use Rattle.csp_checking.specs.Names.{bound_in_declaration, ConstructorName, constructor_fields, Declared, declared, declared_meaning, Environment, environment_above, environment_of, fields_of_constructor, names_of, number_in, spellings, with_spellings}
 use Rattle.csp_checking.specs.Resolving as resolving
 use Rattle.csp_checking.specs.Rules.{all_declared, HasFieldSets}
 use Rattle.csp_checking.specs.Sites.{in_declaration}
 use Rattle.csp_checking.specs.Walks.{AllFine}
 use Rattle.csp_checking.proofs.DeclaredRows.{rows_counted}
+use Rattle.csp_checking.proofs.Meant.{at_place, class_number, constructors_counted, number_within}
 use Rattle.csp_checking.proofs.OneMore.{flat_map_one_more}
 use Rattle.csp_checking.proofs.RowMeanings.{meaning_above_is_row}
 use Rattle.csp_checking.proofs.Spellings.{number_stays_in_tree, with_more}
+use Rattle.csp_checking.proofs.Unrefused.{got_more}
 use Rattle.csp_term.specs.declared.assertion.Assertion.{Assertion}
 use Rattle.csp_term.specs.declared.script.Equation.{Equation}
 use Rattle.csp_term.specs.Script.{assertion_of, equation_of}
@@ -71,6 +72,17 @@ module _ {A : Type 0} (names : Names A) (raw : RawScript) (are : AreNamesOf name
   pub declared_in_all : (s : List ℕ) → declared_meaning raw s ≡ declared_at names (length names.table.entries) s
   declared_in_all s = declared_above raw [] s (sym (append-nil raw)) ∙ ap (λ n. declared_at names n s) (sym names_counted)
 
+  -- a constructor above has the number of fields that the table tells
+  pub fields_above : (above below : RawScript) (s : List ℕ) (k : ℕ) → raw ≡ above ++ below → declared_meaning above s ≡ Some (Declared ConstructorName k) →
+      fields_of_constructor above k ≡ slice_get names.constructors.items k
+  fields_above above below s k is means =
+      let small : k < length (names_of ConstructorName above) = number_within (names_of ConstructorName above) s k (class_number above s ConstructorName k means) in
+      let P : ℕ → Type 0 = λ n. k < n in
+      let there = at_place (flat_map constructor_fields above) k (subst P (sym (constructors_counted above)) small) in
+      let all : names.constructors.items ≡ flat_map constructor_fields above ++ flat_map constructor_fields below =
+      are.constructors ∙ ap (flat_map constructor_fields) is ∙ flat_map-append constructor_fields above below in
+      there.1 ∙ sym (ap (λ xs. slice_get xs k) all ∙ got_more (flat_map constructor_fields above) (flat_map constructor_fields below) k there.0 there.1)
+
 -- ---- the environments that a scope stands for
 
 module _ {A : Type 0} (scope : Scope A) (raw : RawScript) (are : AreNamesOf scope.names.now raw) where
@@ -83,6 +95,7 @@ module _ {A : Type 0} (scope : Scope A) (raw : RawScript) (are : AreNamesOf scop
     stands_above above below is visible numbered = record {
       texts = are.texts;
       declared = λ s. declared_above scope.names.now raw are above below s is ∙ ap (λ n. declared_at scope.names.now n s) (sym visible);
+      constructors = λ s k means. fields_above scope.names.now raw are above below s k is means;
       in_order = in_order;
       numbered = numbered;
       times = unbound;
@@ -93,6 +106,7 @@ module _ {A : Type 0} (scope : Scope A) (raw : RawScript) (are : AreNamesOf scop
     stands_in_script visible numbered = record {
       texts = are.texts;
       declared = λ s. declared_in_all scope.names.now raw are s ∙ ap (λ n. declared_at scope.names.now n s) (sym visible);
+      constructors = λ s k means. fields_above scope.names.now raw are raw [] s k (sym (append-nil raw)) means;
       in_order = in_order;
       numbered = numbered;
       times = unbound;
@@ -183,13 +197,13 @@ module _ {A : Type 0} (scope : Scope A) (raw above below : RawScript) (n : RawNa
   definition_refused r halts = halts (environment_of raw) (serves_between scope raw above below (RawEquation n ns p) are knows visible is old between)
 
 -- an assertion likewise
-module _ {A : Type 0} (scope : Scope A) (raw above below : RawScript) (t : Place) (m : Model) (p q : RawProcess) (are : AreNamesOf scope.names.now raw) (knows : KnowsScript scope raw) (visible : scope.visible ≡ length scope.names.now.table.entries)
-    (is : raw ≡ above ++ RawAssertion t m p q ∷ below) (old new : BoundNames A) (between : IsBetween old above) where
-  pub assertion_resolved : (x : Assertion A) → ResolvesAssertion scope old new m p q (Ok x) → AllFine (in_declaration raw above (RawAssertion t m p q)) × (resolving.assertion_of (environment_of raw) m p q ≡ Some (assertion_of x))
-  assertion_resolved x done = done.fine (environment_of raw) (serves_between scope raw above below (RawAssertion t m p q) are knows visible is old between)
+module _ {A : Type 0} (scope : Scope A) (raw above below : RawScript) (t : Place) (n : Bool) (a : RawProperty) (p : RawProcess) (are : AreNamesOf scope.names.now raw) (knows : KnowsScript scope raw) (visible : scope.visible ≡ length scope.names.now.table.entries)
+    (is : raw ≡ above ++ RawAssertion t n a p ∷ below) (old new : BoundNames A) (between : IsBetween old above) where
+  pub assertion_resolved : (x : Assertion A) → ResolvesAssertion scope old new n a p (Ok x) → AllFine (in_declaration raw above (RawAssertion t n a p)) × (resolving.assertion_of (environment_of raw) n a p ≡ Some (assertion_of x))
+  assertion_resolved x done = done.fine (environment_of raw) (serves_between scope raw above below (RawAssertion t n a p) are knows visible is old between)
 
-  pub behind_assertion : (x : Assertion A) → ResolvesAssertion scope old new m p q (Ok x) → IsBetween new (above ++ RawAssertion t m p q ∷ [])
-  behind_assertion x done = between_next old new above (RawAssertion t m p q) between (done.bound between.in_order)
+  pub behind_assertion : (x : Assertion A) → ResolvesAssertion scope old new n a p (Ok x) → IsBetween new (above ++ RawAssertion t n a p ∷ [])
+  behind_assertion x done = between_next old new above (RawAssertion t n a p) between (done.bound between.in_order)
 
-  pub assertion_refused : (r : Refused) → ResolvesAssertion scope old new m p q (Err r) → Stops (in_declaration raw above (RawAssertion t m p q)) r
-  assertion_refused r halts = halts (environment_of raw) (serves_between scope raw above below (RawAssertion t m p q) are knows visible is old between)
+  pub assertion_refused : (r : Refused) → ResolvesAssertion scope old new n a p (Err r) → Stops (in_declaration raw above (RawAssertion t n a p)) r
+  assertion_refused r halts = halts (environment_of raw) (serves_between scope raw above below (RawAssertion t n a p) are knows visible is old between)

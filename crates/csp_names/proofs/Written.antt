@@ -5,7 +5,7 @@ use Rattle.std.specs.declared.vec.Vec.{Vec}
 use Rattle.csp_syntax.specs.declared.operator.UnaryOperator.{UnaryOperator}
 use Rattle.csp_syntax.specs.declared.operator.BinaryOperator.{BinaryOperator}
 use Rattle.csp_syntax.specs.Operators.{binary_of, unary_of}
-use Rattle.csp_text.specs.Raw.{RawExpression, RawNumber, RawTruth, RawBooleans, RawUse, RawApply, RawCombine, RawSequence, RawSet, RawRange}
+use Rattle.csp_text.specs.Raw.{RawExpression, RawNumber, RawTruth, RawBooleans, RawUse, RawApply, RawCombine, RawSequence, RawSet, RawRange, RawConstructor}
 use Rattle.csp_parse.specs.declared.expressions.Expression.TheOpen as layer
 use Rattle.csp_parse.specs.declared.expressions.Expression.TheFolds.{fold-roll-Expression}
 use Rattle.csp_parse.specs.declared.expressions.Expression.TheVariants as views
@@ -42,3 +42,6 @@ module _ {A : Type 0} (e : Expression A) where
 
   pub of_set : (members : Vec (Expression A) A) (read : List (Expression A)) → e ≡ views.Set members → read ≡ members.items → expression_of e ≡ RawSet (expressions_of read)
   of_set members read is same = ap expression_of is ∙ trees.tree_of_set A members ∙ ap (λ es. RawSet (expressions_of es)) (sym same)
+
+  pub of_constructor : (n : Name) (fields : Vec (Expression A) A) (read : List (Expression A)) → e ≡ views.Constructor n fields → read ≡ fields.items → expression_of e ≡ RawConstructor (name_of n) (expressions_of read)
+  of_constructor n fields read is same = ap expression_of is ∙ trees.tree_of_constructor A n fields ∙ ap (λ es. RawConstructor (name_of n) (expressions_of es)) (sym same)

@@ -2,7 +2,6 @@
 use Rattle.std.proofs.Common.{◌≡◌, ◌∙◌, List, map, sym, ap, ap₂}
 use Rattle.std.specs.declared.boxed.Box.{Box}
 use Rattle.std.specs.declared.vec.Vec.{Vec}
-use Rattle.csp_syntax.specs.declared.process_operator.ProcessOperator.{ProcessOperator}
 use Rattle.csp_syntax.specs.declared.process_operator.ReplicatedOperator.{ReplicatedOperator}
 use Rattle.csp_text.specs.Raw.{RawProcess, RawStop, RawSkip, RawCall, RawPrefix, RawGuard, RawIf, RawInfix, RawGeneralisedParallel, RawAlphabetisedParallel, RawHiding, RawRenaming, RawReplicated}
 use Rattle.csp_parse.specs.declared.events.Pair.{Pair}
@@ -10,6 +9,7 @@ use Rattle.csp_parse.specs.declared.event_sets.EventSet.{EventSet}
 use Rattle.csp_parse.specs.declared.expressions.Expression.{Expression}
 use Rattle.csp_parse.specs.declared.names.Name.{Name}
 use Rattle.csp_parse.specs.declared.processes.Field.{Field}
+use Rattle.csp_parse.specs.declared.processes.Infix.{Infix}
 use Rattle.csp_parse.specs.declared.processes.Process.{Process}
 use Rattle.csp_parse.specs.declared.processes.Process.TheFolds.{fold-roll-Process}
 use Rattle.csp_parse.specs.declared.processes.Process.TheOpen as layer
@@ -44,7 +44,7 @@ module _ {A : Type 0} (p : Process A) where
       ap process_of is ∙ ap (process_of {A = A}) (sym (views.rolls-If e b d)) ∙ fold-roll-Process A RawProcess process_step (layer.If e b d)
       ∙ ap₂ (λ x y. RawIf (expression_of e) (process_of x) (process_of y)) (sym same) (sym alike)
 
-  pub of_infix : (op : ProcessOperator) (b d : Box (Process A) A) (left right : Process A) → p ≡ views.Infix op b d → left ≡ b.value → right ≡ d.value → process_of p ≡ RawInfix (infix_of op) (process_of left) (process_of right)
+  pub of_infix : (op : Infix) (b d : Box (Process A) A) (left right : Process A) → p ≡ views.Infix op b d → left ≡ b.value → right ≡ d.value → process_of p ≡ RawInfix (infix_of op) (process_of left) (process_of right)
   of_infix op b d left right is same alike =
       ap process_of is ∙ ap (process_of {A = A}) (sym (views.rolls-Infix op b d)) ∙ fold-roll-Process A RawProcess process_step (layer.Infix op b d)
       ∙ ap₂ (λ x y. RawInfix (infix_of op) (process_of x) (process_of y)) (sym same) (sym alike)

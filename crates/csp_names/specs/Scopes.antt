@@ -6,7 +6,7 @@ use Rattle.csp_text.specs.Raw.{RawScript}
 use Rattle.csp_checking.specs.Names as checking
 use Rattle.csp_checking.specs.Names.{Environment, declared_meaning, number_in, with_spellings}
 use Rattle.csp_checking.specs.Rules.{HasFieldSets, fields_declared, parameters_declared}
-use Rattle.csp_term.specs.Script.{field_values}
+use Rattle.csp_value.specs.Fields.{field_values}
 use Rattle.csp_syntax.specs.Value.{Value}
 use Rattle.csp_value.specs.declared.field_set.FieldSet.{FieldSet}
 use Rattle.std.specs.declared.vec.Vec.{Vec}
@@ -85,6 +85,8 @@ pub record IsBetween {A : Type 0} (bound : BoundNames A) (above : RawScript) : T
 pub record StandsFor {A : Type 0} (scope : Scope A) (bound : BoundNames A) (env : Environment) : Type 0 where
   pub texts : AreTexts scope.names.now.table.entries
   pub declared : (s : List ℕ) → declared_meaning env.declarations s ≡ declared_at scope.names.now scope.visible s
+  pub constructors : (s : List ℕ) (k : ℕ) → declared_meaning env.declarations s ≡ Some (checking.Declared checking.ConstructorName k) →
+      checking.fields_of_constructor env.declarations k ≡ slice_get scope.names.now.constructors.items k
   pub in_order : IsInOrder bound
   pub numbered : HaveNumbersIn (bound_spellings bound) env.numbered
   pub times : (s : List ℕ) → times_at bound s ≡ occurrences env.bound s

@@ -1,17 +1,17 @@
 -- What a walk answers.
 use Rattle.std.specs.declared.vec.Vec.{Vec}
 use Rattle.std.specs.Prelude.{◌≡◌, ℕ, Bool, true, false, List, [], ◌∷◌, ◌++◌, map, flat_map, Option, Some, Result, Ok, Err, IsTrue, ◌↔◌, ⊤}
-use Rattle.csp_text.specs.Raw.{RawName, RawExpression, RawExpressions, RawField, RawEvent, RawEventSet, RawPair, RawProcess}
+use Rattle.csp_text.specs.Raw.{RawName, RawExpression, RawExpressions, RawField, RawEvent, RawEventSet, RawPair, RawProcess, RawProperty}
 use Rattle.csp_syntax.specs.Expression as pure
-use Rattle.csp_syntax.specs.Process.{Model}
 use Rattle.csp_syntax.specs.Process as process
 use Rattle.csp_lex.specs.Places.{place_of}
-use Rattle.csp_checking.specs.Names.{Environment, Declared, ChannelName, EquationName, binding, bound_by_fields, bound_in, meaning, spellings, with_spellings}
+use Rattle.csp_checking.specs.Names.{Environment, Declared, ChannelName, EquationName, binding, bound_by_fields, bound_in, bound_in_property, meaning, spellings, with_spellings}
 use Rattle.csp_checking.specs.Resolving as resolving
 use Rattle.csp_checking.specs.Rules.{field_count}
-use Rattle.csp_checking.specs.Sites.{Use, AsExpression, AsEquation, AsEvent, AsProductions, AsBareLeft, AsBareRight, Site, Used, BoundThere, Parameter, in_expression, in_expressions, in_fields, in_event, in_production, in_event_set, in_pair, in_process, in_parameters}
+use Rattle.csp_checking.specs.Sites.{Use, AsExpression, AsConstructor, AsEquation, AsEvent, AsProductions, AsBareLeft, AsBareRight, Site, Used, BoundThere, Parameter, in_expression, in_expressions, in_fields, in_event, in_production, in_event_set, in_pair, in_process, in_property, in_parameters}
 use Rattle.csp_checking.specs.Walks.{AllFine, IsFine, IsStoppedAt}
 use Rattle.csp_value.specs.declared.name.ChannelId.{ChannelId}
+use Rattle.csp_value.specs.declared.name.ConId.{ConId}
 use Rattle.csp_expression.specs.declared.expr.Expr.{Expr}
 use Rattle.csp_expression.specs.declared.name.Name.{Name}
 use Rattle.csp_expression.specs.Expression.{expression_of, expressions_of}
@@ -25,12 +25,15 @@ use Rattle.csp_term.specs.declared.name.EquationId.{EquationId}
 use Rattle.csp_term.specs.declared.script.Equation.{Equation}
 use Rattle.csp_term.specs.declared.term.Term.{Term}
 use Rattle.csp_term.specs.Field.{field_of, fields_of}
-use Rattle.csp_term.specs.Script.{assertion_of, equation_of}
+use Rattle.csp_term.specs.declared.property.Property.{Property}
+use Rattle.csp_term.specs.Script.{assertion_of, equation_of, property_of}
 use Rattle.csp_term.specs.Term.{process_of}
 use Rattle.csp_names.specs.declared.bound_names.BoundNames.{BoundNames}
 use Rattle.csp_names.specs.declared.refusals.Refused.{Refused}
 use Rattle.csp_names.specs.declared.refusals.Refused.TheVariants as refused
 use Rattle.csp_names.specs.declared.scope.Scope.{Scope}
+use Rattle.csp_names.specs.declared.meanings.Meaning.{Meaning}
+use Rattle.csp_names.specs.Meanings.{meaning_of}
 use Rattle.csp_names.specs.Refusals.{fault_of}
 use Rattle.csp_names.specs.Names.{fields_agree}
 use Rattle.csp_names.specs.Scopes.{AreUnlike, Binds, bound_spellings, HaveNumbersIn, IsInOrder, KnowsScript, sets_at, StandsFor}
@@ -57,6 +60,7 @@ ResolvesExpressions scope bound es result = (env : Environment) → StandsFor sc
 -- the uses of a channel's name
 abbrev pub uses_channel : Use → Bool
 uses_channel AsExpression = false
+uses_channel (AsConstructor n) = false
 uses_channel (AsEquation n) = false
 uses_channel (AsEvent n) = true
 uses_channel (AsProductions n) = true
@@ -80,6 +84,14 @@ NamesEquation scope bound n result = (env : Environment) → StandsFor scope bou
 
 abbrev pub CountsFields : {A : Type 0} → Scope A → BoundNames A → RawName → Option ℕ → Type 0
 CountsFields scope bound n result = (env : Environment) → StandsFor scope bound env → KnowsScript scope env.declarations → result ≡ field_count env n
+
+-- ---- constructors
+abbrev pub ResolvesConstructor : {A : Type 0} → Scope A → BoundNames A → ℕ → RawName → Result ConId Refused → Type 0
+ResolvesConstructor scope bound k n result = (env : Environment) → StandsFor scope bound env → Walked (Used env (AsConstructor k) n ∷ []) (resolving.constructor_with env n k) (λ c. c.0) result
+
+-- whether a name that means this is a constructor with fields
+abbrev pub LacksFields : {A : Type 0} → Scope A → Meaning → Bool → Type 0
+LacksFields {A} scope m result = (bound : BoundNames A) (env : Environment) (n : RawName) → StandsFor scope bound env → meaning env n ≡ Some (meaning_of m) → result ≡ resolving.lacks_fields (resolving.constructor_count env n)
 
 -- ---- walks in the whole script that bind no name
 
@@ -181,5 +193,8 @@ ResolvesProcess scope old new p = Goes scope old new (λ env. in_process env p) 
 abbrev pub ResolvesDefinition : {A : Type 0} → Scope A → BoundNames A → BoundNames A → List RawName → RawProcess → Result (Equation A) Refused → Type 0
 ResolvesDefinition scope old new ns p = Goes scope old new (λ env. in_parameters env ns ++ in_process (binding env ns) p) (λ env. resolving.equation_of env ns p) (spellings (ns ++ bound_in p)) [] equation_of
 
-abbrev pub ResolvesAssertion : {A : Type 0} → Scope A → BoundNames A → BoundNames A → Model → RawProcess → RawProcess → Result (Assertion A) Refused → Type 0
-ResolvesAssertion scope old new m p q = Goes scope old new (λ env. in_process env p ++ in_process env q) (λ env. resolving.assertion_of env m p q) (spellings (bound_in p ++ bound_in q)) [] assertion_of
+abbrev pub ResolvesProperty : {A : Type 0} → Scope A → BoundNames A → BoundNames A → RawProperty → Result (Property A) Refused → Type 0
+ResolvesProperty scope old new a = Goes scope old new (λ env. in_property env a) (λ env. resolving.property_of env a) (spellings (bound_in_property a)) [] property_of
+
+abbrev pub ResolvesAssertion : {A : Type 0} → Scope A → BoundNames A → BoundNames A → Bool → RawProperty → RawProcess → Result (Assertion A) Refused → Type 0
+ResolvesAssertion scope old new n a p = Goes scope old new (λ env. in_property env a ++ in_process env p) (λ env. resolving.assertion_of env n a p) (spellings (bound_in_property a ++ bound_in p)) [] assertion_of

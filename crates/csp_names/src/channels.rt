@@ -15,7 +15,7 @@ use csp_value::ChannelId;
 use std::alloc::Allocator;
 
 /// Whether so many are given as are declared, where that is known.
-fn counts_agree(declared: Option<usize>, given: usize) -> bool
+pub(crate) fn counts_agree(declared: Option<usize>, given: usize) -> bool
     ensures { result ≡ agree declared given }
 {
     match declared {

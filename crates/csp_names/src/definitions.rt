@@ -2,20 +2,19 @@
 
 ghost use Rattle.std.specs.Prelude.{◌≡◌, map, IfErr, OnOk};
 ghost use Rattle.csp_checking.specs.Names.{spellings};
+ghost use Rattle.csp_parse.specs.Declarations.{property_of};
 ghost use Rattle.csp_parse.specs.Names.{name_of};
 ghost use Rattle.csp_parse.specs.Processes.{process_of};
-ghost use Rattle.csp_syntax.specs.Models.{model_of};
 ghost use Rattle.csp_names.specs.declared.refusals.Refused.TheVariants.{Memory as no_room};
 ghost use Rattle.csp_names.specs.Scopes.{IsInOrder, Releases};
-ghost use Rattle.csp_names.specs.Walks.{BindsParameter, BindsParameters, ResolvesAssertion, ResolvesDefinition};
+ghost use Rattle.csp_names.specs.Walks.{BindsParameter, BindsParameters, ResolvesAssertion, ResolvesDefinition, ResolvesProperty};
 
 use crate::bound_names::BoundNames;
 use crate::refusals::{KindFault, Refused};
 use crate::scope::Scope;
 use csp_expression::Name;
-use csp_parse::{Name as RawName, Process as RawProcess};
-use csp_syntax::Model;
-use csp_term::{Assertion, Equation};
+use csp_parse::{Name as RawName, Process as RawProcess, Property as RawProperty};
+use csp_term::{Assertion, Equation, Property};
 use std::alloc::Allocator;
 
 impl<'n, 't, A: Allocator + Copy> Scope<'n, 't, A> {
@@ -38,24 +37,49 @@ impl<'n, 't, A: Allocator + Copy> Scope<'n, 't, A> {
         })
     }
 
-    /// The assertion of these two processes, or the first fault of a name in them.
+    /// The assertion that asks this of a process, or the first fault of a name in it.
     pub fn resolve_assertion(
         &self,
         alloc: A,
         bound: &mut BoundNames<'t, A>,
-        model: Model,
-        specification: &RawProcess<'t, A>,
+        negated: bool,
+        property: &RawProperty<'t, A>,
         implementation: &RawProcess<'t, A>,
     ) -> Result<Assertion<A>, Refused>
-        ensures { ResolvesAssertion self.now bound.old bound.new (model_of model) (process_of specification.now) (process_of implementation.now) result }
+        ensures { ResolvesAssertion self.now bound.old bound.new negated (property_of property.now) (process_of implementation.now) result }
     {
-        let specification = self.resolve_process(alloc, bound, specification)?;
+        let property = self.resolve_property(alloc, bound, property)?;
         let implementation = self.resolve_process(alloc, bound, implementation)?;
         Ok(Assertion {
-            model,
-            specification,
+            negated,
+            property,
             implementation,
         })
+    }
+
+    /// What an assertion asks, or the first fault of a name in it.
+    fn resolve_property(
+        &self,
+        alloc: A,
+        bound: &mut BoundNames<'t, A>,
+        property: &RawProperty<'t, A>,
+    ) -> Result<Property<A>, Refused>
+        ensures { ResolvesProperty self.now bound.old bound.new (property_of property.now) result }
+    {
+        match property {
+            RawProperty::Refinement {
+                model,
+                specification,
+            } => {
+                let specification = self.resolve_process(alloc, bound, specification)?;
+                Ok(Property::Refinement {
+                    model: *model,
+                    specification,
+                })
+            }
+            RawProperty::DeadlockFree => Ok(Property::DeadlockFree),
+            RawProperty::DivergenceFree => Ok(Property::DivergenceFree),
+        }
     }
 
     fn resolve_parameters(

@@ -7,6 +7,7 @@
 
 mod bound_names;
 mod channels;
+mod constructors;
 mod definitions;
 mod meanings;
 mod name_table;

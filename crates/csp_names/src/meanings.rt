@@ -1,7 +1,7 @@
 //! What names mean.
 
 ghost use Rattle.std.specs.Prelude.{◌≡◌, option_map, Some};
-ghost use Rattle.csp_checking.specs.Resolving.{as_channel, as_equation, as_expression};
+ghost use Rattle.csp_checking.specs.Resolving.{as_channel, as_constructor, as_equation, as_expression};
 ghost use Rattle.csp_expression.specs.Expression.{expression_of};
 ghost use Rattle.csp_names.specs.Meanings.{meaning_of};
 
@@ -49,6 +49,22 @@ impl Meaning {
         }
     }
 
+    /// The constructor, if it is one.
+    pub(crate) fn constructor(self) -> Option<ConId>
+        ensures { option_map (λ k. k.0) result ≡ as_constructor (Some (meaning_of self)) }
+    {
+        match self {
+            Meaning::Declared(Declared::Constructor(constructor)) => Some(constructor),
+            Meaning::Declared(
+                Declared::Datatype(_)
+                | Declared::Nametype(_)
+                | Declared::Channel(_)
+                | Declared::Equation(_),
+            )
+            | Meaning::Bound(_) => None,
+        }
+    }
+
     /// The equation, if it is one.
     pub(crate) fn equation(self) -> Option<EquationId>
         ensures { option_map (λ q. q.0) result ≡ as_equation (Some (meaning_of self)) }
@@ -66,13 +82,13 @@ impl Meaning {
     }
 
     /// The expression that the name alone is, if it is one.
-    pub(crate) fn expression<A: Allocator>(self) -> Option<Expr<A>>
+    pub(crate) fn expression<A: Allocator>(self, alloc: A) -> Option<Expr<A>>
         ensures { option_map expression_of result ≡ as_expression (Some (meaning_of self)) }
     {
         match self {
             Meaning::Bound(name) => Some(Expr::Name(name)),
             Meaning::Declared(Declared::Constructor(constructor)) => {
-                Some(Expr::Literal(Value::Con(constructor)))
+                Some(Expr::Literal(Value::Con(constructor, Vec::new(alloc))))
             }
             Meaning::Declared(Declared::Datatype(datatype)) => Some(Expr::Datatype(datatype)),
             Meaning::Declared(Declared::Nametype(nametype)) => Some(Expr::Nametype(nametype)),

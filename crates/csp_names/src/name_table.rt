@@ -2,17 +2,17 @@
 
 ghost use Rattle.std.specs.Prelude.{◌≡◌, ◌+◌, ◌∷◌, [], length, map, IfErr, IfOk, OnOk, replicate};
 ghost use Rattle.csp_checking.specs.DeclaredRows.{numbered_rows};
-ghost use Rattle.csp_checking.specs.Names.{ChannelName, ConstructorName, declared, EquationName};
-ghost use Rattle.csp_parse.specs.Declarations.{declaration_of, script_of};
+ghost use Rattle.csp_checking.specs.Names.{ChannelName, clause_names, ConstructorName, declared, EquationName};
+ghost use Rattle.csp_parse.specs.Declarations.{clause_of, declaration_of, script_of};
 ghost use Rattle.csp_parse.specs.Names.{name_of};
 ghost use Rattle.csp_names.specs.declared.refusals.Refused.TheVariants.{Memory as no_room};
-ghost use Rattle.csp_names.specs.FirstPass.{AddsDeclaration, AddsNames, AreNamesOf, IsFirstPassRefusal, row_of};
+ghost use Rattle.csp_names.specs.FirstPass.{AddsDeclaration, AddsNames, AreNamesOf, clause_counts, IsFirstPassRefusal, row_of};
 
 use crate::meanings::Declared;
 use crate::names::Names;
 use crate::refusals::{KindFault, Refused};
 use csp_expression::{DatatypeId, NametypeId};
-use csp_parse::{Declaration as RawDeclaration, Name as RawName, Raw};
+use csp_parse::{Clause as RawClause, Declaration as RawDeclaration, Name as RawName, Raw};
 use csp_term::EquationId;
 use csp_value::{ChannelId, ConId};
 use indexmap::IndexMap;
@@ -23,7 +23,6 @@ use std::alloc::Allocator;
 struct NameTable<'t, A: Allocator> {
     names: Names<'t, A>,
     datatypes: u32,
-    constructors: u32,
     nametypes: u32,
 }
 
@@ -40,10 +39,10 @@ pub fn names_of<'t, A: Allocator + Copy>(
         names: Names {
             table: IndexMap::new(alloc),
             parameters: Vec::new(alloc),
+            constructors: Vec::new(alloc),
             fields: Vec::new(alloc),
         },
         datatypes: 0,
-        constructors: 0,
         nametypes: 0,
     };
     for declaration in &raw.declarations {
@@ -58,7 +57,7 @@ pub fn declared_count<A: Allocator>(declaration: &RawDeclaration<'_, A>) -> usiz
     ensures { result ≡ length (declared (declaration_of declaration.now)) }
 {
     match declaration {
-        RawDeclaration::Datatype { constructors, .. } => 1 + constructors.len(),
+        RawDeclaration::Datatype { clauses, .. } => 1 + clauses.len(),
         RawDeclaration::Channels { names, .. } => names.len(),
         RawDeclaration::Nametype { .. } | RawDeclaration::Equation { .. } => 1,
         RawDeclaration::Assertion { .. } => 0,
@@ -71,12 +70,11 @@ impl<'t, A: Allocator + Copy> NameTable<'t, A> {
         ensures { AddsDeclaration self.old self.new (declaration_of declaration.now) result }
     {
         match declaration {
-            RawDeclaration::Datatype { name, constructors } => {
+            RawDeclaration::Datatype { name, clauses } => {
                 let number = next_number(&mut self.datatypes)?;
                 self.names
                     .add(*name, Declared::Datatype(DatatypeId(number)))?;
-                self.names
-                    .add_constructors(constructors, &mut self.constructors)
+                self.names.add_constructors(clauses)
             }
             RawDeclaration::Nametype { name, .. } => {
                 let number = next_number(&mut self.nametypes)?;
@@ -99,7 +97,7 @@ impl<'t, A: Allocator + Copy> NameTable<'t, A> {
 impl<'t, A: Allocator + Copy> Names<'t, A> {
     /// Adds a name, which may not be there yet.
     fn add(&mut self, name: RawName<'t>, declared: Declared) -> Result<(), Refused>
-        ensures { AddsNames self.old self.new (row_of (name_of name.entry) declared ∷ []) (name_of name.entry ∷ []) [] [] result }
+        ensures { AddsNames self.old self.new (row_of (name_of name.entry) declared ∷ []) (name_of name.entry ∷ []) [] [] [] result }
     {
         let text = name.text.as_bytes();
         if self.table.contains_key(text) {
@@ -109,25 +107,21 @@ impl<'t, A: Allocator + Copy> Names<'t, A> {
         Ok(())
     }
 
-    /// Adds the constructors of a datatype, with numbers from the next one on.
-    fn add_constructors(
-        &mut self,
-        constructors: &[RawName<'t>],
-        next: &mut u32,
-    ) -> Result<(), Refused>
-        ensures names { AddsNames self.old self.new (numbered_rows ConstructorName next.old (map name_of constructors.now)) (map name_of constructors.now) [] [] result }
-        ensures next { OnOk result (next.new ≡ next.old + length constructors.now) }
+    /// Adds the constructors of a datatype, with their numbers of fields.
+    fn add_constructors(&mut self, clauses: &[RawClause<'t, A>]) -> Result<(), Refused>
+        ensures { AddsNames self.old self.new (numbered_rows ConstructorName (length self.old.constructors.items) (clause_names (map clause_of clauses.now))) (clause_names (map clause_of clauses.now)) [] (clause_counts (map clause_of clauses.now)) [] result }
     {
-        for name in constructors {
-            let number = next_number(next)?;
-            self.add(*name, Declared::Constructor(ConId(number)))?;
+        for clause in clauses {
+            let number = number_of(self.constructors.len())?;
+            self.add(clause.name, Declared::Constructor(ConId(number)))?;
+            self.constructors.push(clause.fields.len())?;
         }
         Ok(())
     }
 
     /// Adds channels, each of so many fields.
     fn add_channels(&mut self, channels: &[RawName<'t>], fields: usize) -> Result<(), Refused>
-        ensures { AddsNames self.old self.new (numbered_rows ChannelName (length self.old.fields.items) (map name_of channels.now)) (map name_of channels.now) [] (replicate (length channels.now) fields) result }
+        ensures { AddsNames self.old self.new (numbered_rows ChannelName (length self.old.fields.items) (map name_of channels.now)) (map name_of channels.now) [] [] (replicate (length channels.now) fields) result }
     {
         for name in channels {
             let number = number_of(self.fields.len())?;
@@ -139,7 +133,7 @@ impl<'t, A: Allocator + Copy> Names<'t, A> {
 
     /// Adds an equation of so many parameters.
     fn add_equation(&mut self, name: RawName<'t>, parameters: usize) -> Result<(), Refused>
-        ensures { AddsNames self.old self.new (numbered_rows EquationName (length self.old.parameters.items) (name_of name.entry ∷ [])) (name_of name.entry ∷ []) (parameters ∷ []) [] result }
+        ensures { AddsNames self.old self.new (numbered_rows EquationName (length self.old.parameters.items) (name_of name.entry ∷ [])) (name_of name.entry ∷ []) (parameters ∷ []) [] [] result }
     {
         let number = number_of(self.parameters.len())?;
         self.add(name, Declared::Equation(EquationId(number)))?;

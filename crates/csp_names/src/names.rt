@@ -8,19 +8,21 @@ ghost use Rattle.csp_names.specs.Rows.{AreTexts, row_at, spelled};
 use crate::meanings::Declared;
 use csp_parse::Name as RawName;
 use csp_term::EquationId;
-use csp_value::ChannelId;
+use csp_value::{ChannelId, ConId};
 use indexmap::IndexMap;
 use std::alloc::Allocator;
 use std::hash::{BuildHasherDefault, FoldHasher};
 
 /// Every declared name in the order of the text, with what it is declared as, and how many parameters each equation and
-/// how many fields each channel has.
+/// how many fields each constructor and channel has.
 #[derive(Drop)]
 pub struct Names<'t, A: Allocator> {
     /// Each name by the bytes of its spelling, in the order of the text.
     pub table: IndexMap<&'t [u8], Declared, BuildHasherDefault<FoldHasher>, A>,
     /// How many parameters each equation has.
     pub parameters: Vec<usize, A>,
+    /// How many fields each constructor has.
+    pub constructors: Vec<usize, A>,
     /// How many fields each channel has.
     pub fields: Vec<usize, A>,
 }
@@ -41,6 +43,13 @@ impl<'t, A: Allocator> Names<'t, A> {
             Some((place, _, declared)) if place < visible => Some(*declared),
             _ => None,
         }
+    }
+
+    /// How many fields the constructor has.
+    pub(crate) fn constructor_count(&self, constructor: ConId) -> Option<usize>
+        ensures { result ≡ slice_get self.now.constructors.items constructor.0 }
+    {
+        self.constructors.get(constructor.0 as usize).copied()
     }
 
     /// How many fields the channel has.

@@ -28,7 +28,7 @@ impl<'n, 't, A: Allocator + Copy> Scope<'n, 't, A> {
             RawExpression::Number(number) => number_expression(*number),
             RawExpression::Truth(truth) => Ok(truth_expression(*truth)),
             RawExpression::Booleans => Ok(Expr::Booleans),
-            RawExpression::Use(name) => self.resolve_use(bound, *name),
+            RawExpression::Use(name) => self.resolve_use(alloc, bound, *name),
             RawExpression::Apply(operator, operand) => {
                 let operand = self.resolve_expression(alloc, bound, operand)?;
                 apply(alloc, *operator, operand)
@@ -50,6 +50,11 @@ impl<'n, 't, A: Allocator + Copy> Scope<'n, 't, A> {
                 let from = self.resolve_expression(alloc, bound, from)?;
                 let to = self.resolve_expression(alloc, bound, to)?;
                 range(alloc, from, to)
+            }
+            RawExpression::Constructor(name, fields) => {
+                let constructor = self.resolve_constructor(bound, *name, fields.len())?;
+                let fields = self.resolve_expressions(alloc, bound, fields)?;
+                Ok(Expr::Constructor(constructor, fields))
             }
         }
     }
@@ -73,15 +78,23 @@ impl<'n, 't, A: Allocator + Copy> Scope<'n, 't, A> {
     }
 
     /// The expression that a name alone is: a bound name, a constructor, a datatype or a nametype.
-    fn resolve_use(&self, bound: &BoundNames<'t, A>, name: RawName<'t>) -> Result<Expr<A>, Refused>
+    fn resolve_use(
+        &self,
+        alloc: A,
+        bound: &BoundNames<'t, A>,
+        name: RawName<'t>,
+    ) -> Result<Expr<A>, Refused>
         ensures { ResolvesExpression self.now bound.now (RawUse (name_of name.entry)) result }
     {
-        match self.meaning(bound, name) {
-            Some(meaning) => match meaning.expression() {
-                Some(expression) => Ok(expression),
-                None => Err(Refused::at(KindFault::WrongKind, name.place)),
-            },
-            None => Err(Refused::at(KindFault::UnknownName, name.place)),
+        let Some(meaning) = self.meaning(bound, name) else {
+            return Err(Refused::at(KindFault::UnknownName, name.place));
+        };
+        if self.lacks_fields(meaning) {
+            return Err(Refused::at(KindFault::WrongCount, name.place));
+        }
+        match meaning.expression(alloc) {
+            Some(expression) => Ok(expression),
+            None => Err(Refused::at(KindFault::WrongKind, name.place)),
         }
     }
 }

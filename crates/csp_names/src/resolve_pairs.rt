@@ -4,7 +4,7 @@ ghost use Rattle.std.specs.Prelude.{◌≡◌, ◌↔◌, map, option_map, Some,
 ghost use Rattle.csp_checking.specs.Sites.{AsBareLeft, AsBareRight, has_no_fields};
 ghost use Rattle.csp_parse.specs.Events.{event_of, pair_of};
 ghost use Rattle.csp_parse.specs.Names.{name_of};
-ghost use Rattle.csp_term.specs.Script.{field_values};
+ghost use Rattle.csp_value.specs.Fields.{field_values};
 ghost use Rattle.csp_names.specs.Scopes.{AreUnlike, sets_at};
 ghost use Rattle.csp_names.specs.Walks.{AgreesInFields, HasOtherSets, ResolvesBarePair, ResolvesBareRight, ResolvesChannel, ResolvesPair, ResolvesPairs};
 

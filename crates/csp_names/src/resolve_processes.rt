@@ -13,12 +13,12 @@ use crate::bound_names::BoundNames;
 use crate::refusals::Refused;
 use crate::resolve_fields::release_fields;
 use crate::scope::Scope;
-use crate::terms::term;
+use crate::terms::{joined, term};
 use csp_parse::{
-    EventSet as RawEventSet, Expression as RawExpression, Field as RawField, Name as RawName,
-    Pair as RawPair, Process as RawProcess,
+    EventSet as RawEventSet, Expression as RawExpression, Field as RawField, Infix,
+    Name as RawName, Pair as RawPair, Process as RawProcess,
 };
-use csp_syntax::{ProcessOperator, ReplicatedOperator};
+use csp_syntax::ReplicatedOperator;
 use csp_term::{Term, TermForm};
 use std::alloc::Allocator;
 
@@ -135,7 +135,7 @@ impl<'n, 't, A: Allocator + Copy> Scope<'n, 't, A> {
         &self,
         alloc: A,
         bound: &mut BoundNames<'t, A>,
-        operator: ProcessOperator,
+        operator: Infix,
         left: &RawProcess<'t, A>,
         right: &RawProcess<'t, A>,
     ) -> Result<Term<A>, Refused>
@@ -143,7 +143,7 @@ impl<'n, 't, A: Allocator + Copy> Scope<'n, 't, A> {
     {
         let left = self.resolve_process(alloc, bound, left)?;
         let right = self.resolve_process(alloc, bound, right)?;
-        term(alloc, TermForm::Binary(operator, left, right))
+        term(alloc, joined(operator, left, right))
     }
 
     /// `P [| X |] Q`

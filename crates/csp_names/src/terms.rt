@@ -4,6 +4,8 @@ ghost use Rattle.std.specs.Prelude.{◌≡◌, pos, IfOk, IfErr};
 ghost use Rattle.csp_syntax.specs.Expression as pure;
 ghost use Rattle.csp_syntax.specs.Value.{Integer, Truth};
 ghost use Rattle.csp_syntax.specs.Operators.{binary_of, combined, unary_of};
+ghost use Rattle.csp_checking.specs.Resolving.{infix_process};
+ghost use Rattle.csp_parse.specs.Processes.{infix_of};
 ghost use Rattle.csp_event_sets.specs.Events.{event_set_of};
 ghost use Rattle.csp_expression.specs.Expression.{expression_of};
 ghost use Rattle.csp_term.specs.Term.{process_of, process_of_form};
@@ -12,6 +14,7 @@ ghost use Rattle.csp_names.specs.declared.refusals.Refused.TheVariants.{Memory a
 use crate::refusals::Refused;
 use csp_event_sets::EventSet;
 use csp_expression::{BinaryOperator, Expr, UnaryOperator};
+use csp_parse::Infix;
 use csp_syntax::EventSetOperator;
 use csp_term::{Term, TermForm};
 use csp_value::Value;
@@ -90,6 +93,16 @@ pub(crate) fn combine_sets<A: Allocator + Copy>(
     let left = Box::new(alloc, left)?;
     let right = Box::new(alloc, right)?;
     Ok(EventSet::Combine(operator, left, right))
+}
+
+/// The form of two terms with an operator between.
+pub(crate) fn joined<A: Allocator>(operator: Infix, left: Term<A>, right: Term<A>) -> TermForm<A>
+    ensures { process_of_form result ≡ infix_process (infix_of operator) (process_of left) (process_of right) }
+{
+    match operator {
+        Infix::Operator(operator) => TermForm::Binary(operator, left, right),
+        Infix::Sliding => TermForm::SlidingChoice(left, right),
+    }
 }
 
 /// The term of the form.

@@ -2,18 +2,18 @@
 use Rattle.std.proofs.Common.{◌≡◌, max, List, [], ◌∷◌, ◌++◌, Option, Some, None, Err, refl, sym, ◌∙◌, ap, ap₂, subst, arith}
 use Rattle.std.specs.Option.{option_or}
 use Rattle.csp_syntax.specs.Value.{Tau, Tick}
-use Rattle.csp_syntax.specs.Process.{Process, Script, Omega, ExternalChoice, InternalChoice, Sequential, Interrupt}
+use Rattle.csp_syntax.specs.Process.{Process, Script, Omega, ExternalChoice, InternalChoice, Sequential, Interrupt, SlidingChoice}
 use Rattle.csp_semantics.specs.Meaning.Faults.{cause_in, height}
 use Rattle.csp_semantics.specs.Meaning.Stepping.{Steps, always, each_step, external_steps, leave, rule_steps, stay, steps_within}
-use Rattle.csp_semantics.proofs.Causes.{external_cause, interrupt_cause, sequential_cause}
+use Rattle.csp_semantics.proofs.Causes.{external_cause, interrupt_cause, sequential_cause, sliding_cause}
 use Rattle.csp_semantics.proofs.Stepping.{exact, exact_within, external_exact}
 use Rattle.csp_expression.specs.declared.no_value.NoValue.{NoValue}
 use Rattle.csp_expression.specs.declared.no_value.NoValue.TheVariants as eval
 use Rattle.csp_operators.specs.Answering.{Answered, Answers, IsAnswered, within_limits}
 use Rattle.csp_operators.proofs.Answered.{answered_by, by_its_steps, its_steps, kept_answers}
-use Rattle.csp_operators.specs.Composing.{each_answer, external_answers, interrupt_answers, leave_answer, sequential_answers, stay_answer, under_both}
+use Rattle.csp_operators.specs.Composing.{each_answer, external_answers, interrupt_answers, leave_answer, sequential_answers, sliding_answers, stay_answer, under_both}
 use Rattle.csp_operators.proofs.Composing.{both_answered, each_answered, leave_answered, limits_under_both, stay_answered}
-use Rattle.csp_operators.proofs.Past.{external_first, external_second, interrupt_first, interrupt_second, sequential_first, sequential_second}
+use Rattle.csp_operators.proofs.Past.{external_first, external_second, interrupt_first, interrupt_second, sequential_first, sequential_second, sliding_first, sliding_second}
 
 -- ---- causes
 
@@ -98,3 +98,20 @@ interrupt_answered s p bs q cs o r first_is second_is first second =
     in
     let P : List Answered → Type 0 = λ xs. IsAnswered s (Interrupt p q) xs in
     subst P (ap₂ (λ o r. interrupt_answers o bs r cs) (sym first_is) (sym second_is)) all
+
+-- ---- one process, or by tau another one
+
+pub sliding_answered : (s : Script) (p : Process) (bs : List Answered) (q : Process) (cs : List Answered) (o r : Option Process) → r ≡ within_limits q → IsAnswered s p bs → IsAnswered s q cs → IsAnswered s (SlidingChoice p q) (sliding_answers o bs r cs)
+sliding_answered s p bs q cs o r second_is first second =
+    let n = max (height p) (height q) in
+    let ps = steps_within n s p in
+    let under : Process → Process = λ t. SlidingChoice t q in
+    let answer : Option Process → Option Process = λ t. under_both SlidingChoice t (within_limits q) in
+    let away : Steps = (Tau, q) ∷ [] in
+    let firsts = each_answered (leave under) (leave_answer answer) (leave_answered answer under (λ t. limits_under_both SlidingChoice sliding_first sliding_second t q)) ps bs (its_steps s p ps (exact_within n s p (omega arith)) bs first) in
+    let all = by_its_steps s (SlidingChoice p q) (each_step (leave under) ps ++ away) (exact s (SlidingChoice p q)) (sliding_answers o bs (within_limits q) cs)
+    (clear_of_both s p q (SlidingChoice p q) (sliding_cause s p q) first.no_cause second.no_cause)
+    (both_answered (each_step (leave under) ps) away (each_answer (leave_answer answer) bs) ((Tau, within_limits q) ∷ []) firsts (kept_answers away))
+    in
+    let P : Option Process → Type 0 = λ t. IsAnswered s (SlidingChoice p q) (sliding_answers o bs t cs) in
+    subst P (sym second_is) all

@@ -1,7 +1,7 @@
 -- A process is past the limits where a part of it is.
 use Rattle.std.proofs.Common.{◌≡◌, ℕ, ◌≤◌, nat_le, false, List, ⊎_elim, arith}
 use Rattle.std.proofs.lemmas.Bool.{and_cases, and_left, and_right, leb-false, lt-leb}
-use Rattle.csp_syntax.specs.Process.{EventSet, RenamingPair, Process, ExternalChoice, InternalChoice, Sequential, Interleaving, Interrupt, GeneralisedParallel, AlphabetisedParallel, Hiding, Renaming}
+use Rattle.csp_syntax.specs.Process.{EventSet, RenamingPair, Process, ExternalChoice, InternalChoice, Sequential, Interleaving, Interrupt, GeneralisedParallel, AlphabetisedParallel, Hiding, Renaming, SlidingChoice}
 use Rattle.csp_semantics.specs.Meaning.Limits.{depth, fits, max_depth, max_size, size}
 
 -- what has a process past the limits as a part is past them
@@ -49,6 +49,12 @@ interrupt_first q p = past_with p (Interrupt p q) (omega arith) (omega arith)
 
 pub interrupt_second : (p : Process) → StaysPast (λ q. Interrupt p q)
 interrupt_second p q = past_with q (Interrupt p q) (omega arith) (omega arith)
+
+pub sliding_first : (q : Process) → StaysPast (λ p. SlidingChoice p q)
+sliding_first q p = past_with p (SlidingChoice p q) (omega arith) (omega arith)
+
+pub sliding_second : (p : Process) → StaysPast (λ q. SlidingChoice p q)
+sliding_second p q = past_with q (SlidingChoice p q) (omega arith) (omega arith)
 
 pub generalised_first : (a : EventSet) (q : Process) → StaysPast (λ p. GeneralisedParallel p a q)
 generalised_first a q p = past_with p (GeneralisedParallel p a q) (omega arith) (omega arith)

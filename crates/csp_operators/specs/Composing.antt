@@ -2,7 +2,7 @@
 use Rattle.std.specs.Prelude.{◌≡◌, Bool, true, false, ◌&&◌, ◌↔◌, Contains, List, [], ◌∷◌, ◌++◌, cond, Option, Some, None, Result, Ok}
 use Rattle.std.specs.Option.{option_or}
 use Rattle.csp_syntax.specs.Value.{Action, Event, Tau, Tick, Ev, event_eq}
-use Rattle.csp_syntax.specs.Process.{Process, Omega, ExternalChoice, Sequential, Interleaving, Interrupt, AlphabetisedParallel, GeneralisedParallel, Hiding, Renaming, Script}
+use Rattle.csp_syntax.specs.Process.{Process, Omega, ExternalChoice, Sequential, Interleaving, Interrupt, AlphabetisedParallel, GeneralisedParallel, Hiding, Renaming, SlidingChoice, Script}
 use Rattle.csp_syntax.specs.Operators.{binary_process}
 use Rattle.csp_value.specs.Action.{action_of}
 use Rattle.csp_semantics.specs.Meaning.Faults.{cause_in}
@@ -38,6 +38,7 @@ abbrev pub composition_of : {A : Type 0} → Composition A → Process → Proce
 composition_of (composition.Operator op) p q = binary_process op p q
 composition_of (composition.Generalised shared) p q = generalised_parallel shared p q
 composition_of (composition.Alphabetised own other) p q = alphabetised_parallel own other p q
+composition_of composition.Sliding p q = SlidingChoice p q
 
 abbrev pub frame_of : {A : Type 0} → Frame A → Process → Process
 frame_of (frame.Hiding hidden) p = Hiding p (event_set_of hidden)
@@ -144,6 +145,13 @@ ended_or_left_answers under o bs r cs = each_answer (ending_answer (λ t. under_
 
 abbrev pub interrupt_answers : Option Process → List Answered → Option Process → List Answered → List Answered
 interrupt_answers o bs r cs = ended_or_left_answers Interrupt o bs r cs
+
+-- a visible action of the first leaves the operator, and a tau leaves it for the second
+abbrev pub left_or_away_answers : (Process → Process → Process) → Option Process → List Answered → Option Process → List Answered → List Answered
+left_or_away_answers under o bs r cs = each_answer (leave_answer (λ t. under_both under t r)) bs ++ (Tau, r) ∷ []
+
+abbrev pub sliding_answers : Option Process → List Answered → Option Process → List Answered → List Answered
+sliding_answers o bs r cs = left_or_away_answers SlidingChoice o bs r cs
 
 abbrev pub meet_answer : (Event → Bool) → (Process → Process → Process) → Action → Option Process → Action → Option Process → List Answered
 meet_answer shared under (Ev e) t (Ev f) u = cond (event_eq e f && shared e) ((Ev e, under_both under t u) ∷ []) []

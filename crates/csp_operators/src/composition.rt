@@ -15,6 +15,7 @@ pub(crate) enum Composition<A: AllocHandle> {
     Operator(ProcessOperator),
     Generalised(EventSet<A>),
     Alphabetised(EventSet<A>, EventSet<A>),
+    Sliding,
 }
 
 /// An operator of one process, with its set of events or its pairs.
@@ -50,6 +51,7 @@ impl<A: AllocHandle> Composition<A> {
                 let other = other.try_copy(alloc)?;
                 Ok(TermForm::AlphabetisedParallel(left, own, other, right))
             }
+            Composition::Sliding => Ok(TermForm::SlidingChoice(left, right)),
         }
     }
 

@@ -18,6 +18,7 @@ mod rule_step;
 pub mod sequential;
 mod sharing;
 mod side;
+pub mod sliding;
 mod stay;
 
 pub use rule_step::{RuleStep, Target, one_step};

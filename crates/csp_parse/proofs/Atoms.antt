@@ -1,12 +1,13 @@
 -- Atoms, from what is passed and read.
-use Rattle.std.proofs.Common.{List, ◌++◌, true, false}
+use Rattle.std.proofs.Common.{◌∙◌, List, ◌++◌, true, false, inl, inr, sym, subst, append_assoc}
 use Rattle.csp_syntax.specs.Expression.{Unary, Binary, Negate, Length}
-use Rattle.csp_text.specs.Token.{PlacedToken, Keyword, TrueWord, FalseWord, BoolWord, MinusSign, HashSign, LessSign, GreaterSign, OpenBraceSign, CloseBraceSign, RangeSign}
+use Rattle.csp_text.specs.Token.{PlacedToken, Keyword, TrueWord, FalseWord, BoolWord, OpenRoundSign, CloseRoundSign, MinusSign, HashSign, LessSign, GreaterSign, OpenBraceSign, CloseBraceSign, RangeSign}
 use Rattle.csp_text.specs.Raw.{RawName, RawExpression, RawNumber, RawTruth, RawBooleans, RawUse, RawApply, RawCombine, RawSequence, RawSet, RawRange, RawExpressions, no_raw_expressions}
 use Rattle.csp_text.specs.Grammar as grammar
 use Rattle.csp_text.specs.Grammar.{IsWord, IsSign, IsName, IsNumber, IsUnaryWord, IsBinaryWord, IsExpression, IsAtom, AreSums, AreExpressions}
-use Rattle.csp_parse.specs.Levels.{ReadsBracketed, ReadsTwo}
+use Rattle.csp_parse.specs.Levels.{constructed, IsEnclosed, ReadsBracketed, ReadsRound, ReadsTwo}
 use Rattle.csp_parse.specs.Reading.{Standing, Passes, Reads}
+use Rattle.csp_parse.proofs.AtomsBegin.{around}
 use Rattle.csp_parse.proofs.Passing.{join}
 
 pub number_atom : {before after : Standing} {n : _} → Reads IsNumber before after n → Reads IsAtom before after (RawNumber n)
@@ -30,12 +31,17 @@ negate_atom s r = record { front = s.front ++ r.front; splits = join s.splits r.
 pub length_atom : {a b c : Standing} {e : RawExpression} → Passes (IsSign HashSign) a b → Reads IsAtom b c e → Reads IsAtom a c (RawApply Length e)
 length_atom s r = record { front = s.front ++ r.front; splits = join s.splits r.splits; is = grammar.length_of s.is r.is }
 
-pub bracketed_atom : {a b : Standing} {e : RawExpression} → ReadsBracketed a b e → Reads IsAtom a b e
-bracketed_atom r =
+enclosed_is : {a b c : List PlacedToken} {e : RawExpression} → IsSign OpenRoundSign a → IsEnclosed b e → IsSign CloseRoundSign c → IsAtom (a ++ b ++ c) e
+enclosed_is s (inl x) t = grammar.bracketed s x t
+enclosed_is {a} {c = c} {e = e} s (inr (constructed {a = p} {b = q} {c = r} {d = v} k m h hs)) t =
+    subst (λ ts. IsAtom ts e) (around a p q r v c ∙ sym (append_assoc a (p ++ q ++ r ++ v) c)) (grammar.constructed s k m h hs t)
+
+pub round_atom : {a b : Standing} {e : RawExpression} → ReadsRound a b e → Reads IsAtom a b e
+round_atom r =
     record {
       front = r.opens.front ++ r.inner.front ++ r.closes.front;
       splits = join (join r.opens.splits r.inner.splits) r.closes.splits;
-      is = grammar.bracketed r.opens.is r.inner.is r.closes.is;
+      is = enclosed_is r.opens.is r.inner.is r.closes.is;
     }
 
 pub one_atom : (k : Keyword) (o : Unary) {a b c : Standing} {e : RawExpression} → ((w : List PlacedToken) → IsWord k w → IsUnaryWord w o) → Passes (IsWord k) a b → ReadsBracketed b c e →

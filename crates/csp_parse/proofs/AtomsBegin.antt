@@ -1,12 +1,13 @@
 -- Which atom begins with a token.
 use Rattle.std.proofs.Common.{◌≡◌, ◌∙◌, List, [], ◌∷◌, ◌++◌, Some, inl, inr, refl, sym, ap, subst, append_assoc, append-nil}
 use Rattle.csp_syntax.specs.Expression as pure
-use Rattle.csp_text.specs.Token.{Token, KeywordToken, SignToken, Keyword, Sign, CommaSign, MinusSign, HashSign, LessSign, OpenBraceSign, CloseBraceSign, GreaterSign, PlacedToken}
+use Rattle.csp_text.specs.Token.{Token, KeywordToken, SignToken, Keyword, Sign, OpenRoundSign, CloseRoundSign, CommaSign, MinusSign, HashSign, LessSign, OpenBraceSign, CloseBraceSign, GreaterSign, PlacedToken}
 use Rattle.csp_text.specs.Raw.{RawExpression, RawApply, RawCombine, RawSequence, RawSet, RawRange, RawExpressions}
 use Rattle.csp_text.specs.Grammar as grammar
 use Rattle.csp_text.specs.Grammar.{IsWord, word, IsSign, sign, IsName, IsNumber, IsUnaryWord, IsBinaryWord, IsExpression, IsSum, IsAtom, AreSums, AreExpressions}
-use Rattle.csp_parse.specs.AtomForms.{Whole, Bracketed, TwoBracketed, Items, Members, Inside, AtomOf}
+use Rattle.csp_parse.specs.AtomForms.{Whole, Bracketed, Round, TwoBracketed, Items, Members, Inside, AtomOf}
 use Rattle.csp_parse.specs.Forms.{HasTree, Then, both, Repeated, never, Next, Parts}
+use Rattle.csp_parse.specs.Levels.{constructed, IsEnclosed}
 use Rattle.csp_parse.specs.Separated.{AreSeparated, one, more}
 use Rattle.csp_parse.specs.Words.{unary_word, binary_word}
 use Rattle.csp_parse.proofs.Chaining.{parts_behind, separated_are}
@@ -51,6 +52,10 @@ right_five a b c d x = append_assoc (a ++ b ++ c) d x ∙ right_four a b c (d ++
 pub right_six : (a b c d x y : List PlacedToken) → a ++ b ++ c ++ d ++ x ++ y ≡ a ++ (b ++ (c ++ (d ++ (x ++ y))))
 right_six a b c d x y = append_assoc (a ++ b ++ c ++ d) x y ∙ right_five a b c d (x ++ y)
 
+-- what stands between the first and the last
+pub around : (a b c d x y : List PlacedToken) → a ++ b ++ c ++ d ++ x ++ y ≡ a ++ ((b ++ c ++ d ++ x) ++ y)
+around a b c d x y = right_six a b c d x y ∙ ap (λ w. a ++ w) (sym (right_five b c d x y))
+
 one_part : {s : Sign} {Is : List PlacedToken → Type 0} {a : List PlacedToken} → Is a → Parts s Is a
 one_part {s} {Is} {a} h = subst (Parts s Is) (append-nil a) (both a [] h never)
 
@@ -92,7 +97,9 @@ atom_begins (IsAtom.false_word w) = alone_word w w
 atom_begins (IsAtom.bool_word w) = alone_word w w
 atom_begins (IsAtom.negate {a} {b} {e} s x) = by_sign b s (both a b s (e, x))
 atom_begins (IsAtom.length_of {a} {b} {e} s x) = by_sign b s (both a b s (e, x))
-atom_begins (IsAtom.bracketed {a} {b} {c} {e} s x t) = subst BeginsAtom (sym (right_three a b c)) (by_sign (b ++ c) s (both a (b ++ c) s (both b c (e, x) t)))
+atom_begins (IsAtom.bracketed {a} {b} {c} {e} s x t) = subst BeginsAtom (sym (right_three a b c)) (by_sign (b ++ c) s (both a (b ++ c) s (both b c (e, inl x) t)))
+atom_begins (IsAtom.constructed {a} {b} {c} {d} {x} {y} {n} {e} {es} s k m h hs t) =
+    subst BeginsAtom (sym (around a b c d x y)) (by_sign ((b ++ c ++ d ++ x) ++ y) s (both a ((b ++ c ++ d ++ x) ++ y) s (both (b ++ c ++ d ++ x) y (_, inr (constructed k m h hs)) t)))
 atom_begins (IsAtom.no_items {a} {b} s t) = by_sign b s (both a b s (inl t))
 atom_begins (IsAtom.items {a} {b} {c} s xs t) = subst BeginsAtom (sym (right_three a b c)) (by_sign (b ++ c) s (both a (b ++ c) s (sums_inside c (sums_parts xs) t)))
 atom_begins (IsAtom.no_members {a} {b} s t) = by_sign b s (both a b s (inl t))
@@ -106,8 +113,12 @@ atom_begins (IsAtom.of_two {a} {b} {c} {d} {x} {y} {o} {e} {f} w s h m k t) =
     (binary_begins (b ++ (c ++ (d ++ (x ++ y)))) w (both b (c ++ (d ++ (x ++ y))) s (both c (d ++ (x ++ y)) (e, h) (both d (x ++ y) m (both x y (f, k) t)))))
 
 -- what the forms are as atoms
-pub bracketed_atom : {a : List PlacedToken} → Bracketed a → HasTree IsAtom a
-bracketed_atom (both a bc s (both b c (e, x) t)) = (e, subst (λ ts. IsAtom ts e) (right_three a b c) (grammar.bracketed s x t))
+pub enclosed_atom : {a b c : List PlacedToken} {e : RawExpression} → IsSign OpenRoundSign a → IsEnclosed b e → IsSign CloseRoundSign c → IsAtom (a ++ (b ++ c)) e
+enclosed_atom {a} {b} {c} {e} s (inl x) t = subst (λ ts. IsAtom ts e) (right_three a b c) (grammar.bracketed s x t)
+enclosed_atom {a} {c = c} {e = e} s (inr (constructed {a = p} {b = q} {c = r} {d = v} k m h hs)) t = subst (λ ts. IsAtom ts e) (around a p q r v c) (grammar.constructed s k m h hs t)
+
+pub round_atom : {a : List PlacedToken} → Round a → HasTree IsAtom a
+round_atom (both a bc s (both b c h t)) = (h.0, enclosed_atom s h.1 t)
 
 pub unary_atom : (k : Keyword) (o : pure.Unary) {a : List PlacedToken} → unary_word k ≡ Some o → Then (IsWord k) Bracketed a → HasTree IsAtom a
 unary_atom k o is (both a r w (both b cd s (both c d (e, x) t))) =

@@ -15,13 +15,13 @@ use Rattle.csp_parse.specs.declared.levels.Level.{Level}
 use Rattle.csp_parse.specs.declared.levels.Level.TheVariants as level
 use Rattle.csp_parse.specs.declared.stops.Stopped.{Stopped}
 use Rattle.csp_parse.specs.declared.stops.Stopped.TheVariants as stop
-use Rattle.csp_parse.specs.AtomForms.{Whole, Bracketed, TwoBracketed, Items, Members, Inside, AtomOfWord, AtomOfSign}
-use Rattle.csp_parse.specs.Continuing.{continues, lists, IsItem}
+use Rattle.csp_parse.specs.AtomForms.{Whole, Bracketed, Round, Enclosed, TwoBracketed, Items, Members, Inside, AtomOfWord, AtomOfSign}
+use Rattle.csp_parse.specs.Continuing.{continues, lists, enclosed_goes_on, IsItem}
 use Rattle.csp_parse.specs.Deciding.{first, nothing, only, Done, IsStop, here, IsStopOfOne}
 use Rattle.csp_parse.specs.Forms.{HasTree, Then, both, Repeated, never, again, Next}
 use Rattle.csp_parse.specs.Reading.{Standing, IsNext, Passes, Reads}
 use Rattle.csp_parse.specs.Words.{unary_word, binary_word}
-use Rattle.csp_parse.proofs.AtomsBegin.{bracketed_atom, unary_atom, binary_atom, negated_atom, length_atom, sequence_atom, set_atom}
+use Rattle.csp_parse.proofs.AtomsBegin.{round_atom, unary_atom, binary_atom, negated_atom, length_atom, sequence_atom, set_atom}
 use Rattle.csp_parse.proofs.AtomsNext.{sign_narrows, word_narrows, name_narrows, number_narrows, unary_form, binary_form}
 use Rattle.csp_parse.proofs.Chaining.{avoids}
 use Rattle.csp_parse.proofs.Deciding.{Inhabited, Avoids, Narrows}
@@ -52,6 +52,22 @@ last_in_brackets done = behind_both done (close_avoids level.Disjunction)
 
 pub last_stops_in_brackets : {k : Sign} {s t : Standing} {e : Stopped} → IsStop (Next k Whole) (continues level.Disjunction) s t e → IsStop (Then (IsSign k) (Then Whole (IsSign CloseRoundSign))) nothing s t e
 last_stops_in_brackets stop = within_both (close_avoids level.Disjunction) (some_sign CloseRoundSign) stop
+
+-- what is an atom in round brackets
+enclosed_avoids : Avoids enclosed_goes_on nothing (IsSign CloseRoundSign)
+enclosed_avoids = avoids_sign enclosed_goes_on CloseRoundSign nothing (λ h. elim h [ inl x ↦ no_operator level.Disjunction (SignToken CloseRoundSign) refl x | inr e ↦ cc e ])
+
+pub some_enclosed : Inhabited Enclosed
+some_enclosed = let e = some_at level.Disjunction in (e.0, (e.1.0, inl e.1.1))
+
+pub some_enclosed_closed : Inhabited (Then Enclosed (IsSign CloseRoundSign))
+some_enclosed_closed = some_then some_enclosed (some_sign CloseRoundSign)
+
+pub enclosed_behind : {s t : Standing} → Done Enclosed enclosed_goes_on s t → Turns (Then Enclosed (IsSign CloseRoundSign)) nothing s (IsSign CloseRoundSign) nothing t
+enclosed_behind done = behind done enclosed_avoids
+
+pub enclosed_stops : {s t : Standing} {e : Stopped} → IsStop Enclosed enclosed_goes_on s t e → IsStop (Then Enclosed (IsSign CloseRoundSign)) nothing s t e
+enclosed_stops stop = within_first enclosed_avoids (some_sign CloseRoundSign) stop
 
 -- two expressions in brackets
 abbrev pub SecondBracketed : List PlacedToken → Type 0
@@ -200,8 +216,8 @@ negated_form {s} next = chosen (sign_narrows signs.Minus nothing s next) (λ a h
 pub length_form : {s : Standing} → IsNext (kind.Sign signs.Hash) s.left → Turns (HasTree IsAtom) nothing s (Then (IsSign HashSign) (HasTree IsAtom)) nothing s
 length_form {s} next = chosen (sign_narrows signs.Hash nothing s next) (λ a h. length_atom h)
 
-pub bracketed_form : {s : Standing} → IsNext (kind.Sign signs.OpenRound) s.left → Turns (HasTree IsAtom) nothing s Bracketed nothing s
-bracketed_form {s} next = chosen (sign_narrows signs.OpenRound nothing s next) (λ a h. bracketed_atom h)
+pub round_form : {s : Standing} → IsNext (kind.Sign signs.OpenRound) s.left → Turns (HasTree IsAtom) nothing s Round nothing s
+round_form {s} next = chosen (sign_narrows signs.OpenRound nothing s next) (λ a h. round_atom h)
 
 pub sequence_form : {s : Standing} → IsNext (kind.Sign signs.Less) s.left → Turns (HasTree IsAtom) nothing s (Then (IsSign LessSign) Items) nothing s
 sequence_form {s} next = chosen (sign_narrows signs.Less nothing s next) (λ a h. sequence_atom h)

@@ -99,7 +99,7 @@ stop_second one avoids memory = memory
 abbrev pub Narrows : (Is Only : List PlacedToken → Type 0) → (Token → Type 0) → Standing → Type 0
 Narrows Is Only c before = (a b : List PlacedToken) → first (a ++ b) ≡ first before.left → Is a → Stops c b → Only a
 
-begins_so : (before : List PlacedToken) (front left later a b : List PlacedToken) → before ≡ front ++ left → first later ≡ first left → front ++ later ≡ a ++ b → first (a ++ b) ≡ first before
+pub begins_so : (before : List PlacedToken) (front left later a b : List PlacedToken) → before ≡ front ++ left → first later ≡ first left → front ++ later ≡ a ++ b → first (a ++ b) ≡ first before
 begins_so before front left later a b is same e = ap first (sym e) ∙ first_both front later left same ∙ ap first (sym is)
 
 -- one of several forms is chosen by the first token

@@ -1,9 +1,13 @@
--- Declarations by their first token, equations and assertions: what the readers of their parts decide, their own do.
-use Rattle.std.proofs.Common.{◌≡◌, ◌∙◌, ◌⊎◌, ℕ, true, false, List, [], ◌∷◌, ◌++◌, inl, inr, refl, sym, ap, subst, append_assoc, append-nil, arith}
-use Rattle.csp_text.specs.Token.{Token, KeywordToken, NameToken, DatatypeWord, NametypeWord, ChannelWord, AssertWord, CommaSign, BarSign, EqualsSign, OpenRoundSign, CloseRoundSign, TracesSign, FailuresSign, PlacedToken}
+-- Declarations by their first token, and equations: what the readers of their parts decide, their own do.
+use Rattle.std.proofs.Common.{◌≡◌, ◌∙◌, ℕ, true, false, List, [], ◌∷◌, ◌++◌, inl, inr, refl, sym, ap, subst, append_assoc, append-nil, arith}
+use Rattle.csp_text.specs.Token.{Token, KeywordToken, NameToken, DatatypeWord, NametypeWord, ChannelWord, AssertWord, CommaSign, EqualsSign, OpenRoundSign, CloseRoundSign, PlacedToken}
 use Rattle.csp_text.specs.Raw.{RawName, RawDeclaration, RawNametype, RawChannels, RawEquation, RawAssertion}
+use Rattle.csp_text.specs.Token.{Token, KeywordToken, NameToken, DatatypeWord, NametypeWord, ChannelWord, AssertWord, CommaSign, EqualsSign, OpenRoundSign, CloseRoundSign, PlacedToken}
+use Rattle.std.proofs.Common.{◌≡◌, ◌∙◌, ℕ, true, false, List, [], ◌∷◌, ◌++◌, inl, inr, refl, sym, ap, subst, append_assoc, append-nil, arith}
+use Rattle.csp_text.specs.Token.{Token, KeywordToken, NameToken, DatatypeWord, NametypeWord, ChannelWord, AssertWord, CommaSign, EqualsSign, OpenRoundSign, CloseRoundSign, PlacedToken}
+use Rattle.csp_text.specs.Raw.{RawName, RawDeclaration, RawNametype, RawChannels, RawEquation, RawAssertion, RawRefinementOf}
 use Rattle.csp_text.specs.Grammar as grammar
-use Rattle.csp_text.specs.Grammar.{IsWord, IsSign, IsName, AreNames, AreAlternatives, IsModel, IsProcess, IsDeclaration}
+use Rattle.csp_text.specs.Grammar.{IsWord, IsSign, IsName, AreNames, IsModel, IsProcess, IsDeclaration}
 use Rattle.csp_lex.specs.declared.keywords.Keyword.TheVariants as keyword
 use Rattle.csp_lex.specs.declared.kinds.TokenKind.TheVariants as kind
 use Rattle.csp_parse.specs.declared.levels.Level.TheVariants as level
@@ -11,31 +15,29 @@ use Rattle.csp_parse.specs.declared.stops.Stopped.{Stopped}
 use Rattle.csp_parse.specs.declared.stops.Stopped.TheVariants as stop
 use Rattle.csp_parse.specs.Continuing.{continues}
 use Rattle.csp_parse.specs.Deciding.{first, nothing, only, Ends, Done, IsStop}
-use Rattle.csp_parse.specs.DeclarationForms.{IsDatatype, IsNametype, IsChannels, Equated, Parameters, IsEquation, IsAssertion, channels_go_on, begins_declaration, declaration_goes_on}
+use Rattle.csp_parse.specs.DeclarationForms.{datatype_goes_on, IsDatatype, IsNametype, IsChannels, Equated, Parameters, IsEquation, IsAssertion, channels_go_on, begins_declaration, declaration_goes_on}
 use Rattle.csp_parse.specs.Forms.{HasTree, Then, both, Either, Perhaps}
 use Rattle.csp_parse.specs.Levels.{domain}
 use Rattle.csp_parse.specs.ProcessForms.{start_goes_on, joins_process, continues_process}
 use Rattle.csp_parse.specs.Reading.{Standing, IsNext, Reads}
 use Rattle.csp_parse.specs.Separated.{AreSeparated, one, more}
 use Rattle.csp_parse.proofs.AtomsBegin.{right_three, right_four, right_six}
-use Rattle.csp_parse.proofs.AtomsTurn.{not_there, none_in}
+use Rattle.csp_parse.proofs.AtomsTurn.{not_there}
 use Rattle.csp_parse.proofs.Deciding.{Inhabited, Avoids, avoids_nothing}
 use Rattle.csp_parse.proofs.DomainsTurn.{WithDomains}
 use Rattle.csp_parse.proofs.ProcessTurns.{some_process}
-use Rattle.csp_parse.proofs.Repeating.{IsFirstIn, BeginsIn, Within, Apart, first_in, avoids_apart}
+use Rattle.csp_parse.proofs.Repeating.{IsFirstIn, BeginsIn, Within, first_in}
 use Rattle.csp_parse.proofs.ScriptTurn.{declares, declaration_first}
-use Rattle.csp_parse.proofs.Separating.{names_are, alternatives_are}
-use Rattle.csp_parse.proofs.Singles.{some_sign, some_name, some_word}
+use Rattle.csp_parse.proofs.Separating.{names_are}
+use Rattle.csp_parse.proofs.Singles.{some_sign, some_name}
+use Rattle.csp_parse.proofs.Separating.{names_are}
+use Rattle.csp_parse.proofs.Singles.{some_sign, some_name}
 use Rattle.csp_parse.proofs.Turning.{Turns, turn, finished, chosen, behind, within_first, wider, sign_begins, word_begins, then_begins, first_here, avoids_sign_then, some_then, some_right, left_here, right_here}
 
 -- names with a sign between
 separated_names : {a : List PlacedToken} {ns : List RawName} → AreNames a ns → AreSeparated CommaSign IsName a ns
 separated_names (AreNames.one_name {a} {n} h) = one a n h
 separated_names (AreNames.more_names {a} {n = n} h m hs) = more a n h m (separated_names hs)
-
-separated_alternatives : {a : List PlacedToken} {ns : List RawName} → AreAlternatives a ns → AreSeparated BarSign IsName a ns
-separated_alternatives (AreAlternatives.one_alternative {a} {n} h) = one a n h
-separated_alternatives (AreAlternatives.more_alternatives {a} {n = n} h m hs) = more a n h m (separated_alternatives hs)
 
 -- what a declaration is by its first token
 abbrev DeclaredAs : Token → List PlacedToken → Type 0
@@ -84,7 +86,7 @@ of_equation : {a : List PlacedToken} → IsEquation a → BeginsDeclared a
 of_equation (both n r (m, IsName.name t cs is) k) = subst (λ y. DeclaredAs y (t ∷ r)) (sym is) (both (t ∷ []) r (m, grammar.name t cs is) k)
 
 declared : {a : List PlacedToken} {d : RawDeclaration} → IsDeclaration a d → BeginsDeclared a
-declared (IsDeclaration.datatype {a} {b} {c} {d} {n} {ns} w h m hs) = of_datatype (both (a ++ b ++ c) d (both (a ++ b) c (both a b w (n, h)) m) (ns, separated_alternatives hs))
+declared (IsDeclaration.datatype {a} {b} {c} {d} {n} {cs} w h m hs) = of_datatype (both (a ++ b ++ c) d (both (a ++ b) c (both a b w (n, h)) m) (cs, hs))
 declared (IsDeclaration.nametype t ts {a} {b} {c} {n} {e} w h m k) =
     of_nametype (subst IsNametype (sym (right_four a b c (t ∷ ts))) (both a (b ++ (c ++ t ∷ ts)) w (both b (c ++ t ∷ ts) (n, h) (both c (t ∷ ts) m (_, domain t ts e k)))))
 declared (IsDeclaration.bare_channels {a} {b} {ns} w hs) =
@@ -95,12 +97,14 @@ declared (IsDeclaration.equation {a} {b} {c} {n} {p} h m k) = of_equation (subst
 declared (IsDeclaration.equation_with {a} {b} {c} {d} {x} {y} {n} {ns} {p} h o hs q m k) =
     of_equation (subst IsEquation (sym (right_six a b c d x y))
     (both a (b ++ (c ++ (d ++ (x ++ y)))) (n, h) (inl (both b (c ++ (d ++ (x ++ y))) o (both c (d ++ (x ++ y)) (ns, separated_names hs) (both d (x ++ y) q (both x y m (p, k))))))))
-declared (IsDeclaration.assertion t {b} {c} {d} {m} {p} {q} w h k j) =
-    of_assertion (subst IsAssertion (ap (λ z. t ∷ z) (sym (append_assoc b c d))) (both (t ∷ []) (b ++ (c ++ d)) w (both b (c ++ d) (p, h) (both c d (m, k) (q, j)))))
+declared (IsDeclaration.assertion t {b} {c} {d} {n} {m} {p} {q} w h k j) =
+    of_assertion (subst IsAssertion (ap (λ z. t ∷ z) (sym (append_assoc b c d))) (both (t ∷ []) (b ++ (c ++ d)) w (both b (c ++ d) ((n, p), h) (inr (both c d (m, k) (q, j))))))
+declared (IsDeclaration.freedom t {b} {c} {d} {n} {a} {p} w h s f) =
+    of_assertion (subst IsAssertion (ap (λ z. t ∷ z) (sym (append_assoc b c d))) (both (t ∷ []) (b ++ (c ++ d)) w (both b (c ++ d) ((n, p), h) (inl (both c d s (a, f))))))
 
 -- the forms are declarations
 datatype_is : {a : List PlacedToken} → IsDatatype a → HasTree IsDeclaration a
-datatype_is (both abc d (both ab c (both a b w h) m) hs) = (_, grammar.datatype w h.1 m (alternatives_are hs.1))
+datatype_is (both abc d (both ab c (both a b w h) m) hs) = (_, grammar.datatype w h.1 m hs.1)
 
 nametype_is : {a : List PlacedToken} → IsNametype a → HasTree IsDeclaration a
 nametype_is (both a r w (both b q h (both c d m (x, domain t ts e k)))) = (_, subst (λ z. IsDeclaration z (RawNametype h.0 (record { place = t.place; set = e }))) (right_four a b c (t ∷ ts)) (grammar.nametype t ts w h.1 m k))
@@ -117,8 +121,12 @@ equation_is (both a r h (inl (both b r1 o (both c r2 hs (both d r3 q (both x y m
     (RawEquation h.0 hs.0 k.0, subst (λ z. IsDeclaration z (RawEquation h.0 hs.0 k.0)) (right_six a b c d x y) (grammar.equation_with h.1 o (names_are hs.1) q m k.1))
 
 assertion_is : {a : List PlacedToken} → IsAssertion a → HasTree IsDeclaration a
-assertion_is (both a r (IsWord.word t is) (both b r1 h (both c d k j))) =
-    (RawAssertion t.place k.0 h.0 j.0, subst (λ z. IsDeclaration z (RawAssertion t.place k.0 h.0 j.0)) (ap (λ z. t ∷ z) (append_assoc b c d)) (grammar.assertion t (grammar.word t is) h.1 k.1 j.1))
+assertion_is (both a r (IsWord.word t is) (both b r1 h (inr (both c d k j)))) =
+    let x = RawAssertion t.place h.0.0 (RawRefinementOf k.0 h.0.1) j.0 in
+    (x, subst (λ z. IsDeclaration z x) (ap (λ z. t ∷ z) (append_assoc b c d)) (grammar.assertion t (grammar.word t is) h.1 k.1 j.1))
+assertion_is (both a r (IsWord.word t is) (both b r1 h (inl (both c d s f)))) =
+    let x = RawAssertion t.place h.0.0 f.0 h.0.1 in
+    (x, subst (λ z. IsDeclaration z x) (ap (λ z. t ∷ z) (append_assoc b c d)) (grammar.freedom t (grammar.word t is) h.1 s f.1))
 
 -- by the first token
 narrowed : (x : Token) (a b left : List PlacedToken) → first (a ++ b) ≡ first left → IsFirstIn (λ t. t ≡ x) left → BeginsDeclared a → DeclaredAs x a
@@ -129,8 +137,9 @@ declared_here : (x : Token) (c : Token → Type 0) {s : Standing} → IsFirstIn 
     Turns (HasTree IsDeclaration) declaration_goes_on s (DeclaredAs x) c s
 declared_here x c {s} next widens within = turn (chosen (λ a b alike h stops. narrowed x a b s.left alike next (declared h.1)) widens) (wider within)
 
-bar_within : Within (only BarSign) declaration_goes_on
-bar_within t is = subst declaration_goes_on (sym is) refl
+clause_within : Within datatype_goes_on declaration_goes_on
+clause_within t (inl is) = subst declaration_goes_on (sym is) refl
+clause_within t (inr is) = subst declaration_goes_on (sym is) refl
 
 operator_goes : (t : Token) → continues level.Disjunction t → begins_declaration t ≡ false
 operator_goes (KeywordToken DatatypeWord) h = absurd (omega (arith, h))
@@ -166,11 +175,11 @@ process_goes t (inl h) = start_goes t h
 process_goes t (inr h) = join_goes t h
 
 -- the keyword is next
-pub datatype_here : {s : Standing} → IsFirstIn (λ t. t ≡ KeywordToken DatatypeWord) s.left → Turns (HasTree IsDeclaration) declaration_goes_on s IsDatatype (only BarSign) s
-datatype_here next = declared_here (KeywordToken DatatypeWord) (only BarSign) next (λ a h. datatype_is h) bar_within
+pub datatype_here : {s : Standing} → IsFirstIn (λ t. t ≡ KeywordToken DatatypeWord) s.left → Turns (HasTree IsDeclaration) declaration_goes_on s IsDatatype datatype_goes_on s
+datatype_here next = declared_here (KeywordToken DatatypeWord) datatype_goes_on next (λ a h. datatype_is h) clause_within
 
 -- a datatype that is read is a declaration
-pub datatype_done : {s t : Standing} {d : RawDeclaration} → IsFirstIn (λ t. t ≡ KeywordToken DatatypeWord) s.left → Reads IsDeclaration s t d → Ends IsDatatype (only BarSign) s t → Done (HasTree IsDeclaration) declaration_goes_on s t
+pub datatype_done : {s t : Standing} {d : RawDeclaration} → IsFirstIn (λ t. t ≡ KeywordToken DatatypeWord) s.left → Reads IsDeclaration s t d → Ends IsDatatype datatype_goes_on s t → Done (HasTree IsDeclaration) declaration_goes_on s t
 datatype_done {s} {t} next r ends = finished (datatype_here next) (record {
   front = r.front;
   splits = r.splits;
@@ -267,57 +276,3 @@ parameters_stop stop = within_first shut_avoids some_shut stop
 
 pub closing_stop : {s t : Standing} {e : Stopped} → IsStop (IsSign CloseRoundSign) nothing s t e → IsStop Shut continues_process s t e
 closing_stop stop = within_first (avoids_nothing continues_process Equated) some_equated stop
-
--- an assertion
-abbrev pub Compared : List PlacedToken → Type 0
-Compared = Then (HasTree IsModel) (HasTree IsProcess)
-
-some_model : Inhabited (HasTree IsModel)
-some_model = let m = some_sign TracesSign in (m.0, (_, grammar.traces m.1))
-
-some_compared : Inhabited Compared
-some_compared = some_then some_model some_process
-
-some_assertion : Inhabited IsAssertion
-some_assertion = some_then (some_word AssertWord) (some_then some_process some_compared)
-
-abbrev is_model : Token → Type 0
-is_model t = only TracesSign t ⊎ only FailuresSign t
-
-model_first : {a : List PlacedToken} {m : _} → IsModel a m → IsFirstIn is_model a
-model_first (IsModel.traces {a} (IsSign.sign t is)) = inl is
-model_first (IsModel.failures {a} (IsSign.sign t is)) = inr is
-
-no_model_on : Apart is_model continues_process
-no_model_on t (inl is) h =
-    elim (subst continues_process is h) [
-      | inl e ↦ cc e
-      | inr e ↦ cc e
-    ]
-no_model_on t (inr is) h =
-    elim (subst continues_process is h) [
-      | inl e ↦ cc e
-      | inr e ↦ cc e
-    ]
-
-model_avoids : Avoids continues_process continues_process Compared
-model_avoids = avoids_apart is_model continues_process continues_process Compared (then_begins is_model (λ a h. model_first h.1)) no_model_on
-
--- at the end there is no assertion
-pub assertion_at_end : {s : Standing} → s.left ≡ [] → IsStop IsAssertion continues_process s s stop.Here
-assertion_at_end {s} none = not_there some_assertion (λ a b alike h stops. none_in (λ t. t ≡ KeywordToken AssertWord) a b s.left none alike (assertion_first a h))
-
-pub assert_stops : {s t : Standing} {e : Stopped} → IsStop (IsWord AssertWord) nothing s t e → IsStop IsAssertion continues_process s t e
-assert_stops stop = within_first (avoids_nothing continues_process (Then (HasTree IsProcess) Compared)) (some_then some_process some_compared) stop
-
-pub specified : {s t : Standing} → Done (HasTree IsProcess) continues_process s t → Turns (Then (HasTree IsProcess) Compared) continues_process s Compared continues_process t
-specified done = behind done model_avoids
-
-pub specified_stops : {s t : Standing} {e : Stopped} → IsStop (HasTree IsProcess) continues_process s t e → IsStop (Then (HasTree IsProcess) Compared) continues_process s t e
-specified_stops stop = within_first model_avoids some_compared stop
-
-pub model_behind : {s t : Standing} → Done (HasTree IsModel) nothing s t → Turns Compared continues_process s (HasTree IsProcess) continues_process t
-model_behind done = behind done (avoids_nothing continues_process (HasTree IsProcess))
-
-pub model_stops : {s t : Standing} {e : Stopped} → IsStop (HasTree IsModel) nothing s t e → IsStop Compared continues_process s t e
-model_stops stop = within_first (avoids_nothing continues_process (HasTree IsProcess)) some_process stop

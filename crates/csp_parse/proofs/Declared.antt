@@ -1,21 +1,21 @@
 -- What the readers of declarations tell, from what those of their parts do.
 use Rattle.std.proofs.Common.{◌≡◌, ◌∙◌, List, [], ◌∷◌, ◌++◌, refl, sym, subst}
 use Rattle.csp_syntax.specs.Process.{Model}
-use Rattle.csp_text.specs.Token.{Token, SignToken, Sign, DatatypeWord, EqualsSign, BarSign, TracesSign, FailuresSign, PlacedToken}
-use Rattle.csp_text.specs.Grammar.{IsWord, IsSign, sign, IsName, IsModel}
+use Rattle.csp_text.specs.Token.{Token, SignToken, Sign, DatatypeWord, EqualsSign, TracesSign, FailuresSign, PlacedToken}
+use Rattle.csp_text.specs.Grammar as grammar
+use Rattle.csp_text.specs.Grammar.{IsWord, IsSign, sign, IsName, AreClauses, IsModel}
 use Rattle.csp_parse.specs.declared.stops.Stopped.{Stopped}
 use Rattle.csp_parse.specs.Deciding.{first, nothing, only, Ends, IsStop, Done}
-use Rattle.csp_parse.specs.DeclarationForms.{IsDatatype}
+use Rattle.csp_parse.specs.DeclarationForms.{IsDatatype, datatype_goes_on}
 use Rattle.csp_parse.specs.Forms.{HasTree, Then}
 use Rattle.csp_parse.specs.Reading.{Standing, Passes, Reads}
-use Rattle.csp_parse.specs.Separated.{AreSeparated}
 use Rattle.csp_parse.proofs.Deciding.{Inhabited, Narrows, avoids_nothing, done_then, stop_first, stop_second, ended, stop_chosen}
 use Rattle.csp_parse.proofs.Repeating.{IsFirstIn}
 use Rattle.csp_parse.proofs.Singles.{IsSingle, decides, single_done, sign_single, some_sign, word_single, some_name}
 
--- some parts with a sign between
-some_names : (s : Sign) → Inhabited (HasTree (AreSeparated s IsName))
-some_names s = let n = some_name in (n.0, (n.1.0 ∷ [], AreSeparated.one n.0 n.1.0 n.1.1))
+-- some clauses
+pub some_clauses : Inhabited (HasTree AreClauses)
+some_clauses = let n = some_name in (n.0, (_, grammar.one_clause (grammar.bare_clause n.1.1)))
 
 -- the keyword, the name and the sign of a datatype
 abbrev Named : List PlacedToken → Type 0
@@ -25,27 +25,27 @@ pub datatype_begun : {s t u v : Standing} → Passes (IsWord DatatypeWord) s t �
 datatype_begun w n e =
     done_then (done_then (single_done (word_single DatatypeWord) w) (avoids_nothing nothing (HasTree IsName)) n) (avoids_nothing nothing (IsSign EqualsSign)) (single_done (sign_single EqualsSign) e)
 
-pub datatype_end : {s v z : Standing} → Done (Then Named (IsSign EqualsSign)) nothing s v → Done (HasTree (AreSeparated BarSign IsName)) (only BarSign) v z → Ends IsDatatype (only BarSign) s z
-datatype_end begun names = ended (done_then begun (avoids_nothing (only BarSign) (HasTree (AreSeparated BarSign IsName))) names)
+pub datatype_end : {s v z : Standing} → Done (Then Named (IsSign EqualsSign)) nothing s v → Done (HasTree AreClauses) datatype_goes_on v z → Ends IsDatatype datatype_goes_on s z
+datatype_end begun clauses = ended (done_then begun (avoids_nothing datatype_goes_on (HasTree AreClauses)) clauses)
 
 -- the readers of its parts stop, in their turn
-pub datatype_stop_word : {s t : Standing} {e : Stopped} → IsStop (IsWord DatatypeWord) nothing s t e → IsStop IsDatatype (only BarSign) s t e
+pub datatype_stop_word : {s t : Standing} {e : Stopped} → IsStop (IsWord DatatypeWord) nothing s t e → IsStop IsDatatype datatype_goes_on s t e
 datatype_stop_word stops =
     stop_first (stop_first (stop_first stops (avoids_nothing nothing (HasTree IsName)) some_name) (avoids_nothing nothing (IsSign EqualsSign)) (some_sign EqualsSign))
-    (avoids_nothing (only BarSign) (HasTree (AreSeparated BarSign IsName))) (some_names BarSign)
+    (avoids_nothing datatype_goes_on (HasTree AreClauses)) some_clauses
 
-pub datatype_stop_name : {s t u : Standing} {e : Stopped} → Passes (IsWord DatatypeWord) s t → IsStop (HasTree IsName) nothing t u e → IsStop IsDatatype (only BarSign) s u e
+pub datatype_stop_name : {s t u : Standing} {e : Stopped} → Passes (IsWord DatatypeWord) s t → IsStop (HasTree IsName) nothing t u e → IsStop IsDatatype datatype_goes_on s u e
 datatype_stop_name w stops =
     stop_first (stop_first (stop_second (single_done (word_single DatatypeWord) w) (avoids_nothing nothing (HasTree IsName)) stops) (avoids_nothing nothing (IsSign EqualsSign)) (some_sign EqualsSign))
-    (avoids_nothing (only BarSign) (HasTree (AreSeparated BarSign IsName))) (some_names BarSign)
+    (avoids_nothing datatype_goes_on (HasTree AreClauses)) some_clauses
 
-pub datatype_stop_sign : {s t u v : Standing} {e : Stopped} → Passes (IsWord DatatypeWord) s t → Done (HasTree IsName) nothing t u → IsStop (IsSign EqualsSign) nothing u v e → IsStop IsDatatype (only BarSign) s v e
+pub datatype_stop_sign : {s t u v : Standing} {e : Stopped} → Passes (IsWord DatatypeWord) s t → Done (HasTree IsName) nothing t u → IsStop (IsSign EqualsSign) nothing u v e → IsStop IsDatatype datatype_goes_on s v e
 datatype_stop_sign w n stops =
     stop_first (stop_second (done_then (single_done (word_single DatatypeWord) w) (avoids_nothing nothing (HasTree IsName)) n) (avoids_nothing nothing (IsSign EqualsSign)) stops)
-    (avoids_nothing (only BarSign) (HasTree (AreSeparated BarSign IsName))) (some_names BarSign)
+    (avoids_nothing datatype_goes_on (HasTree AreClauses)) some_clauses
 
-pub datatype_stop_names : {s v z : Standing} {e : Stopped} → Done (Then Named (IsSign EqualsSign)) nothing s v → IsStop (HasTree (AreSeparated BarSign IsName)) (only BarSign) v z e → IsStop IsDatatype (only BarSign) s z e
-datatype_stop_names begun stops = stop_second begun (avoids_nothing (only BarSign) (HasTree (AreSeparated BarSign IsName))) stops
+pub datatype_stop_clauses : {s v z : Standing} {e : Stopped} → Done (Then Named (IsSign EqualsSign)) nothing s v → IsStop (HasTree AreClauses) datatype_goes_on v z e → IsStop IsDatatype datatype_goes_on s z e
+datatype_stop_clauses begun stops = stop_second begun (avoids_nothing datatype_goes_on (HasTree AreClauses)) stops
 
 model_single : IsSingle (HasTree IsModel)
 model_single a (m, IsModel.traces (sign t is)) = (t, refl)

@@ -1,18 +1,21 @@
 -- Declarations and scripts, from what is passed and read.
-use Rattle.std.proofs.Common.{◌≡◌, List, [], ◌∷◌, ◌++◌, ◌<◌, length, ap, subst, arith}
+use Rattle.std.proofs.Common.{◌≡◌, Bool, sym, List, [], ◌∷◌, ◌++◌, ◌<◌, length, ap, subst, arith}
 use Rattle.csp_syntax.specs.Process.{Model, Traces, Failures}
 use Rattle.csp_text.specs.Token.{PlacedToken, DatatypeWord, NametypeWord, ChannelWord, AssertWord, EqualsSign, ColonSign, OpenRoundSign, CloseRoundSign, TracesSign, FailuresSign}
-use Rattle.csp_text.specs.Raw.{RawName, RawExpression, RawDomain, RawProcess, RawDatatype, RawNametype, RawChannels, RawEquation, RawAssertion}
+use Rattle.csp_text.specs.Raw.{RawName, RawExpression, RawDomain, RawClause, RawProcess, RawDatatype, RawNametype, RawChannels, RawEquation, RawAssertion}
 use Rattle.csp_text.specs.Grammar as grammar
-use Rattle.csp_text.specs.Grammar.{IsWord, word, IsSign, IsName, AreNames, AreAlternatives, IsAtom, IsExpression, AreDomains, IsProcess, IsModel, IsDeclaration}
+use Rattle.csp_text.specs.Grammar.{IsWord, word, IsSign, IsName, AreNames, AreClauses, IsAtom, IsExpression, AreDomains, IsProcess, IsModel, IsDeclaration}
+use Rattle.csp_text.specs.Raw.{RawName, RawExpression, RawDomain, RawProcess, RawDatatype, RawNametype, RawChannels, RawEquation, RawAssertion, RawProperty, RawRefinementOf}
+use Rattle.csp_text.specs.Grammar.{IsWord, word, IsSign, IsName, AreNames, IsAtom, IsExpression, AreDomains, IsProcess, IsModel, IsFreedom, IsFirstSide, IsDeclaration}
 use Rattle.csp_parse.specs.declared.levels.Level.{Level}
 use Rattle.csp_parse.specs.declared.levels.Level.TheVariants as level
+use Rattle.csp_parse.specs.DeclarationForms.{IsSide}
 use Rattle.csp_parse.specs.Levels.{IsAt, IsDomainAt, domain}
 use Rattle.csp_parse.specs.Reading.{Standing, IsFirst, Passes, Reads}
 use Rattle.csp_parse.proofs.Passing.{join}
 
-pub datatype_read : {a b c d x : Standing} {n : RawName} {ns : List RawName} → Passes (IsWord DatatypeWord) a b → Reads IsName b c n → Passes (IsSign EqualsSign) c d → Reads AreAlternatives d x ns →
-    Reads IsDeclaration a x (RawDatatype n ns)
+pub datatype_read : {a b c d x : Standing} {n : RawName} {cs : List RawClause} → Passes (IsWord DatatypeWord) a b → Reads IsName b c n → Passes (IsSign EqualsSign) c d → Reads AreClauses d x cs →
+    Reads IsDeclaration a x (RawDatatype n cs)
 datatype_read w r m s =
     record { front = w.front ++ r.front ++ m.front ++ s.front; splits = join (join (join w.splits r.splits) m.splits) s.splits; is = grammar.datatype w.is r.is m.is s.is }
 
@@ -54,18 +57,34 @@ traces_read m = record { front = m.front; splits = m.splits; is = grammar.traces
 pub failures_read : {a b : Standing} → Passes (IsSign FailuresSign) a b → Reads IsModel a b Failures
 failures_read m = record { front = m.front; splits = m.splits; is = grammar.failures m.is }
 
-assertion_is : (t : PlacedToken) (a b c d rest : List PlacedToken) (m : Model) (p q : RawProcess) → IsFirst t (a ++ rest) → IsWord AssertWord a → IsProcess b p → IsModel c m → IsProcess d q →
-    IsDeclaration (a ++ b ++ c ++ d) (RawAssertion t.place m p q)
-assertion_is t a b c d rest m p q first (word u is) h k j =
-    subst (λ v. IsDeclaration (u ∷ [] ++ b ++ c ++ d) (RawAssertion v.place m p q)) first (grammar.assertion u (word u is) h k j)
+first_is : (t : PlacedToken) (a rest : List PlacedToken) → IsFirst t (a ++ rest) → IsWord AssertWord a → a ≡ t ∷ []
+first_is t a rest first (word u is) = ap (λ v. v ∷ []) first
 
-pub assertion_read : (t : PlacedToken) {a b c d x : Standing} {m : Model} {p q : RawProcess} → IsFirst t a.left → Passes (IsWord AssertWord) a b → Reads IsProcess b c p → Reads IsModel c d m → Reads IsProcess d x q →
-    Reads IsDeclaration a x (RawAssertion t.place m p q)
-assertion_read t {b = b} {m = m} {p = p} {q = q} first w r k s =
+refinement_is : (t : PlacedToken) (a b c d : List PlacedToken) (n : Bool) (m : Model) (p q : RawProcess) → a ≡ t ∷ [] → IsWord AssertWord a → IsFirstSide b n p → IsModel c m → IsProcess d q →
+    IsDeclaration (a ++ b ++ c ++ d) (RawAssertion t.place n (RawRefinementOf m p) q)
+refinement_is t a b c d n m p q is w h k j =
+    subst (λ v. IsDeclaration (v ++ b ++ c ++ d) (RawAssertion t.place n (RawRefinementOf m p) q)) (sym is) (grammar.assertion t (subst (IsWord AssertWord) is w) h k j)
+
+freedom_is : (t : PlacedToken) (a b c d : List PlacedToken) (n : Bool) (r : RawProperty) (p : RawProcess) → a ≡ t ∷ [] → IsWord AssertWord a → IsFirstSide b n p → IsSign ColonSign c → IsFreedom d r →
+    IsDeclaration (a ++ b ++ c ++ d) (RawAssertion t.place n r p)
+freedom_is t a b c d n r p is w h s f = subst (λ v. IsDeclaration (v ++ b ++ c ++ d) (RawAssertion t.place n r p)) (sym is) (grammar.freedom t (subst (IsWord AssertWord) is w) h s f)
+
+pub refinement_read : (t : PlacedToken) {a b c d x : Standing} {side : Bool × RawProcess} {m : Model} {q : RawProcess} → IsFirst t a.left → Passes (IsWord AssertWord) a b → Reads IsSide b c side → Reads IsModel c d m →
+    Reads IsProcess d x q → Reads IsDeclaration a x (RawAssertion t.place side.0 (RawRefinementOf m side.1) q)
+refinement_read t {b = b} {side = side} {m = m} {q = q} first w r k s =
     record {
       front = w.front ++ r.front ++ k.front ++ s.front;
       splits = join (join (join w.splits r.splits) k.splits) s.splits;
-      is = assertion_is t w.front r.front k.front s.front b.left m p q (subst (IsFirst t) w.splits.is first) w.is r.is k.is s.is;
+      is = refinement_is t w.front r.front k.front s.front side.0 m side.1 q (first_is t w.front b.left (subst (IsFirst t) w.splits.is first) w.is) w.is r.is k.is s.is;
+    }
+
+pub freedom_read : (t : PlacedToken) {a b c d x : Standing} {side : Bool × RawProcess} {f : RawProperty} → IsFirst t a.left → Passes (IsWord AssertWord) a b → Reads IsSide b c side → Passes (IsSign ColonSign) c d →
+    Reads IsFreedom d x f → Reads IsDeclaration a x (RawAssertion t.place side.0 f side.1)
+freedom_read t {b = b} {side = side} {f = f} first w r k s =
+    record {
+      front = w.front ++ r.front ++ k.front ++ s.front;
+      splits = join (join (join w.splits r.splits) k.splits) s.splits;
+      is = freedom_is t w.front r.front k.front s.front side.0 f side.1 (first_is t w.front b.left (subst (IsFirst t) w.splits.is first) w.is) w.is r.is k.is s.is;
     }
 
 -- A domain is read. It is not empty, since fewer tokens are left, so its first token is the next one.

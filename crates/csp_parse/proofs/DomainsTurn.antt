@@ -67,7 +67,7 @@ separated_of_domains (grammar.more_domains t ts {e = e} h m hs) = more (t ∷ ts
 pub domains_form : {s : Standing} → Turns (HasTree AreDomains) (only DotSign) s (Parts DotSign (HasTree (IsDomainAt level.Atom))) (only DotSign) s
 domains_form = same_form (λ a h. parts_are (separated_of_domains h.1)) (λ a h. let xs = separated_are h in (xs.0, domains_are xs.1))
 
-some_domains : Inhabited (HasTree AreDomains)
+pub some_domains : Inhabited (HasTree AreDomains)
 some_domains = let d = some_domain level.Atom in (d.0, (_, domains_are (one d.0 d.1.0 d.1.1)))
 
 -- a nametype

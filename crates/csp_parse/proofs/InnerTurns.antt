@@ -6,10 +6,15 @@ use Rattle.csp_parse.specs.declared.stops.Stopped.{Stopped}
 use Rattle.csp_parse.specs.Deciding.{first, nothing, only, Begins, Done, IsStop}
 use Rattle.csp_parse.specs.Forms.{HasTree, Then, both, Either}
 use Rattle.csp_parse.specs.ProcessForms.{continues_start, continues_process, Operand, Expressed, Starting, BehindName, Inner, ClosedProcess, ClosedExpression, BehindOperand}
-use Rattle.csp_parse.specs.Reading.{Standing}
+use Rattle.csp_lex.specs.declared.kinds.TokenKind.TheVariants as kind
+use Rattle.csp_parse.specs.AtomForms.{Enclosed}
+use Rattle.csp_parse.specs.Reading.{Standing, IsNext, IsDottedNext}
+use Rattle.csp_parse.proofs.ConstructorTurns.{constructed_next, expression_alone, first_of_enclosed, name_or_not, opens_whole}
+use Rattle.csp_parse.proofs.EventsTurn.{is_name}
+use Rattle.csp_parse.proofs.Seconding.{second, NarrowsSecond, Opens, second_chosen}
 use Rattle.csp_parse.specs.StartForms.{BehindBase}
 use Rattle.csp_parse.proofs.Deciding.{Avoids, stops_nothing}
-use Rattle.csp_parse.proofs.Firsts.{begins_atom, begins_expression, first_of_expression}
+use Rattle.csp_parse.proofs.Firsts.{begins_atom, begins_expression}
 use Rattle.csp_parse.proofs.NamesTurn.{EmptyOr}
 use Rattle.csp_parse.proofs.Parting.{Parted, parts, part_read, part_stops}
 use Rattle.csp_parse.proofs.Passing.{unmoved}
@@ -18,6 +23,10 @@ use Rattle.csp_parse.proofs.Repeating.{IsFirstIn, BeginsIn, Apart, avoids_apart}
 use Rattle.csp_parse.proofs.Singles.{some_sign}
 use Rattle.csp_parse.proofs.StartsTurn.{Empty, bare_name}
 use Rattle.csp_parse.proofs.Turning.{Turns, stopped, chosen, same_form, sign_begins, then_begins, first_here, not_apart, left_here}
+
+-- a process or an expression, without brackets
+abbrev pub Plain : List PlacedToken → Type 0
+Plain = Either (HasTree IsProcess) Expressed
 
 -- a process or an expression by what it begins with, and what stands behind that
 abbrev pub InnerParts : List PlacedToken → List PlacedToken → Type 0
@@ -33,15 +42,15 @@ inner_avoid p = avoids_empty joins continues_start continues_process (inner_empt
 of_process : {a : List PlacedToken} → Parted Starting ProcessParts a → Parted Starting InnerParts a
 of_process (parts p x h k) = parts p x h (inl k)
 
-inner_parted : (s : Standing) → (IsFirstIn opens_process s.left → ⊥) → (a b : List PlacedToken) → first (a ++ b) ≡ first s.left → Inner a → Parted Starting InnerParts a
+inner_parted : (s : Standing) → (IsFirstIn opens_process s.left → ⊥) → (a b : List PlacedToken) → first (a ++ b) ≡ first s.left → Plain a → Parted Starting InnerParts a
 inner_parted s not a b alike (inl h) = of_process (process_parted s not a b alike h)
 inner_parted s not a b alike (inr e) = subst (Parted Starting InnerParts) (append-nil a) (parts a [] (inr e) (inr (e, refl)))
 
-parts_inner : {a : List PlacedToken} → Parted Starting InnerParts a → Inner a
+parts_inner : {a : List PlacedToken} → Parted Starting InnerParts a → Plain a
 parts_inner (parts p x h (inl k)) = inl (parts_process (parts p x h k))
 parts_inner (parts p x h (inr k)) = inr (subst Expressed (sym (append-nil p) ∙ ap (λ w. p ++ w) (sym k.1)) k.0)
 
-pub inner_form : {s : Standing} → (IsFirstIn opens_process s.left → ⊥) → Turns Inner continues_process s (Parted Starting InnerParts) continues_process s
+pub inner_form : {s : Standing} → (IsFirstIn opens_process s.left → ⊥) → Turns Plain continues_process s (Parted Starting InnerParts) continues_process s
 inner_form {s} not = chosen (λ a b alike h stops. inner_parted s not a b alike h) (λ a h. parts_inner h)
 
 inner_on : (p : List PlacedToken) → Starting p → Begins (Parted Starting InnerParts) p
@@ -117,14 +126,43 @@ opens_no_expression t (inr (inr (inl is))) (inr e) = let k = sym is ∙ e in cc 
 opens_no_expression t (inr (inr (inr is))) (inr e) = let k = sym is ∙ e in cc k
 
 pub process_inside : {s : Standing} → IsFirstIn opens_process s.left → Turns Inner continues_process s (HasTree IsProcess) continues_process s
-process_inside next = left_here opens_process begins_expression next (λ a h. first_of_expression h.1) opens_no_expression
+process_inside next = left_here opens_process begins_expression next (λ a h. first_of_enclosed h) opens_no_expression
 
-pub no_expression_inside : (s : Standing) → IsFirstIn opens_process s.left → (f rest : List PlacedToken) → s.left ≡ f ++ rest → Expressed f → ⊥
-no_expression_inside s next f rest is h = not_apart opens_process begins_expression opens_no_expression s.left next (first_here begins_expression f rest s.left (ap first (sym is)) (first_of_expression h.1))
+pub no_expression_inside : (s : Standing) → IsFirstIn opens_process s.left → (f rest : List PlacedToken) → s.left ≡ f ++ rest → Enclosed f → ⊥
+no_expression_inside s next f rest is h = not_apart opens_process begins_expression opens_no_expression s.left next (first_here begins_expression f rest s.left (ap first (sym is)) (first_of_enclosed h))
+
+-- where no name with a dot behind it is next, there is no constructor with fields
+plain : (s : Standing) → ¬ (IsDottedNext s.left) → NarrowsSecond Inner Plain continues_process s
+plain s not a b one two (inl h) stops = inl h
+plain s not a b one two (inr (e, inl h)) stops = inr (e, h)
+plain s not a b one two (inr (e, inr h)) stops = absurd (not (constructed_next b s.left h one two))
+
+plain_alone : (s : Standing) → (IsFirstIn is_name s.left → ⊥) → (a b : List PlacedToken) → first (a ++ b) ≡ first s.left → Inner a → Plain a
+plain_alone s not a b one (inl h) = inl h
+plain_alone s not a b one (inr h) = inr (expression_alone s not a b one h)
+
+plain_inner : (a : List PlacedToken) → Plain a → Inner a
+plain_inner a (inl h) = inl h
+plain_inner a (inr h) = inr (h.0, inl h.1)
+
+plain_opens : {left : List PlacedToken} → Opens Expressed left → Opens Plain left
+plain_opens o = record { front = o.front; is = inr o.is; some = o.some; alike = o.alike }
+
+plain_chosen : {s : Standing} → ¬ (IsDottedNext s.left) → IsNext kind.Name s.left ⊎ (IsFirstIn is_name s.left → ⊥) → Turns Inner continues_process s Plain continues_process s
+plain_chosen {s} not (inl next) = second_chosen (plain s not) plain_inner (plain_opens (opens_whole s.left next))
+plain_chosen {s} not (inr none) = chosen (λ a b one h stops. plain_alone s none a b one h) plain_inner
+
+pub plain_here : {s : Standing} → ¬ (IsDottedNext s.left) → Turns Inner continues_process s Plain continues_process s
+plain_here {s} not = plain_chosen not (name_or_not s.left)
+
+-- and what is read is no constructor
+pub no_constructor : (s : Standing) → ¬ (IsDottedNext s.left) → (f rest : List PlacedToken) → s.left ≡ f ++ rest → ¬ (Expressed f) → Enclosed f → ⊥
+no_constructor s not f rest is none (e, inl h) = none (e, h)
+no_constructor s not f rest is none (e, inr h) = not (constructed_next rest s.left h (ap first (sym is)) (ap second (sym is)))
 
 -- what stands behind a process or an expression in brackets
 abbrev pub BracketParts : List PlacedToken → List PlacedToken → Type 0
-BracketParts p x = (HasTree IsProcess p × IsSign CloseRoundSign x) ⊎ (Expressed p × Then (IsSign CloseRoundSign) BehindName x)
+BracketParts p x = (HasTree IsProcess p × IsSign CloseRoundSign x) ⊎ (Enclosed p × Then (IsSign CloseRoundSign) BehindName x)
 
 closing_first : (p : List PlacedToken) → BeginsIn (only CloseRoundSign) (BracketParts p)
 closing_first p x (inl h) = sign_begins CloseRoundSign x h.1
@@ -161,7 +199,7 @@ closed_on p (inr h) = let m = some_sign CloseRoundSign in (m.0, parts p m.0 (inr
 pub inner_stops : {s t : Standing} {e : Stopped} → IsStop Inner continues_process s t e → IsStop (Either ClosedProcess ClosedExpression) continues_start s t e
 inner_stops stop = stopped closed_form (part_stops closing_avoids closed_on stop)
 
-pub behind_inner : {s t : Standing} → (done : Done Inner continues_process s t) → Expressed done.front → Turns (Parted Inner BracketParts) continues_start s (Then (IsSign CloseRoundSign) BehindName) continues_start t
+pub behind_inner : {s t : Standing} → (done : Done Inner continues_process s t) → Enclosed done.front → Turns (Parted Inner BracketParts) continues_start s (Then (IsSign CloseRoundSign) BehindName) continues_start t
 behind_inner done is = part_read (record {
   done = done;
   avoids = closing_avoids;
@@ -172,7 +210,7 @@ behind_inner done is = part_read (record {
   widens = λ x r. inr (is, r);
 })
 
-pub behind_inner_process : {s t : Standing} → (done : Done Inner continues_process s t) → HasTree IsProcess done.front → (IsFirstIn (only CloseRoundSign) t.left → ¬ (Expressed done.front)) →
+pub behind_inner_process : {s t : Standing} → (done : Done Inner continues_process s t) → HasTree IsProcess done.front → (IsFirstIn (only CloseRoundSign) t.left → ¬ (Enclosed done.front)) →
     Turns (Parted Inner BracketParts) continues_start s (IsSign CloseRoundSign) continues_start t
 behind_inner_process {t = t} done is not = part_read (record {
   done = done;

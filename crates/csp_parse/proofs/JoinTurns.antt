@@ -1,16 +1,16 @@
 -- Processes by their next token: which form is read, and what the readers of its parts decide.
 use Rattle.std.proofs.Common.{◌≡◌, ◌∙◌, ◌⊎◌, Bool, true, false, List, [], ◌∷◌, ◌++◌, inl, inr, refl, sym, ap, subst}
 use Rattle.csp_text.specs.Token as text
-use Rattle.csp_text.specs.Token.{Token, KeywordToken, SignToken, Sign, IfWord, ThenWord, ElseWord, ArrowSign, ColonSign, AtSign, GuardSign, BoxSign, InternalSign, TripleBarSign, DoubleBarSign, OpenSharedSign, CloseSharedSign, OpenRenamingSign, HidingSign, OpenRoundSign, OpenSquareSign, CloseSquareSign, PlacedToken}
-use Rattle.csp_text.specs.Raw.{Infix, ExternalInfix, InternalInfix, SequentialInfix, InterleavingInfix, InterruptInfix, Replicator, ExternalReplicator, InternalReplicator, InterleavingReplicator}
+use Rattle.csp_text.specs.Token.{Token, KeywordToken, SignToken, Sign, IfWord, ThenWord, ElseWord, ArrowSign, DotSign, OutputSign, InputSign, ColonSign, AtSign, GuardSign, BoxSign, InternalSign, TripleBarSign, DoubleBarSign, OpenSharedSign, CloseSharedSign, OpenRenamingSign, HidingSign, OpenRoundSign, OpenSquareSign, CloseSquareSign, PlacedToken}
+use Rattle.csp_text.specs.Raw.{RawField, Infix, ExternalInfix, InternalInfix, SequentialInfix, InterleavingInfix, InterruptInfix, SlidingInfix, Replicator, ExternalReplicator, InternalReplicator, InterleavingReplicator}
 use Rattle.csp_text.specs.Grammar as grammar
-use Rattle.csp_text.specs.Grammar.{IsWord, IsSign, IsName, IsAtom, IsExpression, IsEventSet, IsRenamingPart, IsHidingPart, AreFields, IsOperand, IsProcess}
+use Rattle.csp_text.specs.Grammar.{IsWord, IsSign, IsName, IsAtom, IsExpression, IsEventSet, IsRenamingPart, IsHidingPart, AreDotted, AreLaterFields, AreFields, IsOperand, IsProcess}
 use Rattle.csp_parse.specs.declared.levels.Level.TheVariants as level
 use Rattle.csp_parse.specs.declared.stops.Stopped.{Stopped}
 use Rattle.csp_parse.specs.Continuing.{continues}
 use Rattle.csp_parse.specs.Deciding.{first, nothing, only, Stops, Done, IsStop}
 use Rattle.csp_parse.specs.Forms.{HasTree, Then, both, Repeated, Next}
-use Rattle.csp_parse.specs.ProcessForms.{continues_start, continues_process, fields_go_on, Operand, Expressed, Conditional, ReplicatedBy, Shared, Alphabets, ChainOf, BehindOperand, Suffixes, Begun}
+use Rattle.csp_parse.specs.ProcessForms.{continues_start, continues_process, fields_go_on, Operand, Expressed, Conditional, ReplicatedBy, Shared, Alphabets, ChainOf, BehindOperand, Suffixes, Begun, Prefixed, PrefixedLater}
 use Rattle.csp_parse.specs.Reading.{Standing}
 use Rattle.csp_parse.specs.StartForms.{BehindBase}
 use Rattle.csp_parse.specs.Words.{infix_sign, replicator_sign}
@@ -23,11 +23,12 @@ use Rattle.csp_parse.proofs.InnerTurns.{opens_no_expression}
 use Rattle.csp_parse.proofs.NamesTurn.{EmptyOr, both_empty, repeated_empty, empty_done}
 use Rattle.csp_parse.proofs.ProcessesBegin.{process_forms, conditional_process, replicated_process}
 use Rattle.csp_parse.proofs.ProcessTurns.{joins, starts_apart, start_within, operates_on, operand_joins, operand_opens, infix_operates, Joined, joined_begins, opens_process, some_operand, some_process}
-use Rattle.csp_parse.proofs.Repeating.{Repeats, IsFirstIn, BeginsIn, Within, Apart, first_in, first_before, first_stops, avoids_repeated}
+use Rattle.csp_parse.proofs.PartsTurn.{fields_parts, parts_fields}
+use Rattle.csp_parse.proofs.Repeating.{Repeats, IsFirstIn, BeginsIn, Within, Apart, avoids_apart, first_in, first_before, first_stops, avoids_repeated}
 use Rattle.csp_parse.proofs.Singles.{some_sign, some_word}
 use Rattle.csp_parse.proofs.StartsTurn.{starts_otherwise, base_starts, name_before}
 use Rattle.csp_parse.proofs.SuffixesTurn.{renaming_begins, hiding_begins}
-use Rattle.csp_parse.proofs.Turning.{Turns, turn, chosen, behind, within_first, wider, sign_begins, word_begins, then_begins, begins_within, in_more, first_here, not_apart, avoids_word_then, avoids_sign_then, some_then, some_none, behind_both, within_both, wider_done, wider_stop}
+use Rattle.csp_parse.proofs.Turning.{same_form, first_two, last_two, Turns, turn, chosen, behind, within_first, wider, sign_begins, word_begins, then_begins, begins_within, in_more, first_here, not_apart, avoids_word_then, avoids_sign_then, some_then, some_none, behind_both, within_both, wider_done, wider_stop}
 
 -- what an operand begins with
 abbrev pub begins_operand : Token → Type 0
@@ -274,6 +275,7 @@ is_infix InternalSign = true
 is_infix text.SemicolonSign = true
 is_infix TripleBarSign = true
 is_infix text.InterruptSign = true
+is_infix text.SlidingSign = true
 is_infix _ = false
 
 no_infix : (o : Infix) (s : Sign) → infix_sign o ≡ s → is_infix s ≡ false → ⊥
@@ -282,6 +284,7 @@ no_infix InternalInfix s e is = let k = ap is_infix e ∙ is in cc k
 no_infix SequentialInfix s e is = let k = ap is_infix e ∙ is in cc k
 no_infix InterleavingInfix s e is = let k = ap is_infix e ∙ is in cc k
 no_infix InterruptInfix s e is = let k = ap is_infix e ∙ is in cc k
+no_infix SlidingInfix s e is = let k = ap is_infix e ∙ is in cc k
 
 pick_shared : (a : List PlacedToken) → IsFirstIn (only OpenSharedSign) a → Joined a → Shared a
 pick_shared a is (inl h) = h
@@ -298,6 +301,7 @@ infix_from InternalSign = InternalInfix
 infix_from text.SemicolonSign = SequentialInfix
 infix_from TripleBarSign = InterleavingInfix
 infix_from text.InterruptSign = InterruptInfix
+infix_from text.SlidingSign = SlidingInfix
 infix_from _ = ExternalInfix
 
 infix_back : (o : Infix) → infix_from (infix_sign o) ≡ o
@@ -306,6 +310,7 @@ infix_back InternalInfix = refl
 infix_back SequentialInfix = refl
 infix_back InterleavingInfix = refl
 infix_back InterruptInfix = refl
+infix_back SlidingInfix = refl
 
 pick_chain : (o : Infix) (a : List PlacedToken) → IsFirstIn (only (infix_sign o)) a → Joined a → ChainOf (infix_sign o) a
 pick_chain o a is (inl h) = absurd (no_infix o OpenSharedSign (one_first (infix_sign o) OpenSharedSign a is (shared_first a h)) refl)
@@ -393,8 +398,58 @@ arrow_on (inr (inr (inr e))) = cc e
 fields_avoid : Avoids fields_go_on continues_start (Then (IsSign ArrowSign) Operand)
 fields_avoid = avoids_sign_then fields_go_on ArrowSign continues_start Operand arrow_on
 
-pub fields_behind : {s t : Standing} → Done (HasTree AreFields) fields_go_on s t → Turns (Then (HasTree AreFields) (Then (IsSign ArrowSign) Operand)) continues_start s (Then (IsSign ArrowSign) Operand) continues_start t
+pub fields_behind : {s t : Standing} → Done (HasTree AreLaterFields) fields_go_on s t → Turns PrefixedLater continues_start s (Then (IsSign ArrowSign) Operand) continues_start t
 fields_behind done = behind done fields_avoid
 
-pub fields_stop : {s t : Standing} {e : Stopped} → IsStop (HasTree AreFields) fields_go_on s t e → IsStop (Then (HasTree AreFields) (Then (IsSign ArrowSign) Operand)) continues_start s t e
+pub fields_stop : {s t : Standing} {e : Stopped} → IsStop (HasTree AreLaterFields) fields_go_on s t e → IsStop PrefixedLater continues_start s t e
 fields_stop stop = within_first fields_avoid (some_right ArrowSign) stop
+
+-- values with a dot before each, and what else stands behind the channel of a prefix
+pub prefixed_parts : {a : List PlacedToken} → Prefixed a → Then (HasTree AreDotted) PrefixedLater a
+prefixed_parts (both f r fs rest) = last_two (both f r (fields_parts fs.1) rest)
+
+fields_then : {a : List PlacedToken} → Then (Then (HasTree AreDotted) (HasTree AreLaterFields)) (Then (IsSign ArrowSign) Operand) a → Prefixed a
+fields_then (both f r fs rest) = both f r (parts_fields fs) rest
+
+pub parts_prefixed : {a : List PlacedToken} → Then (HasTree AreDotted) PrefixedLater a → Prefixed a
+parts_prefixed h = fields_then (first_two h)
+
+pub prefixed_form : {s : Standing} → Turns Prefixed continues_start s (Then (HasTree AreDotted) PrefixedLater) continues_start s
+prefixed_form = same_form (λ a h. prefixed_parts h) (λ a h. parts_prefixed h)
+
+abbrev pub later_or_arrow : Token → Type 0
+later_or_arrow t = only OutputSign t ⊎ only InputSign t ⊎ only ArrowSign t
+
+first_of_three : (f : Token → Type 0) (x y z b : List PlacedToken) → IsFirstIn f x → IsFirstIn f (x ++ y ++ z ++ b)
+first_of_three f x y z b is = first_before f (x ++ y ++ z) b (first_before f (x ++ y) z (first_before f x y is))
+
+later_opens : {a : List PlacedToken} {fs : List RawField} (b : List PlacedToken) → AreLaterFields a fs → IsFirstIn later_or_arrow b → IsFirstIn later_or_arrow (a ++ b)
+later_opens b grammar.no_fields is = is
+later_opens b (grammar.output {a = x} {b = y} {c = z} m h hs) is = in_more (only OutputSign) later_or_arrow (λ t k. inl k) (x ++ y ++ z ++ b) (first_of_three (only OutputSign) x y z b (sign_begins OutputSign x m))
+later_opens b (grammar.input {a = x} {b = y} {c = z} m h hs) is = in_more (only InputSign) later_or_arrow (λ t k. inr (inl k)) (x ++ y ++ z ++ b) (first_of_three (only InputSign) x y z b (sign_begins InputSign x m))
+later_opens b (grammar.input_from {a = x} {b = y} {c = z} {d = v} {x = w} m h k o hs) is =
+    in_more (only InputSign) later_or_arrow (λ t k. inr (inl k)) (x ++ y ++ z ++ v ++ w ++ b)
+    (first_before (only InputSign) (x ++ y ++ z ++ v ++ w) b (first_before (only InputSign) (x ++ y ++ z ++ v) w (first_before (only InputSign) (x ++ y ++ z) v (first_before (only InputSign) (x ++ y) z (first_before (only InputSign) x y (sign_begins InputSign x m))))))
+
+arrow_opens : {a : List PlacedToken} → Then (IsSign ArrowSign) Operand a → IsFirstIn later_or_arrow a
+arrow_opens {a} h = in_more (only ArrowSign) later_or_arrow (λ t k. inr (inr k)) a (then_begins (only ArrowSign) (sign_begins ArrowSign) a h)
+
+pub later_first : {a : List PlacedToken} → PrefixedLater a → IsFirstIn later_or_arrow a
+later_first (both f r fs rest) = later_opens r fs.1 (arrow_opens rest)
+
+pub no_dot_first : Apart later_or_arrow (only DotSign)
+no_dot_first t (inl e) is = let k = sym e ∙ is in cc k
+no_dot_first t (inr (inl e)) is = let k = sym e ∙ is in cc k
+no_dot_first t (inr (inr e)) is = let k = sym e ∙ is in cc k
+
+values_avoid : Avoids (only DotSign) continues_start PrefixedLater
+values_avoid = avoids_apart later_or_arrow (only DotSign) continues_start PrefixedLater (λ a h. later_first h) no_dot_first
+
+pub some_prefixed_later : Inhabited PrefixedLater
+some_prefixed_later = some_then ([], (_, grammar.no_fields)) (some_right ArrowSign)
+
+pub values_behind : {s t : Standing} → Done (HasTree AreDotted) (only DotSign) s t → Turns (Then (HasTree AreDotted) PrefixedLater) continues_start s PrefixedLater continues_start t
+values_behind done = behind done values_avoid
+
+pub values_stop : {s t : Standing} {e : Stopped} → IsStop (HasTree AreDotted) (only DotSign) s t e → IsStop (Then (HasTree AreDotted) PrefixedLater) continues_start s t e
+values_stop stop = within_first values_avoid some_prefixed_later stop

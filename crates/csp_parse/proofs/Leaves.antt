@@ -1,22 +1,24 @@
 -- What the readers of one sign, one keyword and one name tell where they stop.
-use Rattle.std.proofs.Common.{◌≡◌, Some, List, [], ◌∷◌, refl, sym, subst}
+use Rattle.std.proofs.Common.{ℕ, ◌≡◌, Some, List, [], ◌∷◌, refl, sym, subst}
 use Rattle.csp_text.specs.Token as text
 use Rattle.csp_text.specs.Token.{PlacedToken}
 use Rattle.csp_text.specs.Raw.{RawName}
-use Rattle.csp_text.specs.Grammar.{IsWord, word, IsSign, sign, IsName, name}
+use Rattle.csp_text.specs.Grammar.{IsWord, word, IsSign, sign, IsName, name, IsSpelled, spelled}
 use Rattle.csp_lex.specs.declared.keywords.Keyword.{Keyword}
 use Rattle.csp_lex.specs.declared.signs.Sign.{Sign}
+use Rattle.std.specs.Str.{chars}
+use Rattle.csp_lex.specs.declared.kinds.Token.{Token}
 use Rattle.csp_lex.specs.declared.kinds.TokenKind.{TokenKind}
 use Rattle.csp_lex.specs.declared.kinds.TokenKind.TheVariants as kind
-use Rattle.csp_lex.specs.Tokens.{keyword_of, sign_of}
+use Rattle.csp_lex.specs.Tokens.{keyword_of, placed_token, sign_of}
 use Rattle.csp_parse.specs.declared.stops.Stopped.{Stopped}
 use Rattle.csp_parse.specs.declared.stops.Stopped.TheVariants as stop
 use Rattle.csp_parse.specs.Deciding.{first, nothing, only, IsStop, here, IsStopOfOne, Done}
 use Rattle.csp_parse.specs.Forms.{HasTree}
-use Rattle.csp_parse.specs.Reading.{Standing, IsFirst, IsKind, IsNext, Passes, Reads}
+use Rattle.csp_parse.specs.Reading.{Standing, IsFirst, IsKind, IsNext, IsNextSpelled, Passes, Reads}
 use Rattle.csp_parse.proofs.Chaining.{Told}
 use Rattle.csp_parse.proofs.Repeating.{IsFirstIn}
-use Rattle.csp_parse.proofs.Singles.{decides, single_done, single_fails, single_stop, sign_single, some_sign, word_single, some_word, name_single, some_name}
+use Rattle.csp_parse.proofs.Singles.{decides, single_done, single_fails, single_stop, sign_single, some_sign, word_single, some_word, name_single, some_name, spelled_single, some_spelled}
 
 next_is : (k : TokenKind) (left : List PlacedToken) (t : PlacedToken) → first left ≡ Some t → IsKind k t → IsNext k left
 next_is k [] t e is = absurd (cc e)
@@ -48,6 +50,39 @@ pub word_stop : (k : Keyword) {before after : Standing} → IsNext (kind.Keyword
 word_stop k {before} next stop =
     single_stop (λ t ts is. let at : IsNext (kind.Keyword k) (t ∷ ts) = subst (IsNext (kind.Keyword k)) is next in word t at.1) (some_next (kind.Keyword k) before.left next) stop
 
+next_spelled : (cs : List ℕ) (left : List PlacedToken) (t : PlacedToken) → first left ≡ Some t → t.token ≡ text.NameToken cs → IsNextSpelled cs left
+next_spelled cs [] t e is = absurd (cc e)
+next_spelled cs (u ∷ us) t e is = let same : u ≡ t = cc e in subst (λ v. v.token ≡ text.NameToken cs) (sym same) is
+
+spelled_token : (cs : List ℕ) {a : List PlacedToken} (t : PlacedToken) → IsSpelled cs a → a ≡ t ∷ [] → t.token ≡ text.NameToken cs
+spelled_token cs t (spelled u is) e = let same : u ≡ t = cc e in subst (λ v. v.token ≡ text.NameToken cs) same is
+
+pub spelled_fails : (cs : List ℕ) {at : Standing} → (IsNextSpelled cs at.left → ⊥) → IsStop (IsSpelled cs) nothing at at stop.Here
+spelled_fails cs {at} not = here (single_fails (spelled_single cs) (some_spelled cs) (λ t is h. not (next_spelled cs at.left t is (spelled_token cs t h refl))))
+
+pub spelled_stop : (cs : List ℕ) {before after : Standing} → IsNextSpelled cs before.left → {e : Stopped} → IsStopOfOne before after e → IsStop (IsSpelled cs) nothing before after e
+spelled_stop cs {before} next stop =
+    single_stop (λ t ts is. let at : IsNextSpelled cs (t ∷ ts) = subst (IsNextSpelled cs) is next in spelled t at) (λ none. subst (IsNextSpelled cs) none next) stop
+
+-- the name that is spelled so is next
+pub spelled_first : (cs : List ℕ) (left : List PlacedToken) → IsNextSpelled cs left → IsFirstIn (λ t. t ≡ text.NameToken cs) left
+spelled_first cs [] next = next
+spelled_first cs (t ∷ ts) next = next
+
+-- it is not next
+pub spelled_not_first : (cs : List ℕ) (left : List PlacedToken) → ¬ (IsNextSpelled cs left) → ¬ (IsFirstIn (λ t. t ≡ text.NameToken cs) left)
+spelled_not_first cs [] not first = first
+spelled_not_first cs (t ∷ ts) not first = not first
+
+-- the first token is a name, spelled so or otherwise
+pub next_is_spelled : (cs : List ℕ) (t : PlacedToken) (left : List PlacedToken) → IsFirst t left → t.token ≡ text.NameToken cs → IsNextSpelled cs left
+next_is_spelled cs t [] first is = elim first [ ]
+next_is_spelled cs t (u ∷ us) first is = subst (λ v. v.token ≡ text.NameToken cs) (sym first) is
+
+pub first_spelled : (cs : List ℕ) (t : PlacedToken) (left : List PlacedToken) → IsFirst t left → IsNextSpelled cs left → t.token ≡ text.NameToken cs
+first_spelled cs t [] first next = elim first [ ]
+first_spelled cs t (u ∷ us) first next = subst (λ v. v.token ≡ text.NameToken cs) first next
+
 pub name_fails : {at : Standing} → (IsNext kind.Name at.left → ⊥) → IsStop (HasTree IsName) nothing at at stop.Here
 name_fails {at} not = here (single_fails name_single some_name (λ t is h. not (next_is kind.Name at.left t is (name_token t h.1 refl))))
 
@@ -73,9 +108,19 @@ pub sign_not_first : (s : Sign) (left : List PlacedToken) → ¬ (IsNext (kind.S
 sign_not_first s [] not first = first
 sign_not_first s (t ∷ ts) not first = not ([], first)
 
+-- the keyword is not next
+pub word_not_first : (k : Keyword) (left : List PlacedToken) → ¬ (IsNext (kind.Keyword k) left) → ¬ (IsFirstIn (λ t. t ≡ text.KeywordToken (keyword_of k)) left)
+word_not_first k [] not first = first
+word_not_first k (t ∷ ts) not first = not ([], first)
+
 -- names with a sign between can be told
 pub told_names : (s : text.Sign) → Told s (HasTree IsName) nothing (only s)
 told_names s = record { some = some_name; apart = λ h. h; within = λ t h. absurd h; goes_on = refl }
 
 pub sign_done : (s : text.Sign) {before after : Standing} → Passes (IsSign s) before after → Done (IsSign s) nothing before after
 sign_done s p = single_done (sign_single s) p
+
+-- the first token has its kind
+pub kind_next : (t : Token) (left : List PlacedToken) → IsFirst (placed_token t) left → IsNext t.kind left
+kind_next t [] first = elim first [ ]
+kind_next t (u ∷ us) first = subst (IsKind t.kind) (sym first) (chars t.text.now, refl)

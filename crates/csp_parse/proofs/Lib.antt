@@ -25,12 +25,15 @@ pub mod Separating
 pub mod Eventing
 pub mod EventsTurn
 pub mod DomainsTurn
+pub mod ClausesTurn
 pub mod PartsTurn
 pub mod SuffixesTurn
 pub mod BehindAtoms
 pub mod StartsTurn
 pub mod NamesTurn
 pub mod Parting
+pub mod Seconding
+pub mod ConstructorTurns
 pub mod ProcessesBegin
 pub mod ProcessTurns
 pub mod InnerTurns
@@ -42,6 +45,7 @@ pub mod NextTokens
 pub mod Fielding
 pub mod Processing
 pub mod ProcessTrees
+pub mod DottedTurns
 pub mod Declaring
 pub mod Beginning
 pub mod Lowness
@@ -49,4 +53,7 @@ pub mod SoFar
 pub mod Counting
 pub mod ScriptTurn
 pub mod DeclarationTurns
+pub mod Words
+pub mod FreedomTurns
+pub mod AssertionTurns
 pub mod Rising

@@ -189,7 +189,7 @@ pub no_expression : Apart prefixes goes_on_expression
 no_expression t is (inl h) = not_prefixing t is h
 no_expression t is (inr h) = let e = subst (λ x. begins_prefix x ≡ true) h is in cc e
 
-prefix_goes_on : (t : Token) → prefixes t → start_goes_on t ≡ true
+pub prefix_goes_on : (t : Token) → prefixes t → start_goes_on t ≡ true
 prefix_goes_on (SignToken DotSign) is = refl
 prefix_goes_on (SignToken OutputSign) is = refl
 prefix_goes_on (SignToken InputSign) is = refl

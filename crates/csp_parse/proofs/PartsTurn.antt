@@ -1,9 +1,9 @@
 -- Arguments of calls and fields of prefixes: what the readers of their parts decide, their own do.
 use Rattle.std.proofs.Common.{◌≡◌, ◌∙◌, ◌⊎◌, List, [], ◌∷◌, ◌++◌, inl, inr, refl, sym, ap, subst, append_assoc, append-nil}
 use Rattle.csp_text.specs.Token.{Token, SignToken, DotSign, ColonSign, OutputSign, InputSign, OpenRoundSign, CloseRoundSign, PlacedToken}
-use Rattle.csp_text.specs.Raw.{RawField, RawGiven, RawInput, RawInputFrom}
+use Rattle.csp_text.specs.Raw.{RawExpression, RawExpressions, RawField, RawGiven, RawInput, RawInputFrom}
 use Rattle.csp_text.specs.Grammar as grammar
-use Rattle.csp_text.specs.Grammar.{IsSign, IsName, IsAtom, AreExpressions, AreLaterFields, AreFields}
+use Rattle.csp_text.specs.Grammar.{IsSign, IsName, IsAtom, AreExpressions, AreDotted, AreLaterFields, AreFields}
 use Rattle.csp_parse.specs.declared.levels.Level.TheVariants as level
 use Rattle.csp_parse.specs.declared.stops.Stopped.{Stopped}
 use Rattle.csp_parse.specs.AtomForms.{Whole}
@@ -18,7 +18,6 @@ use Rattle.csp_parse.proofs.AtomsTurn.{list_avoids}
 use Rattle.csp_parse.proofs.Chaining.{avoids, separated_are}
 use Rattle.csp_parse.proofs.Comparing.{perhaps_done, perhaps_stop, perhaps_none}
 use Rattle.csp_parse.proofs.Deciding.{Inhabited, Avoids, avoids_nothing}
-use Rattle.csp_parse.proofs.EventsTurn.{Dots}
 use Rattle.csp_parse.proofs.Expressing.{no_operator, told_at, atom_done, atom_stop}
 use Rattle.csp_parse.proofs.Repeating.{IsFirstIn, BeginsIn, Within, Apart, avoids_repeated, Repeats, repeats_more, repeats_stop, repeats_end}
 use Rattle.csp_parse.proofs.Singles.{some_sign}
@@ -139,25 +138,20 @@ parts_later : {a : List PlacedToken} → Later a → HasTree AreLaterFields a
 parts_later never = ([], grammar.no_fields)
 parts_later (again a b h hs) = one_later b h.1 (parts_later hs)
 
-dot_before : {x a : List PlacedToken} → Next DotSign (HasTree IsAtom) x → Then Dots Later a → Then Dots Later (x ++ a)
-dot_before {x} dot (both d l ds ls) = subst (Then Dots Later) (append_assoc x d l) (both (x ++ d) l (again x d dot ds) ls)
+-- fields are values with a dot before each, and later ones
+dot_before : {a b x : List PlacedToken} {e : RawExpression} → IsSign DotSign a → IsAtom b e → Then (HasTree AreDotted) (HasTree AreLaterFields) x → Then (HasTree AreDotted) (HasTree AreLaterFields) (a ++ b ++ x)
+dot_before {a} {b} m h (both d l ds ls) = subst (Then (HasTree AreDotted) (HasTree AreLaterFields)) (append_assoc (a ++ b) d l) (both (a ++ b ++ d) l (_, grammar.dotted m h ds.1) ls)
 
-fields_parts : {a : List PlacedToken} {fs : List RawField} → AreFields a fs → Then Dots Later a
-fields_parts (grammar.later_fields {a} h) = both [] a never (later_parts h)
-fields_parts (grammar.dotted_field {a} {b} {c} {e} m h hs) = dot_before (both a b m (e, h)) (fields_parts hs)
+pub fields_parts : {a : List PlacedToken} {fs : List RawField} → AreFields a fs → Then (HasTree AreDotted) (HasTree AreLaterFields) a
+fields_parts (grammar.later_fields {a} h) = both [] a (_, grammar.no_dotted) (_, h)
+fields_parts (grammar.dotted_field {a} {b} {c} {e} m h hs) = dot_before m h (fields_parts hs)
 
-one_dot : {x b : List PlacedToken} → Next DotSign (HasTree IsAtom) x → HasTree AreFields b → HasTree AreFields (x ++ b)
-one_dot (both a c m h) rest = (_, grammar.dotted_field m h.1 rest.1)
+dotted_before : {d : List PlacedToken} {es : RawExpressions} (l : List PlacedToken) → AreDotted d es → HasTree AreLaterFields l → HasTree AreFields (d ++ l)
+dotted_before l grammar.no_dotted ls = (_, grammar.later_fields ls.1)
+dotted_before l (grammar.dotted {a} {b} {c} {e} m h hs) ls = let rest = dotted_before l hs ls in (RawGiven e ∷ rest.0, subst (λ ts. AreFields ts (RawGiven e ∷ rest.0)) (sym (append_assoc (a ++ b) c l)) (grammar.dotted_field m h rest.1))
 
-dotted_before : {d : List PlacedToken} (l : List PlacedToken) → Dots d → Later l → HasTree AreFields (d ++ l)
-dotted_before l never ls = let fs = parts_later ls in (fs.0, grammar.later_fields fs.1)
-dotted_before l (again a b h hs) ls = subst (HasTree AreFields) (sym (append_assoc a b l)) (one_dot h (dotted_before l hs ls))
-
-parts_fields : {a : List PlacedToken} → Then Dots Later a → HasTree AreFields a
-parts_fields (both d l ds ls) = dotted_before l ds ls
-
-pub fields_form : {s : Standing} → Turns (HasTree AreFields) fields_go_on s (Then Dots Later) fields_go_on s
-fields_form = same_form (λ a h. fields_parts h.1) (λ a h. parts_fields h)
+pub parts_fields : {a : List PlacedToken} → Then (HasTree AreDotted) (HasTree AreLaterFields) a → HasTree AreFields a
+parts_fields (both d l ds ls) = dotted_before l ds.1 ls
 
 abbrev begins_later : Token → Type 0
 begins_later t = only OutputSign t ⊎ only InputSign t
@@ -184,11 +178,8 @@ later_avoids = avoids_repeated begins_later (only DotSign) fields_go_on (HasTree
 pub later_again : Avoids (only ColonSign) fields_go_on Later
 later_again = avoids_repeated begins_later (only ColonSign) fields_go_on (HasTree IsLaterField) later_begins no_colon (λ t h. inr (inr (inr h)))
 
-pub dots_behind : {s t : Standing} → Done Dots (only DotSign) s t → Turns (Then Dots Later) fields_go_on s Later fields_go_on t
-dots_behind done = behind done later_avoids
-
-pub dots_stop : {s t : Standing} {e : Stopped} → IsStop Dots (only DotSign) s t e → IsStop (Then Dots Later) fields_go_on s t e
-dots_stop stop = within_first later_avoids (some_none (HasTree IsLaterField)) stop
+pub later_form : {s : Standing} → Turns (HasTree AreLaterFields) fields_go_on s Later fields_go_on s
+later_form = same_form (λ a h. later_parts h.1) (λ a h. parts_later h)
 
 later_goes : Within begins_later fields_go_on
 later_goes t (inl h) = inr (inl h)
@@ -214,9 +205,3 @@ pub neither_next : (left : List PlacedToken) → ¬ (IsFirstIn (only OutputSign)
 neither_next [] not_output not_input is = is
 neither_next (t ∷ ts) not_output not_input (inl is) = not_output is
 neither_next (t ∷ ts) not_output not_input (inr is) = not_input is
-
--- The dots are read, and some later fields behind them.
-pub record FieldsSoFar (before now : Standing) : Type 0 where
-  pub middle : Standing
-  pub dots : Done Dots (only DotSign) before middle
-  pub rest : Repeats (HasTree IsLaterField) fields_go_on middle now

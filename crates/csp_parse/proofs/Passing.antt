@@ -1,7 +1,10 @@
 -- Tokens that are passed one after another.
-use Rattle.std.proofs.Common.{◌≡◌, ◌∙◌, ℕ, ◌+◌, ◌<◌, ◌≤◌, List, [], ◌∷◌, ◌++◌, length, map, drop, get_or, refl, sym, ap, subst, append_assoc, drop-cons, drop_of_length-le, add-one, arith, Result, Ok, Err, IfOk}
+use Rattle.std.proofs.Common.{◌≡◌, ◌∙◌, ℕ, ◌+◌, ◌<◌, ◌≤◌, List, [], ◌∷◌, ◌++◌, length, map, drop, get_or, refl, sym, ap, subst, append_assoc, drop-cons, drop_of_length-le, add-one, arith, Result, Ok, Err, IfOk, inl, inr, Option, Some, None, IfSome, IfNone}
+use Rattle.std.specs.List.{slice_get}
+use Rattle.std.proofs.lemmas.Bool.{cases_lt}
+use Rattle.std.proofs.lemmas.Option.{slice_get-get_or, slice_get_cases, slice_get_within, get_or_from_slice_get}
 use Rattle.csp_text.specs.Token.{PlacedToken, NameToken}
-use Rattle.csp_text.specs.Grammar.{IsWord, word, IsSign, sign, IsName, name, IsNumber, number}
+use Rattle.csp_text.specs.Grammar.{IsWord, word, IsSign, sign, IsName, name, IsSpelled, spelled, IsNumber, number}
 use Rattle.csp_text.specs.Height.{Nest, nesting, after_token, after_tokens, nest_height, greatest_height}
 use Rattle.csp_lex.specs.declared.kinds.Token.{Token}
 use Rattle.csp_lex.specs.declared.kinds.TokenKind.TheVariants as kind
@@ -10,7 +13,8 @@ use Rattle.csp_lex.specs.declared.signs.Sign as signs
 use Rattle.csp_lex.specs.Tokens.{placed_token, keyword_of, sign_of}
 use Rattle.csp_parse.specs.declared.stops.Stopped.{Stopped}
 use Rattle.csp_parse.specs.Deciding.{IsStopOfOne, under, IsStopOfCount, over}
-use Rattle.csp_parse.specs.Reading.{Standing, CountsFirst, AreLow, IsFirst, IsNext, PassesOne, Splits, Passes, Reads}
+use Rattle.csp_parse.specs.Reading.{behind_next, Standing, CountsFirst, AreLow, IsFirst, IsNext, PassesOne, Splits, Passes, Reads}
+use Rattle.csp_parse.specs.Reading.{Standing, CountsFirst, AreLow, IsFirst, IsNext, IsNextSpelled, PassesOne, Splits, Passes, Reads}
 
 -- what holds in any case
 pub in_any_case : {T E : Type 0} (r : Result T E) (P : T → Type 0) → ((x : T) → P x) → IfOk r P
@@ -33,6 +37,25 @@ left_at ts n left within is =
 
 pub none_left : (ts : List Token) (n : ℕ) → length ts ≤ n → map placed_token (drop n ts) ≡ []
 none_left ts n past = ap (map placed_token) (drop_of_length-le ts past)
+
+-- the tokens behind the one at a place
+rest_at : (ts : List Token) (n : ℕ) → n < length ts → behind_next (map placed_token (drop n ts)) ≡ map placed_token (drop (n + 1) ts)
+rest_at ts n within = ap behind_next (left_at ts n (map placed_token (drop (n + 1) ts)) within refl)
+
+pub behind_at : (ts : List Token) (n : ℕ) (t : Token) → n < length ts → slice_get ts (n + 1) ≡ Some t → IsFirst (placed_token t) (behind_next (map placed_token (drop n ts)))
+behind_at ts n t within found = subst (IsFirst (placed_token t)) (sym (rest_at ts n within ∙ ap (map placed_token) (drop-cons ts (n + 1) t (slice_get_within ts (n + 1) t found)))) (ap placed_token (get_or_from_slice_get ts (n + 1) t t found))
+
+past_end : (ts : List Token) (n : ℕ) → slice_get ts n ≡ None → length ts ≤ n
+past_end ts n none = elim (slice_get_cases ts n).1 [
+  | inl h ↦ let e = sym h.2 ∙ none in absurd (cc e)
+  | inr h ↦ h.0
+]
+
+pub none_behind : (ts : List Token) (n : ℕ) → slice_get ts (n + 1) ≡ None → behind_next (map placed_token (drop n ts)) ≡ []
+none_behind ts n none = elim (cases_lt n (length ts)) [
+  | inl h ↦ rest_at ts n h ∙ none_left ts (n + 1) (past_end ts (n + 1) none)
+  | inr h ↦ ap behind_next (none_left ts n h)
+]
 
 -- the token at a place is passed
 pub passes_one : (ts : List Token) (n : ℕ) (after : Standing) (nest : Nest) → n < length ts → after.left ≡ map placed_token (drop (n + 1) ts) → (nest_height nest ≤ greatest_height → CountsFirst nest after.left after.nest) →
@@ -87,6 +110,11 @@ passes_word k {after = after} next one =
     let at : IsNext (kind.Keyword k) (one.token ∷ after.left) = subst (IsNext (kind.Keyword k)) one.splits next in
     record { front = one.token ∷ []; splits = one_splits one; is = word one.token at.1 }
 
+pub passes_spelled : (cs : List ℕ) {before after : Standing} → IsNextSpelled cs before.left → PassesOne before after → Passes (IsSpelled cs) before after
+passes_spelled cs {after = after} next one =
+    let at : IsNextSpelled cs (one.token ∷ after.left) = subst (IsNextSpelled cs) one.splits next in
+    record { front = one.token ∷ []; splits = one_splits one; is = spelled one.token at }
+
 pub reads_number : (n : ℕ) {before after : Standing} → IsNext (kind.Number n) before.left → PassesOne before after → Reads IsNumber before after n
 reads_number n {after = after} next one =
     let at : IsNext (kind.Number n) (one.token ∷ after.left) = subst (IsNext (kind.Number n)) one.splits next in
@@ -105,3 +133,18 @@ reads_name cs t {after = after} is first one =
 -- the tree by another name
 pub renamed : {X : Type 0} {Is : List PlacedToken → X → Type 0} {before after : Standing} (x y : X) → y ≡ x → Reads Is before after x → Reads Is before after y
 renamed {Is = Is} {before = before} {after = after} x y e r = subst (λ z. Reads Is before after z) (sym e) r
+
+-- what is found behind the token at a place
+pub behind_some : (ts : List Token) (n : ℕ) (o : Option Token) → n < length ts → o ≡ slice_get ts (n + 1) → IfSome o (λ t. IsFirst (placed_token t) (behind_next (map placed_token (drop n ts))))
+behind_some ts n None within is = tt
+behind_some ts n (Some t) within is = behind_at ts n t within (sym is)
+
+pub behind_none : (ts : List Token) (n : ℕ) (o : Option Token) → o ≡ slice_get ts (n + 1) → IfNone o (behind_next (map placed_token (drop n ts)) ≡ [])
+behind_none ts n None is = none_behind ts n (sym is)
+behind_none ts n (Some t) is = tt
+
+pub found_behind : (ts : List Token) (n : ℕ) (t : Token) → n < length ts → n + 1 < length ts → t ≡ get_or ts (n + 1) t → IsFirst (placed_token t) (behind_next (map placed_token (drop n ts)))
+found_behind ts n t within behind read = behind_at ts n t within (slice_get-get_or ts (n + 1) t behind ∙ ap Some (sym read))
+
+pub past_behind : (ts : List Token) (n : ℕ) → n < length ts → length ts ≤ n + 1 → behind_next (map placed_token (drop n ts)) ≡ []
+past_behind ts n within past = rest_at ts n within ∙ none_left ts (n + 1) past

@@ -1,7 +1,7 @@
 -- The tree of each form of set of events that has no box in it, of each form of process that holds a list, and of an operator between processes.
 use Rattle.std.proofs.Common.{◌≡◌, ◌∙◌, sym, ap, map}
 use Rattle.std.specs.declared.vec.Vec.{Vec}
-use Rattle.csp_syntax.specs.declared.process_operator.ProcessOperator.{ProcessOperator}
+use Rattle.csp_parse.specs.declared.processes.Infix.{Infix}
 use Rattle.csp_text.specs.Raw.{RawEventSet, RawEnumeration, RawProductions, RawProcess, RawCall, RawPrefix, RawInfix, RawRenaming}
 use Rattle.csp_parse.specs.declared.names.Name.{Name}
 use Rattle.csp_parse.specs.declared.events.Event.{Event}
@@ -38,5 +38,5 @@ module _ (A : Type 0) where
   pub tree_of_renaming : (p : Box (Process A) A) (ps : Vec (Pair A) A) → process_of {A = A} (views.Renaming p ps) ≡ RawRenaming (process_in p) (map pair_of ps.items)
   tree_of_renaming p ps = ap (process_of {A = A}) (sym (views.rolls-Renaming p ps)) ∙ fold-roll-Process A RawProcess process_step (layer.Renaming p ps)
 
-  pub tree_of_infix : (o : ProcessOperator) (p q : Box (Process A) A) → process_of {A = A} (views.Infix o p q) ≡ RawInfix (infix_of o) (process_in p) (process_in q)
+  pub tree_of_infix : (o : Infix) (p q : Box (Process A) A) → process_of {A = A} (views.Infix o p q) ≡ RawInfix (infix_of o) (process_in p) (process_in q)
   tree_of_infix o p q = ap (process_of {A = A}) (sym (views.rolls-Infix o p q)) ∙ fold-roll-Process A RawProcess process_step (layer.Infix o p q)

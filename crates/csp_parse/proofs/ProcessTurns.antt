@@ -2,7 +2,7 @@
 use Rattle.std.proofs.Common.{◌≡◌, ◌⊎◌, Bool, true, false, List, [], ◌++◌, inl, inr, refl, sym, subst, append_assoc, append-nil}
 use Rattle.csp_text.specs.Token as text
 use Rattle.csp_text.specs.Token.{Token, KeywordToken, SignToken, Sign, StopWord, IfWord, ThenWord, ElseWord, ColonSign, AtSign, ArrowSign, GuardSign, BoxSign, InternalSign, TripleBarSign, DoubleBarSign, OpenSharedSign, CloseSharedSign, OpenRenamingSign, HidingSign, OpenRoundSign, CloseRoundSign, OpenSquareSign, CloseSquareSign, PlacedToken}
-use Rattle.csp_text.specs.Raw.{RawStop, RawGuard, Infix, ExternalInfix, InternalInfix, SequentialInfix, InterleavingInfix, InterruptInfix, Replicator, ExternalReplicator, InternalReplicator, InterleavingReplicator}
+use Rattle.csp_text.specs.Raw.{RawStop, RawGuard, Infix, ExternalInfix, InternalInfix, SequentialInfix, InterleavingInfix, InterruptInfix, SlidingInfix, Replicator, ExternalReplicator, InternalReplicator, InterleavingReplicator}
 use Rattle.csp_text.specs.Grammar as grammar
 use Rattle.csp_text.specs.Grammar.{IsWord, word, IsSign, sign, IsName, IsAtom, IsExpression, IsEventSet, IsRenamingPart, IsHidingPart, IsBase, IsOperand, IsProcess}
 use Rattle.csp_parse.specs.declared.stops.Stopped.{Stopped}
@@ -35,6 +35,7 @@ starts_apart (SignToken InternalSign) is h = cc h
 starts_apart (SignToken text.SemicolonSign) is h = cc h
 starts_apart (SignToken TripleBarSign) is h = cc h
 starts_apart (SignToken text.InterruptSign) is h = cc h
+starts_apart (SignToken text.SlidingSign) is h = cc h
 starts_apart (SignToken OpenSharedSign) is h = cc h
 starts_apart (SignToken OpenSquareSign) is h = cc h
 starts_apart (SignToken OpenRenamingSign) is h = cc h
@@ -75,6 +76,7 @@ joins_operand (SignToken InternalSign) = true
 joins_operand (SignToken text.SemicolonSign) = true
 joins_operand (SignToken TripleBarSign) = true
 joins_operand (SignToken text.InterruptSign) = true
+joins_operand (SignToken text.SlidingSign) = true
 joins_operand (SignToken OpenSharedSign) = true
 joins_operand (SignToken OpenSquareSign) = true
 joins_operand _ = false
@@ -88,6 +90,7 @@ operand_joins (SignToken InternalSign) is = refl
 operand_joins (SignToken text.SemicolonSign) is = refl
 operand_joins (SignToken TripleBarSign) is = refl
 operand_joins (SignToken text.InterruptSign) is = refl
+operand_joins (SignToken text.SlidingSign) is = refl
 operand_joins (SignToken OpenSharedSign) is = refl
 operand_joins (SignToken OpenSquareSign) is = refl
 operand_joins _ is = absurd (cc is)
@@ -98,6 +101,7 @@ infix_operates InternalInfix = refl
 infix_operates SequentialInfix = refl
 infix_operates InterleavingInfix = refl
 infix_operates InterruptInfix = refl
+infix_operates SlidingInfix = refl
 
 operating : (s : Sign) → joins_operand (SignToken s) ≡ true → Within (only s) operates_on
 operating s is t e = subst operates_on (sym e) is

@@ -1,7 +1,7 @@
 -- Processes by what they begin with.
 use Rattle.std.proofs.Common.{◌≡◌, ◌∙◌, ◌⊎◌, List, [], ◌++◌, inl, inr, refl, sym, ap, subst, append_assoc, append-nil}
 use Rattle.csp_text.specs.Token.{Sign, PlacedToken}
-use Rattle.csp_text.specs.Raw.{RawProcess, RawIf, RawInfix, RawGeneralisedParallel, RawAlphabetisedParallel, RawHiding, RawRenaming, RawReplicated, Infix, ExternalInfix, InternalInfix, SequentialInfix, InterleavingInfix, InterruptInfix, Replicator, ExternalReplicator, InternalReplicator, InterleavingReplicator}
+use Rattle.csp_text.specs.Raw.{RawProcess, RawIf, RawInfix, RawGeneralisedParallel, RawAlphabetisedParallel, RawHiding, RawRenaming, RawReplicated, Infix, ExternalInfix, InternalInfix, SequentialInfix, InterleavingInfix, InterruptInfix, SlidingInfix, Replicator, ExternalReplicator, InternalReplicator, InterleavingReplicator}
 use Rattle.csp_text.specs.Grammar as grammar
 use Rattle.csp_text.specs.Grammar.{IsSign, IsRenamingPart, IsHidingPart, IsInfix, IsReplicator, IsRenamed, IsHidden, IsChain, IsBase, IsOperand, IsProcess}
 use Rattle.csp_parse.specs.Forms.{HasTree, Then, both, Repeated, never, again}
@@ -18,6 +18,7 @@ infix_written (grammar.internal_infix m) = m
 infix_written (grammar.sequential_infix m) = m
 infix_written (grammar.interleaving_infix m) = m
 infix_written (grammar.interrupt_infix m) = m
+infix_written (grammar.sliding_infix m) = m
 
 written_infix : (o : Infix) {a : List PlacedToken} → IsSign (infix_sign o) a → IsInfix a o
 written_infix ExternalInfix m = grammar.external_infix m
@@ -25,6 +26,7 @@ written_infix InternalInfix m = grammar.internal_infix m
 written_infix SequentialInfix m = grammar.sequential_infix m
 written_infix InterleavingInfix m = grammar.interleaving_infix m
 written_infix InterruptInfix m = grammar.interrupt_infix m
+written_infix SlidingInfix m = grammar.sliding_infix m
 
 replicator_written : {a : List PlacedToken} {o : Replicator} → IsReplicator a o → IsSign (replicator_sign o) a
 replicator_written (grammar.external_replicator m) = m

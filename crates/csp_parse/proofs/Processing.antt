@@ -8,6 +8,8 @@ use Rattle.csp_text.specs.Grammar.{IsWord, IsSign, IsName, IsAtom, IsExpression,
 use Rattle.csp_parse.specs.Reading.{Standing, Passes, Reads}
 use Rattle.csp_parse.specs.Starts.{ReadsName, ReadsArguments, IsRenamedBase, base, renamed, IsHiddenBase, unhidden, hidden}
 use Rattle.csp_parse.specs.Words.{infix_sign, replicator_sign}
+use Rattle.csp_parse.specs.Levels.{IsEnclosed}
+use Rattle.csp_parse.proofs.Atoms.{round_atom}
 use Rattle.csp_parse.proofs.Passing.{join}
 
 -- what was read in one form is read in another
@@ -48,6 +50,9 @@ guard_read r m q = record { front = r.front ++ m.front ++ q.front; splits = join
 pub expression_in_brackets : {a b c d : Standing} {e : RawExpression} → Passes (IsSign OpenRoundSign) a b → Reads IsExpression b c e → Passes (IsSign CloseRoundSign) c d → Reads IsAtom a d e
 expression_in_brackets m r n = record { front = m.front ++ r.front ++ n.front; splits = join (join m.splits r.splits) n.splits; is = grammar.bracketed m.is r.is n.is }
 
+pub enclosed_in_brackets : {a b c d : Standing} {e : RawExpression} → Passes (IsSign OpenRoundSign) a b → Reads IsEnclosed b c e → Passes (IsSign CloseRoundSign) c d → Reads IsAtom a d e
+enclosed_in_brackets m r n = round_atom (record { behind_opening = _; behind_inner = _; opens = m; inner = r; closes = n })
+
 pub process_in_brackets : {a b c d : Standing} {p : RawProcess} → Passes (IsSign OpenRoundSign) a b → Reads IsProcess b c p → Passes (IsSign CloseRoundSign) c d → Reads IsBase a d p
 process_in_brackets m r n = record { front = m.front ++ r.front ++ n.front; splits = join (join m.splits r.splits) n.splits; is = grammar.bracketed_process m.is r.is n.is }
 
@@ -78,6 +83,7 @@ infix_is raw.InternalInfix s a e m = grammar.internal_infix (subst (λ r. IsSign
 infix_is raw.SequentialInfix s a e m = grammar.sequential_infix (subst (λ r. IsSign r a) e m)
 infix_is raw.InterleavingInfix s a e m = grammar.interleaving_infix (subst (λ r. IsSign r a) e m)
 infix_is raw.InterruptInfix s a e m = grammar.interrupt_infix (subst (λ r. IsSign r a) e m)
+infix_is raw.SlidingInfix s a e m = grammar.sliding_infix (subst (λ r. IsSign r a) e m)
 
 pub replicated_read : (o : Replicator) (sign : Sign) {a b c d x y z : Standing} {n : RawName} {e : RawExpression} {p : RawProcess} → sign ≡ replicator_sign o → Passes (IsSign sign) a b → Reads IsName b c n →
     Passes (IsSign ColonSign) c d → Reads IsAtom d x e → Passes (IsSign AtSign) x y → Reads IsProcess y z p → Reads IsProcess a z (RawReplicated o n e p)

@@ -1,10 +1,10 @@
 -- Heights: what a nest's is at least, and how a token raises it.
-use Rattle.std.proofs.Common.{◌≡◌, ◌∙◌, ◌<◌, ◌≤◌, ◌+◌, List, [], ◌∷◌, ◌++◌, map, reverse, refl, sym, ap, subst, arith}
+use Rattle.std.proofs.Common.{Bool, true, false, cond, ◌≡◌, ◌∙◌, ◌<◌, ◌≤◌, ◌+◌, List, [], ◌∷◌, ◌++◌, map, reverse, refl, sym, ap, subst, arith}
 use Rattle.std.proofs.lemmas.List.{map-append, reverse-append}
-use Rattle.csp_text.specs.Height.{Group, group_height, one_more, with_group, no_tokens, Nest, Nesting, Opens, Closes, Counts, Plain, closed, nesting, after_token, ended_height, nest_height, greatest_height}
+use Rattle.csp_text.specs.Height.{Group, group_height, one_more, with_group, no_tokens, no_tokens_yet, Nest, Nesting, Opens, OpensSquare, Closes, ClosesDouble, Counts, Plain, closed, nesting, after_token, ended_height, nest_height, greatest_height}
 use Rattle.csp_text.specs.Token.{PlacedToken}
 use Rattle.csp_parse.specs.declared.nests.Group as groups
-use Rattle.csp_parse.specs.Nests.{group_of, start}
+use Rattle.csp_parse.specs.Nests.{group_of, opened, start}
 use Rattle.csp_parse.specs.declared.stops.Stopped.{Stopped}
 use Rattle.csp_parse.specs.declared.stops.Stopped.TheVariants as stop
 use Rattle.csp_parse.specs.Deciding.{IsOver, IsStopOfCount, over}
@@ -24,9 +24,19 @@ closes : (g : Group) (gs : List Group) → nest_height (closed g gs) ≤ ended_h
 closes g [] = omega arith
 closes g (a ∷ around) = omega arith
 
+closed_ends : (g : Group) (gs : List Group) → nest_height (closed g gs) ≡ ended_height g gs
+closed_ends g [] = refl
+closed_ends g (a ∷ around) = refl
+
+closes_double : (square : Bool) (n : Nest) → nest_height (cond square (let once = closed n.current n.around in closed once.current once.around) (closed n.current n.around)) ≤ nest_height n + 1
+closes_double true n = let once = closed n.current n.around in let same = closed_ends once.current once.around ∙ closed_ends n.current n.around in omega (arith, same)
+closes_double false n = closes n.current n.around
+
 pub rises : (x : Nesting) (n : Nest) → nest_height (after_token x n) ≤ nest_height n + 1
 rises Opens n = higher n.current (with_group (one_more n.current) no_tokens) n.around (omega arith)
+rises OpensSquare n = higher n.current (with_group (one_more n.current) (no_tokens_yet true)) n.around (omega arith)
 rises Closes n = closes n.current n.around
+rises ClosesDouble n = closes_double n.current.square n
 rises Counts n = higher n.current (one_more n.current) n.around (omega arith)
 rises Plain n = omega arith
 
@@ -40,11 +50,11 @@ nest g gs = record { current = g; around = gs }
 nest_is : {g h : Group} {gs hs : List Group} → g ≡ h → gs ≡ hs → nest g gs ≡ nest h hs
 nest_is p q = λ i. record { current = p i; around = q i }
 
-pub opens : (x : Nesting) (old : Nest) {g more : Group} {gs : List Group} → x ≡ Opens → g ≡ no_tokens → more ≡ one_more old.current → gs ≡ more ∷ old.around → nest g gs ≡ after_token x old
-opens x old {g} {more} {gs} is empty top e = subst (λ y. nest g gs ≡ after_token y old) (sym is) (nest_is empty (e ∙ ap (λ m. m ∷ old.around) top))
+pub opens : (square : Bool) (old : Nest) {g more : Group} {gs : List Group} → g ≡ no_tokens_yet square → more ≡ one_more old.current → gs ≡ more ∷ old.around → nest g gs ≡ opened square old
+opens square old empty top e = nest_is empty (e ∙ ap (λ m. m ∷ old.around) top)
 
-pub shuts : (x : Nesting) (old : Nest) {g inner : Group} {gs : List Group} → x ≡ Closes → old.around ≡ inner ∷ gs → g ≡ with_group inner old.current → nest g gs ≡ after_token x old
-shuts x old {g} {inner} {gs} is e around = subst (λ y. nest g gs ≡ after_token y old) (sym is) (nest_is around refl ∙ ap (closed old.current) (sym e))
+pub shuts : (old : Nest) {g inner : Group} {gs : List Group} → old.around ≡ inner ∷ gs → g ≡ with_group inner old.current → nest g gs ≡ closed old.current old.around
+shuts old e around = nest_is around refl ∙ ap (closed old.current) (sym e)
 
 pub adds : (x : Nesting) (old : Nest) {g : Group} → x ≡ Counts → g ≡ one_more old.current → nest g old.around ≡ after_token x old
 adds x old {g} is more = subst (λ y. nest g old.around ≡ after_token y old) (sym is) (nest_is more refl)

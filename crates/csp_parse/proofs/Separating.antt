@@ -2,9 +2,9 @@
 use Rattle.std.proofs.Common.{◌≡◌, ◌∙◌, List, [], ◌∷◌, ◌++◌, map, sym, ap, subst, append_assoc}
 use Rattle.std.proofs.lemmas.List.{map-append}
 use Rattle.csp_text.specs.Token.{PlacedToken, Sign, CommaSign, BarSign, DotSign}
-use Rattle.csp_text.specs.Raw.{RawName, RawEvent, RawPair, RawDomain}
+use Rattle.csp_text.specs.Raw.{RawName, RawClause, RawEvent, RawPair, RawDomain}
 use Rattle.csp_text.specs.Grammar as grammar
-use Rattle.csp_text.specs.Grammar.{IsSign, IsName, AreNames, AreAlternatives, IsEvent, AreEvents, ArePairs, AreDomains}
+use Rattle.csp_text.specs.Grammar.{IsSign, IsName, AreNames, IsClause, AreClauses, IsEvent, AreEvents, ArePairs, AreDomains}
 use Rattle.csp_parse.specs.declared.levels.Level.TheVariants as level
 use Rattle.csp_parse.specs.Levels.{IsDomainAt, domain}
 use Rattle.csp_parse.specs.Reading.{Standing, Passes, Reads}
@@ -37,9 +37,9 @@ pub names_are : {a : List PlacedToken} {ns : List RawName} → AreSeparated Comm
 names_are (one a n h) = grammar.one_name h
 names_are (more a n h m hs) = grammar.more_names h m (names_are hs)
 
-pub alternatives_are : {a : List PlacedToken} {ns : List RawName} → AreSeparated BarSign IsName a ns → AreAlternatives a ns
-alternatives_are (one a n h) = grammar.one_alternative h
-alternatives_are (more a n h m hs) = grammar.more_alternatives h m (alternatives_are hs)
+pub clauses_are : {a : List PlacedToken} {cs : List RawClause} → AreSeparated BarSign IsClause a cs → AreClauses a cs
+clauses_are (one a c h) = grammar.one_clause h
+clauses_are (more a c h m hs) = grammar.more_clauses h m (clauses_are hs)
 
 pub events_are : {a : List PlacedToken} {es : List RawEvent} → AreSeparated CommaSign IsEvent a es → AreEvents a es
 events_are (one a e h) = grammar.one_event h
@@ -56,8 +56,8 @@ domains_are (more a d (domain t ts e h) m hs) = grammar.more_domains t ts h m (d
 pub names_read : {a b : Standing} {ns : List RawName} → Reads (AreSeparated CommaSign IsName) a b ns → Reads AreNames a b ns
 names_read r = record { front = r.front; splits = r.splits; is = names_are r.is }
 
-pub alternatives_read : {a b : Standing} {ns : List RawName} → Reads (AreSeparated BarSign IsName) a b ns → Reads AreAlternatives a b ns
-alternatives_read r = record { front = r.front; splits = r.splits; is = alternatives_are r.is }
+pub clauses_read : {a b : Standing} {cs : List RawClause} → Reads (AreSeparated BarSign IsClause) a b cs → Reads AreClauses a b cs
+clauses_read r = record { front = r.front; splits = r.splits; is = clauses_are r.is }
 
 pub events_read : {a b : Standing} {es : List RawEvent} → Reads (AreSeparated CommaSign IsEvent) a b es → Reads AreEvents a b es
 events_read r = record { front = r.front; splits = r.splits; is = events_are r.is }

@@ -1,7 +1,7 @@
 -- Forms of one token.
-use Rattle.std.proofs.Common.{◌≡◌, ◌∙◌, ◌≤◌, Some, List, [], ◌∷◌, ◌++◌, refl, sym, ap, subst}
+use Rattle.std.proofs.Common.{ℕ, ◌≡◌, ◌∙◌, ◌≤◌, Some, List, [], ◌∷◌, ◌++◌, refl, sym, ap, subst}
 use Rattle.csp_text.specs.Token.{Token, KeywordToken, SignToken, NameToken, Keyword, Sign, PlacedToken}
-use Rattle.csp_text.specs.Grammar.{IsWord, word, IsSign, sign, IsName, name}
+use Rattle.csp_text.specs.Grammar.{IsWord, word, IsSign, sign, IsName, name, IsSpelled, spelled}
 use Rattle.csp_text.specs.Height.{nest_height, greatest_height}
 use Rattle.csp_parse.specs.declared.stops.Stopped.{Stopped}
 use Rattle.csp_parse.specs.Deciding.{first, nothing, Decides, Ends, Fails, IsOver, IsStop, high, IsStopOfOne, at_end, under, Done}
@@ -76,6 +76,12 @@ word_single k a (word t is) = (t, refl)
 
 pub some_word : (k : Keyword) → Inhabited (IsWord k)
 some_word k = (placed (KeywordToken k) ∷ [], word (placed (KeywordToken k)) (placed_is (KeywordToken k)))
+
+pub spelled_single : (cs : List ℕ) → IsSingle (IsSpelled cs)
+spelled_single cs a (spelled t is) = (t, refl)
+
+pub some_spelled : (cs : List ℕ) → Inhabited (IsSpelled cs)
+some_spelled cs = (placed (NameToken cs) ∷ [], spelled (placed (NameToken cs)) (placed_is (NameToken cs)))
 
 pub name_single : IsSingle (HasTree IsName)
 name_single a (n, name t cs is) = (t, refl)

@@ -1,12 +1,11 @@
 -- What follows from a start, by which one it is.
 use Rattle.std.proofs.Common.{Result, Ok, Err, IfOk, ◌≡◌, ◌∙◌, ◌⊎◌, List, [], ◌∷◌, ◌++◌, inl, inr, refl, sym, subst}
 use Rattle.std.proofs.lemmas.List.{append_cancel_right}
-use Rattle.csp_syntax.specs.declared.process_operator.ProcessOperator.{ProcessOperator}
 use Rattle.csp_syntax.specs.declared.process_operator.ProcessOperator.TheVariants as chaining
 use Rattle.csp_syntax.specs.declared.process_operator.ReplicatedOperator.{ReplicatedOperator}
 use Rattle.csp_syntax.specs.declared.process_operator.ReplicatedOperator.TheVariants as replicator
 use Rattle.csp_text.specs.Token as text
-use Rattle.csp_text.specs.Token.{Token, Keyword, KeywordToken, NameToken, SignToken, StopWord, SkipWord, IfWord, CloseRoundSign, OpenRoundSign, BoxSign, InternalSign, SemicolonSign, TripleBarSign, InterruptSign, OpenSharedSign, OpenSquareSign, PlacedToken}
+use Rattle.csp_text.specs.Token.{Token, Keyword, KeywordToken, NameToken, SignToken, StopWord, SkipWord, IfWord, CloseRoundSign, OpenRoundSign, BoxSign, InternalSign, SemicolonSign, TripleBarSign, InterruptSign, SlidingSign, OpenSharedSign, OpenSquareSign, PlacedToken}
 use Rattle.csp_text.specs.Raw.{RawName, RawProcess, RawStop, RawSkip}
 use Rattle.csp_text.specs.Grammar as grammar
 use Rattle.csp_text.specs.Grammar.{IsWord, IsSign, IsName, IsBase, IsOperand, IsProcess}
@@ -16,6 +15,8 @@ use Rattle.csp_lex.specs.declared.keywords.Keyword.TheVariants as keyword
 use Rattle.csp_lex.specs.declared.signs.Sign.{Sign}
 use Rattle.csp_lex.specs.declared.signs.Sign.TheVariants as signs
 use Rattle.csp_lex.specs.Tokens.{keyword_of, sign_of}
+use Rattle.csp_parse.specs.declared.processes.Infix.{Infix}
+use Rattle.csp_parse.specs.declared.processes.Infix.TheVariants as joining
 use Rattle.csp_parse.specs.declared.starts.Start.{Start}
 use Rattle.csp_parse.specs.declared.starts.Start.TheVariants as start
 use Rattle.csp_parse.specs.declared.starts.Inner as inners
@@ -23,6 +24,7 @@ use Rattle.csp_parse.specs.declared.starts.Inner.TheVariants as inner
 use Rattle.csp_parse.specs.declared.stops.Stopped.{Stopped}
 use Rattle.csp_parse.specs.declared.stops.Stopped.TheVariants as stop
 use Rattle.csp_parse.specs.Deciding.{first, nothing, only, Done, IsStop}
+use Rattle.csp_parse.specs.AtomForms.{Enclosed}
 use Rattle.csp_parse.specs.Forms.{HasTree, Then, Either, Next}
 use Rattle.csp_parse.specs.ProcessForms.{continues_start, continues_process, Expressed, Starting, BehindName, Named, Inner, ClosedProcess, ClosedExpression, BracketedStart}
 use Rattle.csp_parse.specs.Processes.{infix_of, replicator_of}
@@ -73,33 +75,37 @@ process_stopped (start.Expression x) {s} {t} {u} {e} not done told read two =
 process_stopped (start.Base p) not done told read two = stopped (turn (begun_form not) (behind_base done (_, front_is read done))) two
 process_stopped (start.Operand p) not done told read two = stopped (turn (begun_form not) (behind_operand done (_, front_is read done) (told_of told done).1)) two
 
+pub expressed_enclosed : {a : List PlacedToken} → Expressed a → Enclosed a
+expressed_enclosed h = (h.0, inl h.1)
+
 -- the sign is next
 pub next_sign : (s : Sign) (left : List PlacedToken) → IsFirstIn (only (sign_of s)) left → IsNext (kind.Sign s) left
 next_sign s [] is = absurd is
 next_sign s (t ∷ ts) is = ([], is)
 
 -- a process in brackets is no expression
-pub shut_process : {A : Type 0} (p : _) {s t : Standing} → (done : Done Inner continues_process s t) → Tells (OnlyInner {A = A} t.left (inner.Process p)) s t → IsFirstIn (only CloseRoundSign) t.left → ¬ (Expressed done.front)
+pub shut_process : {A : Type 0} (p : _) {s t : Standing} → (done : Done Inner continues_process s t) → Tells (OnlyInner {A = A} t.left (inner.Process p)) s t → IsFirstIn (only CloseRoundSign) t.left → ¬ (Enclosed done.front)
 shut_process p {t = t} done told is = told_of told done (next_sign signs.CloseRound t.left is)
 
 -- the sign behind what stands in brackets is not passed
 pub closing_stops : {A : Type 0} (x : inners.Inner A) {s t u : Standing} {e : Stopped} → Done Inner continues_process s t → Tells (OnlyInner t.left x) s t → ReadsInner s t x → IsStop (IsSign CloseRoundSign) nothing t u e →
     IsStop (Either ClosedProcess ClosedExpression) continues_start s u e
-closing_stops (inner.Name n) done told read stop = stopped (turn closed_form (behind_inner done (name_expressed read done))) (within_first (avoids_nothing continues_start BehindName) ([], bare_name) stop)
+closing_stops (inner.Name n) done told read stop = stopped (turn closed_form (behind_inner done (expressed_enclosed (name_expressed read done)))) (within_first (avoids_nothing continues_start BehindName) ([], bare_name) stop)
 closing_stops (inner.Expression e) done told read stop = stopped (turn closed_form (behind_inner done (_, front_is read done))) (within_first (avoids_nothing continues_start BehindName) ([], bare_name) stop)
 closing_stops (inner.Process p) done told read stop = stopped (turn closed_form (behind_inner_process done (_, front_is read done) (shut_process p done told))) (wider_stop (never_within continues_start) stop)
 
 -- an expression in brackets, and the brackets
-pub in_brackets : {s a b t : Standing} → Passes (IsSign OpenRoundSign) s a → (done : Done Inner continues_process a b) → Expressed done.front → Passes (IsSign CloseRoundSign) b t → Turns BracketedStart continues_start s BehindName continues_start t
+pub in_brackets : {s a b t : Standing} → Passes (IsSign OpenRoundSign) s a → (done : Done Inner continues_process a b) → Enclosed done.front → Passes (IsSign CloseRoundSign) b t → Turns BracketedStart continues_start s BehindName continues_start t
 in_brackets opens done is closes = turn (turn (turn (sign_behind opens) closed_form) (behind_inner done is)) (sign_behind closes)
 
 -- what is next
-pub infix_next : (o : ProcessOperator) (left : List PlacedToken) → IsNext (kind.Sign (infix_written o)) left → IsFirstIn (only (infix_sign (infix_of o))) left
-infix_next chaining.ExternalChoice left next = sign_first signs.Box left next
-infix_next chaining.InternalChoice left next = sign_first signs.Internal left next
-infix_next chaining.Sequential left next = sign_first signs.Semicolon left next
-infix_next chaining.Interleaving left next = sign_first signs.TripleBar left next
-infix_next chaining.Interrupt left next = sign_first signs.Interrupt left next
+pub infix_next : (o : Infix) (left : List PlacedToken) → IsNext (kind.Sign (infix_written o)) left → IsFirstIn (only (infix_sign (infix_of o))) left
+infix_next (joining.Operator chaining.ExternalChoice) left next = sign_first signs.Box left next
+infix_next (joining.Operator chaining.InternalChoice) left next = sign_first signs.Internal left next
+infix_next (joining.Operator chaining.Sequential) left next = sign_first signs.Semicolon left next
+infix_next (joining.Operator chaining.Interleaving) left next = sign_first signs.TripleBar left next
+infix_next (joining.Operator chaining.Interrupt) left next = sign_first signs.Interrupt left next
+infix_next joining.Sliding left next = sign_first signs.Sliding left next
 
 pub replicator_next : (o : ReplicatedOperator) (left : List PlacedToken) → IsNext (kind.Sign (replicator_written o)) left → IsFirstIn (only (replicator_sign (replicator_of o))) left
 replicator_next replicator.ExternalChoice left next = sign_first signs.Box left next
@@ -131,18 +137,19 @@ opens_none (t ∷ ts) no_if none (inr (inl is)) = none replicator.ExternalChoice
 opens_none (t ∷ ts) no_if none (inr (inr (inl is))) = none replicator.InternalChoice ([], is)
 opens_none (t ∷ ts) no_if none (inr (inr (inr is))) = none replicator.Interleaving ([], is)
 
-operates_none : (t : PlacedToken) (ts : List PlacedToken) → ((o : ProcessOperator) → ¬ (IsNext (kind.Sign (infix_written o)) (t ∷ ts))) → ¬ (IsNext (kind.Sign signs.OpenShared) (t ∷ ts)) → ¬ (IsNext (kind.Sign signs.OpenSquare) (t ∷ ts)) → (x : Token) → t.token ≡ x →
+operates_none : (t : PlacedToken) (ts : List PlacedToken) → ((o : Infix) → ¬ (IsNext (kind.Sign (infix_written o)) (t ∷ ts))) → ¬ (IsNext (kind.Sign signs.OpenShared) (t ∷ ts)) → ¬ (IsNext (kind.Sign signs.OpenSquare) (t ∷ ts)) → (x : Token) → t.token ≡ x →
     operates_on x → ⊥
-operates_none t ts none shared square (SignToken BoxSign) e is = none chaining.ExternalChoice ([], e)
-operates_none t ts none shared square (SignToken InternalSign) e is = none chaining.InternalChoice ([], e)
-operates_none t ts none shared square (SignToken SemicolonSign) e is = none chaining.Sequential ([], e)
-operates_none t ts none shared square (SignToken TripleBarSign) e is = none chaining.Interleaving ([], e)
-operates_none t ts none shared square (SignToken InterruptSign) e is = none chaining.Interrupt ([], e)
+operates_none t ts none shared square (SignToken BoxSign) e is = none (joining.Operator chaining.ExternalChoice) ([], e)
+operates_none t ts none shared square (SignToken InternalSign) e is = none (joining.Operator chaining.InternalChoice) ([], e)
+operates_none t ts none shared square (SignToken SemicolonSign) e is = none (joining.Operator chaining.Sequential) ([], e)
+operates_none t ts none shared square (SignToken TripleBarSign) e is = none (joining.Operator chaining.Interleaving) ([], e)
+operates_none t ts none shared square (SignToken InterruptSign) e is = none (joining.Operator chaining.Interrupt) ([], e)
+operates_none t ts none shared square (SignToken SlidingSign) e is = none joining.Sliding ([], e)
 operates_none t ts none shared square (SignToken OpenSharedSign) e is = shared ([], e)
 operates_none t ts none shared square (SignToken OpenSquareSign) e is = square ([], e)
 operates_none t ts none shared square _ e is = absurd (cc is)
 
-pub joins_none : (left : List PlacedToken) → ((o : ProcessOperator) → ¬ (IsNext (kind.Sign (infix_written o)) left)) → ¬ (IsNext (kind.Sign signs.OpenShared) left) → ¬ (IsNext (kind.Sign signs.OpenSquare) left) → IsFirstIn operates_on left → ⊥
+pub joins_none : (left : List PlacedToken) → ((o : Infix) → ¬ (IsNext (kind.Sign (infix_written o)) left)) → ¬ (IsNext (kind.Sign signs.OpenShared) left) → ¬ (IsNext (kind.Sign signs.OpenSquare) left) → IsFirstIn operates_on left → ⊥
 joins_none [] none shared square is = is
 joins_none (t ∷ ts) none shared square is = operates_none t ts none shared square t.token refl is
 

@@ -6,13 +6,13 @@ use Rattle.csp_text.specs.Grammar as grammar
 use Rattle.csp_text.specs.Grammar.{IsWord, word, IsSign, sign, IsName, IsAtom, IsExpression, AreExpressions, AreFields, IsBase, IsOperand, IsProcess}
 use Rattle.csp_lex.specs.declared.kinds.TokenKind.TheVariants as kind
 use Rattle.csp_lex.specs.declared.signs.Sign.TheVariants as signs
-use Rattle.csp_parse.specs.AtomForms.{Bracketed}
+use Rattle.csp_parse.specs.AtomForms.{Round, Enclosed}
 use Rattle.csp_parse.specs.Continuing.{BehindAtom}
 use Rattle.csp_parse.specs.Deciding.{first, nothing, only}
 use Rattle.csp_parse.specs.Forms.{HasTree, Then, both, Either, never, Perhaps}
 use Rattle.csp_parse.specs.ProcessForms.{continues_start, Operand, Expressed, Starting, Guarded, BehindName, Arguments, Prefixed, Named, ClosedProcess, ClosedExpression, BracketedStart}
 use Rattle.csp_parse.specs.Reading.{Standing, IsNext}
-use Rattle.csp_parse.proofs.AtomsBegin.{right_three, right_four}
+use Rattle.csp_parse.proofs.AtomsBegin.{right_three, right_four, enclosed_atom}
 use Rattle.csp_parse.proofs.AtomsNext.{name_narrows, sign_narrows}
 use Rattle.csp_parse.proofs.BehindAtoms.{is_not, expression_opened, behind_atom, regroup}
 use Rattle.csp_parse.proofs.Deciding.{stops_nothing}
@@ -96,7 +96,7 @@ named_operand r (inr (inl h)) = inr (inr (then_map (λ x k. inr k) h))
 named_operand r (inr (inr h)) = named_base r h
 
 -- what begins with a name, as a name and what stands behind it
-starting_name : (s : Standing) → IsNext kind.Name s.left → (a b : List PlacedToken) → first (a ++ b) ≡ first s.left → Starting a → Then (HasTree IsName) Named a
+pub starting_name : (s : Standing) → IsNext kind.Name s.left → (a b : List PlacedToken) → first (a ++ b) ≡ first s.left → Starting a → Then (HasTree IsName) Named a
 starting_name s next a b alike (inl h) = then_map named_operand (operand_named s next a b alike h.1)
 starting_name s next a b alike (inr h) = then_map (λ r k. inr (inr (atom_alone r k))) (name_opened s next a b alike h)
 
@@ -118,20 +118,20 @@ pub name_starts : {s : Standing} → IsNext kind.Name s.left → Turns Starting 
 name_starts {s} next = chosen (λ a b alike h stops. starting_name s next a b alike h) (λ a h. named_starting h)
 
 -- what begins with an opening bracket
-opened_bracket : (s : Standing) → IsNext (kind.Sign signs.OpenRound) s.left → {a : List PlacedToken} (b : List PlacedToken) → first (a ++ b) ≡ first s.left → Then (HasTree IsAtom) BehindAtom a → Then Bracketed BehindAtom a
+opened_bracket : (s : Standing) → IsNext (kind.Sign signs.OpenRound) s.left → {a : List PlacedToken} (b : List PlacedToken) → first (a ++ b) ≡ first s.left → Then (HasTree IsAtom) BehindAtom a → Then Round BehindAtom a
 opened_bracket s next b alike (both x r h rest) = both x r (sign_narrows signs.OpenRound nothing s next x (r ++ b) (ap first (sym (append_assoc x r b)) ∙ alike) h (stops_nothing (r ++ b))) rest
 
 -- what stands behind an opening bracket that a guard begins with
 abbrev pub ClosedGuard : List PlacedToken → Type 0
-ClosedGuard = Then Expressed (Then (IsSign CloseRoundSign) (Then BehindAtom Guarded))
+ClosedGuard = Then Enclosed (Then (IsSign CloseRoundSign) (Then BehindAtom Guarded))
 
 -- what stands behind an opening bracket that an expression begins with
 abbrev pub ClosedAtom : List PlacedToken → Type 0
-ClosedAtom = Then Expressed (Then (IsSign CloseRoundSign) BehindAtom)
+ClosedAtom = Then Enclosed (Then (IsSign CloseRoundSign) BehindAtom)
 
-from_bracket : {B : List PlacedToken → Type 0} {x : List PlacedToken} → Then Bracketed B x → Then (IsSign OpenRoundSign) (Then Expressed (Then (IsSign CloseRoundSign) B)) x
+from_bracket : {B : List PlacedToken → Type 0} {x : List PlacedToken} → Then Round B x → Then (IsSign OpenRoundSign) (Then Enclosed (Then (IsSign CloseRoundSign) B)) x
 from_bracket {B} (both br r (both o q m (both e z h k)) rest) =
-    subst (Then (IsSign OpenRoundSign) (Then Expressed (Then (IsSign CloseRoundSign) B))) (sym (append_assoc o (e ++ z) r ∙ ap (λ w. o ++ w) (append_assoc e z r)))
+    subst (Then (IsSign OpenRoundSign) (Then Enclosed (Then (IsSign CloseRoundSign) B))) (sym (append_assoc o (e ++ z) r ∙ ap (λ w. o ++ w) (append_assoc e z r)))
     (both o (e ++ (z ++ r)) m (both e (z ++ r) h (both z r k rest)))
 
 next_opening : (left : List PlacedToken) → IsNext (kind.Sign signs.OpenRound) left → IsFirstIn (only OpenRoundSign) left
@@ -156,7 +156,7 @@ base_bracketed s next a b alike (IsBase.call_with {a = x} {b = y} {c = z} {d = w
     absurd (not_opening is_name no_name_opening s next (x ++ y ++ z ++ w) b alike (first_before is_name (x ++ y ++ z) w (first_before is_name (x ++ y) z (name_before y h))))
 base_bracketed s next a b alike (IsBase.bracketed_process {a = x} {b = y} {c = z} {p = p} m h q) = subst (Then (IsSign OpenRoundSign) ClosedProcess) (sym (right_three x y z)) (both x (y ++ z) m (both y z (p, h) q))
 
-bracket_opened : (s : Standing) → IsNext (kind.Sign signs.OpenRound) s.left → (a b : List PlacedToken) → first (a ++ b) ≡ first s.left → HasTree IsExpression a → Then Bracketed BehindAtom a
+bracket_opened : (s : Standing) → IsNext (kind.Sign signs.OpenRound) s.left → (a b : List PlacedToken) → first (a ++ b) ≡ first s.left → HasTree IsExpression a → Then Round BehindAtom a
 bracket_opened s next a b alike h =
     elim (expression_opened h.1) [
       | inl parts ↦ opened_bracket s next b alike parts
@@ -174,7 +174,7 @@ operand_bracketed s next a b alike (IsOperand.prefix {a = x} {b = y} {c = z} {d 
     absurd (not_opening is_name no_name_opening s next (x ++ y ++ z ++ w) b alike (first_before is_name (x ++ y ++ z) w (first_before is_name (x ++ y) z (name_before y h))))
 operand_bracketed s next a b alike (IsOperand.guard {a = x} {b = y} {c = z} {e = e} {p = q} h m o) =
     then_map (λ r k. inl k)
-    (from_bracket (subst (Then Bracketed (Then BehindAtom Guarded)) (sym (right_three x y z))
+    (from_bracket (subst (Then Round (Then BehindAtom Guarded)) (sym (right_three x y z))
     (regroup (y ++ z) (bracket_opened s next x (y ++ (z ++ b)) (ap first (sym (right_four x y z b)) ∙ alike) (e, h)) (both y z m (q, o)))))
 operand_bracketed s next a b alike (IsOperand.base h) = then_map (λ r k. inr k) (base_bracketed s next a b alike h)
 
@@ -189,7 +189,7 @@ starting_bracket s next a b alike (inr h) = then_map (λ r k. inr (then_map (λ 
 bracket_starts : {a : List PlacedToken} → BracketedStart a → Starting a
 bracket_starts (both o q m (inl (both y z p k))) = inl (p.0, subst (λ ts. IsOperand ts p.0) (right_three o y z) (grammar.base (grammar.bracketed_process m p.1 k)))
 bracket_starts (both o q m (inr (both e zrg h (both z rg k (both r g rest guarded))))) =
-    subst Starting (right_four o e z (r ++ g)) (with_guard r g (h.0, grammar.bracketed m h.1 k) rest guarded)
+    subst Starting (right_four o e z (r ++ g)) (with_guard r g (h.0, subst (λ ts. IsAtom ts h.0) (sym (right_three o e z)) (enclosed_atom m h.1 k)) rest guarded)
 
 pub bracket_form : {s : Standing} → IsNext (kind.Sign signs.OpenRound) s.left → Turns Starting continues_start s BracketedStart continues_start s
 bracket_form {s} next = chosen (λ a b alike h stops. starting_bracket s next a b alike h) (λ a h. bracket_starts h)

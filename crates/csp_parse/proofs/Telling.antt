@@ -15,10 +15,12 @@ use Rattle.csp_parse.specs.Continuing.{continues, BehindAtom}
 use Rattle.csp_parse.specs.Deciding.{first, nothing, only, Stops, Done}
 use Rattle.csp_parse.specs.Forms.{HasTree, Then, both, Either, Perhaps}
 use Rattle.csp_parse.specs.ProcessForms.{continues_start, continues_process, Operand, Expressed, Starting, Guarded, BehindName, Arguments, Prefixed, Inner, ClosedProcess}
-use Rattle.csp_parse.specs.Reading.{Standing, IsNext, Passes}
+use Rattle.csp_parse.specs.Reading.{Standing, IsNext, IsDottedNext, Passes}
 use Rattle.csp_parse.specs.StartForms.{Tells, IsBaseStart, IsOperandStart, IsProcessInner, OnlyStart, OnlyAtom, OnlyBehindName, OnlyGuard, OnlyInner, OnlyBehindInner, BehindBase}
 use Rattle.csp_parse.proofs.EventsTurn.{is_name}
-use Rattle.csp_parse.proofs.InnerTurns.{closing_apart}
+use Rattle.csp_parse.proofs.InnerTurns.{closing_apart, no_constructor}
+use Rattle.csp_parse.proofs.Passing.{join}
+use Rattle.csp_parse.specs.AtomForms.{Enclosed}
 use Rattle.csp_parse.proofs.NamesTurn.{atom_empty, name_empty, goes_on_expression, prefixes, prefixed_begins, no_expression}
 use Rattle.csp_parse.proofs.Repeating.{IsFirstIn, Apart, first_before}
 use Rattle.csp_parse.proofs.Singles.{sign_single, name_single}
@@ -125,7 +127,7 @@ pub behind_name_told : {A : Type 0} (x : Start A) {s m t : Standing} → (one : 
 behind_name_told x one two some told = told_twice (OnlyBehindName x) one two (name_only x (one.front ++ two.front) some (guard_told x one two told))
 
 -- a name and what stands behind it
-behind_one : {B : List PlacedToken → Type 0} {ts : List PlacedToken} → Then (HasTree IsName) B ts → (n r : List PlacedToken) → HasTree IsName n → ts ≡ n ++ r → B r
+pub behind_one : {B : List PlacedToken → Type 0} {ts : List PlacedToken} → Then (HasTree IsName) B ts → (n r : List PlacedToken) → HasTree IsName n → ts ≡ n ++ r → B r
 behind_one {B} (both m q h k) n r is e =
     let one = name_single m h in
     let two = name_single n is in
@@ -203,7 +205,7 @@ call_told x is next one two =
     told_twice (OnlyStart x) one two (base_only x (one.front ++ two.front) is
     (λ h. no_atom_so (only OpenRoundSign) (λ t is on. round_apart t is (inl on)) two.front (then_begins (only OpenRoundSign) (sign_begins OpenRoundSign) two.front two.is) (expressed_behind (name_and next one two) h)))
 
-no_base_prefix : (r : List PlacedToken) → Prefixed r → NamedBase r → ⊥
+pub no_base_prefix : (r : List PlacedToken) → Prefixed r → NamedBase r → ⊥
 no_base_prefix r h (inl k) =
     not_apart prefixes (only OpenRoundSign) (λ t p is. let e = subst prefixes is p in cc e) r (prefixed_begins r h) (then_begins (only OpenRoundSign) (sign_begins OpenRoundSign) r k)
 no_base_prefix r h (inr none) = subst (IsFirstIn prefixes) none (prefixed_begins r h)
@@ -267,7 +269,7 @@ next_opening_of {t = t} p = opening_so p.is t.left p.splits.is
 shut : {a : List PlacedToken} → ClosedProcess a → Then (HasTree IsProcess) (Then (IsSign CloseRoundSign) Empty) a
 shut h = then_map (λ x m. subst (Then (IsSign CloseRoundSign) Empty) (append-nil x) (both x [] m refl)) h
 
-expressed_in : {s t : Standing} → (b : InBrackets s t) → Expressed (all_of b) → Expressed b.inside.front × BehindAtom b.behind
+expressed_in : {s t : Standing} → (b : InBrackets s t) → Expressed (all_of b) → Enclosed b.inside.front × BehindAtom b.behind
 expressed_in {s} {t} b h = unbracketed b (λ x k. inr k) (expression_bracketed s (next_opening_of b.opens) (all_of b) t.left (ap first (sym (all_is b))) h) refl
 
 base_in : {s t : Standing} → (b : InBrackets s t) → HasTree IsBase (all_of b) → HasTree IsProcess b.inside.front × (b.behind ≡ [])
@@ -275,11 +277,11 @@ base_in {s} {t} b h = unbracketed b (λ x k. inl k) (then_map (λ x k. shut k) (
 
 -- in brackets, one of two forms
 either_in : {s t : Standing} → (b : InBrackets s t) → {ts : List PlacedToken} → Then (IsSign OpenRoundSign) (Either ClosedGuard ClosedProcess) ts → ts ≡ all_of b →
-    (Expressed b.inside.front × Then BehindAtom Guarded b.behind) ⊎ (HasTree IsProcess b.inside.front × (b.behind ≡ []))
+    (Enclosed b.inside.front × Then BehindAtom Guarded b.behind) ⊎ (HasTree IsProcess b.inside.front × (b.behind ≡ []))
 either_in b (both o q m (inl k)) e = inl (unbracketed b (λ x h. inr h) (both o q m k) e)
 either_in b (both o q m (inr k)) e = inr (unbracketed b (λ x h. inl h) (both o q m (shut k)) e)
 
-operand_in : {s t : Standing} → (b : InBrackets s t) → Operand (all_of b) → (Expressed b.inside.front × Then BehindAtom Guarded b.behind) ⊎ (HasTree IsProcess b.inside.front × (b.behind ≡ []))
+operand_in : {s t : Standing} → (b : InBrackets s t) → Operand (all_of b) → (Enclosed b.inside.front × Then BehindAtom Guarded b.behind) ⊎ (HasTree IsProcess b.inside.front × (b.behind ≡ []))
 operand_in {s} {t} b h = either_in b (operand_bracketed s (next_opening_of b.opens) (all_of b) t.left (ap first (sym (all_is b))) h.1) refl
 
 all_told : {s t : Standing} (Q : List PlacedToken → Type 0) → (b : InBrackets s t) → Q (all_of b) → Tells Q s t
@@ -315,7 +317,7 @@ pub atom_brackets_told : {A : Type 0} (x : Start A) {s t : Standing} → (b : In
 atom_brackets_told x b not told = all_told (OnlyStart x) b (atom_brackets_only x b not (told.tells b.behind b.rest))
 
 -- a process in brackets that is no expression
-pub process_brackets_told : {A : Type 0} (p : _) {s t : Standing} → (b : InBrackets s t) → ¬ (Expressed b.inside.front) → Tells (OnlyStart {A = A} (start.Base p)) s t
+pub process_brackets_told : {A : Type 0} (p : _) {s t : Standing} → (b : InBrackets s t) → ¬ (Enclosed b.inside.front) → Tells (OnlyStart {A = A} (start.Base p)) s t
 process_brackets_told {A} p b not = all_told (OnlyStart {A = A} (start.Base p)) b (λ h. not (expressed_in b h).0)
 
 -- what stands in brackets
@@ -323,15 +325,15 @@ no_expression_behind : {s m : Standing} → (one : Done Starting continues_start
 no_expression_behind one not [] rest is h = not (subst Expressed (append-nil one.front) h)
 no_expression_behind one not (t ∷ ts) rest is h = no_longer one (t ∷ ts) rest is (λ e. cc e) (inr h)
 
-inner_process_only : {A : Type 0} (x : inners.Inner A) (left ts : List PlacedToken) → IsProcessInner x → ¬ (Expressed ts) → OnlyInner left x ts
+inner_process_only : {A : Type 0} (x : inners.Inner A) (left ts : List PlacedToken) → IsProcessInner x → ¬ (Enclosed ts) → OnlyInner left x ts
 inner_process_only (inner.Name n) left ts is not = absurd is
 inner_process_only (inner.Expression e) left ts is not = absurd is
 inner_process_only (inner.Process p) left ts is not = λ closing. not
 
-pub process_inside_told : {A : Type 0} (x : inners.Inner A) (left : List PlacedToken) {B : List PlacedToken → Type 0} {s m t : Standing} → IsProcessInner x → (one : Done Starting continues_start s m) → ¬ (Expressed one.front) →
+pub process_inside_told : {A : Type 0} (x : inners.Inner A) (left : List PlacedToken) {B : List PlacedToken → Type 0} {s m t : Standing} → ¬ (IsDottedNext s.left) → IsProcessInner x → (one : Done Starting continues_start s m) → ¬ (Expressed one.front) →
     (two : Done B continues_process m t) → Tells (OnlyInner left x) s t
-process_inside_told x left {t = t} is one not two =
-    told_twice (OnlyInner left x) one two (inner_process_only x left (one.front ++ two.front) is (λ h. no_expression_behind one not two.front t.left two.splits.is h))
+process_inside_told x left {s = s} {t = t} plain is one not two =
+    told_twice (OnlyInner left x) one two (inner_process_only x left (one.front ++ two.front) is (λ h. no_constructor s plain (one.front ++ two.front) t.left (join one.splits two.splits).is (λ e. no_expression_behind one not two.front t.left two.splits.is e) h))
 
 behind_inner_only : {A : Type 0} (x : inners.Inner A) (left ts : List PlacedToken) → IsProcessInner x → (IsNext (kind.Sign signs.CloseRound) left → ¬ (ts ≡ [])) → OnlyBehindInner left x ts
 behind_inner_only (inner.Name n) left ts is not = absurd is
@@ -341,11 +343,12 @@ behind_inner_only (inner.Process p) left ts is not = not
 pub behind_inner_told : {A : Type 0} (x : inners.Inner A) {s t : Standing} → IsProcessInner x → ¬ (IsNext (kind.Sign signs.CloseRound) s.left) → Tells (OnlyBehindInner t.left x) s t
 behind_inner_told x {s} {t} is not = record { tells = λ r e. behind_inner_only x t.left r is (λ closing none. not (subst (IsNext (kind.Sign signs.CloseRound)) (sym (e ∙ ap (λ w. w ++ t.left) none)) closing)) }
 
-inner_name_only : {A : Type 0} (x : inners.Inner A) (left : List PlacedToken) {s m t : Standing} → (one : Done Starting continues_start s m) → (two : Done BehindBase continues_process m t) → OnlyBehindInner left x two.front →
+inner_name_only : {A : Type 0} (x : inners.Inner A) (left : List PlacedToken) {s m t : Standing} → ¬ (IsDottedNext s.left) → (one : Done Starting continues_start s m) → (two : Done BehindBase continues_process m t) → OnlyBehindInner left x two.front →
     OnlyInner left x (one.front ++ two.front)
-inner_name_only (inner.Name n) left one two only = tt
-inner_name_only (inner.Expression e) left one two only = absurd only
-inner_name_only (inner.Process p) left {t = t} one two only = λ closing h. no_longer one two.front t.left two.splits.is (only closing) (inr h)
+inner_name_only (inner.Name n) left plain one two only = tt
+inner_name_only (inner.Expression e) left plain one two only = absurd only
+inner_name_only (inner.Process p) left {s = s} {t = t} plain one two only = λ closing h.
+    no_constructor s plain (one.front ++ two.front) t.left (join one.splits two.splits).is (λ e. no_longer one two.front t.left two.splits.is (only closing) (inr e)) h
 
-pub inner_name_told : {A : Type 0} (x : inners.Inner A) (left : List PlacedToken) {s m t : Standing} → (one : Done Starting continues_start s m) → (two : Done BehindBase continues_process m t) → Tells (OnlyBehindInner left x) m t → Tells (OnlyInner left x) s t
-inner_name_told x left one two told = told_twice (OnlyInner left x) one two (inner_name_only x left one two (told.tells two.front two.splits.is))
+pub inner_name_told : {A : Type 0} (x : inners.Inner A) (left : List PlacedToken) {s m t : Standing} → ¬ (IsDottedNext s.left) → (one : Done Starting continues_start s m) → (two : Done BehindBase continues_process m t) → Tells (OnlyBehindInner left x) m t → Tells (OnlyInner left x) s t
+inner_name_told x left plain one two told = told_twice (OnlyInner left x) one two (inner_name_only x left plain one two (told.tells two.front two.splits.is))

@@ -2,7 +2,7 @@
 use Rattle.std.proofs.Common.{◌≡◌, ◌∙◌, ℕ, Bool, sym, ap}
 use Rattle.csp_syntax.specs.declared.operator.BinaryOperator.{BinaryOperator}
 use Rattle.csp_syntax.specs.Operators.{binary_of}
-use Rattle.csp_text.specs.Raw.{RawExpression, RawNumber, RawTruth, RawBooleans, RawUse, RawCombine, RawSequence, RawSet}
+use Rattle.csp_text.specs.Raw.{RawExpression, RawNumber, RawTruth, RawBooleans, RawUse, RawCombine, RawSequence, RawSet, RawConstructor}
 use Rattle.csp_parse.specs.declared.expressions.Expression.TheOpen as layer
 use Rattle.csp_parse.specs.declared.expressions.Expression.TheFolds.{fold-roll-Expression}
 use Rattle.csp_parse.specs.declared.expressions.Expression.TheVariants as views
@@ -35,3 +35,6 @@ module _ (A : Type 0) where
 
   pub tree_of_set : (es : Vec (Expression A) A) → expression_of {A = A} (views.Set es) ≡ RawSet (expressions_of es.items)
   tree_of_set es = ap (expression_of {A = A}) (sym (views.rolls-Set es)) ∙ fold-roll-Expression A RawExpression expression_step (layer.Set es)
+
+  pub tree_of_constructor : (n : Name) (es : Vec (Expression A) A) → expression_of {A = A} (views.Constructor n es) ≡ RawConstructor (name_of n) (expressions_of es.items)
+  tree_of_constructor n es = ap (expression_of {A = A}) (sym (views.rolls-Constructor n es)) ∙ fold-roll-Expression A RawExpression expression_step (layer.Constructor n es)

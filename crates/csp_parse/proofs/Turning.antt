@@ -1,15 +1,15 @@
 -- A form that is read in steps: what the reader of the rest decides, the reader of the whole does.
-use Rattle.std.proofs.Common.{Result, IfOk, IfErr, ◌≡◌, List, [], ◌∷◌, ◌++◌, inl, inr, sym, subst, append_assoc}
+use Rattle.std.proofs.Common.{ℕ, Result, IfOk, IfErr, ◌≡◌, List, [], ◌∷◌, ◌++◌, inl, inr, sym, subst, append_assoc}
 use Rattle.std.proofs.lemmas.Result.{IfOk-weaker, IfErr-weaker}
-use Rattle.csp_text.specs.Token.{Token, KeywordToken, SignToken, Keyword, Sign, PlacedToken}
-use Rattle.csp_text.specs.Grammar.{IsWord, word, IsSign, sign}
+use Rattle.csp_text.specs.Token.{Token, KeywordToken, SignToken, NameToken, Keyword, Sign, PlacedToken}
+use Rattle.csp_text.specs.Grammar.{IsWord, word, IsSign, sign, IsSpelled, spelled}
 use Rattle.csp_parse.specs.declared.stops.Stopped.{Stopped}
 use Rattle.csp_parse.specs.Deciding.{first, nothing, only, Stops, Done, IsStop, here, high, memory}
 use Rattle.csp_parse.specs.Forms.{Then, both, Either, Repeated, never}
 use Rattle.csp_parse.specs.Reading.{Standing, Passes}
 use Rattle.csp_parse.proofs.Deciding.{Inhabited, Avoids, avoids_nothing, done_then, stop_first, stop_second, Narrows, stop_chosen, done_chosen}
 use Rattle.csp_parse.proofs.Repeating.{IsFirstIn, BeginsIn, Within, Apart, avoids_apart, stops_within, first_in, first_before}
-use Rattle.csp_parse.proofs.Singles.{single_done, sign_single, word_single}
+use Rattle.csp_parse.proofs.Singles.{single_done, sign_single, word_single, spelled_single}
 
 -- From here on it is the form Rest that decides whether the tokens from before are of the form Is.
 pub record Turns (Is : List PlacedToken → Type 0) (c : Token → Type 0) (before : Standing) (Rest : List PlacedToken → Type 0) (d : Token → Type 0) (now : Standing) : Type 0 where
@@ -49,13 +49,13 @@ same_form narrows widens = chosen (λ a b _ h _. narrows a h) widens
 others_then : {A B C : List PlacedToken → Type 0} (a : List PlacedToken) → A a → {r : List PlacedToken} → Then B C r → Then (Then A B) C (a ++ r)
 others_then {A} {B} {C} a x (both b c y z) = subst (Then (Then A B) C) (append_assoc a b c) (both (a ++ b) c (both a b x y) z)
 
-first_two : {A B C : List PlacedToken → Type 0} {ts : List PlacedToken} → Then A (Then B C) ts → Then (Then A B) C ts
+pub first_two : {A B C : List PlacedToken → Type 0} {ts : List PlacedToken} → Then A (Then B C) ts → Then (Then A B) C ts
 first_two (both a r x rest) = others_then a x rest
 
 then_last : {A B C : List PlacedToken → Type 0} {r : List PlacedToken} → Then A B r → (c : List PlacedToken) → C c → Then A (Then B C) (r ++ c)
 then_last {A} {B} {C} (both a b x y) c z = subst (Then A (Then B C)) (sym (append_assoc a b c)) (both a (b ++ c) x (both b c y z))
 
-last_two : {A B C : List PlacedToken → Type 0} {ts : List PlacedToken} → Then (Then A B) C ts → Then A (Then B C) ts
+pub last_two : {A B C : List PlacedToken → Type 0} {ts : List PlacedToken} → Then (Then A B) C ts → Then A (Then B C) ts
 last_two (both r c x z) = then_last x c z
 
 pub then_map : {A B C : List PlacedToken → Type 0} → ((x : List PlacedToken) → B x → C x) → {a : List PlacedToken} → Then A B a → Then A C a
@@ -97,6 +97,16 @@ sign_stops {B = B} {c = c} some stop = within_first (avoids_nothing c B) some st
 
 pub word_stops : {k : Keyword} {B : List PlacedToken → Type 0} {c : Token → Type 0} {a b : Standing} {e : Stopped} → Inhabited B → IsStop (IsWord k) nothing a b e → IsStop (Then (IsWord k) B) c a b e
 word_stops {B = B} {c = c} some stop = within_first (avoids_nothing c B) some stop
+
+-- so with a name that is spelled so
+pub spelled_behind : {cs : List ℕ} {B : List PlacedToken → Type 0} {c : Token → Type 0} {a b : Standing} → Passes (IsSpelled cs) a b → Turns (Then (IsSpelled cs) B) c a B c b
+spelled_behind {cs} {B} {c} p = behind (single_done (spelled_single cs) p) (avoids_nothing c B)
+
+pub spelled_stops : {cs : List ℕ} {B : List PlacedToken → Type 0} {c : Token → Type 0} {a b : Standing} {e : Stopped} → Inhabited B → IsStop (IsSpelled cs) nothing a b e → IsStop (Then (IsSpelled cs) B) c a b e
+spelled_stops {B = B} {c = c} some stop = within_first (avoids_nothing c B) some stop
+
+pub spelled_begins : (cs : List ℕ) → BeginsIn (λ t. t ≡ NameToken cs) (IsSpelled cs)
+spelled_begins cs a (spelled t is) = is
 
 -- what a form begins with
 pub sign_begins : (s : Sign) → BeginsIn (only s) (IsSign s)

@@ -3,6 +3,7 @@ use Rattle.std.specs.Prelude.{List}
 use Rattle.csp_text.specs.Token.{Token, KeywordToken, SignToken, NameToken, NumberToken, Keyword, Sign, TrueWord, FalseWord, BoolWord, HeadWord, TailWord, NullWord, CardWord, ElemWord, MemberWord, UnionWord, InterWord, DiffWord, MinusSign, HashSign, OpenRoundSign, CloseRoundSign, LessSign, GreaterSign, OpenBraceSign, CloseBraceSign, CommaSign, RangeSign, PlacedToken}
 use Rattle.csp_text.specs.Grammar.{IsWord, IsSign, IsName, IsNumber, IsExpression, IsSum, IsAtom}
 use Rattle.csp_parse.specs.Forms.{HasTree, Then, Repeated, Either, Next}
+use Rattle.csp_parse.specs.Levels.{IsEnclosed}
 
 abbrev pub Whole : List PlacedToken → Type 0
 Whole = HasTree IsExpression
@@ -12,6 +13,13 @@ Bracketed = Then (IsSign OpenRoundSign) (Then Whole (IsSign CloseRoundSign))
 
 abbrev pub TwoBracketed : List PlacedToken → Type 0
 TwoBracketed = Then (IsSign OpenRoundSign) (Then Whole (Then (IsSign CommaSign) (Then Whole (IsSign CloseRoundSign))))
+
+-- what is an atom with round brackets around it
+abbrev pub Enclosed : List PlacedToken → Type 0
+Enclosed = HasTree IsEnclosed
+
+abbrev pub Round : List PlacedToken → Type 0
+Round = Then (IsSign OpenRoundSign) (Then Enclosed (IsSign CloseRoundSign))
 
 -- what stands behind the opening sign of a sequence
 abbrev pub Items : List PlacedToken → Type 0
@@ -43,7 +51,7 @@ AtomOfWord _ = λ ts. ⊥
 abbrev pub AtomOfSign : Sign → List PlacedToken → Type 0
 AtomOfSign MinusSign = Then (IsSign MinusSign) (HasTree IsAtom)
 AtomOfSign HashSign = Then (IsSign HashSign) (HasTree IsAtom)
-AtomOfSign OpenRoundSign = Bracketed
+AtomOfSign OpenRoundSign = Round
 AtomOfSign LessSign = Then (IsSign LessSign) Items
 AtomOfSign OpenBraceSign = Then (IsSign OpenBraceSign) Inside
 AtomOfSign _ = λ ts. ⊥

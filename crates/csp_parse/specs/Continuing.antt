@@ -1,6 +1,6 @@
 -- Which tokens go on with an expression.
 use Rattle.std.specs.Prelude.{◌≡◌, ◌<◌, ◌≤◌, ◌⊎◌, ℕ, List}
-use Rattle.csp_text.specs.Token.{Token, KeywordToken, SignToken, OrWord, AndWord, SameSign, DiffersSign, LessSign, AtMostSign, GreaterSign, AtLeastSign, PlusSign, MinusSign, CaretSign, TimesSign, PercentSign, CommaSign, PlacedToken}
+use Rattle.csp_text.specs.Token.{Token, KeywordToken, SignToken, OrWord, AndWord, SameSign, DiffersSign, LessSign, AtMostSign, GreaterSign, AtLeastSign, PlusSign, MinusSign, CaretSign, TimesSign, PercentSign, CommaSign, DotSign, PlacedToken}
 use Rattle.csp_text.specs.Grammar.{IsComparing, IsSum}
 use Rattle.csp_parse.specs.declared.levels.Level.{Level}
 use Rattle.csp_parse.specs.declared.levels.Level.TheVariants as level
@@ -39,6 +39,10 @@ continues l t = operator_rank t ≤ rank l
 -- the token goes on with a list of expressions of this level
 abbrev pub lists : Level → Token → Type 0
 lists l t = continues l t ⊎ only CommaSign t
+
+-- the token goes on with what is an atom with round brackets around it
+abbrev pub enclosed_goes_on : Token → Type 0
+enclosed_goes_on t = continues level.Disjunction t ⊎ only DotSign t
 
 -- an operator and one more operand of a chain
 abbrev pub IsStep : Level → List PlacedToken → Type 0

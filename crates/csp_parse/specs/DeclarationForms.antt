@@ -1,7 +1,11 @@
 -- What declarations are by their first token, whatever their trees.
 use Rattle.std.specs.Prelude.{◌≡◌, ◌⊎◌, Bool, true, false, List}
+use Rattle.std.specs.declared.boxed.Box.{Box}
+use Rattle.csp_text.specs.Raw.{RawProcess}
+use Rattle.csp_parse.specs.declared.processes.Process.{Process}
+use Rattle.csp_parse.specs.Processes.{process_in}
 use Rattle.csp_text.specs.Token.{Token, KeywordToken, NameToken, DatatypeWord, NametypeWord, ChannelWord, AssertWord, EqualsSign, BarSign, CommaSign, ColonSign, DotSign, OpenRoundSign, CloseRoundSign, PlacedToken}
-use Rattle.csp_text.specs.Grammar.{IsWord, IsSign, IsName, AreDomains, IsModel, IsProcess}
+use Rattle.csp_text.specs.Grammar.{IsWord, IsSign, IsName, AreDomains, AreClauses, IsModel, IsProcess, IsFreedom, IsFirstSide}
 use Rattle.csp_parse.specs.declared.levels.Level.TheVariants as level
 use Rattle.csp_parse.specs.Deciding.{only}
 use Rattle.csp_parse.specs.Forms.{HasTree, Then, Either, Perhaps}
@@ -9,7 +13,7 @@ use Rattle.csp_parse.specs.Levels.{IsDomainAt}
 use Rattle.csp_parse.specs.Separated.{AreSeparated}
 
 abbrev pub IsDatatype : List PlacedToken → Type 0
-IsDatatype = Then (Then (Then (IsWord DatatypeWord) (HasTree IsName)) (IsSign EqualsSign)) (HasTree (AreSeparated BarSign IsName))
+IsDatatype = Then (Then (Then (IsWord DatatypeWord) (HasTree IsName)) (IsSign EqualsSign)) (HasTree AreClauses)
 
 abbrev pub IsNametype : List PlacedToken → Type 0
 IsNametype = Then (IsWord NametypeWord) (Then (HasTree IsName) (Then (IsSign EqualsSign) (HasTree (IsDomainAt level.Disjunction))))
@@ -28,8 +32,30 @@ Parameters = Then (IsSign OpenRoundSign) (Then (HasTree (AreSeparated CommaSign 
 abbrev pub IsEquation : List PlacedToken → Type 0
 IsEquation = Then (HasTree IsName) (Either Parameters Equated)
 
+-- the first side of an assertion, and whether it is negated
+abbrev pub IsSide : List PlacedToken → Bool × RawProcess → Type 0
+IsSide ts side = IsFirstSide ts side.0 side.1
+
+abbrev pub side_of : {A : Type 0} → Bool × Box (Process A) A → Bool × RawProcess
+side_of side = (side.0, process_in side.1)
+
+-- what stands behind the first side: a freedom, or a model and the other side
+abbrev pub Freed : List PlacedToken → Type 0
+Freed = Then (IsSign ColonSign) (HasTree IsFreedom)
+
+abbrev pub Compared : List PlacedToken → Type 0
+Compared = Then (HasTree IsModel) (HasTree IsProcess)
+
 abbrev pub IsAssertion : List PlacedToken → Type 0
-IsAssertion = Then (IsWord AssertWord) (Then (HasTree IsProcess) (Then (HasTree IsModel) (HasTree IsProcess)))
+IsAssertion = Then (IsWord AssertWord) (Then (HasTree IsSide) (Either Freed Compared))
+
+-- the token goes on with a clause of a datatype
+abbrev pub clause_goes_on : Token → Type 0
+clause_goes_on t = only DotSign t
+
+-- the token goes on with a datatype
+abbrev pub datatype_goes_on : Token → Type 0
+datatype_goes_on t = only DotSign t ⊎ only BarSign t
 
 -- the token goes on with channels
 abbrev pub channels_go_on : Token → Type 0

@@ -2,7 +2,7 @@
 use Rattle.std.specs.Prelude.{List, [], ◌∷◌, map}
 use Rattle.std.specs.Box.{box_value}
 use Rattle.csp_syntax.specs.Operators.{unary_of, binary_of}
-use Rattle.csp_text.specs.Raw.{RawExpression, RawNumber, RawTruth, RawBooleans, RawUse, RawApply, RawCombine, RawSequence, RawSet, RawRange, RawExpressions, no_raw_expressions, raw_expression_and}
+use Rattle.csp_text.specs.Raw.{RawExpression, RawNumber, RawTruth, RawBooleans, RawUse, RawApply, RawCombine, RawSequence, RawSet, RawRange, RawConstructor, RawExpressions, no_raw_expressions, raw_expression_and}
 use Rattle.csp_parse.specs.declared.expressions.Expression.{Expression}
 use Rattle.csp_parse.specs.declared.expressions.Expression.TheOpen as layer
 use Rattle.csp_parse.specs.declared.expressions.Expression.TheFolds.{fold-Expression}
@@ -24,6 +24,7 @@ expression_step (layer.Combine o e f) = RawCombine (binary_of o) (box_value e) (
 expression_step (layer.Sequence es) = RawSequence (raw_list es.items)
 expression_step (layer.Set es) = RawSet (raw_list es.items)
 expression_step (layer.Range e f) = RawRange (box_value e) (box_value f)
+expression_step (layer.Constructor n es) = RawConstructor (name_of n) (raw_list es.items)
 
 abbrev pub expression_of : {A : Type 0} → Expression A → RawExpression
 expression_of {A} = fold-Expression A RawExpression expression_step

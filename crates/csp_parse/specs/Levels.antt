@@ -1,9 +1,9 @@
 -- The levels of expressions, as the definitions have them.
-use Rattle.std.specs.Prelude.{◌≡◌, ℕ, List, ◌∷◌, ◌++◌}
+use Rattle.std.specs.Prelude.{◌≡◌, ◌⊎◌, ℕ, List, ◌∷◌, ◌++◌}
 use Rattle.csp_syntax.specs.Expression as pure
-use Rattle.csp_text.specs.Token.{PlacedToken, Sign, AndWord, OrWord, CommaSign, OpenRoundSign, CloseRoundSign}
-use Rattle.csp_text.specs.Raw.{RawExpression, RawApply, RawCombine, RawExpressions, RawDomain, no_raw_expressions, raw_expression_and}
-use Rattle.csp_text.specs.Grammar.{IsWord, IsSign, IsAdding, IsMultiplying, IsExpression, IsConjunction, IsNegation, IsComparison, IsSum, IsProduct, IsAtom}
+use Rattle.csp_text.specs.Token.{PlacedToken, Sign, AndWord, OrWord, CommaSign, DotSign, OpenRoundSign, CloseRoundSign}
+use Rattle.csp_text.specs.Raw.{RawName, RawExpression, RawApply, RawCombine, RawConstructor, RawExpressions, RawDomain, no_raw_expressions, raw_expression_and}
+use Rattle.csp_text.specs.Grammar.{IsWord, IsSign, IsAdding, IsMultiplying, IsExpression, IsConjunction, IsNegation, IsComparison, IsSum, IsProduct, IsAtom, IsName, AreDotted}
 use Rattle.csp_parse.specs.declared.levels.Level.{Level}
 use Rattle.csp_parse.specs.declared.levels.Level.TheVariants as level
 use Rattle.csp_parse.specs.Reading.{Standing, PassesOne, Passes, Reads, ReadsBehind}
@@ -75,6 +75,23 @@ pub record ReadsBracketed (before after : Standing) (e : RawExpression) : Type 0
   pub behind_inner : Standing
   pub opens : Passes (IsSign OpenRoundSign) before behind_opening
   pub inner : Reads IsExpression behind_opening behind_inner e
+  pub closes : Passes (IsSign CloseRoundSign) behind_inner after
+
+-- a constructor with its fields, without the brackets around them
+pub data IsConstructed : List PlacedToken → RawExpression → Type 0 where
+  constructed : {a b c d : List PlacedToken} {n : RawName} {e : RawExpression} {es : RawExpressions} → IsName a n → IsSign DotSign b → IsAtom c e → AreDotted d es →
+      IsConstructed (a ++ b ++ c ++ d) (RawConstructor n (raw_expression_and e es))
+
+-- what is an atom with round brackets around it
+abbrev pub IsEnclosed : List PlacedToken → RawExpression → Type 0
+IsEnclosed ts e = IsExpression ts e ⊎ IsConstructed ts e
+
+-- What is an atom with round brackets around it is read, with the brackets.
+pub record ReadsRound (before after : Standing) (e : RawExpression) : Type 0 where
+  pub behind_opening : Standing
+  pub behind_inner : Standing
+  pub opens : Passes (IsSign OpenRoundSign) before behind_opening
+  pub inner : Reads IsEnclosed behind_opening behind_inner e
   pub closes : Passes (IsSign CloseRoundSign) behind_inner after
 
 -- Two expressions are read, with a comma between and brackets around.

@@ -13,6 +13,7 @@ pub mod Continuing
 pub mod AtomForms
 pub mod EventForms
 pub mod ProcessForms
+pub mod FreedomForms
 pub mod DeclarationForms
 pub mod Stopping
 pub mod Separated

@@ -1,8 +1,9 @@
 -- What processes are by their parts, whatever their trees.
 use Rattle.std.specs.Prelude.{◌≡◌, ◌⊎◌, Bool, true, false, List}
-use Rattle.csp_text.specs.Token.{Token, KeywordToken, SignToken, Sign, AndWord, OrWord, IfWord, ThenWord, ElseWord, ArrowSign, BoxSign, InternalSign, TripleBarSign, DoubleBarSign, OpenSharedSign, CloseSharedSign, OpenRenamingSign, InterruptSign, HidingSign, SemicolonSign, GuardSign, AtSign, SameSign, DiffersSign, AtMostSign, AtLeastSign, LessSign, GreaterSign, PlusSign, MinusSign, TimesSign, PercentSign, CaretSign, OutputSign, InputSign, DotSign, ColonSign, OpenRoundSign, CloseRoundSign, OpenSquareSign, CloseSquareSign, PlacedToken}
+use Rattle.csp_text.specs.Token.{Token, KeywordToken, SignToken, Sign, AndWord, OrWord, IfWord, ThenWord, ElseWord, ArrowSign, BoxSign, InternalSign, TripleBarSign, DoubleBarSign, OpenSharedSign, CloseSharedSign, OpenRenamingSign, InterruptSign, SlidingSign, HidingSign, SemicolonSign, GuardSign, AtSign, SameSign, DiffersSign, AtMostSign, AtLeastSign, LessSign, GreaterSign, PlusSign, MinusSign, TimesSign, PercentSign, CaretSign, OutputSign, InputSign, DotSign, ColonSign, OpenRoundSign, CloseRoundSign, OpenSquareSign, CloseSquareSign, PlacedToken}
 use Rattle.csp_text.specs.Raw.{Infix, Replicator}
-use Rattle.csp_text.specs.Grammar.{IsRenamingPart, IsHidingPart, IsWord, IsSign, IsName, IsAtom, IsExpression, AreExpressions, AreFields, IsEventSet, IsBase, IsOperand, IsProcess}
+use Rattle.csp_text.specs.Grammar.{IsRenamingPart, IsHidingPart, IsWord, IsSign, IsName, IsAtom, IsExpression, AreExpressions, AreFields, AreLaterFields, IsEventSet, IsBase, IsOperand, IsProcess}
+use Rattle.csp_parse.specs.AtomForms.{Enclosed}
 use Rattle.csp_parse.specs.Continuing.{BehindAtom}
 use Rattle.csp_parse.specs.Deciding.{only}
 use Rattle.csp_parse.specs.Words.{infix_sign, replicator_sign}
@@ -14,7 +15,6 @@ start_goes_on (SignToken OpenRoundSign) = true
 start_goes_on (SignToken DotSign) = true
 start_goes_on (SignToken OutputSign) = true
 start_goes_on (SignToken InputSign) = true
-start_goes_on (SignToken ColonSign) = true
 start_goes_on (SignToken ArrowSign) = true
 start_goes_on (SignToken GuardSign) = true
 start_goes_on (SignToken SameSign) = true
@@ -39,6 +39,7 @@ joins_process (SignToken InternalSign) = true
 joins_process (SignToken SemicolonSign) = true
 joins_process (SignToken TripleBarSign) = true
 joins_process (SignToken InterruptSign) = true
+joins_process (SignToken SlidingSign) = true
 joins_process (SignToken OpenSharedSign) = true
 joins_process (SignToken OpenSquareSign) = true
 joins_process (SignToken OpenRenamingSign) = true
@@ -77,20 +78,24 @@ Arguments = Then (IsSign OpenRoundSign) (Then (HasTree AreExpressions) (IsSign C
 abbrev pub Prefixed : List PlacedToken → Type 0
 Prefixed = Then (HasTree AreFields) (Then (IsSign ArrowSign) Operand)
 
+-- what stands behind the channel of a prefix and the values that are given with a dot
+abbrev pub PrefixedLater : List PlacedToken → Type 0
+PrefixedLater = Then (HasTree AreLaterFields) (Then (IsSign ArrowSign) Operand)
+
 -- what stands behind a name
 abbrev pub Named : List PlacedToken → Type 0
 Named = Either Arguments (Either Prefixed BehindName)
 
--- a process or an expression, in brackets
+-- a process, or what is an expression with the brackets, in brackets
 abbrev pub Inner : List PlacedToken → Type 0
-Inner = Either (HasTree IsProcess) Expressed
+Inner = Either (HasTree IsProcess) Enclosed
 
 -- what begins with an opening bracket, where an operand or an expression may stand
 abbrev pub ClosedProcess : List PlacedToken → Type 0
 ClosedProcess = Then (HasTree IsProcess) (IsSign CloseRoundSign)
 
 abbrev pub ClosedExpression : List PlacedToken → Type 0
-ClosedExpression = Then Expressed (Then (IsSign CloseRoundSign) BehindName)
+ClosedExpression = Then Enclosed (Then (IsSign CloseRoundSign) BehindName)
 
 abbrev pub BracketedStart : List PlacedToken → Type 0
 BracketedStart = Then (IsSign OpenRoundSign) (Either ClosedProcess ClosedExpression)

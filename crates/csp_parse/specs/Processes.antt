@@ -1,15 +1,17 @@
 -- Processes, as the definitions have them.
-use Rattle.std.specs.Prelude.{map}
+use Rattle.std.specs.Prelude.{List, map}
 use Rattle.std.specs.Box.{box_value}
 use Rattle.std.specs.declared.boxed.Box.{Box}
-use Rattle.csp_syntax.specs.declared.process_operator.ProcessOperator.{ProcessOperator}
 use Rattle.csp_syntax.specs.declared.process_operator.ProcessOperator.TheVariants as chaining
 use Rattle.csp_syntax.specs.declared.process_operator.ReplicatedOperator.{ReplicatedOperator}
 use Rattle.csp_syntax.specs.declared.process_operator.ReplicatedOperator.TheVariants as replicator
 use Rattle.csp_text.specs.Raw as raw
 use Rattle.csp_text.specs.Raw.{RawField, RawGiven, RawInput, RawInputFrom, RawProcess, RawStop, RawSkip, RawCall, RawPrefix, RawGuard, RawIf, RawInfix, RawGeneralisedParallel, RawAlphabetisedParallel, RawHiding, RawRenaming, RawReplicated}
+use Rattle.csp_parse.specs.declared.expressions.Expression.{Expression}
 use Rattle.csp_parse.specs.declared.processes.Field.{Field}
 use Rattle.csp_parse.specs.declared.processes.Field.TheVariants as field
+use Rattle.csp_parse.specs.declared.processes.Infix.{Infix}
+use Rattle.csp_parse.specs.declared.processes.Infix.TheVariants as joining
 use Rattle.csp_parse.specs.declared.processes.Process.{Process}
 use Rattle.csp_parse.specs.declared.processes.Process.TheOpen as layer
 use Rattle.csp_parse.specs.declared.processes.Process.TheFolds.{fold-Process}
@@ -23,12 +25,17 @@ field_of (field.Given e) = RawGiven (expression_of e)
 field_of (field.Input n) = RawInput (name_of n)
 field_of (field.InputFrom n e) = RawInputFrom (name_of n) (expression_of e)
 
-abbrev pub infix_of : ProcessOperator → raw.Infix
-infix_of chaining.ExternalChoice = raw.ExternalInfix
-infix_of chaining.InternalChoice = raw.InternalInfix
-infix_of chaining.Sequential = raw.SequentialInfix
-infix_of chaining.Interleaving = raw.InterleavingInfix
-infix_of chaining.Interrupt = raw.InterruptInfix
+-- fields that are given with a dot
+abbrev pub fields_given : {A : Type 0} → List (Expression A) → List RawField
+fields_given es = map (λ e. RawGiven (expression_of e)) es
+
+abbrev pub infix_of : Infix → raw.Infix
+infix_of (joining.Operator chaining.ExternalChoice) = raw.ExternalInfix
+infix_of (joining.Operator chaining.InternalChoice) = raw.InternalInfix
+infix_of (joining.Operator chaining.Sequential) = raw.SequentialInfix
+infix_of (joining.Operator chaining.Interleaving) = raw.InterleavingInfix
+infix_of (joining.Operator chaining.Interrupt) = raw.InterruptInfix
+infix_of joining.Sliding = raw.SlidingInfix
 
 abbrev pub replicator_of : ReplicatedOperator → raw.Replicator
 replicator_of replicator.ExternalChoice = raw.ExternalReplicator

@@ -1,7 +1,9 @@
 -- What reading tokens says of them.
 use Rattle.std.specs.Prelude.{◌≡◌, ◌≤◌, ℕ, List, [], ◌∷◌, ◌++◌, map, drop, ⊤}
-use Rattle.csp_text.specs.Token.{PlacedToken}
+use Rattle.csp_text.specs.Token.{NameToken, PlacedToken}
 use Rattle.csp_lex.specs.declared.kinds.TokenKind.{TokenKind}
+use Rattle.csp_lex.specs.declared.kinds.TokenKind.TheVariants as kind
+use Rattle.csp_lex.specs.declared.signs.Sign.TheVariants as sign
 use Rattle.csp_lex.specs.Tokens.{token_of, placed_token}
 use Rattle.csp_text.specs.Height.{Nest, nesting, after_token, after_tokens, nest_height, greatest_height}
 use Rattle.csp_parse.specs.declared.parsers.Parser.{Parser}
@@ -43,6 +45,20 @@ IsKind k t = (cs : List ℕ) × (t.token ≡ token_of k cs)
 abbrev pub IsNext : TokenKind → List PlacedToken → Type 0
 IsNext k [] = ⊥
 IsNext k (t ∷ ts) = IsKind k t
+
+-- the tokens behind the next one
+abbrev pub behind_next : List PlacedToken → List PlacedToken
+behind_next [] = []
+behind_next (t ∷ ts) = ts
+
+-- a name is next, and a dot behind it
+abbrev pub IsDottedNext : List PlacedToken → Type 0
+IsDottedNext ts = IsNext kind.Name ts × IsNext (kind.Sign sign.Dot) (behind_next ts)
+
+-- the next token is the name spelled so
+abbrev pub IsNextSpelled : List ℕ → List PlacedToken → Type 0
+IsNextSpelled cs [] = ⊥
+IsNextSpelled cs (t ∷ ts) = t.token ≡ NameToken cs
 
 -- One token is passed, and the next one is counted.
 pub record PassesOne (before after : Standing) : Type 0 where

@@ -1,6 +1,5 @@
 -- What the tokens that a start is read from are not, and what may stand behind it.
 use Rattle.std.specs.Prelude.{◌≡◌, List, [], ◌++◌, ⊤}
-use Rattle.csp_syntax.specs.declared.process_operator.ProcessOperator.{ProcessOperator}
 use Rattle.csp_syntax.specs.declared.process_operator.ProcessOperator.TheVariants as chaining
 use Rattle.csp_syntax.specs.declared.process_operator.ReplicatedOperator.{ReplicatedOperator}
 use Rattle.csp_syntax.specs.declared.process_operator.ReplicatedOperator.TheVariants as replicator
@@ -9,6 +8,8 @@ use Rattle.csp_text.specs.Grammar.{IsSign, IsBase, IsProcess}
 use Rattle.csp_lex.specs.declared.kinds.TokenKind.TheVariants as kinds
 use Rattle.csp_lex.specs.declared.signs.Sign.{Sign}
 use Rattle.csp_lex.specs.declared.signs.Sign.TheVariants as sign
+use Rattle.csp_parse.specs.declared.processes.Infix.{Infix}
+use Rattle.csp_parse.specs.declared.processes.Infix.TheVariants as joining
 use Rattle.csp_parse.specs.declared.starts.Start.{Start}
 use Rattle.csp_parse.specs.declared.starts.Start.TheVariants as start
 use Rattle.csp_parse.specs.declared.starts.Inner.{Inner}
@@ -18,6 +19,7 @@ use Rattle.csp_parse.specs.declared.stops.Stopped.{Stopped}
 use Rattle.csp_parse.specs.declared.stops.Stopped.TheVariants as stop
 use Rattle.csp_parse.specs.Continuing.{BehindAtom}
 use Rattle.csp_parse.specs.Deciding.{Done, IsStop}
+use Rattle.csp_parse.specs.AtomForms.{Enclosed}
 use Rattle.csp_parse.specs.Forms.{HasTree, Then, Either}
 use Rattle.csp_parse.specs.ProcessForms as forms
 use Rattle.csp_parse.specs.ProcessForms.{continues_process, Operand, Expressed, Guarded, BehindOperand, Suffixes}
@@ -71,7 +73,7 @@ OnlyGuard (start.Operand p) ts = Guarded ts
 abbrev pub OnlyInner : {A : Type 0} → List PlacedToken → Inner A → List PlacedToken → Type 0
 OnlyInner left (inner.Name n) ts = ⊤
 OnlyInner left (inner.Expression e) ts = ¬ (HasTree IsProcess ts)
-OnlyInner left (inner.Process p) ts = IsNext (kinds.Sign sign.CloseRound) left → ¬ (Expressed ts)
+OnlyInner left (inner.Process p) ts = IsNext (kinds.Sign sign.CloseRound) left → ¬ (Enclosed ts)
 
 -- a process stands in the brackets
 abbrev pub IsProcessInner : {A : Type 0} → Inner A → Type 0
@@ -113,12 +115,13 @@ StopsBehind (start.Base p) before after stopped = IsStop BehindBase continues_pr
 StopsBehind (start.Operand p) before after stopped = IsStop BehindOperand continues_process before after stopped
 
 -- the sign that an operator between processes, or over a set, is written as
-abbrev pub infix_written : ProcessOperator → Sign
-infix_written chaining.ExternalChoice = sign.Box
-infix_written chaining.InternalChoice = sign.Internal
-infix_written chaining.Sequential = sign.Semicolon
-infix_written chaining.Interleaving = sign.TripleBar
-infix_written chaining.Interrupt = sign.Interrupt
+abbrev pub infix_written : Infix → Sign
+infix_written (joining.Operator chaining.ExternalChoice) = sign.Box
+infix_written (joining.Operator chaining.InternalChoice) = sign.Internal
+infix_written (joining.Operator chaining.Sequential) = sign.Semicolon
+infix_written (joining.Operator chaining.Interleaving) = sign.TripleBar
+infix_written (joining.Operator chaining.Interrupt) = sign.Interrupt
+infix_written joining.Sliding = sign.Sliding
 
 abbrev pub replicator_written : ReplicatedOperator → Sign
 replicator_written replicator.ExternalChoice = sign.Box

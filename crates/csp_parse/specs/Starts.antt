@@ -8,6 +8,7 @@ use Rattle.csp_parse.specs.declared.starts.Start.TheVariants as start
 use Rattle.csp_parse.specs.declared.starts.Inner.{Inner}
 use Rattle.csp_parse.specs.declared.starts.Inner.TheVariants as inner
 use Rattle.csp_parse.specs.Expressions.{expression_of}
+use Rattle.csp_parse.specs.Levels.{IsEnclosed}
 use Rattle.csp_parse.specs.Names.{name_of}
 use Rattle.csp_parse.specs.Processes.{process_in}
 use Rattle.csp_parse.specs.Reading.{Standing, Passes, Reads}
@@ -25,7 +26,7 @@ ReadsStart before after (start.Operand p) = Reads IsOperand before after (proces
 
 abbrev pub ReadsInner : {A : Type 0} → Standing → Standing → Inner A → Type 0
 ReadsInner before after (inner.Name n) = ReadsName before after (name_of n)
-ReadsInner before after (inner.Expression e) = Reads IsExpression before after (expression_of e)
+ReadsInner before after (inner.Expression e) = Reads IsEnclosed before after (expression_of e)
 ReadsInner before after (inner.Process p) = Reads IsProcess before after (process_in p)
 
 -- base ren*

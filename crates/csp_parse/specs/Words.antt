@@ -74,6 +74,7 @@ infix_sign raw.InternalInfix = text.InternalSign
 infix_sign raw.SequentialInfix = text.SemicolonSign
 infix_sign raw.InterleavingInfix = text.TripleBarSign
 infix_sign raw.InterruptInfix = text.InterruptSign
+infix_sign raw.SlidingInfix = text.SlidingSign
 
 -- how an operator over a set is written
 abbrev pub replicator_sign : raw.Replicator → text.Sign

@@ -7,7 +7,7 @@ use csp_lex::Place;
 use csp_syntax::Model;
 use std::alloc::Allocator;
 
-/// The set of a nametype or of a channel's field, with the place of its first token.
+/// The set of a nametype, or of a field of a constructor or channel, with the place of its first token.
 #[derive(Drop)]
 pub struct Domain<'a, A: Allocator> {
     /// The place of the set's first token.
@@ -16,13 +16,36 @@ pub struct Domain<'a, A: Allocator> {
     pub set: Expression<'a, A>,
 }
 
+/// A constructor of a datatype, with the sets of its fields.
+#[derive(Drop)]
+pub struct Clause<'a, A: Allocator> {
+    /// The constructor.
+    pub name: Name<'a>,
+    /// The sets of its fields.
+    pub fields: Vec<Domain<'a, A>, A>,
+}
+
+/// What an assertion asks.
+#[derive(Drop)]
+pub enum Property<'a, A: Allocator> {
+    /// `P [T= Q` of `Q`
+    Refinement {
+        model: Model,
+        specification: Box<Process<'a, A>, A>,
+    },
+    /// `:[deadlock free]`
+    DeadlockFree,
+    /// `:[divergence free]`
+    DivergenceFree,
+}
+
 /// A declaration as it is written.
 #[derive(Drop)]
 pub enum Declaration<'a, A: Allocator> {
-    /// `datatype D = A | B`
+    /// `datatype D = A | B.S.T`
     Datatype {
         name: Name<'a>,
-        constructors: Vec<Name<'a>, A>,
+        clauses: Vec<Clause<'a, A>, A>,
     },
     /// `nametype N = S`
     Nametype {
@@ -40,11 +63,12 @@ pub enum Declaration<'a, A: Allocator> {
         parameters: Vec<Name<'a>, A>,
         body: Box<Process<'a, A>, A>,
     },
-    /// `assert P [T= Q`, with the place of its first token
+    /// `assert P [T= Q`, `assert Q :[deadlock free]` or `assert Q :[divergence free]`, and each with `not` behind its
+    /// keyword, with the place of its first token
     Assertion {
         place: Place,
-        model: Model,
-        specification: Box<Process<'a, A>, A>,
+        negated: bool,
+        property: Property<'a, A>,
         implementation: Box<Process<'a, A>, A>,
     },
 }

@@ -25,4 +25,6 @@ pub enum Expression<'a, A: Allocator> {
     Set(Vec<Expression<'a, A>, A>),
     /// `{e..f}`
     Range(Box<Expression<'a, A>, A>, Box<Expression<'a, A>, A>),
+    /// `(C.e.f)`, a constructor with its fields, of which there is at least one.
+    Constructor(Name<'a>, Vec<Expression<'a, A>, A>),
 }

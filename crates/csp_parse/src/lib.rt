@@ -1,6 +1,7 @@
 //! The tree of a script, from its tokens.
 //!
-//! `parse` reads the tokens once, and each of its choices is made by the next token. By its contract a
+//! `parse` reads the tokens once, and each of its choices is made by the next token, or in round brackets by the next
+//! two. By its contract a
 //! tree that it answers is one that the grammar gives these tokens, with each name's spelling and place,
 //! and no token is too high for its declaration; and a refusal is the one that the definitions give these
 //! tokens, at its place. So every script within the limit of heights is read, as long as there is memory.
@@ -15,10 +16,12 @@ mod names;
 mod nests;
 mod parsers;
 mod processes;
+mod read_assertions;
 mod read_declarations;
 mod read_events;
 mod read_expressions;
 mod read_fields;
+mod read_freedoms;
 mod read_processes;
 mod read_starts;
 mod refusals;
@@ -37,13 +40,13 @@ use csp_lex::TokenList;
 pub use csp_syntax::{
     BinaryOperator, EventSetOperator, Model, ProcessOperator, ReplicatedOperator, UnaryOperator,
 };
-pub use declarations::{Declaration, Domain, Raw};
+pub use declarations::{Clause, Declaration, Domain, Property, Raw};
 pub use event_sets::EventSet;
 pub use events::{Event, Pair};
 pub use expressions::Expression;
 pub use names::Name;
 pub use nests::GREATEST_HEIGHT;
-pub use processes::{Field, Process};
+pub use processes::{Field, Infix, Process};
 pub use refusals::{GrammarFault, Refused};
 use std::alloc::Allocator;
 

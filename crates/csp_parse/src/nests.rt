@@ -1,11 +1,11 @@
 //! The heights of declarations, counted token by token.
 
 ghost use Rattle.std.specs.Prelude.{◌≡◌, ◌≤◌, ◌<◌, ◌+◌, ℕ, List, IfOk};
-ghost use Rattle.csp_text.specs.Height.{nesting, nest_height, group_height, after_token, greatest_height};
+ghost use Rattle.csp_text.specs.Height.{nesting, nest_height, group_height, no_tokens_yet, after_token, closed, closed_double, greatest_height};
 ghost use Rattle.csp_text.specs.Height as height;
 ghost use Rattle.csp_text.specs.Token.{SignToken, KeywordToken};
 ghost use Rattle.csp_lex.specs.Tokens.{keyword_of, sign_of, token_of};
-ghost use Rattle.csp_parse.specs.Nests.{nesting_is, group_of, nest_of, start};
+ghost use Rattle.csp_parse.specs.Nests.{nesting_is, group_of, nest_of, opened, start};
 
 use csp_lex::{Keyword, Sign, TokenKind};
 use std::alloc::{AllocFailed, Allocator};
@@ -18,8 +18,12 @@ pub const GREATEST_HEIGHT: u32 = 100;
 pub(crate) enum Nesting {
     /// It opens a bracket group.
     Opens,
+    /// It is `[`, which opens one.
+    OpensSquare,
     /// It closes a bracket group.
     Closes,
+    /// It is `]]`, which closes one, and where `[` opened that the one around it too.
+    ClosesDouble,
     /// It counts one in its group.
     Counts,
     Plain,
@@ -30,17 +34,17 @@ fn nesting_of_sign(sign: Sign) -> Nesting
 {
     match sign {
         Sign::OpenRound
-        | Sign::OpenSquare
         | Sign::OpenShared
         | Sign::OpenRenaming
         | Sign::OpenBrace
         | Sign::OpenProductions => Nesting::Opens,
+        Sign::OpenSquare => Nesting::OpensSquare,
         Sign::CloseRound
         | Sign::CloseSquare
         | Sign::CloseShared
-        | Sign::CloseRenaming
         | Sign::CloseBrace
         | Sign::CloseProductions => Nesting::Closes,
+        Sign::CloseRenaming => Nesting::ClosesDouble,
         Sign::Arrow
         | Sign::Guard
         | Sign::At
@@ -49,6 +53,7 @@ fn nesting_of_sign(sign: Sign) -> Nesting
         | Sign::Semicolon
         | Sign::TripleBar
         | Sign::Interrupt
+        | Sign::Sliding
         | Sign::Hiding
         | Sign::Same
         | Sign::Differs
@@ -89,6 +94,8 @@ pub(crate) fn nesting_of(kind: TokenKind) -> Nesting
 /// A bracket group so far.
 #[derive(Clone, Copy)]
 pub(crate) struct Group {
+    /// Whether `[` opened it.
+    square: bool,
     /// The tokens that count directly in it.
     direct: u32,
     /// The greatest height of a group in it.
@@ -96,10 +103,11 @@ pub(crate) struct Group {
 }
 
 impl Group {
-    fn empty() -> Group
-        ensures { group_of result ≡ height.no_tokens }
+    fn empty(square: bool) -> Group
+        ensures { group_of result ≡ no_tokens_yet square }
     {
         Group {
+            square,
             direct: 0,
             deepest: 0,
         }
@@ -116,6 +124,7 @@ impl Group {
         ensures { group_height (group_of self) ≤ greatest_height → group_of result ≡ height.one_more (group_of self) }
     {
         Group {
+            square: self.square,
             direct: self.direct.saturating_add(1),
             deepest: self.deepest,
         }
@@ -126,6 +135,7 @@ impl Group {
         ensures { group_height (group_of inner) < 4294967296 → group_of result ≡ height.with_group (group_of self) (group_of inner) }
     {
         Group {
+            square: self.square,
             direct: self.direct,
             deepest: self.deepest.max(inner.height()),
         }
@@ -146,7 +156,7 @@ impl<A: Allocator> Nest<A> {
         ensures { nest_of result ≡ start }
     {
         Nest {
-            current: Group::empty(),
+            current: Group::empty(false),
             around: Vec::new(alloc),
         }
     }
@@ -155,7 +165,7 @@ impl<A: Allocator> Nest<A> {
     pub(crate) fn begin(&mut self)
         ensures { nest_of self.new ≡ start }
     {
-        self.current = Group::empty();
+        self.current = Group::empty(false);
         self.around.clear();
     }
 
@@ -164,19 +174,43 @@ impl<A: Allocator> Nest<A> {
         ensures { IfOk result (λ _. nest_height (nest_of self.old) ≤ greatest_height → nest_of self.new ≡ after_token (nesting_is nesting) (nest_of self.old)) }
     {
         match nesting {
-            Nesting::Opens => {
-                self.around.push(self.current.one_more())?;
-                self.current = Group::empty();
-            }
-            Nesting::Closes => {
-                if let Some(around) = self.around.pop() {
-                    self.current = around.with_group(self.current);
-                }
-            }
+            Nesting::Opens => self.open(false)?,
+            Nesting::OpensSquare => self.open(true)?,
+            Nesting::Closes => self.close(),
+            Nesting::ClosesDouble => self.close_double(),
             Nesting::Counts => self.current = self.current.one_more(),
             Nesting::Plain => {}
         }
         Ok(())
+    }
+
+    /// Opens a group, and counts its bracket in the one around it.
+    fn open(&mut self, square: bool) -> Result<(), AllocFailed<Group>>
+        ensures { IfOk result (λ _. nest_height (nest_of self.old) ≤ greatest_height → nest_of self.new ≡ opened square (nest_of self.old)) }
+    {
+        self.around.push(self.current.one_more())?;
+        self.current = Group::empty(square);
+        Ok(())
+    }
+
+    /// Closes the innermost group, where one is open.
+    fn close(&mut self)
+        ensures { nest_height (nest_of self.old) ≤ greatest_height → nest_of self.new ≡ closed (nest_of self.old).current (nest_of self.old).around }
+    {
+        if let Some(around) = self.around.pop() {
+            self.current = around.with_group(self.current);
+        }
+    }
+
+    /// Closes the innermost group, and where `[` opened it the one around it too.
+    fn close_double(&mut self)
+        ensures { nest_height (nest_of self.old) ≤ greatest_height → nest_of self.new ≡ closed_double (nest_of self.old) }
+    {
+        let square = self.current.square;
+        self.close();
+        if square {
+            self.close();
+        }
     }
 
     /// The height of the tokens so far.

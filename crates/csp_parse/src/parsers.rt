@@ -3,7 +3,8 @@
 ghost use Rattle.std.specs.Prelude.{◌≡◌, ◌<◌, ◌≤◌, ℕ, List, [], true, false, IfOk, IfErr, IfSome, IfNone, length, map};
 ghost use Rattle.csp_text.specs.Token.{SignToken};
 ghost use Rattle.csp_text.specs.Height.{token_fault};
-ghost use Rattle.csp_text.specs.Grammar.{IsSign, IsWord, IsName};
+ghost use Rattle.csp_text.specs.Grammar.{IsSign, IsWord, IsName, IsSpelled};
+ghost use Rattle.std.specs.Str.{chars};
 ghost use Rattle.csp_lex.specs.Tokens.{keyword_of, sign_of, token_of, placed_token};
 ghost use Rattle.csp_lex.specs.declared.kinds.TokenKind.TheVariants as kinds;
 ghost use Rattle.csp_parse.specs.Names.{name_of};
@@ -34,7 +35,7 @@ impl<'t, 'a, A: Allocator + Copy> Parser<'t, 'a, A> {
     ghost use Rattle.csp_parse.specs.Deciding.{nothing, Ends, Done, IsStop, IsStopOfOne, IsStopOfCount};
     ghost use Rattle.csp_parse.specs.Forms.{HasTree, Next};
     ghost use Rattle.csp_parse.specs.Nests.{start, nest_of};
-    ghost use Rattle.csp_parse.specs.Reading.{left_of, standing_of, CountsFirst, IsFirst, IsNext, PassesOne, Passes, Reads, ReadsBehind};
+    ghost use Rattle.csp_parse.specs.Reading.{left_of, standing_of, CountsFirst, IsFirst, IsNext, IsDottedNext, behind_next, PassesOne, Passes, Reads, ReadsBehind, IsNextSpelled};
 
     /// A reader at the first of the tokens.
     pub(crate) fn new<B: Allocator>(alloc: A, list: &'t TokenList<'a, B>) -> Parser<'t, 'a, A>
@@ -93,6 +94,56 @@ impl<'t, 'a, A: Allocator + Copy> Parser<'t, 'a, A> {
         ensures no { result ≡ false → ¬ (IsNext kinds.Name (left_of self.now)) }
     {
         matches!(self.kind(), Some(TokenKind::Name))
+    }
+
+    /// Whether the next token is a name and a dot is behind it.
+    pub(crate) fn is_at_dotted_name(&self) -> bool
+        ensures yes { result ≡ true → IsDottedNext (left_of self.now) }
+        ensures no { result ≡ false → ¬ (IsDottedNext (left_of self.now)) }
+    {
+        self.is_at_name() && self.is_before(Sign::Dot)
+    }
+
+    /// The token behind the next one.
+    fn behind(&self) -> Option<Token<'a>>
+        ensures some { IfSome result (λ token. IsFirst (placed_token token) (behind_next (left_of self.now))) }
+        ensures none { IfNone result (behind_next (left_of self.now) ≡ []) }
+    {
+        if self.position >= self.tokens.len() {
+            return None;
+        }
+        match self.tokens.get(self.position + 1) {
+            Some(token) => Some(*token),
+            None => None,
+        }
+    }
+
+    /// Whether the token behind the next one is this sign.
+    fn is_before(&self, sign: Sign) -> bool
+        ensures yes { result ≡ true → IsNext (kinds.Sign sign) (behind_next (left_of self.now)) }
+        ensures no { result ≡ false → ¬ (IsNext (kinds.Sign sign) (behind_next (left_of self.now))) }
+    {
+        let Some(token) = self.behind() else {
+            return false;
+        };
+        match token.kind {
+            TokenKind::Sign(behind) => behind == sign,
+            _ => false,
+        }
+    }
+
+    /// Whether the next token is the name that is spelled so.
+    pub(crate) fn is_at_spelling(&self, spelling: &str) -> bool
+        ensures yes { result ≡ true → IsNextSpelled (chars spelling.now) (left_of self.now) }
+        ensures no { result ≡ false → ¬ (IsNextSpelled (chars spelling.now) (left_of self.now)) }
+    {
+        let Some(token) = self.next() else {
+            return false;
+        };
+        let TokenKind::Name = token.kind else {
+            return false;
+        };
+        token.text.as_bytes() == spelling.as_bytes()
     }
 
     /// The refusal where a reader stopped, of a text with this place behind it.
@@ -201,6 +252,18 @@ impl<'t, 'a, A: Allocator + Copy> Parser<'t, 'a, A> {
         })
     }
 
+    /// Passes the name that is spelled so, which is to be next.
+    pub(crate) fn spelling(&mut self, spelling: &str) -> Result<(), Stopped>
+        ensures passes { IfOk result (λ _. Passes (IsSpelled (chars spelling.now)) (standing_of self.old) (standing_of self.new)) }
+        ensures stops { IfErr result (λ stopped. IsStop (IsSpelled (chars spelling.now)) nothing (standing_of self.old) (standing_of self.new) stopped) }
+        ensures shorter { IfOk result (λ _. length (left_of self.new) < length (left_of self.old)) }
+    {
+        if !self.is_at_spelling(spelling) {
+            return Err(Stopped::Here);
+        }
+        self.pass()
+    }
+
     /// This sign, and a name behind it.
     pub(crate) fn name_behind(&mut self, sign: Sign) -> Result<Name<'a>, Stopped>
         ensures reads { IfOk result (λ name. ReadsBehind (IsSign (sign_of sign)) IsName (standing_of self.old) (standing_of self.new) (name_of name)) }
@@ -233,6 +296,7 @@ fn fault_at_sign(sign: Sign) -> GrammarFault
         | Sign::Semicolon
         | Sign::TripleBar
         | Sign::Interrupt
+        | Sign::Sliding
         | Sign::OpenSquare
         | Sign::OpenShared
         | Sign::OpenRenaming

@@ -3,7 +3,8 @@
 ghost use Rattle.std.specs.Prelude.{◌≡◌, IfOk, IfErr, map};
 ghost use Rattle.csp_lex.specs.Tokens.{sign_of};
 ghost use Rattle.csp_parse.specs.Processes.{infix_of, replicator_of};
-ghost use Rattle.csp_parse.specs.Words.{infix_sign, replicator_sign};
+ghost use Rattle.csp_parse.specs.Words as words;
+ghost use Rattle.csp_parse.specs.Words.{replicator_sign};
 
 use crate::event_sets::EventSet;
 use crate::events::Pair;
@@ -25,16 +26,26 @@ pub enum Field<'a, A: Allocator> {
     InputFrom(Name<'a>, Expression<'a, A>),
 }
 
+/// An operator between processes.
+#[derive(Clone, Copy)]
+pub enum Infix {
+    /// One that a term of two processes has.
+    Operator(ProcessOperator),
+    /// `[>`
+    Sliding,
+}
+
 /// How an operator between processes is written.
-pub(crate) fn operator_sign(operator: ProcessOperator) -> Sign
-    ensures { sign_of result ≡ infix_sign (infix_of operator) }
+pub(crate) fn infix_sign(operator: Infix) -> Sign
+    ensures { sign_of result ≡ words.infix_sign (infix_of operator) }
 {
     match operator {
-        ProcessOperator::ExternalChoice => Sign::Box,
-        ProcessOperator::InternalChoice => Sign::Internal,
-        ProcessOperator::Sequential => Sign::Semicolon,
-        ProcessOperator::Interleaving => Sign::TripleBar,
-        ProcessOperator::Interrupt => Sign::Interrupt,
+        Infix::Operator(ProcessOperator::ExternalChoice) => Sign::Box,
+        Infix::Operator(ProcessOperator::InternalChoice) => Sign::Internal,
+        Infix::Operator(ProcessOperator::Sequential) => Sign::Semicolon,
+        Infix::Operator(ProcessOperator::Interleaving) => Sign::TripleBar,
+        Infix::Operator(ProcessOperator::Interrupt) => Sign::Interrupt,
+        Infix::Sliding => Sign::Sliding,
     }
 }
 
@@ -65,7 +76,7 @@ pub enum Process<'a, A: Allocator> {
     /// `if e then P else Q`
     If(Expression<'a, A>, Box<Process<'a, A>, A>, Box<Process<'a, A>, A>),
     /// An operator with its left and its right operand.
-    Infix(ProcessOperator, Box<Process<'a, A>, A>, Box<Process<'a, A>, A>),
+    Infix(Infix, Box<Process<'a, A>, A>, Box<Process<'a, A>, A>),
     /// `P [| X |] Q`
     GeneralisedParallel(Box<Process<'a, A>, A>, EventSet<'a, A>, Box<Process<'a, A>, A>),
     /// `P [X || Y] Q`
@@ -170,7 +181,7 @@ impl<'a, A: Allocator + Copy> Process<'a, A> {
     /// An operator between two processes.
     pub(crate) fn joined(
         alloc: A,
-        operator: ProcessOperator,
+        operator: Infix,
         left: Box<Process<'a, A>, A>,
         right: Box<Process<'a, A>, A>,
     ) -> Result<Box<Process<'a, A>, A>, Stopped>

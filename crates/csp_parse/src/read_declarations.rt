@@ -2,28 +2,27 @@
 
 ghost use Rattle.std.specs.Prelude.{◌≡◌, ◌<◌, ◌≤◌, IfOk, IfErr, length, map};
 ghost use Rattle.csp_syntax.specs.Models.{model_of};
-ghost use Rattle.csp_text.specs.Grammar.{IsName, IsExpression, AreDomains, IsModel, IsDeclaration};
-ghost use Rattle.csp_text.specs.Token.{BarSign, DotSign};
+ghost use Rattle.csp_text.specs.Grammar.{IsName, IsExpression, AreDomains, IsClause, AreClauses, IsModel, IsDeclaration};
+ghost use Rattle.csp_text.specs.Token.{DotSign, BarSign};
 ghost use Rattle.csp_lex.specs.Tokens.{sign_of};
-ghost use Rattle.csp_parse.specs.Declarations.{domain_of, declaration_of, script_of};
+ghost use Rattle.csp_parse.specs.Declarations.{domain_of, clause_of, declaration_of, script_of};
 ghost use Rattle.csp_parse.specs.Levels.{IsDomainAt};
 ghost use Rattle.csp_parse.specs.Limits.{IsLowScript};
 ghost use Rattle.csp_parse.specs.Names.{name_of};
 ghost use Rattle.csp_parse.specs.Separated.{AreSeparated};
 
-use crate::declarations::{Declaration, Domain, Raw};
+use crate::declarations::{Clause, Declaration, Domain, Raw};
 use crate::levels::Level;
 use crate::names::Name;
 use crate::parsers::Parser;
 use crate::stops::Stopped;
 use csp_lex::{Keyword, Sign};
-use csp_syntax::Model;
 use std::alloc::Allocator;
 
 impl<'t, 'a, A: Allocator + Copy> Parser<'t, 'a, A> {
     ghost use Rattle.csp_parse.specs.Continuing.{continues};
     ghost use Rattle.csp_parse.specs.Deciding.{nothing, only, Ends, Done, IsStop};
-    ghost use Rattle.csp_parse.specs.DeclarationForms.{IsDatatype, IsNametype, IsChannels, IsEquation, Parameters, IsAssertion, channels_go_on, declaration_goes_on};
+    ghost use Rattle.csp_parse.specs.DeclarationForms.{IsDatatype, IsNametype, IsChannels, IsEquation, Parameters, IsAssertion, datatype_goes_on, channels_go_on, declaration_goes_on};
     ghost use Rattle.csp_parse.specs.Forms.{HasTree};
     ghost use Rattle.csp_parse.specs.ProcessForms.{continues_process};
     ghost use Rattle.csp_parse.specs.Reading.{left_of, standing_of, Standing, Reads};
@@ -73,15 +72,52 @@ impl<'t, 'a, A: Allocator + Copy> Parser<'t, 'a, A> {
     /// A datatype, whose keyword is next.
     fn datatype(&mut self) -> Result<Declaration<'a, A>, Stopped>
         ensures reads { IfOk result (λ r. Reads IsDeclaration (standing_of self.old) (standing_of self.new) (declaration_of r)) }
-        ensures ends { IfOk result (λ _. Ends IsDatatype (only BarSign) (standing_of self.old) (standing_of self.new)) }
-        ensures stops { IfErr result (λ stopped. IsStop IsDatatype (only BarSign) (standing_of self.old) (standing_of self.new) stopped) }
+        ensures ends { IfOk result (λ _. Ends IsDatatype datatype_goes_on (standing_of self.old) (standing_of self.new)) }
+        ensures stops { IfErr result (λ stopped. IsStop IsDatatype datatype_goes_on (standing_of self.old) (standing_of self.new) stopped) }
         ensures shorter { IfOk result (λ _. length (left_of self.new) < length (left_of self.old)) }
     {
         self.word(Keyword::Datatype)?;
         let name = self.name()?;
         self.sign(Sign::Equals)?;
-        let constructors = self.names(Sign::Bar)?;
-        Ok(Declaration::Datatype { name, constructors })
+        let clauses = self.clauses()?;
+        Ok(Declaration::Datatype { name, clauses })
+    }
+
+    /// The clauses of a datatype, with a bar between.
+    fn clauses(&mut self) -> Result<Vec<Clause<'a, A>, A>, Stopped>
+        ensures reads { IfOk result (λ r. Reads AreClauses (standing_of self.old) (standing_of self.new) (map clause_of r.items)) }
+        ensures done { IfOk result (λ _. Done (HasTree AreClauses) datatype_goes_on (standing_of self.old) (standing_of self.new)) }
+        ensures stops { IfErr result (λ stopped. IsStop (HasTree AreClauses) datatype_goes_on (standing_of self.old) (standing_of self.new) stopped) }
+        ensures shorter { IfOk result (λ _. length (left_of self.new) < length (left_of self.old)) }
+    {
+        let mut clauses = Vec::new(self.alloc);
+        let first = self.clause()?;
+        clauses.push(first)?;
+        while self.is_at(Sign::Bar) {
+            self.sign(Sign::Bar)?;
+            let clause = self.clause()?;
+            clauses.push(clause)?;
+        }
+        Ok(clauses)
+    }
+
+    /// A constructor, with the sets of its fields.
+    fn clause(&mut self) -> Result<Clause<'a, A>, Stopped>
+        ensures reads { IfOk result (λ r. Reads IsClause (standing_of self.old) (standing_of self.new) (clause_of r)) }
+        ensures done { IfOk result (λ _. Done (HasTree IsClause) (only DotSign) (standing_of self.old) (standing_of self.new)) }
+        ensures stops { IfErr result (λ stopped. IsStop (HasTree IsClause) (only DotSign) (standing_of self.old) (standing_of self.new) stopped) }
+        ensures shorter { IfOk result (λ _. length (left_of self.new) < length (left_of self.old)) }
+    {
+        let name = self.name()?;
+        if !self.is_at(Sign::Dot) {
+            return Ok(Clause {
+                name,
+                fields: Vec::new(self.alloc),
+            });
+        }
+        self.sign(Sign::Dot)?;
+        let fields = self.domains()?;
+        Ok(Clause { name, fields })
     }
 
     /// A nametype, whose keyword is next.
@@ -153,42 +189,6 @@ impl<'t, 'a, A: Allocator + Copy> Parser<'t, 'a, A> {
         })
     }
 
-    /// An assertion, whose keyword is next.
-    fn assertion(&mut self) -> Result<Declaration<'a, A>, Stopped>
-        ensures reads { IfOk result (λ r. Reads IsDeclaration (standing_of self.old) (standing_of self.new) (declaration_of r)) }
-        ensures done { IfOk result (λ _. Done IsAssertion continues_process (standing_of self.old) (standing_of self.new)) }
-        ensures stops { IfErr result (λ stopped. IsStop IsAssertion continues_process (standing_of self.old) (standing_of self.new) stopped) }
-        ensures shorter { IfOk result (λ _. length (left_of self.new) < length (left_of self.old)) }
-    {
-        let Some(first) = self.next() else {
-            return Err(Stopped::Here);
-        };
-        self.word(Keyword::Assert)?;
-        let specification = self.process()?;
-        let model = self.model()?;
-        let implementation = self.process()?;
-        Ok(Declaration::Assertion {
-            place: first.place,
-            model,
-            specification,
-            implementation,
-        })
-    }
-
-    fn model(&mut self) -> Result<Model, Stopped>
-        ensures reads { IfOk result (λ r. Reads IsModel (standing_of self.old) (standing_of self.new) (model_of r)) }
-        ensures ends { IfOk result (λ _. Ends (HasTree IsModel) nothing (standing_of self.old) (standing_of self.new)) }
-        ensures stops { IfErr result (λ stopped. IsStop (HasTree IsModel) nothing (standing_of self.old) (standing_of self.new) stopped) }
-        ensures shorter { IfOk result (λ _. length (left_of self.new) < length (left_of self.old)) }
-    {
-        if self.is_at(Sign::Traces) {
-            self.sign(Sign::Traces)?;
-            return Ok(Model::Traces);
-        }
-        self.sign(Sign::Failures)?;
-        Ok(Model::Failures)
-    }
-
     /// Names with a sign between.
     fn names(&mut self, between: Sign) -> Result<Vec<Name<'a>, A>, Stopped>
         ensures reads { IfOk result (λ r. Reads (AreSeparated (sign_of between) IsName) (standing_of self.old) (standing_of self.new) (map name_of r.items)) }
@@ -223,7 +223,7 @@ impl<'t, 'a, A: Allocator + Copy> Parser<'t, 'a, A> {
         })
     }
 
-    /// The sets of a channel's fields, with a dot between.
+    /// The sets of the fields of a constructor or channel, with a dot between.
     fn domains(&mut self) -> Result<Vec<Domain<'a, A>, A>, Stopped>
         ensures reads { IfOk result (λ r. Reads AreDomains (standing_of self.old) (standing_of self.new) (map domain_of r.items)) }
         ensures done { IfOk result (λ _. Done (HasTree AreDomains) (only DotSign) (standing_of self.old) (standing_of self.new)) }

@@ -30,21 +30,6 @@ impl<'t, 'a, A: Allocator + Copy> Parser<'t, 'a, A> {
     ghost use Rattle.csp_parse.specs.Forms.{HasTree, Next};
     ghost use Rattle.csp_parse.specs.Reading.{left_of, standing_of, IsNext, Reads, ReadsBehind};
 
-    /// Atoms with a dot before each.
-    fn dotted(&mut self) -> Result<Vec<Expression<'a, A>, A>, Stopped>
-        ensures reads { IfOk result (λ r. Reads AreDotted (standing_of self.old) (standing_of self.new) (expressions_of r.items)) }
-        ensures done { IfOk result (λ _. Done (HasTree AreDotted) (only DotSign) (standing_of self.old) (standing_of self.new)) }
-        ensures stops { IfErr result (λ stopped. IsStop (HasTree AreDotted) (only DotSign) (standing_of self.old) (standing_of self.new) stopped) }
-        ensures not_longer { IfOk result (λ _. length (left_of self.new) ≤ length (left_of self.old)) }
-    {
-        let mut fields = Vec::new(self.alloc);
-        while self.is_at(Sign::Dot) {
-            let field = self.expression_behind(Sign::Dot, Level::Atom)?;
-            fields.push(field)?;
-        }
-        Ok(fields)
-    }
-
     fn event(&mut self) -> Result<Event<'a, A>, Stopped>
         ensures reads { IfOk result (λ r. Reads IsEvent (standing_of self.old) (standing_of self.new) (event_of r)) }
         ensures done { IfOk result (λ _. Done (HasTree IsEvent) (only DotSign) (standing_of self.old) (standing_of self.new)) }

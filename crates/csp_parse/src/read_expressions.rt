@@ -2,14 +2,14 @@
 
 ghost use Rattle.std.specs.Prelude.{◌≡◌, ◌<◌, ◌≤◌, None, IfOk, IfErr, length};
 ghost use Rattle.csp_syntax.specs.Operators.{unary_of, binary_of};
-ghost use Rattle.csp_text.specs.Token.{RangeSign, CloseBraceSign, LessSign, OpenBraceSign};
-ghost use Rattle.csp_text.specs.Grammar.{IsSign, IsExpression, IsNegation, IsComparison, IsSum, IsAtom};
+ghost use Rattle.csp_text.specs.Token.{DotSign, RangeSign, CloseBraceSign, LessSign, OpenBraceSign};
+ghost use Rattle.csp_text.specs.Grammar.{IsSign, IsExpression, IsNegation, IsComparison, IsSum, IsAtom, AreDotted};
 ghost use Rattle.csp_text.specs.Raw.{RawApply, RawCombine, RawRange};
 ghost use Rattle.csp_lex.specs.Tokens.{keyword_of, sign_of};
 ghost use Rattle.csp_parse.specs.declared.stops.Stopped.TheVariants.{Memory};
 ghost use Rattle.csp_lex.specs.declared.kinds.TokenKind.TheVariants as kinds;
 ghost use Rattle.csp_parse.specs.Expressions.{expression_of, expressions_of};
-ghost use Rattle.csp_parse.specs.Levels.{IsAt, stronger, AreListed, ReadsSigned, ReadsOperation, ReadsBracketed, ReadsTwo};
+ghost use Rattle.csp_parse.specs.Levels.{IsAt, stronger, AreListed, IsConstructed, IsEnclosed, ReadsSigned, ReadsOperation, ReadsBracketed, ReadsRound, ReadsTwo};
 
 use crate::expressions::Expression;
 use crate::levels::{Level, binary_function, comparison, unary_function};
@@ -20,11 +20,11 @@ use csp_syntax::{BinaryOperator, UnaryOperator};
 use std::alloc::Allocator;
 
 impl<'t, 'a, A: Allocator + Copy> Parser<'t, 'a, A> {
-    ghost use Rattle.csp_parse.specs.AtomForms.{Whole, Bracketed, TwoBracketed, Items, Members, Inside};
-    ghost use Rattle.csp_parse.specs.Continuing.{continues, lists, HasOperators, IsChained, DoneOperation, IsStopOfOperation, IsRest, IsItem, IsAgainst, BehindAtom};
-    ghost use Rattle.csp_parse.specs.Deciding.{nothing, Done, IsStop};
+    ghost use Rattle.csp_parse.specs.AtomForms.{Whole, Bracketed, Round, Enclosed, TwoBracketed, Items, Members, Inside};
+    ghost use Rattle.csp_parse.specs.Continuing.{continues, lists, enclosed_goes_on, HasOperators, IsChained, DoneOperation, IsStopOfOperation, IsRest, IsItem, IsAgainst, BehindAtom};
+    ghost use Rattle.csp_parse.specs.Deciding.{nothing, only, Done, IsStop};
     ghost use Rattle.csp_parse.specs.Forms.{HasTree, Then, Repeated, Perhaps, Next};
-    ghost use Rattle.csp_parse.specs.Reading.{left_of, standing_of, Standing, IsNext, Passes, Reads, ReadsBehind, Extends};
+    ghost use Rattle.csp_parse.specs.Reading.{left_of, standing_of, Standing, IsNext, IsDottedNext, Passes, Reads, ReadsBehind, Extends};
     ghost use Rattle.csp_parse.specs.Words.{unary_word, binary_word};
     ghost use Rattle.csp_parse.specs.declared.levels.Level.TheVariants.{Disjunction, Negation, Comparison};
 
@@ -237,6 +237,63 @@ impl<'t, 'a, A: Allocator + Copy> Parser<'t, 'a, A> {
         Ok(inner)
     }
 
+    /// An atom in round brackets: an expression, or a constructor with its fields.
+    #[cycle(expression)]
+    fn round(&mut self) -> Result<Expression<'a, A>, Stopped>
+        ensures reads { IfOk result (λ e. ReadsRound (standing_of self.old) (standing_of self.new) (expression_of e)) }
+        ensures done { IfOk result (λ _. Done Round nothing (standing_of self.old) (standing_of self.new)) }
+        ensures stops { IfErr result (λ stopped. IsStop Round nothing (standing_of self.old) (standing_of self.new) stopped) }
+        ensures shorter { IfOk result (λ _. length (left_of self.new) < length (left_of self.old)) }
+    {
+        self.sign(Sign::OpenRound)?;
+        let inner = self.enclosed()?;
+        self.sign(Sign::CloseRound)?;
+        Ok(inner)
+    }
+
+    /// What is an atom with round brackets around it.
+    #[cycle(expression)]
+    fn enclosed(&mut self) -> Result<Expression<'a, A>, Stopped>
+        ensures reads { IfOk result (λ e. Reads IsEnclosed (standing_of self.old) (standing_of self.new) (expression_of e)) }
+        ensures done { IfOk result (λ _. Done Enclosed enclosed_goes_on (standing_of self.old) (standing_of self.new)) }
+        ensures stops { IfErr result (λ stopped. IsStop Enclosed enclosed_goes_on (standing_of self.old) (standing_of self.new) stopped) }
+        ensures shorter { IfOk result (λ _. length (left_of self.new) < length (left_of self.old)) }
+    {
+        if self.is_at_dotted_name() {
+            return self.constructed();
+        }
+        self.expression(Level::Disjunction)
+    }
+
+    /// A constructor with its fields, without the brackets around them. Its name and a dot are next.
+    #[cycle(expression)]
+    fn constructed(&mut self) -> Result<Expression<'a, A>, Stopped>
+        ensures reads { IfOk result (λ e. IsDottedNext (left_of self.old) → Reads IsConstructed (standing_of self.old) (standing_of self.new) (expression_of e)) }
+        ensures done { IfOk result (λ _. IsDottedNext (left_of self.old) → Done (HasTree IsConstructed) (only DotSign) (standing_of self.old) (standing_of self.new)) }
+        ensures stops { IfErr result (λ stopped. IsDottedNext (left_of self.old) → IsStop (HasTree IsConstructed) (only DotSign) (standing_of self.old) (standing_of self.new) stopped) }
+        ensures shorter { IfOk result (λ _. length (left_of self.new) < length (left_of self.old)) }
+    {
+        let name = self.name()?;
+        let fields = self.dotted()?;
+        Ok(Expression::Constructor(name, fields))
+    }
+
+    /// Atoms with a dot before each.
+    #[cycle(expression)]
+    pub(crate) fn dotted(&mut self) -> Result<Vec<Expression<'a, A>, A>, Stopped>
+        ensures reads { IfOk result (λ r. Reads AreDotted (standing_of self.old) (standing_of self.new) (expressions_of r.items)) }
+        ensures done { IfOk result (λ _. Done (HasTree AreDotted) (only DotSign) (standing_of self.old) (standing_of self.new)) }
+        ensures stops { IfErr result (λ stopped. IsStop (HasTree AreDotted) (only DotSign) (standing_of self.old) (standing_of self.new) stopped) }
+        ensures not_longer { IfOk result (λ _. length (left_of self.new) ≤ length (left_of self.old)) }
+    {
+        let mut fields = Vec::new(self.alloc);
+        while self.is_at(Sign::Dot) {
+            let field = self.expression_behind(Sign::Dot, Level::Atom)?;
+            fields.push(field)?;
+        }
+        Ok(fields)
+    }
+
     /// Two expressions in brackets.
     #[cycle(expression)]
     fn two_arguments(&mut self) -> Result<(Expression<'a, A>, Expression<'a, A>), Stopped>
@@ -262,7 +319,7 @@ impl<'t, 'a, A: Allocator + Copy> Parser<'t, 'a, A> {
         match sign {
             Sign::Minus => self.signed(Sign::Minus, UnaryOperator::Negate),
             Sign::Hash => self.signed(Sign::Hash, UnaryOperator::Length),
-            Sign::OpenRound => self.bracketed(),
+            Sign::OpenRound => self.round(),
             Sign::Less => self.sequence(),
             Sign::OpenBrace => self.set(),
             _ => Err(Stopped::Here),

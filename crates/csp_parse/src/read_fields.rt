@@ -1,11 +1,14 @@
 //! Reading the fields of a prefix.
 
-ghost use Rattle.std.specs.Prelude.{◌<◌, ◌≤◌, IfOk, IfErr, length, map};
-ghost use Rattle.csp_text.specs.Grammar.{AreFields};
+ghost use Rattle.std.specs.Prelude.{◌≡◌, ◌<◌, ◌≤◌, IfOk, IfErr, length, map};
+ghost use Rattle.csp_text.specs.Grammar.{AreDotted, AreFields, AreLaterFields};
 ghost use Rattle.csp_text.specs.Token.{ColonSign};
-ghost use Rattle.csp_parse.specs.Processes.{field_of};
+ghost use Rattle.csp_parse.specs.Expressions.{expressions_of};
+ghost use Rattle.csp_parse.specs.Processes.{field_of, fields_given};
 ghost use Rattle.csp_parse.specs.Starts.{IsLaterField};
+ghost use Rattle.csp_parse.specs.declared.stops.Stopped.TheVariants.{Memory};
 
+use crate::expressions::Expression;
 use crate::levels::Level;
 use crate::parsers::Parser;
 use crate::processes::Field;
@@ -17,20 +20,19 @@ impl<'t, 'a, A: Allocator + Copy> Parser<'t, 'a, A> {
     ghost use Rattle.csp_parse.specs.Deciding.{only, Done, IsStop};
     ghost use Rattle.csp_parse.specs.Forms.{HasTree};
     ghost use Rattle.csp_parse.specs.ProcessForms.{fields_go_on};
-    ghost use Rattle.csp_parse.specs.Reading.{left_of, standing_of, Reads};
+    ghost use Rattle.csp_parse.specs.Reading.{left_of, standing_of, Reads, Extends};
 
-    /// The fields of a prefix.
-    pub(crate) fn fields(&mut self) -> Result<Vec<Field<'a, A>, A>, Stopped>
-        ensures reads { IfOk result (λ r. Reads AreFields (standing_of self.old) (standing_of self.new) (map field_of r.items)) }
-        ensures done { IfOk result (λ _. Done (HasTree AreFields) fields_go_on (standing_of self.old) (standing_of self.new)) }
-        ensures stops { IfErr result (λ stopped. IsStop (HasTree AreFields) fields_go_on (standing_of self.old) (standing_of self.new) stopped) }
+    /// The fields of a prefix, behind those that are given with a dot.
+    pub(crate) fn fields_behind(
+        &mut self,
+        values: Vec<Expression<'a, A>, A>,
+    ) -> Result<Vec<Field<'a, A>, A>, Stopped>
+        ensures extends { IfOk result (λ r. Extends AreDotted AreFields (standing_of self.old) (standing_of self.new) (expressions_of values.entry.items) (map field_of r.items)) }
+        ensures done { IfOk result (λ _. Done (HasTree AreLaterFields) fields_go_on (standing_of self.old) (standing_of self.new)) }
+        ensures stops { IfErr result (λ stopped. IsStop (HasTree AreLaterFields) fields_go_on (standing_of self.old) (standing_of self.new) stopped) }
         ensures not_longer { IfOk result (λ _. length (left_of self.new) ≤ length (left_of self.old)) }
     {
-        let mut fields = Vec::new(self.alloc);
-        while self.is_at(Sign::Dot) {
-            let value = self.expression_behind(Sign::Dot, Level::Atom)?;
-            fields.push(Field::Given(value))?;
-        }
+        let mut fields = given(self.alloc, values)?;
         while self.is_at(Sign::Output) || self.is_at(Sign::Input) {
             let field = self.field()?;
             fields.push(field)?;
@@ -56,4 +58,19 @@ impl<'t, 'a, A: Allocator + Copy> Parser<'t, 'a, A> {
         let set = self.expression_behind(Sign::Colon, Level::Atom)?;
         Ok(Field::InputFrom(name, set))
     }
+}
+
+/// Fields of these values.
+fn given<'a, A: Allocator + Copy>(
+    alloc: A,
+    values: Vec<Expression<'a, A>, A>,
+) -> Result<Vec<Field<'a, A>, A>, Stopped>
+    ensures makes { IfOk result (λ r. map field_of r.items ≡ fields_given values.entry.items) }
+    ensures stops { IfErr result (λ stopped. stopped ≡ Memory) }
+{
+    let mut fields = Vec::new(alloc);
+    for value in values {
+        fields.push(Field::Given(value))?;
+    }
+    Ok(fields)
 }

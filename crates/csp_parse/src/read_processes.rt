@@ -12,7 +12,7 @@ use crate::expressions::Expression;
 use crate::levels::Level;
 use crate::names::Name;
 use crate::parsers::Parser;
-use crate::processes::{Process, operator_sign, replicated_sign};
+use crate::processes::{Infix, Process, infix_sign, replicated_sign};
 use crate::starts::Start;
 use crate::stops::Stopped;
 use csp_lex::{Keyword, Sign, TokenKind};
@@ -20,7 +20,6 @@ use csp_syntax::{ProcessOperator, ReplicatedOperator};
 use std::alloc::Allocator;
 
 impl<'t, 'a, A: Allocator + Copy> Parser<'t, 'a, A> {
-    ghost use Rattle.csp_syntax.specs.declared.process_operator.ProcessOperator as operators;
     ghost use Rattle.csp_syntax.specs.declared.process_operator.ReplicatedOperator as over_sets;
     ghost use Rattle.csp_lex.specs.declared.kinds.TokenKind.TheVariants as kinds;
     ghost use Rattle.csp_lex.specs.declared.keywords.Keyword.TheVariants as keyword;
@@ -31,8 +30,10 @@ impl<'t, 'a, A: Allocator + Copy> Parser<'t, 'a, A> {
     ghost use Rattle.csp_parse.specs.ProcessForms.{continues_start, continues_process, Operand, Expressed, Conditional, ReplicatedBy, Shared, Alphabets, ChainOf, BehindOperand};
     ghost use Rattle.csp_parse.specs.Reading.{left_of, standing_of, Standing, IsNext, Reads, ReadsBehind, Continues};
     ghost use Rattle.csp_parse.specs.StartForms.{BehindBase, BehindStart, StopsBehind, infix_written, replicator_written};
-    ghost use Rattle.csp_parse.specs.Words.{infix_sign, replicator_sign};
+    ghost use Rattle.csp_parse.specs.Words as words;
+    ghost use Rattle.csp_parse.specs.Words.{replicator_sign};
     ghost use Rattle.csp_parse.specs.declared.levels.Level.TheVariants.{Disjunction};
+    ghost use Rattle.csp_parse.specs.declared.processes.Infix as infixes;
 
     /// A process.
     #[cycle(process)]
@@ -251,15 +252,15 @@ impl<'t, 'a, A: Allocator + Copy> Parser<'t, 'a, A> {
     #[cycle(process)]
     fn chain(
         &mut self,
-        operator: ProcessOperator,
+        operator: Infix,
         first: Box<Process<'a, A>, A>,
     ) -> Result<Box<Process<'a, A>, A>, Stopped>
         ensures continues { IfOk result (λ r. Continues IsOperand IsProcess (standing_of self.old) (standing_of self.new) (process_in first.entry) (process_in r)) }
-        ensures done { IfOk result (λ _. Done (ChainOf (infix_sign (infix_of operator))) continues_process (standing_of self.old) (standing_of self.new)) }
-        ensures stops { IfErr result (λ stopped. IsStop (ChainOf (infix_sign (infix_of operator))) continues_process (standing_of self.old) (standing_of self.new) stopped) }
+        ensures done { IfOk result (λ _. Done (ChainOf (words.infix_sign (infix_of operator))) continues_process (standing_of self.old) (standing_of self.new)) }
+        ensures stops { IfErr result (λ stopped. IsStop (ChainOf (words.infix_sign (infix_of operator))) continues_process (standing_of self.old) (standing_of self.new) stopped) }
         ensures not_longer { IfOk result (λ _. length (left_of self.new) ≤ length (left_of self.old)) }
     {
-        let written = operator_sign(operator);
+        let written = infix_sign(operator);
         let second = self.operand_behind(written)?;
         let mut chain = Process::joined(self.alloc, operator, first, second)?;
         while self.is_at(written) {
@@ -317,16 +318,21 @@ impl<'t, 'a, A: Allocator + Copy> Parser<'t, 'a, A> {
     }
 
     /// The operator between processes that the next token is, if it is one.
-    fn next_infix(&self) -> Option<ProcessOperator>
+    fn next_infix(&self) -> Option<Infix>
         ensures some { IfSome result (λ o. IsNext (kinds.Sign (infix_written o)) (left_of self.now)) }
-        ensures none { IfNone result ((o : operators.ProcessOperator) → ¬ (IsNext (kinds.Sign (infix_written o)) (left_of self.now))) }
+        ensures none { IfNone result ((o : infixes.Infix) → ¬ (IsNext (kinds.Sign (infix_written o)) (left_of self.now))) }
     {
         match self.kind()? {
-            TokenKind::Sign(Sign::Box) => Some(ProcessOperator::ExternalChoice),
-            TokenKind::Sign(Sign::Internal) => Some(ProcessOperator::InternalChoice),
-            TokenKind::Sign(Sign::Semicolon) => Some(ProcessOperator::Sequential),
-            TokenKind::Sign(Sign::TripleBar) => Some(ProcessOperator::Interleaving),
-            TokenKind::Sign(Sign::Interrupt) => Some(ProcessOperator::Interrupt),
+            TokenKind::Sign(Sign::Box) => Some(Infix::Operator(ProcessOperator::ExternalChoice)),
+            TokenKind::Sign(Sign::Internal) => Some(Infix::Operator(
+                ProcessOperator::InternalChoice,
+            )),
+            TokenKind::Sign(Sign::Semicolon) => Some(Infix::Operator(ProcessOperator::Sequential)),
+            TokenKind::Sign(Sign::TripleBar) => Some(Infix::Operator(
+                ProcessOperator::Interleaving,
+            )),
+            TokenKind::Sign(Sign::Interrupt) => Some(Infix::Operator(ProcessOperator::Interrupt)),
+            TokenKind::Sign(Sign::Sliding) => Some(Infix::Sliding),
             _ => None,
         }
     }

@@ -1,7 +1,7 @@
 //! Reading what stands where an operand or an expression begins.
 
 ghost use Rattle.std.specs.Prelude.{◌≡◌, ◌<◌, ◌≤◌, ◌⊎◌, true, false, IfOk, IfErr, length};
-ghost use Rattle.csp_text.specs.Grammar.{IsWord, IsName, IsAtom, IsExpression};
+ghost use Rattle.csp_text.specs.Grammar.{IsWord, IsName, IsAtom, IsExpression, AreDotted};
 ghost use Rattle.csp_text.specs.Token.{StopWord, SkipWord};
 ghost use Rattle.csp_parse.specs.Expressions.{expression_of, expressions_of};
 ghost use Rattle.csp_parse.specs.Names.{name_of};
@@ -24,8 +24,8 @@ impl<'t, 'a, A: Allocator + Copy> Parser<'t, 'a, A> {
     ghost use Rattle.csp_parse.specs.Deciding.{nothing, only, Stops, Done, IsStop};
     ghost use Rattle.csp_parse.specs.Forms.{HasTree, Then, Perhaps};
     ghost use Rattle.csp_parse.specs.ProcessForms as forms;
-    ghost use Rattle.csp_parse.specs.ProcessForms.{continues_start, continues_process, Operand, Starting, Guarded, BehindName, Arguments, Prefixed, Named, Expressed, BracketedStart};
-    ghost use Rattle.csp_parse.specs.Reading.{left_of, standing_of, Standing, IsNext, Reads};
+    ghost use Rattle.csp_parse.specs.ProcessForms.{continues_start, continues_process, Operand, Starting, Guarded, BehindName, Arguments, Prefixed, PrefixedLater, Named, Expressed, BracketedStart};
+    ghost use Rattle.csp_parse.specs.Reading.{left_of, standing_of, Standing, IsNext, IsDottedNext, Reads};
     ghost use Rattle.csp_parse.specs.StartForms.{Tells, IsBaseStart, IsOperandStart, IsProcessInner, OnlyStart, OnlyAtom, OnlyBehindName, OnlyGuard, OnlyInner, OnlyBehindInner, ReadsInBrackets, BehindBase, BehindStart, StopsBehind};
     ghost use Rattle.csp_parse.specs.declared.levels.Level.TheVariants.{Disjunction};
 
@@ -133,7 +133,24 @@ impl<'t, 'a, A: Allocator + Copy> Parser<'t, 'a, A> {
         ensures stops { IfErr result (λ stopped. IsStop Prefixed continues_start (standing_of self.old) (standing_of self.new) stopped) }
         ensures not_longer { IfOk result (λ _. length (left_of self.new) ≤ length (left_of self.old)) }
     {
-        let fields = self.fields()?;
+        let values = self.dotted()?;
+        self.prefix_behind(channel, values)
+    }
+
+    /// The prefix of this channel, behind the fields that are given with a dot.
+    #[cycle(process)]
+    fn prefix_behind(
+        &mut self,
+        channel: Name<'a>,
+        values: Vec<Expression<'a, A>, A>,
+    ) -> Result<Start<'a, A>, Stopped>
+        ensures continues { IfOk result (λ r. (before behind : Standing) → Reads IsName before behind (name_of channel.entry) → Reads AreDotted behind (standing_of self.old) (expressions_of values.entry.items) → ReadsStart before (standing_of self.new) r) }
+        ensures operand { IfOk result (λ r. IsOperandStart r) }
+        ensures done { IfOk result (λ _. Done PrefixedLater continues_start (standing_of self.old) (standing_of self.new)) }
+        ensures stops { IfErr result (λ stopped. IsStop PrefixedLater continues_start (standing_of self.old) (standing_of self.new) stopped) }
+        ensures not_longer { IfOk result (λ _. length (left_of self.new) ≤ length (left_of self.old)) }
+    {
+        let fields = self.fields_behind(values)?;
         let body = self.operand_behind(Sign::Arrow)?;
         Start::prefix(self.alloc, channel, fields, body)
     }
@@ -233,12 +250,34 @@ impl<'t, 'a, A: Allocator + Copy> Parser<'t, 'a, A> {
             let process = self.process()?;
             return Ok(Inner::Process(process));
         }
+        if self.is_at_dotted_name() {
+            return self.inner_of_dotted();
+        }
         match self.start()? {
             Start::Name(name) => self.inner_from_name(name),
             Start::Expression(expression) => Ok(Inner::Expression(expression)),
             Start::Base(base) => self.inner_process(Start::Base(base)),
             Start::Operand(operand) => self.inner_process(Start::Operand(operand)),
         }
+    }
+
+    /// What stands behind an opening bracket and begins with a name and a dot, which are next: a constructor with its
+    /// fields, or a process that begins with a prefix.
+    #[cycle(process)]
+    fn inner_of_dotted(&mut self) -> Result<Inner<'a, A>, Stopped>
+        ensures reads { IfOk result (λ r. IsDottedNext (left_of self.old) → ReadsInner (standing_of self.old) (standing_of self.new) r) }
+        ensures done { IfOk result (λ _. IsDottedNext (left_of self.old) → Done forms.Inner continues_process (standing_of self.old) (standing_of self.new)) }
+        ensures only { IfOk result (λ r. IsDottedNext (left_of self.old) → Tells (OnlyInner (left_of self.new) r) (standing_of self.old) (standing_of self.new)) }
+        ensures stops { IfErr result (λ stopped. IsDottedNext (left_of self.old) → IsStop forms.Inner continues_process (standing_of self.old) (standing_of self.new) stopped) }
+        ensures shorter { IfOk result (λ _. length (left_of self.new) < length (left_of self.old)) }
+    {
+        let name = self.name()?;
+        let values = self.dotted()?;
+        if !self.is_at_prefix() {
+            return Ok(Inner::Expression(Expression::Constructor(name, values)));
+        }
+        let prefix = self.prefix_behind(name, values)?;
+        self.inner_process(prefix)
     }
 
     /// The process behind an opening bracket that begins so.

@@ -66,7 +66,7 @@ impl<'a, A: Allocator + Copy> Start<'a, A> {
 pub(crate) enum Inner<'a, A: Allocator> {
     /// A name, perhaps in brackets: an expression, or a call without arguments.
     Name(Name<'a>),
-    /// An expression that is no name.
+    /// What with the brackets is an expression, and no name.
     Expression(Expression<'a, A>),
     Process(Box<Process<'a, A>, A>),
 }

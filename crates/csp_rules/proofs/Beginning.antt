@@ -5,8 +5,8 @@ use Rattle.csp_syntax.specs.Value.{Value, Ev, has_value}
 use Rattle.csp_syntax.specs.Expression.{Expression}
 use Rattle.csp_syntax.specs.Process.{Field, Given, Input, InputFrom, Process}
 use Rattle.csp_syntax.specs.Types.{Types}
-use Rattle.csp_semantics.specs.Meaning.Evaluation.{Cause, ◌and_then◌, value}
-use Rattle.csp_semantics.specs.Meaning.Events.{Communication, communications, each_list, elements, in_field_set, with_value}
+use Rattle.csp_semantics.specs.Meaning.Evaluation.{Cause, ◌and_then◌, in_field_set, value}
+use Rattle.csp_semantics.specs.Meaning.Events.{Communication, communications, each_list, elements, with_value}
 use Rattle.csp_semantics.specs.Meaning.Stepping.{Steps, communication_steps}
 use Rattle.csp_semantics.specs.Meaning.Substitution.{Bindings, behind, bind, put, put_expression, put_fields, without}
 use Rattle.csp_rules.proofs.Twice.{IsBoth, both_bound, put_twice, put_twice_in_expression}

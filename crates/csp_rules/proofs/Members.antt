@@ -26,7 +26,7 @@ module _ (R : RattleType.RattleType) (A : allocator.Ghosts R.Denot) where
   by_parts v = elim v as (λ v. HasNone (make v)) [
     | inl w ↦ λ no_set. ap members_of (value_of_int R.Denot w.0)
     | inr (inl w) ↦ λ no_set. ap members_of (value_of_bool R.Denot w.0)
-    | inr (inr (inl w)) ↦ λ no_set. ap members_of (value_of_con R.Denot w.0)
+    | inr (inr (inl w)) ↦ λ no_set. ap members_of (value_of_con R.Denot w.0 w.1.0)
     | inr (inr (inr (inl w))) ↦ λ no_set. ap members_of (value_of_seq R.Denot w.0)
     | inr (inr (inr (inr (inl w)))) ↦ λ no_set. absurd (no_set w.0 refl)
     | inr (inr (inr (inr (inr w)))) ↦ absurd w

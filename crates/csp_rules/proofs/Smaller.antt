@@ -17,7 +17,7 @@ use Rattle.csp_term.specs.declared.term.Term.{Term}
 use Rattle.csp_term.specs.declared.term.TermForm.{TermForm}
 use Rattle.csp_term.specs.declared.term.TermForm.TheVariants as views
 use Rattle.csp_term.specs.Term.{process_of, process_of_form}
-use Rattle.csp_term.proofs.Forms.{of_alphabetised, of_binary, of_conditional, of_generalised, of_guard, of_hiding, of_renaming, of_replicated}
+use Rattle.csp_term.proofs.Forms.{of_alphabetised, of_binary, of_conditional, of_generalised, of_guard, of_hiding, of_renaming, of_replicated, of_sliding}
 
 -- how high the process of a term is
 abbrev pub height_of : {A : Type 0} → Term A → ℕ
@@ -59,3 +59,6 @@ module _ (A : Type 0) (t : Term A) (f : TermForm A) (same : process_of_form f �
 
   pub replicated_height : (op : ReplicatedOperator) (n : Name) (e : Expr A) (p : Term A) → f ≡ views.Replicated op n e p → height_of t ≡ suc (height_of p)
   replicated_height op n e p is = ap height (sym same ∙ ap process_of_form is ∙ of_replicated A op n e p) ∙ under_replicated op n.0 _ (process_of p)
+
+  pub sliding_height : (p q : Term A) → f ≡ views.SlidingChoice p q → height_of t ≡ suc (max (height_of p) (height_of q))
+  sliding_height p q is = ap height (sym same ∙ ap process_of_form is ∙ of_sliding A p q)

@@ -2,8 +2,8 @@
 use Rattle.std.proofs.Common.{◌≡◌, ℕ, nat_eq, Bool, true, false, cond, List, [], ◌∷◌, Option, Some, None, refl, sym, ◌∙◌, ap, ap₂}
 use Rattle.std.specs.Option.{option_or}
 use Rattle.csp_syntax.specs.Value.{Value}
-use Rattle.csp_syntax.specs.Expression.{Expression, Literal, Name, Apply, Combine, SequenceOf, SetOf, Range, Booleans, Datatype, Nametype, Expressions, no_expressions, expression_and}
-use Rattle.csp_syntax.specs.Process.{Field, Given, Input, InputFrom, EventExpression, EventSet, Enumeration, Productions, EventUnion, EventIntersection, EventDifference, RenamingPair, Process, Stop, Skip, Omega, Call, Prefix, Guard, If, ExternalChoice, InternalChoice, Sequential, Interleaving, Interrupt, GeneralisedParallel, AlphabetisedParallel, Hiding, Renaming, ReplicatedExternalChoice, ReplicatedInternalChoice, ReplicatedInterleaving}
+use Rattle.csp_syntax.specs.Expression.{Expression, Literal, Name, Apply, Combine, SequenceOf, SetOf, Range, Booleans, Datatype, Nametype, ConstructorOf, Expressions, no_expressions, expression_and}
+use Rattle.csp_syntax.specs.Process.{Field, Given, Input, InputFrom, EventExpression, EventSet, Enumeration, Productions, EventUnion, EventIntersection, EventDifference, RenamingPair, Process, Stop, Skip, Omega, Call, Prefix, Guard, If, ExternalChoice, InternalChoice, Sequential, Interleaving, Interrupt, GeneralisedParallel, AlphabetisedParallel, Hiding, Renaming, ReplicatedExternalChoice, ReplicatedInternalChoice, ReplicatedInterleaving, SlidingChoice}
 use Rattle.csp_semantics.proofs.KindedPutting.{bound_without}
 use Rattle.csp_semantics.specs.Meaning.Substitution.{Bindings, bound, without, bind, name_or, put_expression, put_expressions, put_fields, behind, put_event, put_events, put_event_set, put_pairs, put}
 
@@ -70,6 +70,7 @@ module _ (bs cs ds : Bindings) (both : IsBoth bs cs ds) where
     put_twice_in_expression Booleans = refl
     put_twice_in_expression (Datatype d) = refl
     put_twice_in_expression (Nametype n) = refl
+    put_twice_in_expression (ConstructorOf k es) = ap (ConstructorOf k) (put_twice_in_expressions es)
 
     put_twice_in_expressions : (es : Expressions) → put_expressions cs (put_expressions bs es) ≡ put_expressions ds es
     put_twice_in_expressions no_expressions = refl
@@ -128,3 +129,4 @@ put_twice bs cs ds both (ReplicatedInternalChoice n e p) =
     ap₂ (ReplicatedInternalChoice n) (put_twice_in_expression bs cs ds both e) (put_twice (without n bs) (without n cs) (without n ds) (both_hidden n bs cs ds both) p)
 put_twice bs cs ds both (ReplicatedInterleaving n e p) =
     ap₂ (ReplicatedInterleaving n) (put_twice_in_expression bs cs ds both e) (put_twice (without n bs) (without n cs) (without n ds) (both_hidden n bs cs ds both) p)
+put_twice bs cs ds both (SlidingChoice p q) = ap₂ SlidingChoice (put_twice bs cs ds both p) (put_twice bs cs ds both q)

@@ -6,8 +6,8 @@ use Rattle.csp_syntax.specs.Value as pure
 use Rattle.csp_syntax.specs.Expression.{Expression}
 use Rattle.csp_syntax.specs.Process.{Field, Given, Input, InputFrom, Process}
 use Rattle.csp_syntax.specs.Types.{Types}
-use Rattle.csp_semantics.specs.Meaning.Evaluation.{Cause, IllKinded, OutOfRange, ◌and_then◌, value}
-use Rattle.csp_semantics.specs.Meaning.Events.{Communication, communications, each_list, in_field_set, members_of, with_value}
+use Rattle.csp_semantics.specs.Meaning.Evaluation.{Cause, IllKinded, OutOfRange, ◌and_then◌, in_field_set, value}
+use Rattle.csp_semantics.specs.Meaning.Events.{Communication, communications, each_list, members_of, with_value}
 use Rattle.csp_semantics.specs.Meaning.Substitution.{Bindings, bind, put_expression}
 use Rattle.csp_value.specs.declared.value.Value.{Value}
 use Rattle.csp_value.specs.Value.{value_of, values_of}

@@ -16,9 +16,8 @@ use Rattle.csp_expression.specs.Bindings.{bindings_of}
 use Rattle.csp_expression.specs.Evaluation.{table_of}
 use Rattle.csp_term.specs.declared.field.Field.{Field}
 use Rattle.csp_term.specs.Field.{fields_of}
-use Rattle.csp_term.specs.Script.{field_values}
+use Rattle.csp_value.specs.Fields.{field_values, sets_of}
 use Rattle.csp_term.specs.Term.{process_of}
-use Rattle.csp_event_tests.specs.Testing.{sets_of}
 use Rattle.csp_operators.specs.declared.rule_step.RuleStep.{RuleStep}
 use Rattle.csp_operators.specs.Answering.{answers_of, kept}
 use Rattle.csp_expression.specs.declared.no_value.NoValue.{NoValue}

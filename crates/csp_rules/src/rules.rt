@@ -22,6 +22,7 @@ mod replicated;
 mod sequential;
 mod side;
 mod skip;
+mod sliding;
 
 use csp_expression::{Binding, NoValue};
 use csp_operators::RuleStep;
@@ -66,6 +67,9 @@ pub fn steps<'v, A: AllocHandle>(
         TermForm::Renaming(body, pairs) => renaming::steps(alloc, script, bindings, pairs, body),
         TermForm::Replicated(operator, name, set, body) => {
             replicated::steps(alloc, script, bindings, *operator, *name, set, body)
+        }
+        TermForm::SlidingChoice(left, right) => {
+            sliding::steps(alloc, script, bindings, left, right)
         }
     }
 }

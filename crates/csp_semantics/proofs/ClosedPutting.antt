@@ -1,11 +1,11 @@
 -- Values that are put in for other names than those of the scope change nothing.
 use Rattle.std.proofs.Common.{◌≡◌, ℕ, nat_eq, Bool, true, false, cond, List, [], ◌∷◌, Some, None, refl, ◌∙◌, ap, ap₂, inl, inr}
-use Rattle.csp_syntax.specs.Expression.{Expression, Literal, Name, Apply, Combine, SequenceOf, SetOf, Range, Booleans, Datatype, Nametype, Expressions, no_expressions, expression_and}
-use Rattle.csp_syntax.specs.Process.{Field, Given, Input, InputFrom, EventExpression, EventSet, Enumeration, Productions, EventUnion, EventIntersection, EventDifference, RenamingPair, Process, Stop, Skip, Omega, Call, Prefix, Guard, If, ExternalChoice, InternalChoice, Sequential, Interleaving, Interrupt, GeneralisedParallel, AlphabetisedParallel, Hiding, Renaming, ReplicatedExternalChoice, ReplicatedInternalChoice, ReplicatedInterleaving, Script}
+use Rattle.csp_syntax.specs.Expression.{Expression, Literal, Name, Apply, Combine, SequenceOf, SetOf, Range, Booleans, Datatype, Nametype, ConstructorOf, Expressions, no_expressions, expression_and}
+use Rattle.csp_syntax.specs.Process.{Field, Given, Input, InputFrom, EventExpression, EventSet, Enumeration, Productions, EventUnion, EventIntersection, EventDifference, RenamingPair, Process, Stop, Skip, Omega, Call, Prefix, Guard, If, ExternalChoice, InternalChoice, Sequential, Interleaving, Interrupt, GeneralisedParallel, AlphabetisedParallel, Hiding, Renaming, ReplicatedExternalChoice, ReplicatedInternalChoice, ReplicatedInterleaving, SlidingChoice, Script}
 use Rattle.csp_syntax.specs.Types.{Types}
 use Rattle.csp_semantics.specs.Meaning.Events.{is_bare}
 use Rattle.csp_semantics.specs.Meaning.Substitution.{Bindings, bound, without, name_or, put_expression, put_expressions, put_fields, behind, put_event, put_events, put_event_set, put_pairs, put}
-use Rattle.csp_semantics.specs.Kinds.Kind.{Kind, IntKind, BoolKind, SequenceKind, SetKind, Kinds, Scope, kind_of_name, Each}
+use Rattle.csp_semantics.specs.Kinds.Kind.{Kind, IntKind, BoolKind, DatatypeKind, SequenceKind, SetKind, Kinds, Scope, kind_of_name, Each}
 use Rattle.csp_semantics.specs.Kinds.Expressions.{HasKind, AllHaveKind, HaveKinds, HaveFirstKinds}
 use Rattle.csp_semantics.specs.Kinds.Events.{FieldsHaveKinds, scope_behind, IsEvent, IsBeginning, IsEventSet, IsPair}
 use Rattle.csp_semantics.specs.Kinds.Processes.{IsWellKinded}
@@ -36,16 +36,17 @@ module _ (types : Types) (kinds : Kinds) where
       kept_expression Booleans k h = refl
       kept_expression (Datatype d) k h = refl
       kept_expression (Nametype n) k h = refl
+      kept_expression (ConstructorOf c es) (DatatypeKind d) h = ap (ConstructorOf c) (kept_in_turn es h.1.0 h.1.2)
       kept_expression _ _ h = absurd h
 
       kept_expressions : (es : Expressions) (k : Kind) → AllHaveKind types kinds scope es k → put_expressions bs es ≡ es
       kept_expressions no_expressions k h = refl
       kept_expressions (expression_and e es) k h = ap₂ expression_and (kept_expression e k h.0) (kept_expressions es k h.1)
 
-    kept_in_turn : (es : Expressions) (ks : List Kind) → HaveKinds types kinds scope es ks → put_expressions bs es ≡ es
-    kept_in_turn no_expressions ks h = refl
-    kept_in_turn (expression_and e es) [] h = absurd h
-    kept_in_turn (expression_and e es) (k ∷ ks) h = ap₂ expression_and (kept_expression e k h.0) (kept_in_turn es ks h.1)
+      kept_in_turn : (es : Expressions) (ks : List Kind) → HaveKinds types kinds scope es ks → put_expressions bs es ≡ es
+      kept_in_turn no_expressions ks h = refl
+      kept_in_turn (expression_and e es) [] h = absurd h
+      kept_in_turn (expression_and e es) (k ∷ ks) h = ap₂ expression_and (kept_expression e k h.0) (kept_in_turn es ks h.1)
 
     kept_first : (es : Expressions) (ks : List Kind) → HaveFirstKinds types kinds scope es ks → put_expressions bs es ≡ es
     kept_first no_expressions ks h = refl
@@ -130,6 +131,7 @@ module _ (script : Script) (kinds : Kinds) where
       ap₂ (ReplicatedInternalChoice n) (kept_expression script.types kinds bs scope leaves e (SetKind h.0) h.1) (kept (without n bs) ((n, h.0) ∷ scope) p (leaves_under bs scope n h.0 leaves) h.2)
   kept bs scope (ReplicatedInterleaving n e p) leaves h =
       ap₂ (ReplicatedInterleaving n) (kept_expression script.types kinds bs scope leaves e (SetKind h.0) h.1) (kept (without n bs) ((n, h.0) ∷ scope) p (leaves_under bs scope n h.0 leaves) h.2)
+  kept bs scope (SlidingChoice p q) leaves h = ap₂ SlidingChoice (kept bs scope p leaves h.0) (kept bs scope q leaves h.1)
 
   -- a closed term has no free name
   pub kept_closed : (bs : Bindings) (t : Process) → IsWellKinded script kinds [] t → put bs t ≡ t

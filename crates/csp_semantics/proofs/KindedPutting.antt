@@ -2,8 +2,8 @@
 use Rattle.std.proofs.Common.{◌≡◌, ℕ, nat_eq, Bool, true, false, cond, List, [], ◌∷◌, Option, Some, None, refl, sym, ◌∙◌, ap, subst, inl, inr}
 use Rattle.std.proofs.lemmas.Bool.{cond-true, cond-false, eqb-true, eqb-false, ne_eqb}
 use Rattle.csp_syntax.specs.Value.{Value}
-use Rattle.csp_syntax.specs.Expression.{Expression, Literal, Name, Apply, Combine, SequenceOf, SetOf, Range, Booleans, Datatype, Nametype, Expressions, no_expressions, expression_and}
-use Rattle.csp_syntax.specs.Process.{Field, Given, Input, InputFrom, EventExpression, EventSet, Enumeration, Productions, EventUnion, EventIntersection, EventDifference, RenamingPair, Process, Stop, Skip, Omega, Call, Prefix, Guard, If, ExternalChoice, InternalChoice, Sequential, Interleaving, Interrupt, GeneralisedParallel, AlphabetisedParallel, Hiding, Renaming, ReplicatedExternalChoice, ReplicatedInternalChoice, ReplicatedInterleaving, Script}
+use Rattle.csp_syntax.specs.Expression.{Expression, Literal, Name, Apply, Combine, SequenceOf, SetOf, Range, Booleans, Datatype, Nametype, ConstructorOf, Expressions, no_expressions, expression_and}
+use Rattle.csp_syntax.specs.Process.{Field, Given, Input, InputFrom, EventExpression, EventSet, Enumeration, Productions, EventUnion, EventIntersection, EventDifference, RenamingPair, Process, Stop, Skip, Omega, Call, Prefix, Guard, If, ExternalChoice, InternalChoice, Sequential, Interleaving, Interrupt, GeneralisedParallel, AlphabetisedParallel, Hiding, Renaming, ReplicatedExternalChoice, ReplicatedInternalChoice, ReplicatedInterleaving, SlidingChoice, Script}
 use Rattle.csp_syntax.specs.Types.{Types}
 use Rattle.csp_semantics.specs.Meaning.Events.{is_bare}
 use Rattle.csp_semantics.specs.Meaning.Substitution.{Bindings, bound, without, bind, name_or, put_expression, put_expressions, put_fields, behind, put_event, put_events, put_event_set, put_pairs, put}
@@ -59,12 +59,12 @@ module _ (types : Types) (kinds : Kinds) where
       by_test false is f = under_value left n m k j (bound bs m) is (fit m j f)
 
   -- with a value for one more name
-  pub fit_bind : (bs : Bindings) (scope left : Scope) (n : ℕ) (v : Value) (k : Kind) → IsValueOf types v k → BindingsFit types kinds bs scope left →
+  pub fit_bind : (bs : Bindings) (scope left : Scope) (n : ℕ) (v : Value) (k : Kind) → IsValueOf types kinds v k → BindingsFit types kinds bs scope left →
       BindingsFit types kinds (bind n v bs) ((n, k) ∷ scope) left
   fit_bind bs scope left n v k h fit m j e = by_test (nat_eq n m) refl e
     where
       by_test : (t : Bool) → nat_eq n m ≡ t → cond t (Some k) (kind_of_name scope m) ≡ Some j → HasKind types kinds left (name_or (cond t (Some v) (bound (without n bs) m)) m) j
-      by_test true is f = let same : k ≡ j = cc f in subst (λ i. IsValueOf types v i) same h
+      by_test true is f = let same : k ≡ j = cc f in subst (λ i. IsValueOf types kinds v i) same h
       by_test false is f =
           let rest : bound (without n bs) m ≡ bound bs m = bound_without n m bs ∙ cond-false (nat_eq n m) None (bound bs m) is in
           subst (λ o. HasKind types kinds left (name_or o m) j) (sym rest) (fit m j f)
@@ -73,12 +73,12 @@ module _ (types : Types) (kinds : Kinds) where
   fit_nothing scope n k e = e
 
   -- the same, where no value is hidden
-  pub fit_more : (bs : Bindings) (scope left : Scope) (n : ℕ) (v : Value) (k : Kind) → IsValueOf types v k → BindingsFit types kinds bs scope left →
+  pub fit_more : (bs : Bindings) (scope left : Scope) (n : ℕ) (v : Value) (k : Kind) → IsValueOf types kinds v k → BindingsFit types kinds bs scope left →
       BindingsFit types kinds ((n, v) ∷ bs) ((n, k) ∷ scope) left
   fit_more bs scope left n v k h fit m j e = by_test (nat_eq n m) e
     where
       by_test : (t : Bool) → cond t (Some k) (kind_of_name scope m) ≡ Some j → HasKind types kinds left (name_or (cond t (Some v) (bound bs m)) m) j
-      by_test true f = let same : k ≡ j = cc f in subst (λ i. IsValueOf types v i) same h
+      by_test true f = let same : k ≡ j = cc f in subst (λ i. IsValueOf types kinds v i) same h
       by_test false f = fit m j f
 
   -- ---- expressions
@@ -96,17 +96,18 @@ module _ (types : Types) (kinds : Kinds) where
       put_expression_kind Booleans (SetKind BoolKind) h = tt
       put_expression_kind (Datatype d) (SetKind (DatatypeKind c)) h = h
       put_expression_kind (Nametype n) (SetKind k) h = h
+      put_expression_kind (ConstructorOf c es) (DatatypeKind d) h = (h.0, (h.1.0, h.1.1, put_have_kinds es h.1.0 h.1.2))
       put_expression_kind _ _ h = absurd h
 
       pub put_expressions_kind : (es : Expressions) (k : Kind) → AllHaveKind types kinds scope es k → AllHaveKind types kinds left (put_expressions bs es) k
       put_expressions_kind no_expressions k h = tt
       put_expressions_kind (expression_and e es) k h = (put_expression_kind e k h.0, put_expressions_kind es k h.1)
 
-    pub put_have_kinds : (es : Expressions) (ks : List Kind) → HaveKinds types kinds scope es ks → HaveKinds types kinds left (put_expressions bs es) ks
-    put_have_kinds no_expressions [] h = tt
-    put_have_kinds no_expressions (k ∷ ks) h = absurd h
-    put_have_kinds (expression_and e es) [] h = absurd h
-    put_have_kinds (expression_and e es) (k ∷ ks) h = (put_expression_kind e k h.0, put_have_kinds es ks h.1)
+      pub put_have_kinds : (es : Expressions) (ks : List Kind) → HaveKinds types kinds scope es ks → HaveKinds types kinds left (put_expressions bs es) ks
+      put_have_kinds no_expressions [] h = tt
+      put_have_kinds no_expressions (k ∷ ks) h = absurd h
+      put_have_kinds (expression_and e es) [] h = absurd h
+      put_have_kinds (expression_and e es) (k ∷ ks) h = (put_expression_kind e k h.0, put_have_kinds es ks h.1)
 
     pub put_first_kinds : (es : Expressions) (ks : List Kind) → HaveFirstKinds types kinds scope es ks → HaveFirstKinds types kinds left (put_expressions bs es) ks
     put_first_kinds no_expressions ks h = tt
@@ -215,3 +216,4 @@ module _ (script : Script) (kinds : Kinds) where
     put_expression_kind script.types kinds bs scope left fit e (SetKind h.0) h.1,
     put_kinded (without n bs) ((n, h.0) ∷ scope) ((n, h.0) ∷ left) p (fit_under script.types kinds bs scope left n h.0 fit) h.2,
   )
+  put_kinded bs scope left (SlidingChoice p q) fit h = (put_kinded bs scope left p fit h.0, put_kinded bs scope left q fit h.1)

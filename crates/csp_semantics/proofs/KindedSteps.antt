@@ -5,17 +5,18 @@ use Rattle.std.specs.Option.{option_or}
 use Rattle.std.specs.Result.{result_err}
 use Rattle.csp_syntax.specs.Value.{Value, Action}
 use Rattle.csp_syntax.specs.Expression.{Expression}
-use Rattle.csp_syntax.specs.Process.{Process, Stop, Skip, Omega, Call, Prefix, Guard, If, ExternalChoice, InternalChoice, Sequential, Interleaving, Interrupt, GeneralisedParallel, AlphabetisedParallel, Hiding, Renaming, ReplicatedExternalChoice, ReplicatedInternalChoice, ReplicatedInterleaving, Script}
+use Rattle.csp_syntax.specs.Process.{Process, Stop, Skip, Omega, Call, Prefix, Guard, If, ExternalChoice, InternalChoice, Sequential, Interleaving, Interrupt, GeneralisedParallel, AlphabetisedParallel, Hiding, Renaming, ReplicatedExternalChoice, ReplicatedInternalChoice, ReplicatedInterleaving, SlidingChoice, Script}
 use Rattle.csp_semantics.specs.Meaning.Evaluation.{Cause}
 use Rattle.csp_semantics.specs.Meaning.Events.{prefix_communications, condition, elements, event_test, renaming, called, instances}
 use Rattle.csp_semantics.specs.Meaning.Faults.{in_branch, first_cause, in_instances, in_internal_chain, cause_within}
-use Rattle.csp_semantics.specs.Meaning.Transitions.{left_grouped, chain, RuleStep, skip, prefix, call, guard, if_true, if_false, external_tau_left, external_tau_right, external_left, external_right, internal_left, internal_right, sequential, sequential_tick, interleaving_left, interleaving_right, interleaving_tick_left, interleaving_tick_right, interleaving_tick, interrupt_left, interrupt_tick, interrupt_tau_right, interrupt_right, generalised_left, generalised_right, generalised_both, generalised_tick_left, generalised_tick_right, generalised_tick, alphabetised_left, alphabetised_right, alphabetised_both, alphabetised_tick_left, alphabetised_tick_right, alphabetised_tick, hiding_tau, hiding_hidden, hiding_event, hiding_tick, renaming_tau, renaming_event, renaming_tick, replicated_external, replicated_internal, replicated_interleaving}
+use Rattle.csp_semantics.specs.Meaning.Transitions.{left_grouped, chain, RuleStep, skip, prefix, call, guard, if_true, if_false, external_tau_left, external_tau_right, external_left, external_right, internal_left, internal_right, sequential, sequential_tick, interleaving_left, interleaving_right, interleaving_tick_left, interleaving_tick_right, interleaving_tick, interrupt_left, interrupt_tick, interrupt_tau_right, interrupt_right, generalised_left, generalised_right, generalised_both, generalised_tick_left, generalised_tick_right, generalised_tick, alphabetised_left, alphabetised_right, alphabetised_both, alphabetised_tick_left, alphabetised_tick_right, alphabetised_tick, hiding_tau, hiding_hidden, hiding_event, hiding_tick, renaming_tau, renaming_event, renaming_tick, replicated_external, replicated_internal, replicated_interleaving, sliding_tau, sliding_left, sliding_away}
 use Rattle.csp_semantics.specs.Meaning.Runs.{Run}
 use Rattle.csp_semantics.specs.Kinds.Kind.{Kind, SetKind, Kinds, InTurn, Each}
 use Rattle.csp_semantics.specs.Kinds.Processes.{IsWellKinded, IsClosedTerm}
 use Rattle.csp_semantics.specs.Kinds.Events.{scope_behind}
 use Rattle.csp_semantics.specs.Kinds.Expressions.{HasKind}
-use Rattle.csp_semantics.specs.Kinds.Scripts.{MembersHaveKind, IsWellKindedEquation, SetsHaveKinds}
+use Rattle.csp_semantics.specs.Kinds.Values.{AreMembersOf}
+use Rattle.csp_semantics.specs.Kinds.Scripts.{IsWellKindedEquation, SetsHaveKinds}
 use Rattle.csp_semantics.proofs.Misfits.{IsProperOrNone, Gives, gives_value, or_proper, err_proper}
 use Rattle.csp_semantics.proofs.KindedPutting.{put_kinded}
 use Rattle.csp_semantics.proofs.KindedTerms.{GivesAny, condition_any, elements_kind, prefix_fit, event_test_any, renaming_any, instances_closed, called_closed}
@@ -75,14 +76,15 @@ module _ (script : Script) (kinds : Kinds) (sets : SetsHaveKinds script kinds) (
   proper_within (suc n) (Renaming p rs) h = or_proper (result_err (renaming script rs)) (cause_within n script p)
       (err_proper (λ f. ⊤) (renaming script rs) (renaming_any script kinds sets rs h.1)) (proper_within n p h.0)
   proper_within (suc n) (ReplicatedExternalChoice x e p) h =
-      instances_proper (λ vs. MembersHaveKind script.types vs h.0) (elements script.types e) _ (elements_kind script kinds sets e h.0 h.1)
-      (λ vs g. first_proper (cause_within n script) (instances x p vs) (proper_within n) (instances_closed script kinds sets x p h.0 vs h.2 g))
+      instances_proper (λ vs. AreMembersOf script.types kinds vs h.0) (elements script.types e) _ (elements_kind script kinds sets e h.0 h.1)
+      (λ vs g. first_proper (cause_within n script) (instances x p vs) (proper_within n) (instances_closed script kinds sets x p h.0 vs h.2 g.0))
   proper_within (suc n) (ReplicatedInternalChoice x e p) h =
-      instances_proper (λ vs. MembersHaveKind script.types vs h.0) (elements script.types e) _ (elements_kind script kinds sets e h.0 h.1)
-      (λ vs g. internal_proper (cause_within n script) (instances x p vs) (proper_within n) (instances_closed script kinds sets x p h.0 vs h.2 g))
+      instances_proper (λ vs. AreMembersOf script.types kinds vs h.0) (elements script.types e) _ (elements_kind script kinds sets e h.0 h.1)
+      (λ vs g. internal_proper (cause_within n script) (instances x p vs) (proper_within n) (instances_closed script kinds sets x p h.0 vs h.2 g.0))
   proper_within (suc n) (ReplicatedInterleaving x e p) h =
-      instances_proper (λ vs. MembersHaveKind script.types vs h.0) (elements script.types e) _ (elements_kind script kinds sets e h.0 h.1)
-      (λ vs g. first_proper (cause_within n script) (instances x p vs) (proper_within n) (instances_closed script kinds sets x p h.0 vs h.2 g))
+      instances_proper (λ vs. AreMembersOf script.types kinds vs h.0) (elements script.types e) _ (elements_kind script kinds sets e h.0 h.1)
+      (λ vs g. first_proper (cause_within n script) (instances x p vs) (proper_within n) (instances_closed script kinds sets x p h.0 vs h.2 g.0))
+  proper_within (suc n) (SlidingChoice p q) h = or_proper (cause_within n script p) (cause_within n script q) (proper_within n p h.0) (proper_within n q h.1)
 
   -- ---- steps
 
@@ -100,7 +102,7 @@ module _ (script : Script) (kinds : Kinds) (sets : SetsHaveKinds script kinds) (
       IsWellKinded script kinds ((n, k) ∷ []) p → elements script.types e ≡ Ok vs →
       Each (IsClosedTerm script kinds) (instances n p vs)
   instances_of n e p k vs h g is = instances_closed script kinds sets n p k vs g
-      (gives_value (λ vs. MembersHaveKind script.types vs k) (elements script.types e) vs (elements_kind script kinds sets e k h) is)
+      (gives_value (λ vs. AreMembersOf script.types kinds vs k) (elements script.types e) vs (elements_kind script kinds sets e k h) is).0
 
   pub step_closed : (t : Process) (x : Action) (u : Process) → RuleStep script t x u → IsClosedTerm script kinds t → IsClosedTerm script kinds u
   step_closed t x u skip h = tt
@@ -153,6 +155,9 @@ module _ (script : Script) (kinds : Kinds) (sets : SetsHaveKinds script kinds) (
       step_closed _ x u step (chain_closed InternalChoice (λ p q g i. (g, i)) Stop (instances n p (v ∷ vs)) tt (instances_of n e p h.0 (v ∷ vs) h.1 h.2 is))
   step_closed t x u (replicated_interleaving {n = n} {e = e} {p = p} vs is step) h =
       step_closed _ x u step (chain_closed Interleaving (λ p q g i. (g, i)) Skip (instances n p vs) tt (instances_of n e p h.0 vs h.1 h.2 is))
+  step_closed t x u (sliding_tau step) h = (step_closed _ _ _ step h.0, h.1)
+  step_closed t x u (sliding_left v step) h = step_closed _ x u step h.0
+  step_closed t x u sliding_away h = h.1
 
   pub run_closed : (path : List Action) (t u : Process) → Run script t path u → IsClosedTerm script kinds t → IsClosedTerm script kinds u
   run_closed [] t u e h = subst (IsClosedTerm script kinds) e h

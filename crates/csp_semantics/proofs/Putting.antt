@@ -1,7 +1,7 @@
 -- Putting no value in changes nothing.
 use Rattle.std.proofs.Common.{◌≡◌, List, [], ◌∷◌, refl, ap, ap₂, ◌∙◌}
-use Rattle.csp_syntax.specs.Expression.{Expression, Apply, Combine, SequenceOf, SetOf, Range, Expressions, no_expressions, expression_and}
-use Rattle.csp_syntax.specs.Process.{Field, Given, Input, InputFrom, EventExpression, EventSet, Enumeration, Productions, EventUnion, EventIntersection, EventDifference, RenamingPair, Process, Call, Prefix, Guard, If, ExternalChoice, InternalChoice, Sequential, Interleaving, Interrupt, GeneralisedParallel, AlphabetisedParallel, Hiding, Renaming, ReplicatedExternalChoice, ReplicatedInternalChoice, ReplicatedInterleaving}
+use Rattle.csp_syntax.specs.Expression.{Expression, Apply, Combine, SequenceOf, SetOf, Range, ConstructorOf, Expressions, no_expressions, expression_and}
+use Rattle.csp_syntax.specs.Process.{Field, Given, Input, InputFrom, EventExpression, EventSet, Enumeration, Productions, EventUnion, EventIntersection, EventDifference, RenamingPair, Process, Call, Prefix, Guard, If, ExternalChoice, InternalChoice, Sequential, Interleaving, Interrupt, GeneralisedParallel, AlphabetisedParallel, Hiding, Renaming, ReplicatedExternalChoice, ReplicatedInternalChoice, ReplicatedInterleaving, SlidingChoice}
 use Rattle.csp_semantics.specs.Meaning.Substitution.{Bindings, put_expression, put_expressions, put_fields, behind, put_event, put_events, put_event_set, put_pairs, put}
 
 mutual
@@ -10,6 +10,7 @@ mutual
   put_nothing_in_expression (Combine op e f) = ap₂ (Combine op) (put_nothing_in_expression e) (put_nothing_in_expression f)
   put_nothing_in_expression (SequenceOf es) = ap SequenceOf (put_nothing_in_expressions es)
   put_nothing_in_expression (SetOf es) = ap SetOf (put_nothing_in_expressions es)
+  put_nothing_in_expression (ConstructorOf k es) = ap (ConstructorOf k) (put_nothing_in_expressions es)
   put_nothing_in_expression (Range e f) = ap₂ Range (put_nothing_in_expression e) (put_nothing_in_expression f)
   put_nothing_in_expression _ = refl
 
@@ -64,4 +65,5 @@ put_nothing (Renaming p rs) = ap₂ Renaming (put_nothing p) (put_nothing_in_pai
 put_nothing (ReplicatedExternalChoice n e p) = ap₂ (ReplicatedExternalChoice n) (put_nothing_in_expression e) (put_nothing p)
 put_nothing (ReplicatedInternalChoice n e p) = ap₂ (ReplicatedInternalChoice n) (put_nothing_in_expression e) (put_nothing p)
 put_nothing (ReplicatedInterleaving n e p) = ap₂ (ReplicatedInterleaving n) (put_nothing_in_expression e) (put_nothing p)
+put_nothing (SlidingChoice p q) = ap₂ SlidingChoice (put_nothing p) (put_nothing q)
 put_nothing _ = refl

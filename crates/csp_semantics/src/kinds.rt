@@ -2,8 +2,8 @@
 //! does not fit.
 
 ghost use Rattle.std.specs.Prelude.{◌≡◌, ◌≢◌, true, List, [], ◌∷◌, Contains, Some, Err};
-ghost use Rattle.csp_syntax.specs.Value.{Value, Action, Truth};
-ghost use Rattle.csp_syntax.specs.Expression.{Unary, Binary, Literal, SequenceOf, no_expressions};
+ghost use Rattle.csp_syntax.specs.Value.{Value, Action, Truth, Constructor, no_values};
+ghost use Rattle.csp_syntax.specs.Expression.{Unary, Binary, Literal, SequenceOf, Datatype, ConstructorOf, no_expressions, expression_and};
 ghost use Rattle.csp_syntax.specs.Process.{Assertion, Enumeration, Productions, Process, Stop, Script};
 ghost use Rattle.csp_syntax.specs.Types.{Types};
 ghost use Rattle.csp_semantics.specs.Meaning.Evaluation.{IllKinded, range_of};
@@ -11,33 +11,45 @@ ghost use Rattle.csp_semantics.specs.Meaning.Substitution.{Bindings, put};
 ghost use Rattle.csp_semantics.specs.Meaning.Faults.{cause_in};
 ghost use Rattle.csp_semantics.specs.Meaning.Transitions.{RuleStep};
 ghost use Rattle.csp_semantics.specs.Meaning.Runs.{Run};
-ghost use Rattle.csp_semantics.specs.Kinds.Kind.{Kind, IntKind, BoolKind, SequenceKind, Kinds};
+ghost use Rattle.csp_semantics.specs.Kinds.Kind.{Kind, IntKind, BoolKind, DatatypeKind, SequenceKind, SetKind, Kinds};
 ghost use Rattle.csp_semantics.specs.Kinds.Values.{IsValueOf};
 ghost use Rattle.csp_semantics.specs.Kinds.Expressions.{UnaryKinds, BinaryKinds, HasKind};
 ghost use Rattle.csp_semantics.specs.Kinds.Events.{IsEventSet, IsPair};
 ghost use Rattle.csp_semantics.specs.Kinds.Processes.{IsWellKinded, IsClosedTerm};
-ghost use Rattle.csp_semantics.specs.Kinds.Scripts.{IsCheckedScript, IsTermOf, NametypesHaveKinds, NametypesHaveFirstKinds, SetsHaveKinds, IsWellKindedScript};
-ghost use Rattle.csp_semantics.specs.Laws.Terms.{no_types, digits, one_and_true, letter_expression, renamed, send, send_x, receive, beginning_on_d};
-ghost use Rattle.csp_semantics.specs.Laws.Kinds.{kinds_of_digits};
+ghost use Rattle.csp_semantics.specs.Kinds.Scripts.{IsCheckedScript, IsTermOf, HaveFieldSets, TypesHaveKinds, TypesHaveFirstKinds, SetsHaveKinds, IsWellKindedScript};
+ghost use Rattle.csp_semantics.specs.Laws.Terms.{no_types, digits, one_and_true, letter_expression, renamed, send, send_x, receive, beginning_on_d, some_bit, bit, the_bit, bit_script};
+ghost use Rattle.csp_semantics.specs.Laws.Kinds.{kinds_of_digits, kinds_of_bits, one_and_two, two_and_one};
 ghost use Rattle.csp_semantics.specs.Laws.Values.{ValuesHaveTheirKinds, ValuesAreNoMisfits, AllValuesHaveTheirKind, AllValuesAreNoMisfits, ElementsHaveTheirKind};
-ghost use Rattle.csp_semantics.specs.Laws.Values.{UnaryGives, BinaryGives, UnaryFits, BinaryFits, HasAllNametypes, NextNametypeFits, ValuesKeepKinds, MembersKeepKinds, ExpressionsKeepKinds};
+ghost use Rattle.csp_semantics.specs.Laws.Values.{UnaryGives, BinaryGives, UnaryFits, BinaryFits, GivenHaveTheirKinds, GivenAreNoMisfits, HasAllTypes, NextNametypeFits, NextConstructorFits, ValuesKeepKinds, MembersKeepKinds, ExpressionsKeepKinds};
 ghost use Rattle.csp_semantics.specs.Laws.Putting.{ExpressionsStayKinded, FieldsStayKinded, EventSetsStayKinded, PairsStayKinded, ProcessesStayKinded, OneValueCloses};
 ghost use Rattle.csp_semantics.specs.Laws.Misfits.{ConditionsAreNoMisfits, ElementsAreNoMisfits, FieldsAreNoMisfits, OpenFieldsAreNoMisfits, EventsAreNoMisfits};
 ghost use Rattle.csp_semantics.specs.Laws.Misfits.{BeginningsAreNoMisfits, EventSetsAreNoMisfits, RenamingsAreNoMisfits, ArgumentsAreNoMisfits, CallsAreNoMisfits};
 ghost use Rattle.csp_semantics.specs.Laws.ClosedTerms.{FaultsAreNoMisfits, BodiesAreClosed, InstancesAreClosed, PrefixesLeadToClosed, SidesAreTerms};
 ghost use Rattle.csp_semantics.specs.Laws.ClosedTerms.{ClosedTermsAreNoMisfits, StepsKeepTermsClosed, RunsKeepTermsClosed, ClosedTermsHaveTheirSteps};
 
-/// `<>` is of every kind of sequences and `<1,true>` of none; with `c` of `{0..1}`, `c?x -> c!x -> STOP` is a closed
-/// term, and `c!true -> STOP` and `c!x -> STOP` are not.
+/// `<>` is of every kind of sequences and `<1,true>` of none; 1 and 2 are the members of a set in this order alone. With
+/// `c` of `{0..1}`, `c?x -> c!x -> STOP` is a closed term, and `c!true -> STOP` and `c!x -> STOP` are not.
 pub fn kinds_of_small_terms()
     ensures empty { (k : Kind) → HasKind no_types kinds_of_digits [] (SequenceOf no_expressions) (SequenceKind k) }
     ensures mixed { (k : Kind) → ¬ HasKind no_types kinds_of_digits [] one_and_true k }
+    ensures rising { IsValueOf no_types kinds_of_digits one_and_two (SetKind IntKind) }
+    ensures falling { (k : Kind) → ¬ IsValueOf no_types kinds_of_digits two_and_one k }
     ensures script { IsWellKindedScript digits kinds_of_digits }
     ensures bound { IsClosedTerm digits kinds_of_digits (receive send_x) }
     ensures wrong { ¬ IsClosedTerm digits kinds_of_digits (send (Literal (Truth true)) Stop) }
     ensures hides { IsWellKinded digits kinds_of_digits ((7, BoolKind) ∷ []) (receive send_x) }
     ensures not_hidden { ¬ IsWellKinded digits kinds_of_digits ((7, BoolKind) ∷ []) send_x }
     ensures free { ¬ IsClosedTerm digits kinds_of_digits send_x }
+{}
+
+/// With `datatype D = N | B.{0..1}`: `(B.1)` is of the kind of `D`, as its value is, and `(B.true)` and `B` are of none.
+pub fn kinds_of_constructors()
+    ensures given { HasKind some_bit kinds_of_bits [] (the_bit 1) (DatatypeKind 0) }
+    ensures value { IsValueOf some_bit kinds_of_bits (bit 1) (DatatypeKind 0) }
+    ensures all { HasKind some_bit kinds_of_bits [] (Datatype 0) (SetKind (DatatypeKind 0)) }
+    ensures script { IsWellKindedScript bit_script kinds_of_bits }
+    ensures truth { (k : Kind) → ¬ HasKind some_bit kinds_of_bits [] (ConstructorOf 1 (expression_and (Literal (Truth true)) no_expressions)) k }
+    ensures bare { (k : Kind) → ¬ HasKind some_bit kinds_of_bits [] (Literal (Constructor 1 no_values)) k }
 {}
 
 /// With `c` of `{0..1}` and `d` of `{0..1}.{0..1}`: `{| c, d.0 |}` and `[[c <- c]]` are well-kinded, `{c}` and
@@ -52,28 +64,33 @@ pub fn kinds_of_small_events()
 /// A value of an expression without free names has the kinds of the expression, and if there is none, the cause is no
 /// misfit of kinds.
 pub fn values_have_their_kinds()
-    ensures value { (types : Types) (kinds : Kinds) → NametypesHaveKinds types kinds → ValuesHaveTheirKinds types kinds }
-    ensures no_misfit { (types : Types) (kinds : Kinds) → NametypesHaveKinds types kinds → ValuesAreNoMisfits types kinds }
-    ensures values { (types : Types) (kinds : Kinds) → NametypesHaveKinds types kinds → AllValuesHaveTheirKind types kinds }
-    ensures no_misfits { (types : Types) (kinds : Kinds) → NametypesHaveKinds types kinds → AllValuesAreNoMisfits types kinds }
+    ensures value { (types : Types) (kinds : Kinds) → TypesHaveKinds types kinds → ValuesHaveTheirKinds types kinds }
+    ensures no_misfit { (types : Types) (kinds : Kinds) → TypesHaveKinds types kinds → ValuesAreNoMisfits types kinds }
+    ensures values { (types : Types) (kinds : Kinds) → TypesHaveKinds types kinds → AllValuesHaveTheirKind types kinds }
+    ensures no_misfits { (types : Types) (kinds : Kinds) → TypesHaveKinds types kinds → AllValuesAreNoMisfits types kinds }
+    ensures given { (types : Types) (kinds : Kinds) → TypesHaveKinds types kinds → GivenHaveTheirKinds types kinds }
+    ensures given_no_misfits { (types : Types) (kinds : Kinds) → TypesHaveKinds types kinds → GivenAreNoMisfits types kinds }
 {}
 
 /// Operators give values of their kind to operands of theirs, or a cause that is no misfit.
 pub fn operators_have_their_kinds()
-    ensures unary { (types : Types) (op : Unary) (m k : Kind) → UnaryKinds op m k → UnaryGives types op m k }
-    ensures unary_no_misfit { (types : Types) (op : Unary) (m k : Kind) → UnaryKinds op m k → UnaryFits types op m }
-    ensures binary { (types : Types) (op : Binary) (m n k : Kind) → BinaryKinds op m n k → BinaryGives types op m n k }
-    ensures binary_no_misfit { (types : Types) (op : Binary) (m n k : Kind) → BinaryKinds op m n k → BinaryFits types op m n }
-    ensures ranges { (types : Types) (v w : Value) → IsValueOf types v IntKind → IsValueOf types w IntKind → range_of v w ≢ Err IllKinded }
+    ensures unary { (types : Types) (kinds : Kinds) (op : Unary) (m k : Kind) → UnaryKinds op m k → UnaryGives types kinds op m k }
+    ensures unary_no_misfit { (types : Types) (kinds : Kinds) (op : Unary) (m k : Kind) → UnaryKinds op m k → UnaryFits types kinds op m }
+    ensures binary { (types : Types) (kinds : Kinds) (op : Binary) (m n k : Kind) → BinaryKinds op m n k → BinaryGives types kinds op m n k }
+    ensures binary_no_misfit { (types : Types) (kinds : Kinds) (op : Binary) (m n k : Kind) → BinaryKinds op m n k → BinaryFits types kinds op m n }
+    ensures ranges { (types : Types) (kinds : Kinds) (v w : Value) → IsValueOf types kinds v IntKind → IsValueOf types kinds w IntKind → range_of v w ≢ Err IllKinded }
 {}
 
-/// Sets that are evaluated one after the other: a value over the first nametypes has the kinds of its expression, and a
-/// set of the kind of the next nametype can follow them.
+/// Sets that are evaluated one after the other: a value over the first nametypes and constructors has the kinds of its
+/// expression, and a set of the kind of the next nametype, or sets of those of the next constructor, can follow them.
 pub fn first_sets_have_their_kinds()
-    ensures value { (types : Types) (kinds : Kinds) → NametypesHaveFirstKinds types kinds → ValuesHaveTheirKinds types kinds }
-    ensures members { (types : Types) (kinds : Kinds) → NametypesHaveFirstKinds types kinds → ElementsHaveTheirKind types kinds }
-    ensures next { (types : Types) (kinds : Kinds) → NametypesHaveFirstKinds types kinds → NextNametypeFits types kinds }
-    ensures all { (types : Types) (kinds : Kinds) → NametypesHaveFirstKinds types kinds → HasAllNametypes types kinds → NametypesHaveKinds types kinds }
+    ensures value { (types : Types) (kinds : Kinds) → TypesHaveFirstKinds types kinds → ValuesHaveTheirKinds types kinds }
+    ensures members { (types : Types) (kinds : Kinds) → TypesHaveFirstKinds types kinds → ElementsHaveTheirKind types kinds }
+    ensures next { (types : Types) (kinds : Kinds) → TypesHaveFirstKinds types kinds → NextNametypeFits types kinds }
+    ensures next_fields { (types : Types) (kinds : Kinds) → TypesHaveFirstKinds types kinds → NextConstructorFits types kinds }
+    ensures given { (types : Types) (kinds : Kinds) → TypesHaveFirstKinds types kinds → GivenHaveTheirKinds types kinds }
+    ensures all { (types : Types) (kinds : Kinds) →
+        TypesHaveFirstKinds types kinds → HasAllTypes types kinds → HaveFieldSets types → TypesHaveKinds types kinds }
 {}
 
 /// Of the types, kinds hang on the datatypes alone.

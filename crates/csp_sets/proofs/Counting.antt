@@ -12,7 +12,7 @@ use Rattle.csp_value.specs.declared.value.Value.{Value}
 use Rattle.csp_value.specs.Value.{members_of, value_of, values_of}
 use Rattle.csp_value.proofs.Forms.{listed}
 use Rattle.csp_expression.specs.Evaluation.{members_listed}
-use Rattle.csp_term.specs.Script.{field_values}
+use Rattle.csp_value.specs.Fields.{field_values}
 use Rattle.csp_sets.specs.Members.{IsCount}
 
 product_and_one : (xs : List (List pure.Value)) (s : List pure.Value) → product_of_sizes (xs ++ s ∷ []) ≡ product_of_sizes xs * length s

@@ -1,7 +1,7 @@
 -- The fields of channels one after the other.
 use Rattle.std.specs.Prelude.{take, drop, Ok, Err, OnOk, Result}
-use Rattle.std.proofs.lemmas.List.{drop_more, length-map, length-take-le, map-append, take_all, take_more, take-append-drop}
-use Rattle.std.proofs.Common.{◌≡◌, ◌<◌, ◌≤◌, ℕ, ◌+◌, Bool, true, false, List, [], ◌∷◌, ◌++◌, length, get_or, map, None, refl, sym, ap, ◌∙◌, subst, arith}
+use Rattle.std.proofs.lemmas.List.{take_all}
+use Rattle.std.proofs.Common.{◌≡◌, ◌<◌, ◌≤◌, ℕ, ◌+◌, Bool, true, false, List, [], ◌∷◌, ◌++◌, length, get_or, map, None, refl, sym, ap, ◌∙◌, subst}
 use Rattle.csp_text.specs.Raw.{RawChannels}
 use Rattle.csp_checking.proofs.FitsAbove.{fit_above}
 use Rattle.csp_checking.specs.Sets.{types_of}
@@ -17,6 +17,7 @@ use Rattle.csp_sets.specs.declared.looking.Above.{Above}
 use Rattle.csp_sets.specs.Fields.{AddsField, AreFieldsOf, IsNextOf}
 use Rattle.csp_sets.specs.Fit.{IsFitOf}
 use Rattle.csp_sets.proofs.Fitting.{fit_known, fit_none, is_fit, is_misfit}
+use Rattle.csp_sets.proofs.Turns.{counted_so_far, cut_there, one_longer}
 
 pub on_ok : {T E : Type 0} {P Q : Type 0} (r : Result T E) → (P → Q) → OnOk r P → OnOk r Q
 on_ok (Ok x) f p = f p
@@ -50,14 +51,10 @@ module _ {A : Type 0} (s : Above A) (start : Fit A) (first channels : ℕ) (ds :
       (old new : Fields A) (old_fit new_fit : Fit A) (adds : AddsField s column (domain_of d) old old_fit new new_fit) where
     pub one_field : AreFieldsOf next.raw next.above next.names (map domain_of (take i ds)) start.some old old_fit → AreFieldsOf next.raw next.above next.names (map domain_of (take (i + 1) ds)) start.some new new_fit
     one_field so_far =
-        let longer : map domain_of (take (i + 1) ds) ≡ map domain_of (take i ds) ++ domain_of d ∷ [] =
-        ap (map domain_of) (take_more ds i d within ∙ ap (λ y. take i ds ++ y ∷ []) (sym read)) ∙ map-append domain_of (take i ds) (d ∷ []) in
-        let cut : map domain_of ds ≡ map domain_of (take i ds) ++ domain_of d ∷ map domain_of (drop (i + 1) ds) =
-        ap (map domain_of) (sym (take-append-drop i ds) ∙ ap (λ ys. take i ds ++ ys) (drop_more ds i d within ∙ ap (λ y. y ∷ drop (i + 1) ds) (sym read))) ∙ map-append domain_of (take i ds) (d ∷ drop (i + 1) ds) in
-        let many : length (map domain_of (take i ds)) ≡ i = length-map (take i ds) domain_of ∙ length-take-le i ds (omega (arith, within)) in
-        subst (λ xs. AreFieldsOf next.raw next.above next.names xs start.some new new_fit) (sym longer)
-        (adds next.raw next.above next.below next.names (map domain_of (take i ds)) (map domain_of (drop (i + 1) ds)) start.some (next.stands ∙ ap (λ xs. next.above ++ RawChannels next.names xs ∷ next.below) cut) next.over
-        (record { first = at_first ∙ next.number; channels = so_many ∙ next.counted; field = at_field ∙ sym many }) so_far)
+        subst (λ xs. AreFieldsOf next.raw next.above next.names xs start.some new new_fit) (sym (one_longer domain_of ds i d within read))
+        (adds next.raw next.above next.below next.names (map domain_of (take i ds)) (map domain_of (drop (i + 1) ds)) start.some
+        (next.stands ∙ ap (λ xs. next.above ++ RawChannels next.names xs ∷ next.below) (cut_there domain_of ds i d within read)) next.over
+        (record { first = at_first ∙ next.number; channels = so_many ∙ next.counted; field = at_field ∙ sym (counted_so_far domain_of ds i d within read) }) so_far)
 
   pub all_fields : (i : ℕ) (fields : Fields A) (fit : Fit A) → length ds ≤ i → AreFieldsOf next.raw next.above next.names (map domain_of (take i ds)) start.some fields fit → AreFieldsOf next.raw next.above next.names (map domain_of ds) start.some fields fit
   all_fields i fields fit over h = subst (λ xs. AreFieldsOf next.raw next.above next.names (map domain_of xs) start.some fields fit) (take_all i ds over) h

@@ -55,6 +55,8 @@ module _ {A : Type 0} (raw : RawScript) (s : SetsSoFar A) (h : AreSetsSoFar raw 
     known = fit_known raw raw s.fit h.fit k.some;
     nametypes =
         ap (λ t. map Some t.nametypes) h.table.types ∙ ap (λ ms. map Some (map (λ m. unwrap_or m []) ms)) (sym k.nametypes.1) ∙ ap (map Some) (unwrapped [] k.nametypes.0) ∙ k.nametypes.1;
+    constructors =
+        ap (λ t. map Some t.constructors) h.table.types ∙ ap (λ ms. map Some (map (λ m. unwrap_or m []) ms)) (sym k.constructors.1) ∙ ap (map Some) (unwrapped [] k.constructors.0) ∙ k.constructors.1;
     field_sets = k.channels.0;
     channels = (fitted k.some).sets ∙ sym k.channels.1;
     members = k.channels.1;

@@ -6,17 +6,19 @@ use Rattle.csp_syntax.specs.Expression.{Expression}
 use Rattle.csp_syntax.specs.Types.{Types}
 use Rattle.csp_text.specs.Raw.{RawNametype, RawChannels, RawScript}
 use Rattle.csp_checking.specs.Sets.{types_of}
+use Rattle.csp_checking.specs.Sites.{with_clause}
 use Rattle.csp_checking.specs.Rules.{SomeFit}
+use Rattle.csp_checking.proofs.AskingSets.{fit_fewer_clauses}
 use Rattle.csp_checking.proofs.FitsAbove.{fit_above, fit_fewer}
 use Rattle.csp_inference.specs.declared.misfit.Misfit.{Misfit}
 use Rattle.csp_inference.specs.declared.misfit.Misfit.TheVariants as misfit
 use Rattle.csp_inference.specs.Numbering.{numbering_of}
 use Rattle.csp_inference.specs.State.{state_in}
 use Rattle.csp_fitting.specs.declared.sets.Column.{Column}
-use Rattle.csp_fitting.specs.KnownKinds.{FitsField, FitsNametype, KnowsKinds}
+use Rattle.csp_fitting.specs.KnownKinds.{FitsClauseField, FitsField, FitsNametype, KnowsKinds}
 use Rattle.csp_fitting.proofs.OneMore.{some_known}
 use Rattle.csp_sets.specs.declared.fit.Fit.{Fit}
-use Rattle.csp_sets.specs.Fit.{IsFitOf, IsOpen, TakesField, TakesNametype}
+use Rattle.csp_sets.specs.Fit.{IsFitOf, IsOpen, TakesClauseField, TakesField, TakesNametype}
 
 pub match_true : (b : Bool) (P Q : Type 0) → b ≡ true → P → MatchBool b P Q
 match_true true P Q e p = p
@@ -104,5 +106,33 @@ module _ {A : Type 0} (types : Types) (column : Column) (set : Option Expression
   field_unfit was some = record {
     fit = λ raw above below names before rest d stands same at is h.
         is_misfit raw (above ++ RawChannels names (before ++ d ∷ []) ∷ []) new some (λ fits. fit_none raw (above ++ RawChannels names before ∷ []) old h was (fit_fewer (types_of raw) above names before (d ∷ []) fits));
+    before = λ e. absurd (not_both some e);
+  }
+
+-- ---- one field of a constructor more
+
+module _ {A : Type 0} (types : Types) (constructor field : ℕ) (set : Option Expression) (old new : Fit A) where
+  pub clause_field_known : (r : Result (Unit {0}) Misfit) (u : Unit {0}) → r ≡ Ok u → old.some ≡ true → new.some ≡ true → FitsClauseField types constructor field set old.known new.known r → TakesClauseField types constructor field set old new
+  clause_field_known r u ok was some fits = record {
+    fit = λ raw above below name clauses more c before rest d stands same number place is h.
+        is_fit raw (with_clause above name clauses c (before ++ d ∷ [])) new some
+        (subst (FitsClauseField types constructor field set old.known new.known) ok fits raw above below name clauses more c before rest d stands same number place is (fit_known raw (with_clause above name clauses c before) old h was)).0;
+    before = λ e. was;
+  }
+
+  pub clause_field_misfit : (r : Result (Unit {0}) Misfit) (m : Misfit) → r ≡ Err m → m ≡ misfit.NoKinds → old.some ≡ true → new.some ≡ false → FitsClauseField types constructor field set old.known new.known r →
+      TakesClauseField types constructor field set old new
+  clause_field_misfit r m err none was some fits = record {
+    fit = λ raw above below name clauses more c before rest d stands same number place is h.
+        is_misfit raw (with_clause above name clauses c (before ++ d ∷ [])) new some
+        (subst (FitsClauseField types constructor field set old.known new.known) (err ∙ ap Err none) fits raw above below name clauses more c before rest d stands same number place is (fit_known raw (with_clause above name clauses c before) old h was));
+    before = λ e. was;
+  }
+
+  pub clause_field_unfit : old.some ≡ false → new.some ≡ false → TakesClauseField types constructor field set old new
+  clause_field_unfit was some = record {
+    fit = λ raw above below name clauses more c before rest d stands same number place is h.
+        is_misfit raw (with_clause above name clauses c (before ++ d ∷ [])) new some
+        (λ fits. fit_none raw (with_clause above name clauses c before) old h was (fit_fewer_clauses (types_of raw) above name clauses [] c before (d ∷ []) fits));
     before = λ e. absurd (not_both some e);
   }

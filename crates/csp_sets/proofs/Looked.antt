@@ -6,7 +6,7 @@ use Rattle.csp_lex.specs.declared.places.Place.{Place}
 use Rattle.csp_lex.specs.Places.{place_of}
 use Rattle.csp_checking.specs.Names.{environment_above}
 use Rattle.csp_checking.specs.Resolving as resolving
-use Rattle.csp_checking.specs.Sets.{set_expression, datatypes_of, members_with}
+use Rattle.csp_checking.specs.Sets.{set_expression, datatypes_of, members_above, members_with}
 use Rattle.csp_checking.specs.Sites.{Site, in_expression}
 use Rattle.csp_checking.specs.Walks.{AllFine, IsStoppedAt}
 use Rattle.csp_value.specs.declared.set.SetOf.{SetOf}
@@ -19,7 +19,6 @@ use Rattle.csp_names.specs.Refusals.{fault_of}
 use Rattle.csp_names.specs.Walks.{Walked}
 use Rattle.csp_sets.specs.declared.looking.LookedSet.TheVariants as looked
 use Rattle.csp_sets.specs.Looking.{IsLookedAt, listed_members}
-use Rattle.csp_sets.specs.Members.{members_above}
 use Rattle.csp_sets.proofs.Unresolved.{refused_unresolved}
 
 -- where a walk answers a fault, it stops there

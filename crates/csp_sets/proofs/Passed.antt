@@ -1,5 +1,5 @@
 -- One declaration more is taken up.
-use Rattle.std.specs.Prelude.{MatchBool, cond, is_some, unwrap_or, slice_get, replicate}
+use Rattle.std.specs.Prelude.{MatchBool, cond, is_some, option_and_then, unwrap_or, replicate}
 use Rattle.std.specs.Option.{option_or}
 use Rattle.std.proofs.lemmas.Bool.{MatchBool-at_true, MatchBool-at_false}
 use Rattle.std.proofs.lemmas.List.{append_assoc, length-map}
@@ -8,13 +8,11 @@ use Rattle.csp_syntax.specs.Value.{Value}
 use Rattle.csp_text.specs.Raw.{RawName, RawDomain, RawDeclaration, RawDatatype, RawNametype, RawChannels, RawEquation, RawAssertion, RawScript}
 use Rattle.csp_checking.specs.Names.{environment_above}
 use Rattle.csp_checking.specs.Resolving.{every}
-use Rattle.csp_checking.specs.Sets.{types_of, set_expression, nametypes_declared, channels_declared, nametype_sets, channel_sets, datatypes_of, nametype_members, field_members, number_of_events}
+use Rattle.csp_checking.specs.Sets.{types_of, types_declared, set_expression, nametypes_declared, clauses_declared, channels_declared, nametype_sets, channel_sets, datatypes_of, field_members, members_above, members_with, number_of_events, with_nametype}
 use Rattle.csp_checking.specs.Sites.{in_expression, in_heads, in_field_sets, in_declaration}
-use Rattle.csp_checking.specs.Walks.{AllFine, IsThere}
 use Rattle.csp_checking.proofs.Counts.{length-replicate}
 use Rattle.csp_checking.proofs.FitsAbove.{fit_above}
-use Rattle.csp_checking.proofs.Resolving.{expression_there, fine_right}
-use Rattle.csp_checking.proofs.ScriptThere.{copies_there, fields_there, joined, nametype_there, none_more, one_more}
+use Rattle.csp_checking.proofs.ScriptThere.{members_one_more}
 use Rattle.csp_expression.specs.Evaluation.{members_listed, table_of}
 use Rattle.csp_inference.specs.Numbering.{numbering_of}
 use Rattle.csp_inference.specs.State.{state_in}
@@ -32,15 +30,15 @@ use Rattle.csp_sets.specs.Faults.{IsFaultOf, fault_of_set}
 use Rattle.csp_sets.specs.Fields.{AreFieldsOf, known_fields}
 use Rattle.csp_sets.specs.Fit.{IsFitOf, TakesNametype}
 use Rattle.csp_sets.specs.Looking.{fault_in, IsLookedAt, IsTableOf, looked_expression, looked_members, looked_refusal}
-use Rattle.csp_sets.specs.Members.{channels_above, IsCount, members_above}
-use Rattle.csp_sets.specs.Pass.{AreAllThere, AreFittedChannels, AreSetsSoFar, first_refusal, IsPosition, TakesUp}
+use Rattle.csp_sets.specs.Members.{channels_above, IsCount}
+use Rattle.csp_sets.specs.Pass.{AreFittedChannels, AreSetsSoFar, first_refusal, IsPosition, TakesUp}
 use Rattle.csp_sets.specs.Passing.{AreCutOff, declares_sets}
 use Rattle.csp_sets.proofs.Cutting.{channels_begin, cut_before, cut_here}
-use Rattle.csp_sets.proofs.Evaluating.{counted_above}
 use Rattle.csp_sets.proofs.Fitting.{fit_decided, fit_known, fit_none, fit_some, is_fit, is_misfit, match_false, match_true}
 use Rattle.csp_sets.proofs.Heads.{misfit_heads_fine}
+use Rattle.csp_sets.proofs.Numbered.{nametypes_above}
 use Rattle.csp_sets.proofs.Refusing.{one_refusal_more, other_refusal}
-use Rattle.csp_sets.proofs.SetMembers.{channels_and_copies, channels_and_one, channels_and_other, members_and_one, members_and_other, nametype_here}
+use Rattle.csp_sets.proofs.SetMembers.{channels_and_copies, channels_and_other, members_and_other}
 use Rattle.csp_sets.proofs.SetSites.{fault_of_both, fine_fits, nametype_fault}
 
 -- ---- the channels so far, by whether kinds fit
@@ -75,12 +73,12 @@ module _ {A : Type 0} (raw above : RawScript) (d : RawDeclaration) (old new : Fi
 -- ---- a declaration without sets
 
 module _ {A : Type 0} (raw above below : RawScript) (d : RawDeclaration) (stands : raw ≡ above ++ d ∷ below) (at : Position A) (position : IsPosition raw above at) (s : SetsSoFar A) (h : AreSetsSoFar raw above s) where
-  pub other_taken : declares_sets d ≡ false → nametypes_declared above d ≡ [] → channels_declared above d ≡ [] → AreSetsSoFar raw (above ++ d ∷ []) s
-  other_taken none ns cs = record {
-    table = subst (λ ms. IsTableOf (datatypes_of raw) ms s.table) (sym (members_and_other raw above d ns)) h.table;
+  pub other_taken : declares_sets d ≡ false → types_declared above d ≡ [] → nametypes_declared above d ≡ [] → clauses_declared above d ≡ [] → channels_declared above d ≡ [] → AreSetsSoFar raw (above ++ d ∷ []) s
+  other_taken none ts ns ks cs = record {
+    table = subst (λ ms. IsTableOf (datatypes_of raw) ms s.table) (sym (members_and_other raw above d ts)) h.table;
     fit = fit;
     channels = same_channels raw above d s.fit s.fit h.fit fit (λ e. e) s.channels cs h.channels;
-    refusal = other_refusal raw above below d stands s.fit.some s.fit.some at.passed position.passed s.refused h.refusal none refl (members_and_other raw above d ns) (channels_and_other raw above d cs);
+    refusal = other_refusal raw above below d stands s.fit.some s.fit.some at.passed position.passed s.refused h.refusal none refl (members_and_other raw above d ts) (channels_and_other raw above d cs);
   }
     where
       fit : IsFitOf raw (above ++ d ∷ []) s.fit
@@ -88,13 +86,13 @@ module _ {A : Type 0} (raw above below : RawScript) (d : RawDeclaration) (stands
         where
           go : (b : Bool) → s.fit.some ≡ b → IsFitOf raw (above ++ d ∷ []) s.fit
           go true e =
-              is_fit raw (above ++ d ∷ []) s.fit e (known_others raw above (numbering_of s.fit.known.numbering) s.fit.known.equations.next (state_in s.fit.known.state) d ns cs (fit_known raw above s.fit h.fit e))
+              is_fit raw (above ++ d ∷ []) s.fit e (known_others raw above (numbering_of s.fit.known.numbering) s.fit.known.equations.next (state_in s.fit.known.state) d ns ks cs (fit_known raw above s.fit h.fit e))
           go false e = is_misfit raw (above ++ d ∷ []) s.fit e (λ fits. fit_none raw above s.fit h.fit e (fit_above (types_of raw) above (d ∷ []) fits))
 
 pub other_up : {A : Type 0} (at : Position A) (s : SetsSoFar A) (d : RawDeclaration) → declares_sets d ≡ false → TakesUp at d s s
-other_up at s (RawDatatype name cs) none raw above below stands position h = other_taken raw above below (RawDatatype name cs) stands at position s h refl refl refl
-other_up at s (RawEquation name ns p) none raw above below stands position h = other_taken raw above below (RawEquation name ns p) stands at position s h refl refl refl
-other_up at s (RawAssertion place m p q) none raw above below stands position h = other_taken raw above below (RawAssertion place m p q) stands at position s h refl refl refl
+other_up at s (RawDatatype name cs) none raw above below stands position h = absurd (cc none)
+other_up at s (RawEquation name ns p) none raw above below stands position h = other_taken raw above below (RawEquation name ns p) stands at position s h refl refl refl refl refl
+other_up at s (RawAssertion place n a p) none raw above below stands position h = other_taken raw above below (RawAssertion place n a p) stands at position s h refl refl refl refl refl
 other_up at s (RawNametype name domain) none raw above below stands position h = absurd (cc none)
 other_up at s (RawChannels names domains) none raw above below stands position h = absurd (cc none)
 
@@ -102,31 +100,21 @@ other_up at s (RawChannels names domains) none raw above below stands position h
 
 module _ {A : Type 0} (raw above below : RawScript) (name : RawName) (domain : RawDomain) (stands : raw ≡ above ++ RawNametype name domain ∷ below) (at : Position A) (position : IsPosition raw above at) (s : SetsSoFar A) (h : AreSetsSoFar raw above s)
     (l : LookedSet A) (looked : IsLookedAt raw above domain l) where
-  here : unwrap_or (slice_get (nametype_members raw) (length (nametype_sets above))) None ≡ looked_members l
-  here = nametype_here raw above below name domain stands ∙ sym looked.members
-
-  longer_table : members_above raw (above ++ RawNametype name domain ∷ []) ≡ members_above raw above ++ looked_members l ∷ []
-  longer_table = members_and_one raw above name domain ∙ ap (λ m. members_above raw above ++ m ∷ []) (sym looked.members)
+  longer_table : members_above raw (above ++ RawNametype name domain ∷ []) ≡ with_nametype (looked_members l) (members_above raw above)
+  longer_table = members_one_more raw above (RawNametype name domain) ∙ ap (λ m. with_nametype m (members_above raw above)) (sym looked.members)
 
   pub numbered_above : (n : ℕ) → n ≡ length s.table.types.nametypes.items → n ≡ length (nametype_sets above)
   numbered_above n is =
-      is ∙ sym (length-map s.table.types.nametypes.items members_listed) ∙ ap (λ t. length t.nametypes) h.table.types ∙ length-map (members_above raw above) (λ m. unwrap_or m []) ∙ counted_above raw above
+      is ∙ sym (length-map s.table.types.nametypes.items members_listed) ∙ ap (λ t. length t.nametypes) h.table.types ∙ length-map (members_above raw above).nametypes (λ m. unwrap_or m []) ∙ nametypes_above raw above
 
   site : (fit : Fit A) → IsFitOf raw (above ++ RawNametype name domain ∷ []) fit → IsFaultOf (in_declaration raw above (RawNametype name domain)) (fault_of_set (looked_refusal l) domain.place fit.some (is_some (looked_members l)))
   site fit is =
       nametype_fault domain.place (types_of raw) (above ++ RawNametype name domain ∷ []) (in_expression (environment_above above) domain.set) (set_expression above domain)
-      (unwrap_or (slice_get (nametype_members raw) (length (nametype_sets above))) None) (looked_refusal l) fit.some (is_some (looked_members l)) looked.read (fit_decided raw (above ++ RawNametype name domain ∷ []) fit is) (ap is_some (sym here))
-
-  -- a fine one has members
-  member_there : AllFine (in_declaration raw above (RawNametype name domain)) → AreAllThere (members_above raw above) → AreAllThere (members_above raw (above ++ RawNametype name domain ∷ []))
-  member_there fine all =
-      let there : IsThere (looked_members l) = subst IsThere here
-      (nametype_there domain.place (types_of raw) (above ++ RawNametype name domain ∷ []) (set_expression above domain) (unwrap_or (slice_get (nametype_members raw) (length (nametype_sets above))) None)
-      (expression_there (environment_above above) domain.set fine.1) fine.0) in
-      subst AreAllThere (sym longer_table) (joined (members_above raw above) (looked_members l ∷ []) all (one_more (looked_members l) [] there none_more))
+      (option_and_then (members_with (datatypes_of raw) (members_above raw above)) (set_expression above domain)) (looked_refusal l) fit.some (is_some (looked_members l)) looked.read
+      (fit_decided raw (above ++ RawNametype name domain ∷ []) fit is) (ap is_some looked.members)
 
   pub nametype_taken : (n : ℕ) (fit : Fit A) (fault : Option SetFault) (table : Table A) → n ≡ length s.table.types.nametypes.items → TakesNametype (table_of s.table.types) n (looked_expression l) s.fit fit →
-      fault_in fault ≡ fault_of_set (looked_refusal l) domain.place fit.some (is_some (looked_members l)) → IsTableOf (datatypes_of raw) (members_above raw above ++ looked_members l ∷ []) table →
+      fault_in fault ≡ fault_of_set (looked_refusal l) domain.place fit.some (is_some (looked_members l)) → IsTableOf (datatypes_of raw) (with_nametype (looked_members l) (members_above raw above)) table →
       AreSetsSoFar raw (above ++ RawNametype name domain ∷ []) (record { table = table; fit = fit; channels = s.channels; refused = first_refusal s.refused at.passed fault })
   nametype_taken n fit fault table number takes is longer =
       let fits = takes.fit raw above below name domain stands (ap (λ t. t.datatypes) h.table.types) (numbered_above n number) looked.expression h.fit in
@@ -137,8 +125,7 @@ module _ {A : Type 0} (raw above below : RawScript) (name : RawName) (domain : R
         refusal =
             one_refusal_more raw above below (RawNametype name domain) stands s.fit.some fit.some at.passed position.passed s.refused h.refusal fault refl
             (subst (IsFaultOf (in_declaration raw above (RawNametype name domain))) (sym is) (site fit fits))
-            (λ none was. fine_fits (looked_refusal l) domain.place fit.some (is_some (looked_members l)) (sym is ∙ none))
-            member_there (λ fine all. subst AreAllThere (sym (channels_and_other raw above (RawNametype name domain) refl)) all);
+            (λ none was. fine_fits (looked_refusal l) domain.place fit.some (is_some (looked_members l)) (sym is ∙ none));
       }
 
 -- ---- channels
@@ -208,13 +195,6 @@ module _ {A : Type 0} (raw above below : RawScript) (names : List RawName) (doma
             subst (IsFaultOf (in_heads raw (above ++ RawChannels names domains ∷ []) (length (channel_sets above)) names)) (sym (no_head e))
             (misfit_heads_fine raw (above ++ RawChannels names domains ∷ []) (length (channel_sets above)) names (fit_none raw (above ++ RawChannels names domains ∷ []) fit are.known e))
 
-    -- fine ones have field sets
-    channel_there : AllFine (in_declaration raw above (RawChannels names domains)) → AreAllThere (channels_above raw above) → AreAllThere (channels_above raw (above ++ RawChannels names domains ∷ []))
-    channel_there fine all =
-        let there = fields_there raw above names [] domains (fine_right (in_heads raw (above ++ RawChannels names domains ∷ []) (length (channel_sets above)) names) (in_field_sets raw above names [] domains) fine) in
-        let copies = copies_there (every (field_members raw)) (map (set_expression above) domains) names there in
-        subst AreAllThere (sym (channels_and_one raw above (RawChannels names domains))) (joined (channels_above raw above) (map (every (field_members raw)) (channels_declared above (RawChannels names domains))) all copies)
-
     or_nothing : {X : Type 0} (f g : Option X) → option_or f g ≡ None → g ≡ None
     or_nothing None g e = e
     or_nothing (Some x) g e = absurd (cc e)
@@ -229,6 +209,5 @@ module _ {A : Type 0} (raw above below : RawScript) (names : List RawName) (doma
           one_refusal_more raw above below (RawChannels names domains) stands s.fit.some fit.some at.passed position.passed s.refused h.refusal fault refl
           (subst (IsFaultOf (in_declaration raw above (RawChannels names domains))) (sym is)
           (fault_of_both (in_heads raw (above ++ RawChannels names domains ∷ []) (length (channel_sets above)) names) (in_field_sets raw above names [] domains) (fault_in head) (fault_in fields.fault) (head_sites no_head) are.fault))
-          (λ none was. are.fine (or_nothing (fault_in head) (fault_in fields.fault) (sym is ∙ none)) was)
-          (λ fine all. subst AreAllThere (sym (members_and_other raw above (RawChannels names domains) refl)) all) channel_there;
+          (λ none was. are.fine (or_nothing (fault_in head) (fault_in fields.fault) (sym is ∙ none)) was);
     }

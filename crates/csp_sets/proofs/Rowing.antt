@@ -1,6 +1,6 @@
 -- The datatypes of the declarations so far, whose constructors are numbered in a row.
 use Rattle.std.specs.Prelude.{take}
-use Rattle.std.proofs.lemmas.List.{map-append, take_more}
+use Rattle.std.proofs.lemmas.List.{map-append}
 use Rattle.std.proofs.Common.{◌≡◌, ◌<◌, ℕ, ◌+◌, List, [], ◌∷◌, ◌++◌, append-nil, length, get_or, map, refl, sym, ap, ap₂, ◌∙◌}
 use Rattle.csp_text.specs.Raw.{RawScript}
 use Rattle.csp_checking.specs.ConstructorRows.{constructor_counts, constructors_declared}
@@ -10,6 +10,7 @@ use Rattle.csp_parse.specs.declared.declarations.Declaration.{Declaration}
 use Rattle.csp_parse.specs.Declarations.{declaration_of}
 use Rattle.csp_expression.specs.declared.types.Constructors.{Constructors}
 use Rattle.csp_expression.specs.Evaluation.{constructors_of}
+use Rattle.csp_sets.proofs.Turns.{one_longer}
 
 pub record AreRows (ds : RawScript) (all : List Constructors) (next : ℕ) : Type 0 where
   pub rows : map constructors_of all ≡ rows_from 0 (constructor_counts ds)
@@ -20,11 +21,8 @@ behind_one n [] k = refl
 behind_one n (j ∷ ks) k = behind_one (n + j) ks k
 
 module _ {A : Type 0} (ds : List (Declaration A)) (i : ℕ) (d : Declaration A) (within : i < length ds) (read : d ≡ get_or ds i d) where
-  longer : map declaration_of (take (i + 1) ds) ≡ map declaration_of (take i ds) ++ declaration_of d ∷ []
-  longer = ap (map declaration_of) (take_more ds i d within ∙ ap (λ y. take i ds ++ y ∷ []) (sym read)) ∙ map-append declaration_of (take i ds) (d ∷ [])
-
   counts : constructor_counts (map declaration_of (take (i + 1) ds)) ≡ constructor_counts (map declaration_of (take i ds)) ++ constructors_declared (declaration_of d)
-  counts = ap constructor_counts longer ∙ counts_of_one_more (map declaration_of (take i ds)) (declaration_of d)
+  counts = ap constructor_counts (one_longer declaration_of ds i d within read) ∙ counts_of_one_more (map declaration_of (take i ds)) (declaration_of d)
 
   pub other_row : (all : List Constructors) (next : ℕ) → constructors_declared (declaration_of d) ≡ [] → AreRows (map declaration_of (take i ds)) all next → AreRows (map declaration_of (take (i + 1) ds)) all next
   other_row all next none h =

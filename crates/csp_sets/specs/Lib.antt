@@ -1,5 +1,6 @@
 pub mod Channels
 pub mod Faults
+pub mod Clauses
 pub mod Fields
 pub mod Fit
 pub mod Looking

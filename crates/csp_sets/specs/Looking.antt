@@ -1,12 +1,13 @@
 -- What looking at a set answers.
-use Rattle.std.specs.Prelude.{◌≡◌, ℕ, Bool, false, List, length, map, slice_get, Option, Some, None, is_some, option_map, option_and_then, unwrap_or, ◌++◌, [], ◌∷◌}
+use Rattle.std.specs.Prelude.{◌≡◌, ℕ, Bool, false, ◌&&◌, List, length, map, slice_get, Option, Some, None, is_some, option_map, option_and_then, unwrap_or, ◌++◌, []}
+use Rattle.std.specs.List.{list_all}
 use Rattle.csp_syntax.specs.Value.{Value}
 use Rattle.csp_syntax.specs.Expression as pure
 use Rattle.csp_text.specs.Place as text
 use Rattle.csp_text.specs.Raw.{RawDomain, RawExpression, RawScript}
 use Rattle.csp_lex.specs.Places.{place_of}
 use Rattle.csp_checking.specs.Names.{environment_above}
-use Rattle.csp_checking.specs.Sets.{set_expression, datatypes_of, Members, members_with, types_with}
+use Rattle.csp_checking.specs.Sets.{set_expression, datatypes_of, nametypes_in, nametypes_in_all, constructors_in, constructors_in_all, datatypes_in, datatypes_in_all, Members, members_above, members_with, types_with, with_constructors, with_nametype}
 use Rattle.csp_checking.specs.Sites.{in_expression}
 use Rattle.csp_checking.specs.Faults as checking
 use Rattle.csp_checking.specs.Rules.{all_declared}
@@ -21,7 +22,6 @@ use Rattle.csp_sets.specs.declared.looking.LookedSet.{LookedSet}
 use Rattle.csp_sets.specs.declared.looking.LookedSet.TheVariants as looked
 use Rattle.csp_sets.specs.declared.table.Table.{Table}
 use Rattle.csp_sets.specs.Faults.{IsRead}
-use Rattle.csp_sets.specs.Members.{members_above}
 
 -- ---- faults
 
@@ -41,10 +41,22 @@ is_valued valued n = unwrap_or (slice_get valued n) false
 abbrev pub listed_members : {A : Type 0} → Option (SetOf A) → Option (List Value)
 listed_members found = option_map members_listed found
 
--- The table has these datatypes, and nametypes with these members.
+-- The table has these datatypes, and nametypes and constructors with these members.
 pub record IsTableOf {A : Type 0} (dts : List (List ℕ)) (ms : Members) (table : Table A) : Type 0 where
   pub types : table_of table.types ≡ types_with dts ms
-  pub valued : table.valued.items ≡ map is_some ms
+  pub valued : table.valued.items ≡ map is_some ms.nametypes
+  pub filled : table.filled.items ≡ map is_some ms.constructors
+
+-- each constructor of the datatype has values for its fields
+abbrev pub has_all_constructors : {A : Type 0} → Table A → ℕ → Bool
+has_all_constructors table d = list_all (is_valued table.filled.items) (unwrap_or (slice_get (table_of table.types).datatypes d) [])
+
+-- each nametype that the expression uses has a value, and each constructor values for its fields
+abbrev pub has_all : {A : Type 0} → Table A → pure.Expression → Bool
+has_all table e = list_all (is_valued table.valued.items) (nametypes_in e) && (list_all (is_valued table.filled.items) (constructors_in e) && list_all (has_all_constructors table) (datatypes_in e))
+
+abbrev pub has_all_in : {A : Type 0} → Table A → pure.Expressions → Bool
+has_all_in table es = list_all (is_valued table.valued.items) (nametypes_in_all es) && (list_all (is_valued table.filled.items) (constructors_in_all es) && list_all (has_all_constructors table) (datatypes_in_all es))
 
 -- What is found are the members of the expression over the table.
 abbrev pub HasMembers : {A : Type 0} → Table A → pure.Expression → Option (SetOf A) → Type 0
@@ -52,7 +64,11 @@ HasMembers table e found = (dts : List (List ℕ)) (ms : Members) → IsTableOf 
 
 -- The table has one nametype more, with these members.
 abbrev pub AddsMembers : {A : Type 0} → Table A → Option (List Value) → Table A → Type 0
-AddsMembers old members new = (dts : List (List ℕ)) (ms : Members) → IsTableOf dts ms old → IsTableOf dts (ms ++ members ∷ []) new
+AddsMembers old members new = (dts : List (List ℕ)) (ms : Members) → IsTableOf dts ms old → IsTableOf dts (with_nametype members ms) new
+
+-- The table has some constructors more, with these members.
+abbrev pub AddsConstructors : {A : Type 0} → Table A → List (Option (List (List Value))) → Table A → Type 0
+AddsConstructors old members new = (dts : List (List ℕ)) (ms : Members) → IsTableOf dts ms old → IsTableOf dts (with_constructors members ms) new
 
 -- ---- what stands above a set
 
@@ -76,7 +92,7 @@ abbrev pub looked_refusal : {A : Type 0} → LookedSet A → Option (checking.Ki
 looked_refusal (looked.Set set members) = None
 looked_refusal (looked.Refused f) = Some (set_fault f)
 
--- It is the tree's set below those declarations: its expression, its members over the nametypes above it, or the first
+-- It is the tree's set below those declarations: its expression, its members over the types above it, or the first
 -- fault of a name in it.
 pub record IsLookedAt {A : Type 0} (raw above : RawScript) (d : RawDomain) (l : LookedSet A) : Type 0 where
   pub expression : looked_expression l ≡ set_expression above d

@@ -3,12 +3,8 @@ use Rattle.std.specs.Prelude.{◌≡◌, ℕ, ◌<◌, ◌≤◌, [], ◌∷◌,
 use Rattle.csp_syntax.specs.Value.{Value}
 use Rattle.csp_text.specs.Raw.{RawScript}
 use Rattle.csp_checking.specs.Resolving.{every}
-use Rattle.csp_checking.specs.Sets.{datatypes_of, Members, with_members, nametype_sets, channel_sets, field_members, product_of_sizes}
+use Rattle.csp_checking.specs.Sets.{channel_sets, field_members, product_of_sizes}
 use Rattle.csp_checking.specs.Rules.{most_events}
-
--- the members of the nametypes of these declarations of the tree
-abbrev pub members_above : RawScript → RawScript → Members
-members_above raw above = with_members (datatypes_of raw) [] (nametype_sets above)
 
 -- the field sets of their channels, by their members, where each has some
 abbrev pub channels_above : RawScript → RawScript → List (Option (List (List Value)))

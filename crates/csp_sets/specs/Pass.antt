@@ -1,8 +1,8 @@
 -- The pass over the declarations.
 use Rattle.std.specs.Prelude.{◌≡◌, ℕ, ◌+◌, Bool, true, List, [], ◌∷◌, ◌++◌, length, map, MatchBool, Option, Some, None}
-use Rattle.csp_text.specs.Raw.{RawDeclaration, RawScript}
+use Rattle.csp_text.specs.Raw.{RawName, RawClause, RawDatatype, RawDeclaration, RawScript}
 use Rattle.csp_checking.specs.Names.{declared}
-use Rattle.csp_checking.specs.Sets.{datatypes_of, number_of_events}
+use Rattle.csp_checking.specs.Sets.{datatypes_of, members_above, number_of_events}
 use Rattle.csp_checking.specs.Rules.{all_declared}
 use Rattle.csp_names.specs.FirstPass.{AreNamesOf}
 use Rattle.csp_sets.specs.declared.channels.Channels.{Channels}
@@ -13,7 +13,7 @@ use Rattle.csp_sets.specs.declared.sets.RefusedSet.{RefusedSet}
 use Rattle.csp_sets.specs.Channels.{sets_in}
 use Rattle.csp_sets.specs.Fit.{IsFitOf}
 use Rattle.csp_sets.specs.Looking.{IsTableOf}
-use Rattle.csp_sets.specs.Members.{channels_above, IsCount, members_above}
+use Rattle.csp_sets.specs.Members.{channels_above, IsCount}
 use Rattle.csp_sets.specs.Passing.{AreCutOff, AreFirstSetsFine}
 use Rattle.csp_sets.specs.Sets.{IsFirstRefusedSet}
 
@@ -48,7 +48,8 @@ pub record AreFittedChannels {A : Type 0} (raw above : RawScript) (channels : Ch
 pub record AreUnrefusedSoFar (raw above : RawScript) (fits : Bool) : Type 0 where
   pub fine : AreFirstSetsFine raw (length above)
   pub some : fits ≡ true
-  pub nametypes : AreAllThere (members_above raw above)
+  pub nametypes : AreAllThere (members_above raw above).nametypes
+  pub constructors : AreAllThere (members_above raw above).constructors
   pub channels : AreAllThere (channels_above raw above)
 
 abbrev pub IsRefusalSoFar : RawScript → RawScript → Bool → Option RefusedSet → Type 0
@@ -70,6 +71,10 @@ pub record HasNext {A : Type 0} (p : Position A) (s : SetsSoFar A) (d : RawDecla
   pub stands : raw ≡ above ++ d ∷ below
   pub position : IsPosition raw above p
   pub so_far : AreSetsSoFar raw above s
+
+-- The next declaration of some tree declares a datatype with these clauses.
+abbrev pub HasNextDatatype : {A : Type 0} → Position A → SetsSoFar A → List RawClause → Type 0
+HasNextDatatype p s clauses = (name : RawName) × HasNext p s (RawDatatype name clauses)
 
 -- The declaration is taken up, where it is the next one.
 abbrev pub TakesUp : {A : Type 0} → Position A → RawDeclaration → SetsSoFar A → SetsSoFar A → Type 0

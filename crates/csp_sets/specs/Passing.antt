@@ -1,15 +1,16 @@
 -- The declarations so far: which of them are fine, and the field sets of their channels.
 use Rattle.std.specs.Prelude.{◌≡◌, ℕ, ◌<◌, Bool, true, false, List, [], ◌∷◌, ◌++◌, length, replicate, Option, None}
 use Rattle.csp_syntax.specs.Value.{Value}
-use Rattle.csp_text.specs.Raw.{RawDeclaration, RawNametype, RawChannels, RawScript}
+use Rattle.csp_text.specs.Raw.{RawDeclaration, RawDatatype, RawNametype, RawChannels, RawScript}
 use Rattle.csp_checking.specs.Sets.{types_of, channel_sets}
 use Rattle.csp_checking.specs.Sites.{in_declaration}
 use Rattle.csp_checking.specs.Rules.{SomeFit}
 use Rattle.csp_checking.specs.Walks.{AllFine}
 use Rattle.csp_sets.specs.Members.{channels_above}
 
--- The declaration declares a nametype or channels, which have sets.
+-- The declaration declares a datatype, a nametype or channels, which have sets.
 abbrev pub declares_sets : RawDeclaration → Bool
+declares_sets (RawDatatype name clauses) = true
 declares_sets (RawNametype name domain) = true
 declares_sets (RawChannels names domains) = true
 declares_sets _ = false

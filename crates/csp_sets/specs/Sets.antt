@@ -3,7 +3,7 @@ use Rattle.std.specs.Prelude.{◌≡◌, ◌↔◌, ℕ, true, List, ◌∷◌, 
 use Rattle.csp_syntax.specs.Value.{Value}
 use Rattle.csp_text.specs.Raw.{RawDeclaration, RawScript}
 use Rattle.csp_lex.specs.Places.{place_of}
-use Rattle.csp_checking.specs.Sets.{types_of, channel_sets, nametype_members, channel_members}
+use Rattle.csp_checking.specs.Sets.{types_of, channel_sets, nametype_members, constructor_members, channel_members}
 use Rattle.csp_checking.specs.Sites.{in_declaration}
 use Rattle.csp_checking.specs.Rules.{HasFieldSets}
 use Rattle.csp_checking.specs.Walks.{IsStoppedAt}
@@ -20,6 +20,7 @@ pub record AreUnrefused {A : Type 0} (raw : RawScript) (sets : Sets A) : Type 0 
   pub fine : AreSetsFine raw
   pub known : KnowsKinds raw raw sets.known
   pub nametypes : map Some (table_of sets.types).nametypes ≡ nametype_members raw
+  pub constructors : map Some (table_of sets.types).constructors ≡ constructor_members raw
   pub field_sets : List (List (List Value))
   pub channels : map known_sets sets.channels.items ≡ map Some field_sets
   pub members : map Some field_sets ≡ channel_members raw

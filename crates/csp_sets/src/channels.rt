@@ -4,7 +4,7 @@ ghost use Rattle.std.specs.Prelude.{◌≡◌, ◌*◌, ◌+◌, ◌++◌, IfOk,
 ghost use Rattle.csp_checking.specs.Sets.{product_of_sizes};
 ghost use Rattle.csp_checking.specs.Rules.{most_events};
 ghost use Rattle.csp_parse.specs.Names.{name_of};
-ghost use Rattle.csp_term.specs.Script.{field_values};
+ghost use Rattle.csp_value.specs.Fields.{field_values};
 ghost use Rattle.csp_names.specs.Scopes.{known_sets};
 ghost use Rattle.csp_sets.specs.Channels.{HasHeads, sets_in};
 ghost use Rattle.csp_sets.specs.Faults.{both_counts, head_fault};

@@ -37,7 +37,7 @@ fn constructor_count<A: Allocator>(declaration: &Declaration<'_, A>) -> Option<u
     ensures { counted result ≡ constructors_declared (declaration_of declaration.now) }
 {
     match declaration {
-        Declaration::Datatype { constructors, .. } => Some(constructors.len()),
+        Declaration::Datatype { clauses, .. } => Some(clauses.len()),
         _ => None,
     }
 }

@@ -1,13 +1,14 @@
-//! The fields of channels that are declared together.
+//! The fields of a constructor, or of channels that are declared together.
 
 ghost use Rattle.std.specs.Prelude.{◌≡◌, IfOk, None, OnOk, cond, map, option_map, option_and_then};
 ghost use Rattle.std.specs.Option.{option_or};
 ghost use Rattle.csp_syntax.specs.Value.{sorted_values};
 ghost use Rattle.csp_checking.specs.Sets.{with_some};
+ghost use Rattle.csp_lex.specs.Places.{place_of};
 ghost use Rattle.csp_parse.specs.Declarations.{domain_of};
 ghost use Rattle.csp_expression.specs.Evaluation.{members_listed};
-ghost use Rattle.csp_term.specs.Script.{field_values};
-ghost use Rattle.csp_sets.specs.Fields.{AddsField, IsNextOf, LooksAtFields, Pushes, known_fields};
+ghost use Rattle.csp_value.specs.Fields.{field_values};
+ghost use Rattle.csp_sets.specs.Fields.{AddsClauseField, AddsField, IsNextClause, IsNextOf, LooksAtClause, LooksAtFields, TakesSet, Pushes, known_fields};
 ghost use Rattle.csp_sets.specs.Fit.{IsOpen};
 ghost use Rattle.csp_sets.specs.Looking.{fault_in, looked_members};
 ghost use Rattle.csp_names.specs.Scopes.{known_sets};
@@ -16,11 +17,12 @@ use crate::faults::{SetFault, first_of};
 use crate::fit::Fit;
 use crate::looking::{Above, LookedSet};
 use csp_fitting::Column;
+use csp_lex::Place;
 use csp_parse::Domain;
 use csp_value::{FieldSet, Memory, SetOf, copy_values};
 use std::alloc::Allocator;
 
-/// The fields of channels that were looked at so far.
+/// The fields of a constructor or of channels that were looked at so far.
 #[derive(Drop)]
 pub(crate) struct Fields<A: Allocator> {
     /// The sets that have a member.
@@ -59,8 +61,30 @@ pub(crate) fn look_at_fields<'t, A: Allocator + Copy>(
     Ok(fields)
 }
 
+/// Looks at the fields of the constructor of this number.
+pub(crate) fn look_at_clause<'t, A: Allocator + Copy>(
+    alloc: A,
+    above: &Above<'_, 't, A>,
+    fit: &mut Fit<A>,
+    constructor: usize,
+    domains: &[Domain<'t, A>],
+) -> Result<Fields<A>, Memory>
+    requires { IsNextClause above.now fit.old constructor (map domain_of domains.now) }
+    ensures { IfOk result (LooksAtClause above.now fit.old constructor (map domain_of domains.now) fit.new) }
+{
+    let mut fields = Fields {
+        sets: Vec::new(alloc),
+        complete: true,
+        fault: None,
+    };
+    for field in 0..domains.len() {
+        fields.add_of_clause(alloc, above, fit, constructor, field, &domains[field])?;
+    }
+    Ok(fields)
+}
+
 impl<A: Allocator + Copy> Fields<A> {
-    /// Looks at the next field.
+    /// Looks at the next field of channels.
     fn add<'t>(
         &mut self,
         alloc: A,
@@ -74,8 +98,45 @@ impl<A: Allocator + Copy> Fields<A> {
     {
         let looked = above.look(alloc, &domain.set)?;
         fit.add_field(alloc, &above.table.types, column, looked.expression())?;
-        let set = field_set(alloc, &looked)?;
-        let fault = looked.fault(domain.place, fit.some, set.is_some());
+        self.take(alloc, &looked, domain.place, fit.some)
+    }
+
+    /// Looks at the next field of a constructor.
+    fn add_of_clause<'t>(
+        &mut self,
+        alloc: A,
+        above: &Above<'_, 't, A>,
+        fit: &mut Fit<A>,
+        constructor: usize,
+        field: usize,
+        domain: &Domain<'t, A>,
+    ) -> Result<(), Memory>
+        requires { IsOpen fit.old }
+        ensures { OnOk result (AddsClauseField above.now constructor field (domain_of domain.now) self.old fit.old self.new fit.new) }
+    {
+        let looked = above.look(alloc, &domain.set)?;
+        fit.add_clause_field(
+            alloc,
+            &above.table.types,
+            constructor,
+            field,
+            looked.expression(),
+        )?;
+        self.take(alloc, &looked, domain.place, fit.some)
+    }
+
+    /// Takes up what was looked at, whose first token is at the place, as the set of a field.
+    fn take(
+        &mut self,
+        alloc: A,
+        looked: &LookedSet<A>,
+        place: Place,
+        fits: bool,
+    ) -> Result<(), Memory>
+        ensures { OnOk result (TakesSet looked.now (place_of place) fits self.old self.new) }
+    {
+        let set = field_set(alloc, looked)?;
+        let fault = looked.fault(place, fits, set.is_some());
         self.push(set, fault)
     }
 

@@ -3,7 +3,7 @@
 ghost use Rattle.std.specs.Prelude.{◌≡◌, true, OnOk};
 ghost use Rattle.csp_expression.specs.Evaluation.{table_of};
 ghost use Rattle.csp_fitting.specs.Solving.{lent_expression};
-ghost use Rattle.csp_sets.specs.Fit.{IsOpen, TakesField, TakesNametype};
+ghost use Rattle.csp_sets.specs.Fit.{IsOpen, TakesClauseField, TakesField, TakesNametype};
 
 use csp_expression::{Expr, TypeTable};
 use csp_fitting::{Column, KnownKinds, Misfit};
@@ -34,6 +34,34 @@ impl<A: Allocator + Copy> Fit<A> {
             return Ok(());
         }
         match self.known.add_nametype(alloc, types, nametype, set) {
+            Ok(()) => Ok(()),
+            Err(Misfit::NoKinds) => {
+                self.some = false;
+                Ok(())
+            }
+            Err(Misfit::Memory) => Err(Memory),
+        }
+    }
+
+    /// Takes up the field at this place of the constructor of this number with its set, if no name in it is refused.
+    pub(crate) fn add_clause_field(
+        &mut self,
+        alloc: A,
+        types: &TypeTable<A>,
+        constructor: usize,
+        field: usize,
+        set: Option<&Expr<A>>,
+    ) -> Result<(), Memory>
+        requires { IsOpen self.old }
+        ensures { OnOk result (TakesClauseField (table_of types.now) constructor field (lent_expression set.entry) self.old self.new) }
+    {
+        if !self.some {
+            return Ok(());
+        }
+        match self
+            .known
+            .add_clause_field(alloc, types, constructor, field, set)
+        {
             Ok(()) => Ok(()),
             Err(Misfit::NoKinds) => {
                 self.some = false;

@@ -1,15 +1,16 @@
 //! The pass over the declarations.
 
 ghost use Rattle.std.specs.Prelude.{◌≡◌, ◌∷◌, ◌++◌, [], IfOk, OnOk, length, map};
-ghost use Rattle.csp_text.specs.Raw.{RawChannels, RawNametype, RawName, RawScript};
+ghost use Rattle.csp_text.specs.Raw.{RawChannels, RawDatatype, RawNametype, RawName, RawScript};
 ghost use Rattle.csp_checking.specs.Names.{declared};
-ghost use Rattle.csp_parse.specs.Declarations.{declaration_of, domain_of};
+ghost use Rattle.csp_parse.specs.Declarations.{clause_of, declaration_of, domain_of};
 ghost use Rattle.csp_parse.specs.Names.{name_of};
 ghost use Rattle.csp_sets.specs.Fit.{IsOpen};
-ghost use Rattle.csp_sets.specs.Pass.{AreSetsSoFar, Goes, HasNext, TakesUp, first_refusal};
+ghost use Rattle.csp_sets.specs.Pass.{AreSetsSoFar, Goes, HasNext, HasNextDatatype, TakesUp, first_refusal};
 ghost use Rattle.csp_sets.specs.Sets.{AreSetsOf};
 
 use crate::channels::Channels;
+use crate::clauses::look_at_clauses;
 use crate::faults::{SetFault, first_of};
 use crate::fields::look_at_fields;
 use crate::fit::Fit;
@@ -17,7 +18,7 @@ use crate::looking::Above;
 use crate::sets::{RefusedSet, Sets};
 use crate::table::Table;
 use csp_names::{Names, declared_count};
-use csp_parse::{Declaration, Domain, Name};
+use csp_parse::{Clause, Declaration, Domain, Name};
 use csp_value::Memory;
 use std::alloc::Allocator;
 
@@ -97,10 +98,31 @@ impl<A: Allocator + Copy> SetsSoFar<A> {
             Declaration::Channels { names, domains } => {
                 self.add_channels(alloc, at, names, domains)
             }
-            Declaration::Datatype { .. } => Ok(()),
+            Declaration::Datatype { clauses, .. } => self.add_datatype(alloc, at, clauses),
             Declaration::Equation { .. } => Ok(()),
             Declaration::Assertion { .. } => Ok(()),
         }
+    }
+
+    /// Takes up a datatype with these clauses, whose constructors can be used only below it.
+    fn add_datatype<'t>(
+        &mut self,
+        alloc: A,
+        at: &Position<'_, 't, A>,
+        clauses: &[Clause<'t, A>],
+    ) -> Result<(), Memory>
+        requires { HasNextDatatype at.now self.old (map clause_of clauses.now) }
+        ensures { OnOk result ((name : RawName) → TakesUp at.now (RawDatatype name (map clause_of clauses.now)) self.old self.new) }
+    {
+        let first = self.table.types.constructors.len();
+        let above = Above {
+            names: at.names,
+            visible: at.visible,
+            table: &self.table,
+        };
+        let looked = look_at_clauses(alloc, &above, &mut self.fit, first, clauses)?;
+        self.refused = first_refusal(self.refused, at.passed, looked.fault);
+        self.table.push_constructors(alloc, looked.sets)
     }
 
     /// Takes up a nametype with this set.

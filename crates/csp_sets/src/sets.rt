@@ -21,17 +21,18 @@ use std::alloc::Allocator;
 /// The sets of a tree.
 #[derive(Drop)]
 pub struct Sets<A: Allocator> {
-    /// The datatypes, and the set of each nametype: the empty one where it has no value.
+    /// The datatypes, the set of each nametype, the empty one where it has no value, and the sets of the fields of each
+    /// constructor, none where one of them has no member.
     pub types: TypeTable<A>,
     /// The field sets of each channel, if no rule refuses one of them or a name in it.
     pub channels: Vec<Option<Vec<FieldSet<A>, A>>, A>,
     /// What is known of kinds. It is of use only where nothing is refused.
     pub known: KnownKinds<A>,
-    /// The first declaration of a nametype or of channels that is refused.
+    /// The first declaration of a datatype, of a nametype or of channels that is refused.
     pub refused: Option<RefusedSet>,
 }
 
-/// A declaration of a nametype or of channels that is refused.
+/// A declaration of a datatype, of a nametype or of channels that is refused.
 #[derive(Clone, Copy, Debug, PartialEq, Eq)]
 pub struct RefusedSet {
     /// How many declarations stand above it.
@@ -57,7 +58,9 @@ pub fn sets_of<'t, A: Allocator + Copy>(
             types: TypeTable {
                 datatypes: datatypes_of(alloc, &raw.declarations)?,
                 nametypes: Vec::new(alloc),
+                constructors: Vec::new(alloc),
             },
+            filled: Vec::new(alloc),
             valued: Vec::new(alloc),
         },
         fit: Fit {

@@ -1,31 +1,34 @@
 //! The types so far.
 
-ghost use Rattle.std.specs.Prelude.{◌≡◌, IfOk, OnOk};
+ghost use Rattle.std.specs.Prelude.{◌≡◌, ◌∷◌, [], IfOk, OnOk, map};
 ghost use Rattle.std.specs.Result.{result_ok};
 ghost use Rattle.csp_semantics.specs.Meaning.Events.{elements};
 ghost use Rattle.csp_expression.specs.Evaluation.{table_of};
 ghost use Rattle.csp_expression.specs.Expression.{expression_of};
-ghost use Rattle.csp_sets.specs.Looking.{AddsMembers, HasMembers, listed_members};
+ghost use Rattle.csp_names.specs.Scopes.{known_sets};
+ghost use Rattle.csp_sets.specs.Looking.{AddsConstructors, AddsMembers, HasMembers, listed_members};
 
-use crate::uses::uses_valued;
-use csp_expression::{Expr, NoValue, TypeTable};
-use csp_value::{Memory, SetOf, Value};
+use csp_expression::{ConstructorFields, Expr, NoValue, TypeTable};
+use csp_value::{FieldSet, Memory, SetOf, Value};
 use std::alloc::Allocator;
 
-/// The datatypes of a tree and its nametypes so far.
+/// The datatypes of a tree, and its nametypes and constructors so far.
 #[derive(Drop)]
 pub(crate) struct Table<A: Allocator> {
     pub(crate) types: TypeTable<A>,
     /// Whether the set of each nametype has a value.
     pub(crate) valued: Vec<bool, A>,
+    /// Whether the set of each field of each constructor has a member.
+    pub(crate) filled: Vec<bool, A>,
 }
 
 impl<A: Allocator + Copy> Table<A> {
-    /// The members of the set, if it has a value. It has none where it uses a nametype without a value.
+    /// The members of the set, if it has a value. It has none where it uses a nametype without a
+    /// value, or a constructor of which some field has no value.
     pub(crate) fn members(&self, alloc: A, set: &Expr<A>) -> Result<Option<SetOf<A>>, Memory>
         ensures { IfOk result (HasMembers self.now (expression_of set.now)) }
     {
-        if uses_valued(set, &self.valued) {
+        if self.has_all(set) {
             members_of(alloc, &self.types, set)
         } else {
             Ok(None)
@@ -44,6 +47,39 @@ impl<A: Allocator + Copy> Table<A> {
                 .nametypes
                 .push(SetOf::from_values(Vec::new(alloc)))?,
         }
+        Ok(())
+    }
+}
+
+impl<A: Allocator + Copy> Table<A> {
+    /// Adds constructors, of which each has these field sets, or one without a member.
+    pub(crate) fn push_constructors(
+        &mut self,
+        alloc: A,
+        constructors: Vec<Option<Vec<FieldSet<A>, A>>, A>,
+    ) -> Result<(), Memory>
+        ensures { OnOk result (AddsConstructors self.old (map known_sets constructors.items) self.new) }
+    {
+        for constructor in constructors {
+            self.push_constructor(alloc, constructor)?;
+        }
+        Ok(())
+    }
+
+    /// Adds the constructor that has these field sets, or one without a member.
+    fn push_constructor(
+        &mut self,
+        alloc: A,
+        sets: Option<Vec<FieldSet<A>, A>>,
+    ) -> Result<(), Memory>
+        ensures { OnOk result (AddsConstructors self.old (known_sets sets ∷ []) self.new) }
+    {
+        self.filled.push(sets.is_some())?;
+        let sets = match sets {
+            Some(sets) => sets,
+            None => Vec::new(alloc),
+        };
+        self.types.constructors.push(ConstructorFields { sets })?;
         Ok(())
     }
 }

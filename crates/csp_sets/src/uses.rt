@@ -1,47 +1,118 @@
-//! Whether a set uses only nametypes that have a value.
+//! Whether what a set uses has members.
 
 ghost use Rattle.std.specs.Prelude.{◌≡◌};
 ghost use Rattle.std.specs.List.{list_all};
 ghost use Rattle.csp_syntax.specs.Expression.{to_expressions};
-ghost use Rattle.csp_checking.specs.Sets.{nametypes_in, nametypes_in_all};
+ghost use Rattle.csp_syntax.specs.Value.{to_values};
+ghost use Rattle.csp_checking.specs.Sets.{constructors_of, constructors_of_all};
 ghost use Rattle.csp_expression.specs.Expression.{expression_of, expressions_of};
-ghost use Rattle.csp_sets.specs.Looking.{is_valued};
+ghost use Rattle.csp_value.specs.Value.{value_of, values_of};
+ghost use Rattle.csp_sets.specs.Looking.{has_all, has_all_constructors, has_all_in, is_valued};
 
-use csp_expression::{Expr, NametypeId};
+use crate::table::Table;
+use csp_expression::{DatatypeId, Expr, NametypeId};
+use csp_value::{ConId, Value};
 use std::alloc::Allocator;
 
-/// Whether each nametype that the expression uses has a value.
-#[cycle(uses)]
-pub(crate) fn uses_valued<A: Allocator>(expression: &Expr<A>, valued: &[bool]) -> bool
-    ensures { result ≡ list_all (is_valued valued.now) (nametypes_in (expression_of expression.now)) }
-{
-    match expression {
-        Expr::Apply(_, operand) => uses_valued(operand, valued),
-        Expr::Combine(_, left, right) => uses_valued(left, valued) && uses_valued(right, valued),
-        Expr::Range(from, to) => uses_valued(from, valued) && uses_valued(to, valued),
-        Expr::Sequence(items) => all_use_valued(items, valued),
-        Expr::Set(members) => all_use_valued(members, valued),
-        Expr::Nametype(nametype) => has_value(valued, *nametype),
-        Expr::Literal(_) | Expr::Name(_) | Expr::Booleans | Expr::Datatype(_) => true,
-    }
-}
-
-/// Whether the nametype has a value.
-fn has_value(valued: &[bool], nametype: NametypeId) -> bool
-    ensures { result ≡ is_valued valued.now nametype.0 }
-{
-    valued.get(nametype.0 as usize).copied().unwrap_or(false)
-}
-
-/// Whether each nametype that one of the expressions uses has a value.
-#[cycle(uses)]
-fn all_use_valued<A: Allocator>(expressions: &[Expr<A>], valued: &[bool]) -> bool
-    ensures { result ≡ list_all (is_valued valued.now) (nametypes_in_all (to_expressions (expressions_of expressions.now))) }
-{
-    for expression in expressions {
-        if !uses_valued(expression, valued) {
-            return false;
+impl<A: Allocator + Copy> Table<A> {
+    /// Whether each nametype that the expression uses has a value, and each constructor values for its fields, those of
+    /// the datatypes that it uses among them.
+    #[cycle(uses)]
+    pub(crate) fn has_all(&self, expression: &Expr<A>) -> bool
+        ensures { result ≡ has_all self.now (expression_of expression.now) }
+    {
+        match expression {
+            Expr::Literal(value) => self.has_constructors_of(value),
+            Expr::Apply(_, operand) => self.has_all(operand),
+            Expr::Combine(_, left, right) => self.has_all(left) && self.has_all(right),
+            Expr::Range(from, to) => self.has_all(from) && self.has_all(to),
+            Expr::Sequence(items) => self.has_all_in(items),
+            Expr::Set(members) => self.has_all_in(members),
+            Expr::Nametype(nametype) => self.has_value(*nametype),
+            Expr::Datatype(datatype) => self.has_all_constructors(*datatype),
+            Expr::Constructor(constructor, fields) => {
+                self.has_all_in(fields) && self.has_fields(*constructor)
+            }
+            Expr::Name(_) | Expr::Booleans => true,
         }
     }
-    true
+
+    /// Whether it is so of each of the expressions.
+    #[cycle(uses)]
+    fn has_all_in(&self, expressions: &[Expr<A>]) -> bool
+        ensures { result ≡ has_all_in self.now (to_expressions (expressions_of expressions.now)) }
+    {
+        for expression in expressions {
+            if !self.has_all(expression) {
+                return false;
+            }
+        }
+        true
+    }
+
+    /// Whether each constructor of the value has values for its fields.
+    #[cycle(constructors)]
+    fn has_constructors_of(&self, value: &Value<A>) -> bool
+        ensures { result ≡ list_all (is_valued self.now.filled.items) (constructors_of (value_of value.now)) }
+    {
+        match value {
+            Value::Int(_) | Value::Bool(_) => true,
+            Value::Con(constructor, fields) => {
+                self.has_fields(*constructor) && self.has_constructors_of_all(fields)
+            }
+            Value::Seq(items) => self.has_constructors_of_all(items),
+            Value::Set(set) => self.has_constructors_of_all(set.members()),
+        }
+    }
+
+    /// Whether each constructor of each of the values does.
+    #[cycle(constructors)]
+    fn has_constructors_of_all(&self, values: &[Value<A>]) -> bool
+        ensures { result ≡ list_all (is_valued self.now.filled.items) (constructors_of_all (to_values (values_of values.now))) }
+    {
+        for value in values {
+            if !self.has_constructors_of(value) {
+                return false;
+            }
+        }
+        true
+    }
+
+    /// Whether the nametype has a value.
+    fn has_value(&self, nametype: NametypeId) -> bool
+        ensures { result ≡ is_valued self.now.valued.items nametype.0 }
+    {
+        is_valued(&self.valued, nametype.0 as usize)
+    }
+
+    /// Whether the constructor has values for its fields.
+    fn has_fields(&self, constructor: ConId) -> bool
+        ensures { result ≡ is_valued self.now.filled.items constructor.0 }
+    {
+        is_valued(&self.filled, constructor.0 as usize)
+    }
+
+    /// Whether each constructor of the datatype has values for its fields.
+    fn has_all_constructors(&self, datatype: DatatypeId) -> bool
+        ensures { result ≡ has_all_constructors self.now datatype.0 }
+    {
+        let Some(constructors) = self.types.datatypes.get(datatype.0 as usize) else {
+            return true;
+        };
+        let first = constructors.first.0 as usize;
+        let behind = first + constructors.following as usize + 1;
+        for number in first..behind {
+            if !is_valued(&self.filled, number) {
+                return false;
+            }
+        }
+        true
+    }
+}
+
+/// What is said of this number, which is false behind the end.
+fn is_valued(valued: &[bool], number: usize) -> bool
+    ensures { result ≡ is_valued valued.now number }
+{
+    valued.get(number).copied().unwrap_or(false)
 }

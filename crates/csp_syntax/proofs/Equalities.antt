@@ -45,7 +45,8 @@ mutual
   pub value_same : (v w : Value) → value_cmp v w ≡ Equal → v ≡ w
   value_same (Integer m) (Integer n) e = ap Integer (int_cmp-IsAntisymmetric m n e)
   value_same (Truth a) (Truth b) e = ap Truth (bool_same a b e)
-  value_same (Constructor m) (Constructor n) e = ap Constructor (nat_cmp-IsAntisymmetric m n e)
+  value_same (Constructor m vs) (Constructor n ws) e =
+      ap₂ Constructor (nat_cmp-IsAntisymmetric m n (then_first (nat_cmp m n) (values_cmp vs ws) e)) (values_same vs ws (then_second (nat_cmp m n) (values_cmp vs ws) e))
   value_same (Sequence vs) (Sequence ws) e = ap Sequence (values_same vs ws e)
   value_same (Set vs) (Set ws) e = ap Set (values_same vs ws e)
   value_same _ _ e = absurd (cc e)
@@ -64,7 +65,7 @@ mutual
   pub value_refl : (v : Value) → value_cmp v v ≡ Equal
   value_refl (Integer m) = sym (int_cmp_is m m Equal refl)
   value_refl (Truth b) = bool_refl b
-  value_refl (Constructor k) = sym (nat_cmp_is k k Equal refl)
+  value_refl (Constructor k vs) = ap₂ ordering_then (sym (nat_cmp_is k k Equal refl)) (values_refl vs)
   value_refl (Sequence vs) = values_refl vs
   value_refl (Set vs) = values_refl vs
 

@@ -6,8 +6,8 @@ use Rattle.std.specs.Ordering.{nat_cmp, ordering_then}
 use Rattle.std.specs.FinMap.{nat_cmp-IsAntisymmetric, slice_cmp-IsAntisymmetric}
 use Rattle.std.specs.Cmp.{nat_cmp_is}
 use Rattle.std.specs.Cmp.Lexicographic.{slice_cmp}
-use Rattle.csp_syntax.specs.Expression.{Unary, Negate, Not, Length, Head, Tail, IsNull, Card, Binary, Add, Subtract, Multiply, Modulus, Concatenate, Equals, Differs, LessThan, AtMost, GreaterThan, AtLeast, And, Or, IsElement, IsMember, Union, Intersection, Difference, Expression, Literal, Name, Apply, Combine, SequenceOf, SetOf, Range, Booleans, Datatype, Nametype, Expressions, no_expressions, expression_and}
-use Rattle.csp_syntax.specs.Process.{Field, Given, Input, InputFrom, EventExpression, EventSet, Enumeration, Productions, EventUnion, EventIntersection, EventDifference, RenamingPair, Process, Stop, Skip, Omega, Call, Prefix, Guard, If, ExternalChoice, InternalChoice, Sequential, Interleaving, Interrupt, GeneralisedParallel, AlphabetisedParallel, Hiding, Renaming, ReplicatedExternalChoice, ReplicatedInternalChoice, ReplicatedInterleaving}
+use Rattle.csp_syntax.specs.Expression.{Unary, Negate, Not, Length, Head, Tail, IsNull, Card, Binary, Add, Subtract, Multiply, Modulus, Concatenate, Equals, Differs, LessThan, AtMost, GreaterThan, AtLeast, And, Or, IsElement, IsMember, Union, Intersection, Difference, Expression, Literal, Name, Apply, Combine, SequenceOf, SetOf, Range, Booleans, Datatype, Nametype, ConstructorOf, Expressions, no_expressions, expression_and}
+use Rattle.csp_syntax.specs.Process.{Field, Given, Input, InputFrom, EventExpression, EventSet, Enumeration, Productions, EventUnion, EventIntersection, EventDifference, RenamingPair, Process, Stop, Skip, Omega, Call, Prefix, Guard, If, ExternalChoice, InternalChoice, Sequential, Interleaving, Interrupt, GeneralisedParallel, AlphabetisedParallel, Hiding, Renaming, ReplicatedExternalChoice, ReplicatedInternalChoice, ReplicatedInterleaving, SlidingChoice}
 use Rattle.csp_syntax.specs.Order.{unary_place, binary_place, expression_cmp, expressions_cmp, field_cmp, event_expression_cmp, event_set_cmp, pair_cmp, process_cmp}
 use Rattle.csp_syntax.proofs.Equalities.{then_first, then_second, value_same, value_refl}
 
@@ -81,6 +81,7 @@ mutual
   expression_same Booleans Booleans is = refl
   expression_same (Datatype m) (Datatype n) is = ap Datatype (nat_cmp-IsAntisymmetric m n is)
   expression_same (Nametype m) (Nametype n) is = ap Nametype (nat_cmp-IsAntisymmetric m n is)
+  expression_same (ConstructorOf m es) (ConstructorOf n fs) is = two ConstructorOf (nat_cmp m n) (expressions_cmp es fs) (nat_cmp-IsAntisymmetric m n) (expressions_same es fs) is
   expression_same _ _ is = absurd (cc is)
 
   pub expressions_same : (es fs : Expressions) → expressions_cmp es fs ≡ Equal → es ≡ fs
@@ -134,6 +135,7 @@ process_same (Renaming p rs) (Renaming r ss) is = two Renaming (process_cmp p r)
 process_same (ReplicatedExternalChoice m e p) (ReplicatedExternalChoice n f r) is = three ReplicatedExternalChoice (nat_cmp m n) (expression_cmp e f) (process_cmp p r) (nat_cmp-IsAntisymmetric m n) (expression_same e f) (process_same p r) is
 process_same (ReplicatedInternalChoice m e p) (ReplicatedInternalChoice n f r) is = three ReplicatedInternalChoice (nat_cmp m n) (expression_cmp e f) (process_cmp p r) (nat_cmp-IsAntisymmetric m n) (expression_same e f) (process_same p r) is
 process_same (ReplicatedInterleaving m e p) (ReplicatedInterleaving n f r) is = three ReplicatedInterleaving (nat_cmp m n) (expression_cmp e f) (process_cmp p r) (nat_cmp-IsAntisymmetric m n) (expression_same e f) (process_same p r) is
+process_same (SlidingChoice p q) (SlidingChoice r s) is = two SlidingChoice (process_cmp p r) (process_cmp q s) (process_same p r) (process_same q s) is
 process_same _ _ is = absurd (cc is)
 
 -- ---- each ties with itself
@@ -150,6 +152,7 @@ mutual
   expression_refl Booleans = refl
   expression_refl (Datatype m) = nat_refl m
   expression_refl (Nametype m) = nat_refl m
+  expression_refl (ConstructorOf m es) = ap₂ ordering_then (nat_refl m) (expressions_refl es)
 
   pub expressions_refl : (es : Expressions) → expressions_cmp es es ≡ Equal
   expressions_refl no_expressions = refl
@@ -193,3 +196,4 @@ process_refl (Renaming p rs) = ap₂ ordering_then (process_refl p) (slice_refl 
 process_refl (ReplicatedExternalChoice m e p) = ap₂ ordering_then (nat_refl m) (ap₂ ordering_then (expression_refl e) (process_refl p))
 process_refl (ReplicatedInternalChoice m e p) = ap₂ ordering_then (nat_refl m) (ap₂ ordering_then (expression_refl e) (process_refl p))
 process_refl (ReplicatedInterleaving m e p) = ap₂ ordering_then (nat_refl m) (ap₂ ordering_then (expression_refl e) (process_refl p))
+process_refl (SlidingChoice p q) = ap₂ ordering_then (process_refl p) (process_refl q)

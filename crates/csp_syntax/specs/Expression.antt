@@ -12,6 +12,7 @@ pub data Binary : Type 0 where
   IsElement IsMember Union Intersection Difference : Binary
 
 -- A name is a bound one: a parameter, an input or a replicated name. It is known by its number.
+-- A constructor that is written with its fields is a form of its own.
 mutual
   pub data Expression : Type 0 where
     Literal : (value : Value) → Expression
@@ -24,6 +25,7 @@ mutual
     Booleans : Expression
     Datatype : (datatype : ℕ) → Expression
     Nametype : (nametype : ℕ) → Expression
+    ConstructorOf : (constructor : ℕ) (fields : Expressions) → Expression
 
   -- a list of expressions
   pub data Expressions : Type 0 where

@@ -6,8 +6,8 @@ use Rattle.std.specs.declared.cmp.Ordering.TheVariants.{Less, Equal, Greater}
 use Rattle.std.specs.Ordering.{nat_cmp, ordering_then}
 use Rattle.std.specs.Cmp.Lexicographic.{slice_cmp}
 use Rattle.csp_syntax.specs.Value.{value_cmp}
-use Rattle.csp_syntax.specs.Expression.{Unary, Negate, Not, Length, Head, Tail, IsNull, Card, Binary, Add, Subtract, Multiply, Modulus, Concatenate, Equals, Differs, LessThan, AtMost, GreaterThan, AtLeast, And, Or, IsElement, IsMember, Union, Intersection, Difference, Expression, Literal, Name, Apply, Combine, SequenceOf, SetOf, Range, Booleans, Datatype, Nametype, Expressions, no_expressions, expression_and}
-use Rattle.csp_syntax.specs.Process.{Field, Given, Input, InputFrom, EventExpression, EventSet, Enumeration, Productions, EventUnion, EventIntersection, EventDifference, RenamingPair, Process, Stop, Skip, Omega, Call, Prefix, Guard, If, ExternalChoice, InternalChoice, Sequential, Interleaving, Interrupt, GeneralisedParallel, AlphabetisedParallel, Hiding, Renaming, ReplicatedExternalChoice, ReplicatedInternalChoice, ReplicatedInterleaving}
+use Rattle.csp_syntax.specs.Expression.{Unary, Negate, Not, Length, Head, Tail, IsNull, Card, Binary, Add, Subtract, Multiply, Modulus, Concatenate, Equals, Differs, LessThan, AtMost, GreaterThan, AtLeast, And, Or, IsElement, IsMember, Union, Intersection, Difference, Expression, Literal, Name, Apply, Combine, SequenceOf, SetOf, Range, Booleans, Datatype, Nametype, ConstructorOf, Expressions, no_expressions, expression_and}
+use Rattle.csp_syntax.specs.Process.{Field, Given, Input, InputFrom, EventExpression, EventSet, Enumeration, Productions, EventUnion, EventIntersection, EventDifference, RenamingPair, Process, Stop, Skip, Omega, Call, Prefix, Guard, If, ExternalChoice, InternalChoice, Sequential, Interleaving, Interrupt, GeneralisedParallel, AlphabetisedParallel, Hiding, Renaming, ReplicatedExternalChoice, ReplicatedInternalChoice, ReplicatedInterleaving, SlidingChoice}
 
 abbrev pub unary_place : Unary → ℕ
 unary_place Negate = 0
@@ -49,6 +49,7 @@ expression_place (Range e f) = 6
 expression_place Booleans = 7
 expression_place (Datatype d) = 8
 expression_place (Nametype n) = 9
+expression_place (ConstructorOf k es) = 10
 
 abbrev mutual
   pub expression_cmp : Expression → Expression → Ordering
@@ -61,6 +62,7 @@ abbrev mutual
   expression_cmp (Range e f) (Range g h) = ordering_then (expression_cmp e g) (expression_cmp f h)
   expression_cmp (Datatype m) (Datatype n) = nat_cmp m n
   expression_cmp (Nametype m) (Nametype n) = nat_cmp m n
+  expression_cmp (ConstructorOf m es) (ConstructorOf n fs) = ordering_then (nat_cmp m n) (expressions_cmp es fs)
   expression_cmp e f = nat_cmp (expression_place e) (expression_place f)
 
   pub expressions_cmp : Expressions → Expressions → Ordering
@@ -119,6 +121,7 @@ process_place (Renaming p rs) = 15
 process_place (ReplicatedExternalChoice n e p) = 16
 process_place (ReplicatedInternalChoice n e p) = 17
 process_place (ReplicatedInterleaving n e p) = 18
+process_place (SlidingChoice p q) = 19
 
 abbrev pub process_cmp : Process → Process → Ordering
 process_cmp (Call m es) (Call n fs) = ordering_then (nat_cmp m n) (expressions_cmp es fs)
@@ -138,4 +141,5 @@ process_cmp (Renaming p rs) (Renaming q ss) = ordering_then (process_cmp p q) (s
 process_cmp (ReplicatedExternalChoice m e p) (ReplicatedExternalChoice n f q) = ordering_then (nat_cmp m n) (ordering_then (expression_cmp e f) (process_cmp p q))
 process_cmp (ReplicatedInternalChoice m e p) (ReplicatedInternalChoice n f q) = ordering_then (nat_cmp m n) (ordering_then (expression_cmp e f) (process_cmp p q))
 process_cmp (ReplicatedInterleaving m e p) (ReplicatedInterleaving n f q) = ordering_then (nat_cmp m n) (ordering_then (expression_cmp e f) (process_cmp p q))
+process_cmp (SlidingChoice p q) (SlidingChoice r s) = ordering_then (process_cmp p r) (process_cmp q s)
 process_cmp p q = nat_cmp (process_place p) (process_place q)

@@ -1,5 +1,5 @@
 -- Processes, equations, scripts and assertions, as trees. The forms are those of CSPM (Roscoe; FDR manual).
-use Rattle.std.specs.Prelude.{ℕ, List}
+use Rattle.std.specs.Prelude.{ℕ, Bool, List, Option, Some, None}
 use Rattle.csp_syntax.specs.Value.{Value}
 use Rattle.csp_syntax.specs.Expression.{Expression, Expressions}
 use Rattle.csp_syntax.specs.Types.{Types}
@@ -47,6 +47,7 @@ pub data Process : Type 0 where
   ReplicatedExternalChoice : (name : ℕ) (set : Expression) (body : Process) → Process
   ReplicatedInternalChoice : (name : ℕ) (set : Expression) (body : Process) → Process
   ReplicatedInterleaving : (name : ℕ) (set : Expression) (body : Process) → Process
+  SlidingChoice : (left right : Process) → Process
 
 -- `name(parameters) = body`
 pub record Equation : Type 0 where
@@ -58,10 +59,23 @@ pub data Model : Type 0 where
   Traces : Model
   Failures : Model
 
+-- What an assertion asks of its implementation: that it refines a specification, `:[deadlock free]`, or `:[divergence free]`.
+pub data Property : Type 0 where
+  RefinementOf : (model : Model) (specification : Process) → Property
+  DeadlockFree : Property
+  DivergenceFree : Property
+
+-- With `not` an assertion asks that the implementation does not have the property.
 pub record Assertion : Type 0 where
-  pub model : Model
-  pub specification : Process
+  pub negated : Bool
+  pub property : Property
   pub implementation : Process
+
+-- the process that the implementation is compared with, if there is one
+abbrev pub specification_of : Property → Option Process
+specification_of (RefinementOf model spec) = Some spec
+specification_of DeadlockFree = None
+specification_of DivergenceFree = None
 
 -- A script: its types, the field sets of each channel, its equations and assertions, each in the order of the text,
 -- and the spellings of its channels and constructors. A field set is the list of its values, rising.

@@ -2,12 +2,14 @@
 use denote.RattleType
 use mir.Syntax
 use lib.Pointwise.{pointwise}
-use Rattle.std.proofs.Common.{◌≡◌, ℕ, zero, suc, Bool, true, ◌&&◌, nat_eq, List, map, refl, sym, ap, ap₂, ◌∙◌}
+use Rattle.std.proofs.Common.{◌≡◌, ℕ, zero, suc, Bool, true, false, ◌&&◌, nat_eq, List, map, refl, sym, ap, ap₂, ◌∙◌}
 use Rattle.std.proofs.lemmas.Bool.{and_from}
 use Rattle.std.specs.declared.alloc.Allocator as allocator
 use Rattle.std.specs.String.{string_bytes}
+use Rattle.std.specs.Bool.{beq}
 use Rattle.std.specs.Ordering.{is_eq}
 use Rattle.csp_syntax.specs.Value as pure
+use Rattle.csp_syntax.specs.Process as syntax
 use Rattle.csp_syntax.specs.Order.{process_cmp}
 use Rattle.csp_syntax.proofs.Equalities.{is_eq-Equal}
 use Rattle.csp_syntax.proofs.ProcessOrder.{process_same, process_refl}
@@ -20,10 +22,13 @@ use Rattle.csp_value.specs.declared.set.SetOf.{SetOf}
 use Rattle.csp_value.specs.Value.{members_of}
 use Rattle.csp_value.proofs.Equality.{set_eq, set_tells}
 use Rattle.csp_expression.specs.declared.types.Constructors.{Constructors}
+use Rattle.csp_expression.specs.declared.types.ConstructorFields.{ConstructorFields}
 use Rattle.csp_expression.specs.declared.types.TypeTable.{TypeTable}
 use Rattle.csp_term.specs.declared.script.Constructor.{Constructor}
 use Rattle.csp_expression.specs.declared.name.Name.{Name}
 use Rattle.csp_term.specs.declared.assertion.Assertion.{Assertion}
+use Rattle.csp_term.specs.declared.property.Property.{Property}
+use Rattle.csp_term.specs.declared.property.Property.TheVariants as property
 use Rattle.csp_term.specs.declared.script.Channel.{Channel}
 use Rattle.csp_term.specs.declared.script.Equation.{Equation}
 use Rattle.csp_value.specs.declared.field_set.FieldSet.{FieldSet}
@@ -31,7 +36,9 @@ use Rattle.csp_value.specs.contracts.field_set.FieldSetPartialEq.TheImpl as fiel
 use Rattle.csp_term.specs.declared.script.ScriptParts.{ScriptParts}
 use Rattle.csp_term.specs.declared.term.Term.{Term}
 use Rattle.csp_term.specs.contracts.assertion.AssertionPartialEq.TheImpl as assertion_impl
+use Rattle.csp_term.specs.contracts.property.PropertyPartialEq.TheImpl as property_impl
 use Rattle.csp_expression.specs.contracts.types.ConstructorsPartialEq.TheImpl as constructors_impl
+use Rattle.csp_expression.specs.contracts.types.ConstructorFieldsPartialEq.TheImpl as constructor_fields_impl
 use Rattle.csp_expression.specs.contracts.types.TypeTablePartialEq.TheImpl as table_impl
 use Rattle.csp_term.specs.contracts.script.ChannelPartialEq.TheImpl as channel_impl
 use Rattle.csp_term.specs.contracts.script.ConstructorPartialEq.TheImpl as constructor_impl
@@ -41,7 +48,8 @@ use Rattle.csp_term.specs.contracts.term.TermPartialEq.TheImpl as term_impl
 use Rattle.csp_term.specs.contracts.term.TermOrd.TheImpl.Laws as term_laws
 use Rattle.csp_term.specs.Term.{process_of}
 use Rattle.csp_expression.specs.Evaluation.{constructors_of, members_listed, numbers_up, table_of}
-use Rattle.csp_term.specs.Script.{assertion_of, channel_of, equation_of, field_values, script_of_parts}
+use Rattle.csp_value.specs.Fields.{field_values, sets_of}
+use Rattle.csp_term.specs.Script.{assertion_of, channel_of, equation_of, property_of, script_of_parts}
 use Rattle.csp_term.proofs.Channels.{same_channels, same_names, same_sets}
 use Rattle.csp_term.proofs.TermOrder.{cmp, ordered}
 use Rattle.csp_value.proofs.Sameness.{Tells, nat_tells, text_tells, lists_tell}
@@ -61,6 +69,18 @@ model_complete model.Traces model.Traces e = refl
 model_complete model.Failures model.Failures e = refl
 model_complete model.Traces model.Failures e = absurd (cc e)
 model_complete model.Failures model.Traces e = absurd (cc e)
+
+bool_sound : (a b : Bool) → beq a b ≡ true → a ≡ b
+bool_sound true true e = refl
+bool_sound false false e = refl
+bool_sound true false e = absurd (cc e)
+bool_sound false true e = absurd (cc e)
+
+bool_complete : (a b : Bool) → a ≡ b → beq a b ≡ true
+bool_complete true true e = refl
+bool_complete false false e = refl
+bool_complete true false e = absurd (cc e)
+bool_complete false true e = absurd (cc e)
 
 -- ---- the constructors of a datatype
 
@@ -102,23 +122,50 @@ module _ (R : RattleType.RattleType) (A : allocator.Ghosts R.Denot) (ad dd : Syn
         term_laws.matches_eq-law R A ad dd x y ∙ ap is_eq (ordered R A ad dd x y ∙ ap (process_cmp (process_of x)) (sym e) ∙ process_refl (process_of x));
   }
 
+  abbrev pub property_eq : Property R.Denot → Property R.Denot → Bool
+  property_eq = (property_impl.ghosts R A ad dd).eq
+
+  property_sound : (x y : Property R.Denot) → property_eq x y ≡ true → property_of x ≡ property_of y
+  property_sound (property.Refinement m s) (property.Refinement n t) e =
+      ap₂ syntax.RefinementOf (model_sound m n (and_first (model_eq m n) (term_eq s t) e)) (term_tells.sound s t (and_second (model_eq m n) (term_eq s t) e))
+  property_sound property.DeadlockFree property.DeadlockFree e = refl
+  property_sound property.DivergenceFree property.DivergenceFree e = refl
+  property_sound (property.Refinement m s) property.DeadlockFree e = absurd (cc e)
+  property_sound (property.Refinement m s) property.DivergenceFree e = absurd (cc e)
+  property_sound property.DeadlockFree (property.Refinement m s) e = absurd (cc e)
+  property_sound property.DeadlockFree property.DivergenceFree e = absurd (cc e)
+  property_sound property.DivergenceFree (property.Refinement m s) e = absurd (cc e)
+  property_sound property.DivergenceFree property.DeadlockFree e = absurd (cc e)
+
+  property_complete : (x y : Property R.Denot) → property_of x ≡ property_of y → property_eq x y ≡ true
+  property_complete (property.Refinement m s) (property.Refinement n t) e =
+      and_from (model_eq m n) (term_eq s t) (model_complete m n (cc e)) (term_tells.complete s t (cc e))
+  property_complete property.DeadlockFree property.DeadlockFree e = refl
+  property_complete property.DivergenceFree property.DivergenceFree e = refl
+  property_complete (property.Refinement m s) property.DeadlockFree e = absurd (cc e)
+  property_complete (property.Refinement m s) property.DivergenceFree e = absurd (cc e)
+  property_complete property.DeadlockFree (property.Refinement m s) e = absurd (cc e)
+  property_complete property.DeadlockFree property.DivergenceFree e = absurd (cc e)
+  property_complete property.DivergenceFree (property.Refinement m s) e = absurd (cc e)
+  property_complete property.DivergenceFree property.DeadlockFree e = absurd (cc e)
+
   abbrev pub assertion_eq : Assertion R.Denot → Assertion R.Denot → Bool
   assertion_eq = (assertion_impl.ghosts R A ad dd).eq
 
   assertion_sound : (x y : Assertion R.Denot) → assertion_eq x y ≡ true → assertion_of x ≡ assertion_of y
   assertion_sound x y e =
-      let rest = and_second (model_eq x.model y.model) (term_eq x.specification y.specification && term_eq x.implementation y.implementation) e in
-      let m = model_sound x.model y.model (and_first (model_eq x.model y.model) (term_eq x.specification y.specification && term_eq x.implementation y.implementation) e) in
-      let s = term_tells.sound x.specification y.specification (and_first (term_eq x.specification y.specification) (term_eq x.implementation y.implementation) rest) in
-      let i = term_tells.sound x.implementation y.implementation (and_second (term_eq x.specification y.specification) (term_eq x.implementation y.implementation) rest) in
-      λ k. record { model = m k; specification = s k; implementation = i k }
+      let rest = and_second (beq x.negated y.negated) (property_eq x.property y.property && term_eq x.implementation y.implementation) e in
+      let n = bool_sound x.negated y.negated (and_first (beq x.negated y.negated) (property_eq x.property y.property && term_eq x.implementation y.implementation) e) in
+      let p = property_sound x.property y.property (and_first (property_eq x.property y.property) (term_eq x.implementation y.implementation) rest) in
+      let i = term_tells.sound x.implementation y.implementation (and_second (property_eq x.property y.property) (term_eq x.implementation y.implementation) rest) in
+      λ k. record { negated = n k; property = p k; implementation = i k }
 
   assertion_complete : (x y : Assertion R.Denot) → assertion_of x ≡ assertion_of y → assertion_eq x y ≡ true
   assertion_complete x y e =
-      and_from (model_eq x.model y.model) (term_eq x.specification y.specification && term_eq x.implementation y.implementation)
-      (model_complete x.model y.model (ap (λ a. a.model) e))
-      (and_from (term_eq x.specification y.specification) (term_eq x.implementation y.implementation)
-      (term_tells.complete x.specification y.specification (ap (λ a. a.specification) e)) (term_tells.complete x.implementation y.implementation (ap (λ a. a.implementation) e)))
+      and_from (beq x.negated y.negated) (property_eq x.property y.property && term_eq x.implementation y.implementation)
+      (bool_complete x.negated y.negated (ap (λ a. a.negated) e))
+      (and_from (property_eq x.property y.property) (term_eq x.implementation y.implementation)
+      (property_complete x.property y.property (ap (λ a. a.property) e)) (term_tells.complete x.implementation y.implementation (ap (λ a. a.implementation) e)))
 
   pub assertion_tells : Tells assertion_eq (assertion_of {A = R.Denot})
   assertion_tells = record { sound = assertion_sound; complete = assertion_complete }
@@ -183,18 +230,37 @@ module _ (R : RattleType.RattleType) (A : allocator.Ghosts R.Denot) (ad dd : Syn
   datatypes_tell : Tells (pointwise constructors_eq) (map constructors_of)
   datatypes_tell = lists_tell constructors_eq constructors_of constructors_tell
 
+  abbrev constructor_fields_eq : ConstructorFields R.Denot → ConstructorFields R.Denot → Bool
+  constructor_fields_eq = (constructor_fields_impl.ghosts R A ad dd).eq
+
+  -- constructors by the sets of their fields
+  constructor_fields_tell : Tells constructor_fields_eq (λ (c : ConstructorFields R.Denot). sets_of c.sets.items)
+  constructor_fields_tell = record {
+    sound = λ x y e. fields_tell.sound x.sets.items y.sets.items e;
+    complete = λ x y e. fields_tell.complete x.sets.items y.sets.items e;
+  }
+
+  all_fields_tell : Tells (pointwise constructor_fields_eq) (map (λ (c : ConstructorFields R.Denot). sets_of c.sets.items))
+  all_fields_tell = lists_tell constructor_fields_eq (λ (c : ConstructorFields R.Denot). sets_of c.sets.items) constructor_fields_tell
+
   table_sound : (x y : TypeTable R.Denot) → table_eq x y ≡ true → table_of x ≡ table_of y
   table_sound x y e =
       let types = pointwise constructors_eq x.datatypes.items y.datatypes.items in
       let sets = sets_eq x.nametypes.items y.nametypes.items in
-      let d = datatypes_tell.sound x.datatypes.items y.datatypes.items (and_first types sets e) in
-      let n = sets_tell.sound x.nametypes.items y.nametypes.items (and_second types sets e) in
-      λ k. record { datatypes = d k; nametypes = n k }
+      let fields = pointwise constructor_fields_eq x.constructors.items y.constructors.items in
+      let rest = and_second types (sets && fields) e in
+      let d = datatypes_tell.sound x.datatypes.items y.datatypes.items (and_first types (sets && fields) e) in
+      let n = sets_tell.sound x.nametypes.items y.nametypes.items (and_first sets fields rest) in
+      let f = all_fields_tell.sound x.constructors.items y.constructors.items (and_second sets fields rest) in
+      λ k. record { datatypes = d k; nametypes = n k; constructors = f k }
 
   table_complete : (x y : TypeTable R.Denot) → table_of x ≡ table_of y → table_eq x y ≡ true
   table_complete x y e =
-      and_from (pointwise constructors_eq x.datatypes.items y.datatypes.items) (sets_eq x.nametypes.items y.nametypes.items)
-      (datatypes_tell.complete x.datatypes.items y.datatypes.items (ap (λ t. t.datatypes) e)) (sets_tell.complete x.nametypes.items y.nametypes.items (ap (λ t. t.nametypes) e))
+      let sets = sets_eq x.nametypes.items y.nametypes.items in
+      let fields = pointwise constructor_fields_eq x.constructors.items y.constructors.items in
+      and_from (pointwise constructors_eq x.datatypes.items y.datatypes.items) (sets && fields) (datatypes_tell.complete x.datatypes.items y.datatypes.items (ap (λ t. t.datatypes) e))
+      (and_from sets fields (sets_tell.complete x.nametypes.items y.nametypes.items (ap (λ t. t.nametypes) e))
+      (all_fields_tell.complete x.constructors.items y.constructors.items (ap (λ t. t.constructors) e)))
 
   pub table_tells : Tells table_eq (table_of {A = R.Denot})
   table_tells = record { sound = table_sound; complete = table_complete }

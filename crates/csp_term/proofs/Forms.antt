@@ -71,3 +71,6 @@ module _ (A : Type 0) where
 
   pub of_replicated : (op : ReplicatedOperator) (n : Name) (e : Expr A) (p : Term A) → process_of_form {A = A} (views.Replicated op n e p) ≡ replicated_process op n.0 (expression_of e) (process_of p)
   of_replicated op n e p = ap (process_of_form {A = A}) (sym (views.rolls-Replicated op n e p)) ∙ fold-roll-TermForm A pure.Process pure.Process form_step term_step (layer.Replicated op n e p)
+
+  pub of_sliding : (p q : Term A) → process_of_form {A = A} (views.SlidingChoice p q) ≡ pure.SlidingChoice (process_of p) (process_of q)
+  of_sliding p q = ap (process_of_form {A = A}) (sym (views.rolls-SlidingChoice p q)) ∙ fold-roll-TermForm A pure.Process pure.Process form_step term_step (layer.SlidingChoice p q)

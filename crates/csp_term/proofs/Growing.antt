@@ -2,8 +2,8 @@
 use Rattle.std.proofs.Common.{◌≡◌, ℕ, ◌+◌, ◌≤◌, max, List, [], ◌∷◌, Option, Some, None, Bool, true, false, IsTrue, IsFalse, refl, sym, ◌∙◌, arith}
 use Rattle.std.proofs.Math.Nat.{max-le, le-max_left, le-max_right}
 use Rattle.csp_syntax.specs.Value.{Value, Integer, Truth, Constructor, Sequence, Set}
-use Rattle.csp_syntax.specs.Expression.{Expression, Literal, Name, Apply, Combine, SequenceOf, SetOf, Range, Booleans, Datatype, Nametype, Expressions, no_expressions, expression_and}
-use Rattle.csp_syntax.specs.Process.{Field, Given, Input, InputFrom, EventExpression, EventSet, Enumeration, Productions, EventUnion, EventIntersection, EventDifference, RenamingPair, Process, Stop, Skip, Omega, Call, Prefix, Guard, If, ExternalChoice, InternalChoice, Sequential, Interleaving, Interrupt, GeneralisedParallel, AlphabetisedParallel, Hiding, Renaming, ReplicatedExternalChoice, ReplicatedInternalChoice, ReplicatedInterleaving}
+use Rattle.csp_syntax.specs.Expression.{Expression, Literal, Name, Apply, Combine, SequenceOf, SetOf, Range, Booleans, Datatype, Nametype, ConstructorOf, Expressions, no_expressions, expression_and}
+use Rattle.csp_syntax.specs.Process.{Field, Given, Input, InputFrom, EventExpression, EventSet, Enumeration, Productions, EventUnion, EventIntersection, EventDifference, RenamingPair, Process, Stop, Skip, Omega, Call, Prefix, Guard, If, ExternalChoice, InternalChoice, Sequential, Interleaving, Interrupt, GeneralisedParallel, AlphabetisedParallel, Hiding, Renaming, ReplicatedExternalChoice, ReplicatedInternalChoice, ReplicatedInterleaving, SlidingChoice}
 use Rattle.csp_semantics.specs.Meaning.Substitution.{Bindings, bound, without, name_or, put_expression, put_expressions, put_fields, behind, put_events, put_event_set, put_pairs, put}
 use Rattle.csp_semantics.specs.Meaning.Limits.{value_size, value_depth, expression_size, expressions_size, fields_size, events_size, event_set_size, pairs_size, size, expression_depth, expressions_depth, fields_depth, events_depth, event_set_depth, pairs_depth, depth, fits}
 
@@ -12,7 +12,7 @@ use Rattle.csp_semantics.specs.Meaning.Limits.{value_size, value_depth, expressi
 some_size : (v : Value) → 1 ≤ value_size v
 some_size (Integer z) = omega arith
 some_size (Truth b) = omega arith
-some_size (Constructor k) = omega arith
+some_size (Constructor k vs) = omega arith
 some_size (Sequence vs) = omega arith
 some_size (Set vs) = omega arith
 
@@ -32,6 +32,7 @@ mutual
   expression_grows bs Booleans = omega arith
   expression_grows bs (Datatype d) = omega arith
   expression_grows bs (Nametype n) = omega arith
+  expression_grows bs (ConstructorOf k es) = omega (arith, expressions_grow bs es)
 
   expressions_grow : (bs : Bindings) (es : Expressions) → expressions_size es ≤ expressions_size (put_expressions bs es)
   expressions_grow bs no_expressions = omega arith
@@ -78,6 +79,7 @@ grows bs (Renaming p rs) = omega (arith, grows bs p, pairs_grow bs rs)
 grows bs (ReplicatedExternalChoice n e p) = omega (arith, expression_grows bs e, grows (without n bs) p)
 grows bs (ReplicatedInternalChoice n e p) = omega (arith, expression_grows bs e, grows (without n bs) p)
 grows bs (ReplicatedInterleaving n e p) = omega (arith, expression_grows bs e, grows (without n bs) p)
+grows bs (SlidingChoice p q) = omega (arith, grows bs p, grows bs q)
 
 -- ---- depth
 
@@ -95,7 +97,7 @@ same n = omega arith
 some_depth : (v : Value) → 1 ≤ value_depth v
 some_depth (Integer z) = omega arith
 some_depth (Truth b) = omega arith
-some_depth (Constructor k) = omega arith
+some_depth (Constructor k vs) = omega arith
 some_depth (Sequence vs) = omega arith
 some_depth (Set vs) = omega arith
 
@@ -115,6 +117,7 @@ mutual
   expression_deepens bs Booleans = omega arith
   expression_deepens bs (Datatype d) = omega arith
   expression_deepens bs (Nametype n) = omega arith
+  expression_deepens bs (ConstructorOf k es) = over (expressions_deepen bs es)
 
   expressions_deepen : (bs : Bindings) (es : Expressions) → expressions_depth es ≤ expressions_depth (put_expressions bs es)
   expressions_deepen bs no_expressions = omega arith
@@ -161,6 +164,7 @@ deepens bs (Renaming p rs) = over (both (deepens bs p) (pairs_deepen bs rs))
 deepens bs (ReplicatedExternalChoice n e p) = over (both (expression_deepens bs e) (deepens (without n bs) p))
 deepens bs (ReplicatedInternalChoice n e p) = over (both (expression_deepens bs e) (deepens (without n bs) p))
 deepens bs (ReplicatedInterleaving n e p) = over (both (expression_deepens bs e) (deepens (without n bs) p))
+deepens bs (SlidingChoice p q) = over (both (deepens bs p) (deepens bs q))
 
 -- ---- the limits
 

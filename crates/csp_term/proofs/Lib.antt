@@ -10,4 +10,5 @@ pub mod TermMeasures
 pub mod Fitting
 pub mod Without
 pub mod Growing
+pub mod Ended
 mod Sides

@@ -50,6 +50,21 @@ binary_own_size binary.Sequential p q = refl
 binary_own_size binary.Interleaving p q = refl
 binary_own_size binary.Interrupt p q = refl
 
+-- it has nothing but the operator at its head
+pub binary_head_size : (op : ProcessOperator) (p q : Process) → own_size (binary_process op p q) ≡ 1
+binary_head_size binary.ExternalChoice p q = refl
+binary_head_size binary.InternalChoice p q = refl
+binary_head_size binary.Sequential p q = refl
+binary_head_size binary.Interleaving p q = refl
+binary_head_size binary.Interrupt p q = refl
+
+pub binary_head_depth : (op : ProcessOperator) (p q : Process) → own_depth (binary_process op p q) ≡ 0
+binary_head_depth binary.ExternalChoice p q = refl
+binary_head_depth binary.InternalChoice p q = refl
+binary_head_depth binary.Sequential p q = refl
+binary_head_depth binary.Interleaving p q = refl
+binary_head_depth binary.Interrupt p q = refl
+
 pub binary_own_depth : (op : ProcessOperator) (p q : Process) → depth (binary_process op p q) ≡ 1 + max (own_depth (binary_process op p q)) (max (depth p) (depth q))
 binary_own_depth binary.ExternalChoice p q = omega arith
 binary_own_depth binary.InternalChoice p q = omega arith

@@ -9,7 +9,7 @@ use Rattle.csp_event_sets.specs.declared.event_set.EventSet.{EventSet}
 use Rattle.csp_event_sets.specs.declared.renaming_pair.RenamingPair.{RenamingPair}
 use Rattle.std.specs.declared.vec.Vec.{Vec}
 use Rattle.std.specs.Option.{SomeIff}
-use Rattle.csp_syntax.specs.Process.{Process, Stop, Skip, Omega, Call, Prefix, Guard, If, ExternalChoice, InternalChoice, Sequential, Interleaving, Interrupt, GeneralisedParallel, AlphabetisedParallel, Hiding, Renaming, ReplicatedExternalChoice, ReplicatedInternalChoice, ReplicatedInterleaving}
+use Rattle.csp_syntax.specs.Process.{Process, Stop, Skip, Omega, Call, Prefix, Guard, If, ExternalChoice, InternalChoice, Sequential, Interleaving, Interrupt, GeneralisedParallel, AlphabetisedParallel, Hiding, Renaming, ReplicatedExternalChoice, ReplicatedInternalChoice, ReplicatedInterleaving, SlidingChoice}
 use Rattle.csp_syntax.specs.declared.process_operator.ProcessOperator.{ProcessOperator}
 use Rattle.csp_syntax.specs.declared.process_operator.ReplicatedOperator.{ReplicatedOperator}
 use Rattle.csp_term.specs.declared.field.Field.{Field}
@@ -19,8 +19,8 @@ use Rattle.csp_term.specs.declared.term.Term.{Term}
 use Rattle.csp_term.specs.declared.term.TermForm.{TermForm}
 use Rattle.csp_term.specs.declared.term.TermForm.TheVariants as views
 use Rattle.csp_term.specs.Term.{process_of, process_of_form}
-use Rattle.csp_term.proofs.Forms.{of_alphabetised, of_binary, of_conditional, of_generalised, of_call, of_guard, of_hiding, of_omega_term, of_prefix, of_skip, of_stop, of_renaming, of_replicated}
-use Rattle.csp_term.proofs.OperatorForms.{binary_own_depth, binary_own_size, replicated_own_depth, replicated_own_size}
+use Rattle.csp_term.proofs.Forms.{of_alphabetised, of_binary, of_conditional, of_generalised, of_call, of_guard, of_hiding, of_omega_term, of_prefix, of_skip, of_stop, of_renaming, of_replicated, of_sliding}
+use Rattle.csp_term.proofs.OperatorForms.{binary_head_depth, binary_head_size, binary_own_depth, binary_own_size, replicated_own_depth, replicated_own_size}
 
 pub within_form : (r : Bool) (parts whole most : ℕ) → whole ≡ 1 + parts → IsTrue r ↔ (parts ≤ most) → IsTrue r ↔ (whole ≤ 1 + most)
 within_form r parts whole most is told = (λ holds. let within : parts ≤ most = told.0 holds in omega arith, λ all. told.1 (omega arith))
@@ -67,6 +67,7 @@ own_depth_below (Renaming p rs) = omega arith
 own_depth_below (ReplicatedExternalChoice n e p) = omega arith
 own_depth_below (ReplicatedInternalChoice n e p) = omega arith
 own_depth_below (ReplicatedInterleaving n e p) = omega arith
+own_depth_below (SlidingChoice p q) = omega arith
 
 -- ---- the terms under a form
 
@@ -97,11 +98,40 @@ IsOverTwo {A} f p q =
     ((e : Expr A) × (f ≡ views.If e p q)) ⊎
     (((op : ProcessOperator) × (f ≡ views.Binary op p q)) ⊎
     (((a : EventSet A) × (f ≡ views.GeneralisedParallel p a q)) ⊎
-    ((a : EventSet A) × (b : EventSet A) × (f ≡ views.AlphabetisedParallel p a b q))))
+    (((a : EventSet A) × (b : EventSet A) × (f ≡ views.AlphabetisedParallel p a b q)) ⊎
+    (f ≡ views.SlidingChoice p q))))
 
 -- a form over none
 abbrev pub IsOverNone : {A : Type 0} → TermForm A → Type 0
 IsOverNone {A} f = (f ≡ views.Stop) ⊎ ((f ≡ views.Skip) ⊎ ((f ≡ views.Omega) ⊎ ((n : EquationId) × (es : Vec (Expr A) A) × (f ≡ views.Call n es))))
+
+-- a form with nothing at its head but what it is
+abbrev pub IsBare : {A : Type 0} → TermForm A → Type 0
+IsBare {A} f =
+    (f ≡ views.Stop) ⊎ ((f ≡ views.Skip) ⊎ ((f ≡ views.Omega) ⊎
+    (((op : ProcessOperator) × (p : Term A) × (q : Term A) × (f ≡ views.Binary op p q)) ⊎
+    ((p : Term A) × (q : Term A) × (f ≡ views.SlidingChoice p q)))))
+
+pub bare_size : {A : Type 0} (f : TermForm A) → IsBare f → own_size (process_of_form f) ≡ 1
+bare_size {A} f (inl is) = ap own_size (ap process_of_form is ∙ of_stop A)
+bare_size {A} f (inr (inl is)) = ap own_size (ap process_of_form is ∙ of_skip A)
+bare_size {A} f (inr (inr (inl is))) = ap own_size (ap process_of_form is ∙ of_omega_term A)
+bare_size {A} f (inr (inr (inr (inl (op, p, q, is))))) = ap own_size (ap process_of_form is ∙ of_binary A op p q) ∙ binary_head_size op (process_of p) (process_of q)
+bare_size {A} f (inr (inr (inr (inr (p, q, is))))) = ap own_size (ap process_of_form is ∙ of_sliding A p q)
+
+pub bare_depth : {A : Type 0} (f : TermForm A) → IsBare f → own_depth (process_of_form f) ≡ 0
+bare_depth {A} f (inl is) = ap own_depth (ap process_of_form is ∙ of_stop A)
+bare_depth {A} f (inr (inl is)) = ap own_depth (ap process_of_form is ∙ of_skip A)
+bare_depth {A} f (inr (inr (inl is))) = ap own_depth (ap process_of_form is ∙ of_omega_term A)
+bare_depth {A} f (inr (inr (inr (inl (op, p, q, is))))) = ap own_depth (ap process_of_form is ∙ of_binary A op p q) ∙ binary_head_depth op (process_of p) (process_of q)
+bare_depth {A} f (inr (inr (inr (inr (p, q, is))))) = ap own_depth (ap process_of_form is ∙ of_sliding A p q)
+
+-- what such a head leaves
+pub bare_left : (own rest room : ℕ) → own ≡ 1 → 1 ≤ room → rest ≡ room - 1 → SomeIff (Some rest) (own ≤ room) (room - own)
+bare_left own rest room is some less = (omega arith, omega arith)
+
+pub bare_within : (own most : ℕ) → own ≡ 0 → IsTrue true ↔ (own ≤ most)
+bare_within own most is = (λ yes. omega arith, λ all. refl)
 
 at_form : {A : Type 0} (f : TermForm A) (p : Process) (n : ℕ) → process_of_form f ≡ p → size p ≡ own_size p + n → size (process_of_form f) ≡ own_size (process_of_form f) + n
 at_form f p n stands below = let P : Process → Type 0 = λ q. size q ≡ own_size q + n in subst P (sym stands) below
@@ -117,7 +147,8 @@ pub over_two_size : {A : Type 0} (f : TermForm A) (p q : Term A) → IsOverTwo f
 over_two_size {A} f p q (inl (e, is)) = at_form f _ _ (ap process_of_form is ∙ of_conditional A e p q) (omega arith)
 over_two_size {A} f p q (inr (inl (op, is))) = at_form f _ _ (ap process_of_form is ∙ of_binary A op p q) (binary_own_size op (process_of p) (process_of q))
 over_two_size {A} f p q (inr (inr (inl (a, is)))) = at_form f _ _ (ap process_of_form is ∙ of_generalised A p a q) (omega arith)
-over_two_size {A} f p q (inr (inr (inr (a, b, is)))) = at_form f _ _ (ap process_of_form is ∙ of_alphabetised A p a b q) (omega arith)
+over_two_size {A} f p q (inr (inr (inr (inl (a, b, is))))) = at_form f _ _ (ap process_of_form is ∙ of_alphabetised A p a b q) (omega arith)
+over_two_size {A} f p q (inr (inr (inr (inr is)))) = at_form f _ _ (ap process_of_form is ∙ of_sliding A p q) (omega arith)
 
 deep_form : {A : Type 0} (f : TermForm A) (p : Process) (n : ℕ) → process_of_form f ≡ p → depth p ≡ 1 + max (own_depth p) n → depth (process_of_form f) ≡ 1 + max (own_depth (process_of_form f)) n
 deep_form f p n stands below = let P : Process → Type 0 = λ q. depth q ≡ 1 + max (own_depth q) n in subst P (sym stands) below
@@ -142,4 +173,5 @@ pub over_two_depth : {A : Type 0} (f : TermForm A) (p q : Term A) → IsOverTwo 
 over_two_depth {A} f p q (inl (e, is)) = deep_form f _ _ (ap process_of_form is ∙ of_conditional A e p q) refl
 over_two_depth {A} f p q (inr (inl (op, is))) = deep_form f _ _ (ap process_of_form is ∙ of_binary A op p q) (binary_own_depth op (process_of p) (process_of q))
 over_two_depth {A} f p q (inr (inr (inl (a, is)))) = deep_form f _ _ (ap process_of_form is ∙ of_generalised A p a q) (omega arith)
-over_two_depth {A} f p q (inr (inr (inr (a, b, is)))) = deep_form f _ _ (ap process_of_form is ∙ of_alphabetised A p a b q) (omega arith)
+over_two_depth {A} f p q (inr (inr (inr (inl (a, b, is))))) = deep_form f _ _ (ap process_of_form is ∙ of_alphabetised A p a b q) (omega arith)
+over_two_depth {A} f p q (inr (inr (inr (inr is)))) = deep_form f _ _ (ap process_of_form is ∙ of_sliding A p q) (omega arith)

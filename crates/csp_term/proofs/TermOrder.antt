@@ -43,7 +43,7 @@ use Rattle.csp_event_sets.proofs.Apart.{processes}
 use Rattle.csp_event_sets.proofs.EventOrder.{cmp as event_set_order, ordered as event_set_ordered, pair_order, pairs_ordered}
 use Rattle.csp_expression.proofs.ExpressionOrder.{cmp as expression_order, ordered as expression_ordered, lists_ordered as expressions_ordered}
 use Rattle.csp_term.proofs.FieldOrder.{field_order, fields_ordered}
-use Rattle.csp_term.proofs.Forms.{of_form, of_stop, of_skip, of_omega_term, of_call, of_prefix, of_guard, of_conditional, of_binary, of_generalised, of_alphabetised, of_hiding, of_renaming, of_replicated}
+use Rattle.csp_term.proofs.Forms.{of_form, of_stop, of_skip, of_omega_term, of_call, of_prefix, of_guard, of_conditional, of_binary, of_generalised, of_alphabetised, of_hiding, of_renaming, of_replicated, of_sliding}
 use Rattle.csp_term.proofs.OperatorForms.{binary_below, binary_cmp, binary_from, binary_ordered, replicated_below, replicated_cmp, replicated_from, replicated_ordered}
 use Rattle.csp_expression.proofs.Variants.{Ranks, first_or, no_more, none, one_more, one_at, either, either_holds}
 
@@ -257,16 +257,32 @@ module _ (R : RattleType.RattleType) (A : allocator.Ghosts R.Denot) (ad dd : Syn
       ap (ordering_then (replicated_cmp x.0 y.0)) (ap (ordering_then (nat_cmp x.1.0.0 y.1.0.0)) (ap₂ ordering_then (expression_ordered R A ad dd x.1.1.0 y.1.1.0) (h y.1.1.1.0)))
       ∙ replicated_ordered x.0 y.0 x.1.0.0 y.1.0.0 (expression_of x.1.1.0) (expression_of y.1.1.0) (process_of x.1.1.1.0) (process_of y.1.1.1.0)
 
+  abbrev Sliding : Type 0
+  Sliding = Term R.Denot × (Term R.Denot × Unit {0})
+
+  abbrev sliding_cmp : Sliding → Sliding → Ordering
+  sliding_cmp x y = ordering_then (cmp x.0 y.0) (cmp x.1.0 y.1.0)
+
+  abbrev sliding : Sliding → pure.Process
+  sliding x = pure.SlidingChoice (process_of x.0) (process_of x.1.0)
+
+  abbrev OfSliding : Sliding → Type 0
+  OfSliding x = IsOrdered x.0 × IsOrdered x.1.0
+
+  sliding_agrees : (x y : Sliding) → OfSliding x → sliding_cmp x y ≡ process_cmp (sliding x) (sliding y)
+  sliding_agrees x y h =
+      ap₂ ordering_then (h.0 y.0) (h.1 y.1.0)
+
   -- ---- all forms
 
   abbrev derived : Parts → Parts → Ordering
-  derived = first_or nothing_cmp (first_or nothing_cmp (first_or nothing_cmp (first_or call_cmp (first_or prefix_cmp (first_or guard_cmp (first_or conditional_cmp (first_or composed_cmp (first_or generalised_cmp (first_or alphabetised_cmp (first_or hiding_cmp (first_or renaming_cmp (first_or indexed_cmp no_more))))))))))))
+  derived = first_or nothing_cmp (first_or nothing_cmp (first_or nothing_cmp (first_or call_cmp (first_or prefix_cmp (first_or guard_cmp (first_or conditional_cmp (first_or composed_cmp (first_or generalised_cmp (first_or alphabetised_cmp (first_or hiding_cmp (first_or renaming_cmp (first_or indexed_cmp (first_or sliding_cmp no_more)))))))))))))
 
   abbrev meaning : Parts → pure.Process
-  meaning = either stop (either skip (either omega_term (either call (either prefix (either guard (either conditional (either composed (either generalised (either alphabetised (either hiding (either renaming (either indexed (λ v. absurd v)))))))))))))
+  meaning = either stop (either skip (either omega_term (either call (either prefix (either guard (either conditional (either composed (either generalised (either alphabetised (either hiding (either renaming (either indexed (either sliding (λ v. absurd v))))))))))))))
 
   abbrev OrderedParts : Parts → Type 0
-  OrderedParts = either_holds OfNothing (either_holds OfNothing (either_holds OfNothing (either_holds OfCall (either_holds OfPrefix (either_holds OfGuard (either_holds OfConditional (either_holds OfComposed (either_holds OfGeneralised (either_holds OfAlphabetised (either_holds OfHidden (either_holds OfRenamed (either_holds OfIndexed (λ v. ⊥)))))))))))))
+  OrderedParts = either_holds OfNothing (either_holds OfNothing (either_holds OfNothing (either_holds OfCall (either_holds OfPrefix (either_holds OfGuard (either_holds OfConditional (either_holds OfComposed (either_holds OfGeneralised (either_holds OfAlphabetised (either_holds OfHidden (either_holds OfRenamed (either_holds OfIndexed (either_holds OfSliding (λ v. ⊥))))))))))))))
 
   ranks : Ranks processes derived meaning OrderedParts 0
   ranks =
@@ -283,7 +299,8 @@ module _ (R : RattleType.RattleType) (A : allocator.Ghosts R.Denot) (ad dd : Syn
       (one_at processes hiding_cmp hiding OfHidden 14 (λ x. refl) hiding_agrees
       (one_at processes renaming_cmp renaming OfRenamed 15 (λ x. refl) renaming_agrees
       (one_more processes indexed_cmp indexed OfIndexed 16 19 (λ x. replicated_from x.0 x.1.0.0 (expression_of x.1.1.0) (process_of x.1.1.1.0)) (λ x. replicated_below x.0 x.1.0.0 (expression_of x.1.1.0) (process_of x.1.1.1.0)) (omega arith) indexed_agrees
-      (none processes 19)))))))))))))
+      (one_at processes sliding_cmp sliding OfSliding 19 (λ x. refl) sliding_agrees
+      (none processes 20))))))))))))))
 
   stands : (v : Parts) → process_of_form (make v) ≡ meaning v
   stands v =
@@ -301,7 +318,8 @@ module _ (R : RattleType.RattleType) (A : allocator.Ghosts R.Denot) (ad dd : Syn
         | inr (inr (inr (inr (inr (inr (inr (inr (inr (inr (inl w)))))))))) ↦ of_hiding R.Denot w.0 w.1.0
         | inr (inr (inr (inr (inr (inr (inr (inr (inr (inr (inr (inl w))))))))))) ↦ of_renaming R.Denot w.0 w.1.0
         | inr (inr (inr (inr (inr (inr (inr (inr (inr (inr (inr (inr (inl w)))))))))))) ↦ of_replicated R.Denot w.0 w.1.0 w.1.1.0 w.1.1.1.0
-        | inr (inr (inr (inr (inr (inr (inr (inr (inr (inr (inr (inr (inr w)))))))))))) ↦ absurd w
+        | inr (inr (inr (inr (inr (inr (inr (inr (inr (inr (inr (inr (inr (inl w))))))))))))) ↦ of_sliding R.Denot w.0 w.1.0
+        | inr (inr (inr (inr (inr (inr (inr (inr (inr (inr (inr (inr (inr (inr w))))))))))))) ↦ absurd w
       ]
 
   unfolds : (v w : Parts) → form_cmp (make v) (make w) ≡ derived v w
@@ -341,6 +359,7 @@ module _ (R : RattleType.RattleType) (A : allocator.Ghosts R.Denot) (ad dd : Syn
   step x (layer.Hiding p a) is = subst IsOrderedLayer is (subst IsOrderedForm (sym (views.rolls-Hiding p.0 a)) (of_parts (inr (inr (inr (inr (inr (inr (inr (inr (inr (inr (inl (p.0, (a, tt))))))))))))) p.1))
   step x (layer.Renaming p rs) is = subst IsOrderedLayer is (subst IsOrderedForm (sym (views.rolls-Renaming p.0 rs)) (of_parts (inr (inr (inr (inr (inr (inr (inr (inr (inr (inr (inr (inl (p.0, (rs, tt)))))))))))))) p.1))
   step x (layer.Replicated op n e p) is = subst IsOrderedLayer is (subst IsOrderedForm (sym (views.rolls-Replicated op n e p.0)) (of_parts (inr (inr (inr (inr (inr (inr (inr (inr (inr (inr (inr (inr (inl (op, (n, (e, (p.0, tt))))))))))))))))) p.1))
+  step x (layer.SlidingChoice p q) is = subst IsOrderedLayer is (subst IsOrderedForm (sym (views.rolls-SlidingChoice p.0 q.0)) (of_parts (inr (inr (inr (inr (inr (inr (inr (inr (inr (inr (inr (inr (inr (inl (p.0, (q.0, tt)))))))))))))))) (p.1, q.1)))
 
   abbrev TermLayer : Type 0
   TermLayer = layer.Term-F R.Denot (TermForm R.Denot) (Term R.Denot)

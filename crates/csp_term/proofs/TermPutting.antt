@@ -26,7 +26,7 @@ use Rattle.csp_term.specs.Field.{field_of, fields_of}
 use Rattle.csp_term.specs.Term.{process_of, process_of_form}
 use Rattle.std.proofs.lemmas.Result.{IfOk-weaker}
 use Rattle.csp_expression.proofs.ExpressionPutting.{put_list}
-use Rattle.csp_term.proofs.Forms.{of_form, of_call, of_prefix, of_guard, of_conditional, of_binary, of_generalised, of_alphabetised, of_hiding, of_renaming, of_replicated}
+use Rattle.csp_term.proofs.Forms.{of_form, of_call, of_prefix, of_guard, of_conditional, of_binary, of_generalised, of_alphabetised, of_hiding, of_renaming, of_replicated, of_sliding}
 use Rattle.csp_term.proofs.OperatorForms.{binary_put, replicated_put}
 
 -- ---- fields, one and then the others
@@ -116,6 +116,11 @@ pub put_alphabetised : {A X : Type 0} (bs : Bindings) (self : TermForm A) (p lef
 put_alphabetised {A} bs self p left a b q r is put_left done =
     IfOk-weaker r _ _ (λ f made. made ∙ ap (λ t. pure.AlphabetisedParallel t (put_event_set bs (event_set_of a)) (put_event_set bs (event_set_of b)) (put bs (process_of q))) put_left ∙ ap (put bs) (sym (ap process_of_form is ∙ of_alphabetised A p a b q))) done
 
+pub put_sliding : {A X : Type 0} (bs : Bindings) (self : TermForm A) (p left q : Term A) (r : Result (TermForm A) X) → self ≡ views.SlidingChoice p q → process_of left ≡ put bs (process_of p) →
+    IfOk r (λ f. process_of_form f ≡ pure.SlidingChoice (process_of left) (put bs (process_of q))) → IfOk r (λ f. process_of_form f ≡ put bs (process_of_form self))
+put_sliding {A} bs self p left q r is put_left done =
+    IfOk-weaker r _ _ (λ f made. made ∙ ap (λ t. pure.SlidingChoice t (put bs (process_of q))) put_left ∙ ap (put bs) (sym (ap process_of_form is ∙ of_sliding A p q))) done
+
 pub made_conditional : {A : Type 0} (bs : Bindings) (e condition : Expr A) (first q second : Term A) → expression_of condition ≡ put_expression bs (expression_of e) → process_of second ≡ put bs (process_of q) →
     process_of_form {A = A} (views.If condition first second) ≡ pure.If (put_expression bs (expression_of e)) (process_of first) (put bs (process_of q))
 made_conditional {A} bs e condition first q second done put_second = of_conditional A condition first second ∙ ap₂ (λ x t. pure.If x (process_of first) t) done put_second
@@ -131,6 +136,10 @@ pub made_alphabetised : {A : Type 0} (bs : Bindings) (left : Term A) (a own b ot
     process_of_form {A = A} (views.AlphabetisedParallel left own other right) ≡ pure.AlphabetisedParallel (process_of left) (put_event_set bs (event_set_of a)) (put_event_set bs (event_set_of b)) (put bs (process_of q))
 made_alphabetised {A} bs left a own b other q right put_own put_other put_right =
     of_alphabetised A left own other right ∙ (λ i. pure.AlphabetisedParallel (process_of left) (put_own i) (put_other i) (put_right i))
+
+pub made_sliding : {A : Type 0} (bs : Bindings) (left q right : Term A) → process_of right ≡ put bs (process_of q) →
+    process_of_form {A = A} (views.SlidingChoice left right) ≡ pure.SlidingChoice (process_of left) (put bs (process_of q))
+made_sliding {A} bs left q right put_right = of_sliding A left right ∙ ap (pure.SlidingChoice (process_of left)) put_right
 
 pub put_hiding : {A X : Type 0} (bs : Bindings) (self : TermForm A) (p body : Term A) (a : EventSet A) (r : Result (TermForm A) X) → self ≡ views.Hiding p a → process_of body ≡ put bs (process_of p) →
     IfOk r (λ f. process_of_form f ≡ pure.Hiding (process_of body) (put_event_set bs (event_set_of a))) → IfOk r (λ f. process_of_form f ≡ put bs (process_of_form self))

@@ -1,6 +1,6 @@
 -- What a process has at its head, without the processes in it.
 use Rattle.std.specs.Prelude.{ℕ, ◌+◌, max}
-use Rattle.csp_syntax.specs.Process.{Process, Stop, Skip, Omega, Call, Prefix, Guard, If, ExternalChoice, InternalChoice, Sequential, Interleaving, Interrupt, GeneralisedParallel, AlphabetisedParallel, Hiding, Renaming, ReplicatedExternalChoice, ReplicatedInternalChoice, ReplicatedInterleaving}
+use Rattle.csp_syntax.specs.Process.{Process, Stop, Skip, Omega, Call, Prefix, Guard, If, ExternalChoice, InternalChoice, Sequential, Interleaving, Interrupt, GeneralisedParallel, AlphabetisedParallel, Hiding, Renaming, ReplicatedExternalChoice, ReplicatedInternalChoice, ReplicatedInterleaving, SlidingChoice}
 use Rattle.csp_semantics.specs.Meaning.Limits.{event_set_depth, event_set_size, expression_depth, expression_size, expressions_depth, expressions_size, fields_depth, fields_size, pairs_depth, pairs_size}
 
 -- how many nodes that is
@@ -24,6 +24,7 @@ own_size (Renaming p rs) = 1 + pairs_size rs
 own_size (ReplicatedExternalChoice n e p) = 1 + expression_size e
 own_size (ReplicatedInternalChoice n e p) = 1 + expression_size e
 own_size (ReplicatedInterleaving n e p) = 1 + expression_size e
+own_size (SlidingChoice p q) = 1
 
 -- how deep the deepest part of it is, 0 where it has none
 abbrev pub own_depth : Process → ℕ
@@ -46,3 +47,4 @@ own_depth (Renaming p rs) = pairs_depth rs
 own_depth (ReplicatedExternalChoice n e p) = expression_depth e
 own_depth (ReplicatedInternalChoice n e p) = expression_depth e
 own_depth (ReplicatedInterleaving n e p) = expression_depth e
+own_depth (SlidingChoice p q) = 0

@@ -1,7 +1,7 @@
 -- The process that a term stands for.
 use Rattle.std.specs.Box.{box_value}
 use Rattle.csp_syntax.specs.Expression.{to_expressions}
-use Rattle.csp_syntax.specs.Process.{Process, Stop, Skip, Omega, Call, Prefix, Guard, If, GeneralisedParallel, AlphabetisedParallel, Hiding, Renaming}
+use Rattle.csp_syntax.specs.Process.{Process, Stop, Skip, Omega, Call, Prefix, Guard, If, GeneralisedParallel, AlphabetisedParallel, Hiding, Renaming, SlidingChoice}
 use Rattle.csp_syntax.specs.Operators.{binary_process, replicated_process}
 use Rattle.csp_term.specs.declared.term.Term.{Term}
 use Rattle.csp_term.specs.declared.term.TermForm.{TermForm}
@@ -29,6 +29,7 @@ form_step (layer.AlphabetisedParallel left own other right) = AlphabetisedParall
 form_step (layer.Hiding body hidden) = Hiding body (event_set_of hidden)
 form_step (layer.Renaming body pairs) = Renaming body (renaming_pairs_of pairs.items)
 form_step (layer.Replicated op n set body) = replicated_process op n.0 (expression_of set) body
+form_step (layer.SlidingChoice left right) = SlidingChoice left right
 
 abbrev pub process_of : {A : Type 0} → Term A → Process
 process_of {A} = fold-Term A Process Process form_step term_step

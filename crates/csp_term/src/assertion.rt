@@ -2,20 +2,20 @@
 
 ghost use Rattle.std.specs.Prelude.{◌≡◌};
 
+use crate::property::Property;
 use crate::term::Term;
-use csp_syntax::Model;
 use csp_value::{Memory, TryCopy};
 use std::alloc::Allocator;
 
-/// That the implementation refines the specification in the model.
+/// That the implementation has the property, or with `not` that it does not.
 #[derive(Drop)]
 #[derive_where(PartialEq, Eq)]
 pub struct Assertion<A: Allocator> {
-    /// The model in which the two are compared.
-    pub model: Model,
-    /// The left side.
-    pub specification: Term<A>,
-    /// The right side.
+    /// Whether `not` stands before it.
+    pub negated: bool,
+    /// What is asked of the implementation.
+    pub property: Property<A>,
+    /// The right side of a refinement, or the one side.
     pub implementation: Term<A>,
 }
 
@@ -26,8 +26,8 @@ impl<A: Allocator + Copy> TryCopy<A> for Assertion<A> {
 
     fn try_copy(&self, alloc: A) -> Result<Assertion<A>, Memory> {
         Ok(Assertion {
-            model: self.model,
-            specification: self.specification.try_copy(alloc)?,
+            negated: self.negated,
+            property: self.property.try_copy(alloc)?,
             implementation: self.implementation.try_copy(alloc)?,
         })
     }

@@ -82,7 +82,7 @@ impl<A: Allocator> Script<A> {
         self.parts.equations.as_slice()
     }
 
-    /// The assertions, in the order of the text. Both sides of each are terms of the script.
+    /// The assertions, in the order of the text. Each side that one has is a term of the script.
     pub fn assertions(&self) -> &[Assertion<A>]
         ensures value { map assertion_of result.now ≡ (script_of self.now).assertions }
         ensures sides { All (HasSidesOf (script_of self.now)) result.now }

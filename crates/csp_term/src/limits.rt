@@ -43,9 +43,8 @@ impl<A: Allocator + Copy> Term<A> {
             TermForm::If(_, left, right)
             | TermForm::Binary(_, left, right)
             | TermForm::GeneralisedParallel(left, _, right)
-            | TermForm::AlphabetisedParallel(left, _, _, right) => {
-                right.room_left(left.room_left(rest)?)
-            }
+            | TermForm::AlphabetisedParallel(left, _, _, right)
+            | TermForm::SlidingChoice(left, right) => { right.room_left(left.room_left(rest)?) }
         }
     }
 
@@ -65,9 +64,11 @@ impl<A: Allocator + Copy> TermForm<A> {
     {
         let rest = room.checked_sub(1)?;
         match self {
-            TermForm::Stop | TermForm::Skip | TermForm::Omega | TermForm::Binary(_, _, _) => {
-                Some(rest)
-            }
+            TermForm::Stop
+            | TermForm::Skip
+            | TermForm::Omega
+            | TermForm::Binary(_, _, _)
+            | TermForm::SlidingChoice(_, _) => Some(rest),
             TermForm::Call(_, arguments) => room_left_by(arguments, rest),
             TermForm::Prefix(_, fields, _) => room_left_by_fields(fields, rest),
             TermForm::Guard(expression, _)
@@ -101,7 +102,8 @@ impl<A: Allocator + Copy> TermForm<A> {
             TermForm::If(_, left, right)
             | TermForm::Binary(_, left, right)
             | TermForm::GeneralisedParallel(left, _, right)
-            | TermForm::AlphabetisedParallel(left, _, _, right) => {
+            | TermForm::AlphabetisedParallel(left, _, _, right)
+            | TermForm::SlidingChoice(left, right) => {
                 left.is_within_depth(most) && right.is_within_depth(most)
             }
         }
@@ -112,7 +114,11 @@ impl<A: Allocator + Copy> TermForm<A> {
         ensures { IsTrue result ↔ (own_depth (process_of_form self.now) ≤ most) }
     {
         match self {
-            TermForm::Stop | TermForm::Skip | TermForm::Omega | TermForm::Binary(_, _, _) => true,
+            TermForm::Stop
+            | TermForm::Skip
+            | TermForm::Omega
+            | TermForm::Binary(_, _, _)
+            | TermForm::SlidingChoice(_, _) => true,
             TermForm::Call(_, arguments) => are_within_depth(arguments, most),
             TermForm::Prefix(_, fields, _) => are_fields_within_depth(fields, most),
             TermForm::Guard(expression, _)

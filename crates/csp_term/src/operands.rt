@@ -2,7 +2,7 @@
 //! down.
 
 ghost use Rattle.std.specs.Prelude.{◌≡◌, IfOk};
-ghost use Rattle.csp_syntax.specs.Process.{AlphabetisedParallel, GeneralisedParallel, If};
+ghost use Rattle.csp_syntax.specs.Process.{AlphabetisedParallel, GeneralisedParallel, If, SlidingChoice};
 ghost use Rattle.csp_syntax.specs.Operators.{binary_process};
 ghost use Rattle.csp_semantics.specs.Meaning.Substitution.{put, put_event_set, put_expression};
 ghost use Rattle.csp_event_sets.specs.Events.{event_set_of};
@@ -77,4 +77,17 @@ pub(crate) fn put_in_alphabetised<A: Allocator + Copy>(
     let right = right.put_in(alloc, bindings)?;
     let own = own.put_in(alloc, bindings)?;
     Ok(TermForm::AlphabetisedParallel(left, own, other.put_in(alloc, bindings)?, right))
+}
+
+/// The sliding choice with the values put in. They are in the left process already.
+#[cycle(put_term)]
+pub(crate) fn put_in_sliding<A: Allocator + Copy>(
+    alloc: A,
+    right: &Term<A>,
+    left: Term<A>,
+    bindings: &[Binding<'_, A>],
+) -> Result<TermForm<A>, Memory>
+    ensures { IfOk result (λ form. process_of_form form ≡ SlidingChoice (process_of left) (put (bindings_of bindings.now) (process_of right.now))) }
+{
+    Ok(TermForm::SlidingChoice(left, right.put_in(alloc, bindings)?))
 }

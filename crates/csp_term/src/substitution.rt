@@ -14,7 +14,9 @@ ghost use Rattle.csp_term.specs.Term.{process_of, process_of_form};
 use crate::field::Field;
 use crate::hiding::{put_in_hiding, put_in_renaming};
 use crate::name::EquationId;
-use crate::operands::{put_in_alphabetised, put_in_binary, put_in_conditional, put_in_generalised};
+use crate::operands::{
+    put_in_alphabetised, put_in_binary, put_in_conditional, put_in_generalised, put_in_sliding,
+};
 use crate::replicated::put_in_replicated;
 use crate::term::{Term, TermForm};
 use csp_expression::{Binding, Expr, Name, put_in_all};
@@ -172,6 +174,10 @@ impl<A: Allocator + Copy> TermForm<A> {
             TermForm::Renaming(body, pairs) => put_in_renaming(alloc, body, pairs, bindings),
             TermForm::Replicated(operator, name, set, body) => {
                 put_in_replicated(alloc, *operator, *name, body, set, bindings)
+            }
+            TermForm::SlidingChoice(left, right) => {
+                let left = left.put_in(alloc, bindings)?;
+                put_in_sliding(alloc, right, left, bindings)
             }
         }
     }

@@ -1,6 +1,7 @@
 //! Terms of processes.
 
-ghost use Rattle.std.specs.Prelude.{◌≡◌, IfOk};
+ghost use Rattle.std.specs.Prelude.{◌≡◌, ◌↔◌, IfOk, IsTrue};
+ghost use Rattle.csp_syntax.specs.Process.{Omega};
 ghost use Rattle.csp_term.specs.Term.{process_of, process_of_form};
 
 use crate::field::Field;
@@ -51,6 +52,8 @@ pub enum TermForm<A: Allocator> {
     Renaming(Term<A>, Vec<RenamingPair<A>, A>),
     /// An operator with the name that stands for each value of the set in turn, and the process for it.
     Replicated(ReplicatedOperator, Name, Expr<A>, Term<A>),
+    /// `P [> Q`, which does as `P` or becomes `Q` by itself, until the first event of `P`.
+    SlidingChoice(Term<A>, Term<A>),
 }
 
 impl<A: Allocator> Term<A> {
@@ -67,6 +70,13 @@ impl<A: Allocator> Term<A> {
         ensures { process_of_form result.now ≡ process_of self.now }
     {
         &self.form
+    }
+
+    /// Whether the process has ended.
+    pub fn is_omega(&self) -> bool
+        ensures { IsTrue result ↔ (process_of self.now ≡ Omega) }
+    {
+        matches!(self.form(), TermForm::Omega)
     }
 }
 

@@ -4,7 +4,7 @@ use Rattle.std.proofs.lemmas.Bool.{or_cases, ltb-true, ltb-false, cases_Bool, an
 use Rattle.std.specs.Char.{encode_utf8}
 use Rattle.unicode_ident.proofs.Computing.{unicode_ident}
 use Rattle.csp_text.specs.Place.{first_place}
-use Rattle.csp_text.specs.Token.{CloseSharedSign, SignToken, NameToken, NumberToken, Spells, Lexeme, TokenLexeme, ToLineEnd, ToMark, IsLexeme, IsLongest, StartsWithNoLexeme, IsDivided, IsRefusedHere, LargeNumber, IsTextRefusal}
+use Rattle.csp_text.specs.Token.{CloseSharedSign, SlidingSign, SignToken, NameToken, NumberToken, Spells, Lexeme, TokenLexeme, ToLineEnd, ToMark, IsLexeme, IsLongest, StartsWithNoLexeme, IsDivided, IsRefusedHere, LargeNumber, IsTextRefusal}
 use Rattle.csp_text.specs.Spelling.{lexeme_of}
 use Rattle.csp_text.proofs.Spelling.{lexeme_is}
 
@@ -49,6 +49,10 @@ line_longest = longest_is (codes "--1") 2 ToLineEnd (omega arith) IsLexeme.to_li
 pub shared_longest : IsLongest (codes "|]]") 2 (TokenLexeme (SignToken CloseSharedSign))
 unfolding unicode_ident
 shared_longest = longest_is (codes "|]]") 2 (TokenLexeme (SignToken CloseSharedSign)) (omega arith) (IsLexeme.token (Spells.sign CloseSharedSign)) refl
+
+pub sliding_longest : IsLongest (codes "[>=") 2 (TokenLexeme (SignToken SlidingSign))
+unfolding unicode_ident
+sliding_longest = longest_is (codes "[>=") 2 (TokenLexeme (SignToken SlidingSign)) (omega arith) (IsLexeme.token (Spells.sign SlidingSign)) refl
 
 pub primed_longest : IsLongest (codes "or' ") 3 (TokenLexeme (NameToken (codes "or'")))
 unfolding unicode_ident

@@ -6,7 +6,7 @@ use Rattle.std.specs.Str.{all_ascii_digits}
 use Rattle.unicode_ident.proofs.IdentLemmas.{is_xid_start-ascii}
 use Rattle.unicode_ident.specs.Ident.{is_xid_start, is_xid_continue}
 use Rattle.unicode_ident.proofs.Computing.{unicode_ident}
-use Rattle.csp_text.specs.Token.{Keyword, Token, keyword_spelling, Sign, sign_spelling, KeywordToken, SignToken, NumberToken, digits_value, all_continue, all_primes, is_white, Spells, Lexeme, TokenLexeme, White, IsLexeme, DatatypeWord, NametypeWord, ChannelWord, AssertWord, IfWord, ThenWord, ElseWord, AndWord, OrWord, NotWord, TrueWord, FalseWord, BoolWord, StopWord, SkipWord, HeadWord, TailWord, NullWord, ElemWord, MemberWord, UnionWord, InterWord, DiffWord, CardWord, ArrowSign, BackArrowSign, BoxSign, InternalSign, TripleBarSign, DoubleBarSign, OpenSharedSign, CloseSharedSign, OpenRenamingSign, CloseRenamingSign, OpenProductionsSign, CloseProductionsSign, TracesSign, FailuresSign, InterruptSign, HidingSign, SemicolonSign, GuardSign, AtSign, SameSign, DiffersSign, AtMostSign, AtLeastSign, LessSign, GreaterSign, PlusSign, MinusSign, TimesSign, PercentSign, CaretSign, HashSign, OutputSign, InputSign, RangeSign, DotSign, ColonSign, CommaSign, EqualsSign, BarSign, OpenRoundSign, CloseRoundSign, OpenSquareSign, CloseSquareSign, OpenBraceSign, CloseBraceSign}
+use Rattle.csp_text.specs.Token.{Keyword, Token, keyword_spelling, Sign, sign_spelling, KeywordToken, SignToken, NumberToken, digits_value, all_continue, all_primes, is_white, Spells, Lexeme, TokenLexeme, White, IsLexeme, DatatypeWord, NametypeWord, ChannelWord, AssertWord, IfWord, ThenWord, ElseWord, AndWord, OrWord, NotWord, TrueWord, FalseWord, BoolWord, StopWord, SkipWord, HeadWord, TailWord, NullWord, ElemWord, MemberWord, UnionWord, InterWord, DiffWord, CardWord, ArrowSign, BackArrowSign, BoxSign, InternalSign, TripleBarSign, DoubleBarSign, OpenSharedSign, CloseSharedSign, OpenRenamingSign, CloseRenamingSign, OpenProductionsSign, CloseProductionsSign, TracesSign, FailuresSign, InterruptSign, SlidingSign, HidingSign, SemicolonSign, GuardSign, AtSign, SameSign, DiffersSign, AtMostSign, AtLeastSign, LessSign, GreaterSign, PlusSign, MinusSign, TimesSign, PercentSign, CaretSign, HashSign, OutputSign, InputSign, RangeSign, DotSign, ColonSign, CommaSign, EqualsSign, BarSign, OpenRoundSign, CloseRoundSign, OpenSquareSign, CloseSquareSign, OpenBraceSign, CloseBraceSign}
 use Rattle.csp_text.specs.Spelling.{lexeme_of, ends_name}
 
 pub keyword_computed : (k : Keyword) → lexeme_of (keyword_spelling k) ≡ Some (TokenLexeme (KeywordToken k))
@@ -53,6 +53,7 @@ sign_computed CloseProductionsSign = refl
 sign_computed TracesSign = refl
 sign_computed FailuresSign = refl
 sign_computed InterruptSign = refl
+sign_computed SlidingSign = refl
 sign_computed HidingSign = refl
 sign_computed SemicolonSign = refl
 sign_computed GuardSign = refl

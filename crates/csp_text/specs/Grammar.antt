@@ -1,9 +1,9 @@
 -- The grammar of scripts: which tokens are which tree. Chains group to the left.
-use Rattle.std.specs.Prelude.{◌≡◌, ℕ, true, false, List, [], ◌∷◌, ◌++◌}
+use Rattle.std.specs.Prelude.{◌≡◌, ◌≢◌, ℕ, Bool, true, false, List, [], ◌∷◌, ◌++◌, codes}
 use Rattle.csp_syntax.specs.Expression.{Unary, Negate, Not, Length, Head, Tail, IsNull, Card, Binary, Add, Subtract, Multiply, Modulus, Concatenate, Equals, Differs, LessThan, AtMost, GreaterThan, AtLeast, And, Or, IsElement, IsMember, Union, Intersection, Difference}
 use Rattle.csp_syntax.specs.Process.{Model, Traces, Failures}
-use Rattle.csp_text.specs.Token.{Keyword, Sign, KeywordToken, SignToken, NameToken, NumberToken, PlacedToken, DatatypeWord, NametypeWord, ChannelWord, AssertWord, IfWord, ThenWord, ElseWord, AndWord, OrWord, NotWord, TrueWord, FalseWord, BoolWord, StopWord, SkipWord, HeadWord, TailWord, NullWord, ElemWord, MemberWord, UnionWord, InterWord, DiffWord, CardWord, ArrowSign, BackArrowSign, BoxSign, InternalSign, TripleBarSign, DoubleBarSign, OpenSharedSign, CloseSharedSign, OpenRenamingSign, CloseRenamingSign, OpenProductionsSign, CloseProductionsSign, TracesSign, FailuresSign, InterruptSign, HidingSign, SemicolonSign, GuardSign, AtSign, SameSign, DiffersSign, AtMostSign, AtLeastSign, LessSign, GreaterSign, PlusSign, MinusSign, TimesSign, PercentSign, CaretSign, HashSign, OutputSign, InputSign, RangeSign, DotSign, ColonSign, CommaSign, EqualsSign, BarSign, OpenRoundSign, CloseRoundSign, OpenSquareSign, CloseSquareSign, OpenBraceSign, CloseBraceSign}
-use Rattle.csp_text.specs.Raw.{RawName, RawExpression, RawNumber, RawTruth, RawBooleans, RawUse, RawApply, RawCombine, RawSequence, RawSet, RawRange, RawExpressions, no_raw_expressions, raw_expression_and, RawField, RawGiven, RawInput, RawInputFrom, RawEvent, RawEventSet, RawEnumeration, RawProductions, RawEventUnion, RawEventIntersection, RawEventDifference, RawPair, Infix, ExternalInfix, InternalInfix, SequentialInfix, InterleavingInfix, InterruptInfix, Replicator, ExternalReplicator, InternalReplicator, InterleavingReplicator, RawProcess, RawStop, RawSkip, RawCall, RawPrefix, RawGuard, RawIf, RawInfix, RawGeneralisedParallel, RawAlphabetisedParallel, RawHiding, RawRenaming, RawReplicated, RawDomain, RawDeclaration, RawDatatype, RawNametype, RawChannels, RawEquation, RawAssertion, RawScript}
+use Rattle.csp_text.specs.Token.{Keyword, Sign, KeywordToken, SignToken, NameToken, NumberToken, PlacedToken, DatatypeWord, NametypeWord, ChannelWord, AssertWord, IfWord, ThenWord, ElseWord, AndWord, OrWord, NotWord, TrueWord, FalseWord, BoolWord, StopWord, SkipWord, HeadWord, TailWord, NullWord, ElemWord, MemberWord, UnionWord, InterWord, DiffWord, CardWord, ArrowSign, BackArrowSign, BoxSign, InternalSign, TripleBarSign, DoubleBarSign, OpenSharedSign, CloseSharedSign, OpenRenamingSign, CloseRenamingSign, OpenProductionsSign, CloseProductionsSign, TracesSign, FailuresSign, InterruptSign, SlidingSign, HidingSign, SemicolonSign, GuardSign, AtSign, SameSign, DiffersSign, AtMostSign, AtLeastSign, LessSign, GreaterSign, PlusSign, MinusSign, TimesSign, PercentSign, CaretSign, HashSign, OutputSign, InputSign, RangeSign, DotSign, ColonSign, CommaSign, EqualsSign, BarSign, OpenRoundSign, CloseRoundSign, OpenSquareSign, CloseSquareSign, OpenBraceSign, CloseBraceSign}
+use Rattle.csp_text.specs.Raw.{RawName, RawExpression, RawNumber, RawTruth, RawBooleans, RawUse, RawApply, RawCombine, RawSequence, RawSet, RawRange, RawConstructor, RawExpressions, no_raw_expressions, raw_expression_and, RawField, RawGiven, RawInput, RawInputFrom, RawEvent, RawEventSet, RawEnumeration, RawProductions, RawEventUnion, RawEventIntersection, RawEventDifference, RawPair, Infix, ExternalInfix, InternalInfix, SequentialInfix, InterleavingInfix, InterruptInfix, SlidingInfix, Replicator, ExternalReplicator, InternalReplicator, InterleavingReplicator, RawProcess, RawStop, RawSkip, RawCall, RawPrefix, RawGuard, RawIf, RawInfix, RawGeneralisedParallel, RawAlphabetisedParallel, RawHiding, RawRenaming, RawReplicated, RawDomain, RawProperty, RawRefinementOf, RawDeadlockFree, RawDivergenceFree, RawClause, RawDeclaration, RawDatatype, RawNametype, RawChannels, RawEquation, RawAssertion, RawScript}
 
 -- the one token that is this keyword, this sign, a name, a number
 pub data IsWord (k : Keyword) : List PlacedToken → Type 0 where
@@ -107,6 +107,9 @@ mutual
         IsAtom (a ++ b ++ c ++ d) (RawApply o e)
     of_two : {a b c d x y : List PlacedToken} {o : Binary} {e f : RawExpression} → IsBinaryWord a o → IsSign OpenRoundSign b → IsExpression c e → IsSign CommaSign d →
         IsExpression x f → IsSign CloseRoundSign y → IsAtom (a ++ b ++ c ++ d ++ x ++ y) (RawCombine o e f)
+    -- "(" name ("." atom)+ ")"
+    constructed : {a b c d x y : List PlacedToken} {n : RawName} {e : RawExpression} {es : RawExpressions} → IsSign OpenRoundSign a → IsName b n → IsSign DotSign c → IsAtom d e →
+        AreDotted x es → IsSign CloseRoundSign y → IsAtom (a ++ b ++ c ++ d ++ x ++ y) (RawConstructor n (raw_expression_and e es))
 
   -- sum ("," sum)*
   pub data AreSums : List PlacedToken → RawExpressions → Type 0 where
@@ -119,10 +122,10 @@ mutual
     more_expressions : {a b c : List PlacedToken} {e : RawExpression} {es : RawExpressions} → IsExpression a e → IsSign CommaSign b → AreExpressions c es →
         AreExpressions (a ++ b ++ c) (raw_expression_and e es)
 
--- ("." atom)*
-pub data AreDotted : List PlacedToken → RawExpressions → Type 0 where
-  no_dotted : AreDotted [] no_raw_expressions
-  dotted : {a b c : List PlacedToken} {e : RawExpression} {es : RawExpressions} → IsSign DotSign a → IsAtom b e → AreDotted c es → AreDotted (a ++ b ++ c) (raw_expression_and e es)
+  -- ("." atom)*
+  pub data AreDotted : List PlacedToken → RawExpressions → Type 0 where
+    no_dotted : AreDotted [] no_raw_expressions
+    dotted : {a b c : List PlacedToken} {e : RawExpression} {es : RawExpressions} → IsSign DotSign a → IsAtom b e → AreDotted c es → AreDotted (a ++ b ++ c) (raw_expression_and e es)
 
 -- evt: name ("." atom)*
 pub data IsEvent : List PlacedToken → RawEvent → Type 0 where
@@ -177,6 +180,7 @@ pub data IsInfix : List PlacedToken → Infix → Type 0 where
   sequential_infix : {a : List PlacedToken} → IsSign SemicolonSign a → IsInfix a SequentialInfix
   interleaving_infix : {a : List PlacedToken} → IsSign TripleBarSign a → IsInfix a InterleavingInfix
   interrupt_infix : {a : List PlacedToken} → IsSign InterruptSign a → IsInfix a InterruptInfix
+  sliding_infix : {a : List PlacedToken} → IsSign SlidingSign a → IsInfix a SlidingInfix
 
 pub data IsReplicator : List PlacedToken → Replicator → Type 0 where
   external_replicator : {a : List PlacedToken} → IsSign BoxSign a → IsReplicator a ExternalReplicator
@@ -229,24 +233,50 @@ mutual
         IsBase (a ++ b ++ c ++ d) (RawCall n es)
     bracketed_process : {a b c : List PlacedToken} {p : RawProcess} → IsSign OpenRoundSign a → IsProcess b p → IsSign CloseRoundSign c → IsBase (a ++ b ++ c) p
 
--- name ("|" name)*
-pub data AreAlternatives : List PlacedToken → List RawName → Type 0 where
-  one_alternative : {a : List PlacedToken} {n : RawName} → IsName a n → AreAlternatives a (n ∷ [])
-  more_alternatives : {a b c : List PlacedToken} {n : RawName} {ns : List RawName} → IsName a n → IsSign BarSign b → AreAlternatives c ns → AreAlternatives (a ++ b ++ c) (n ∷ ns)
-
 -- atom ("." atom)*, each with the place of its first token
 pub data AreDomains : List PlacedToken → List RawDomain → Type 0 where
   one_domain : (t : PlacedToken) (ts : List PlacedToken) {e : RawExpression} → IsAtom (t ∷ ts) e → AreDomains (t ∷ ts) (record { place = t.place; set = e } ∷ [])
   more_domains : (t : PlacedToken) (ts : List PlacedToken) {b c : List PlacedToken} {e : RawExpression} {ds : List RawDomain} → IsAtom (t ∷ ts) e → IsSign DotSign b → AreDomains c ds →
       AreDomains (t ∷ ts ++ b ++ c) (record { place = t.place; set = e } ∷ ds)
 
+-- name ("." atom)*
+pub data IsClause : List PlacedToken → RawClause → Type 0 where
+  bare_clause : {a : List PlacedToken} {n : RawName} → IsName a n → IsClause a (record { name = n; fields = [] })
+  clause : {a b c : List PlacedToken} {n : RawName} {ds : List RawDomain} → IsName a n → IsSign DotSign b → AreDomains c ds → IsClause (a ++ b ++ c) (record { name = n; fields = ds })
+
+-- clause ("|" clause)*
+pub data AreClauses : List PlacedToken → List RawClause → Type 0 where
+  one_clause : {a : List PlacedToken} {c : RawClause} → IsClause a c → AreClauses a (c ∷ [])
+  more_clauses : {a b d : List PlacedToken} {c : RawClause} {cs : List RawClause} → IsClause a c → IsSign BarSign b → AreClauses d cs → AreClauses (a ++ b ++ d) (c ∷ cs)
+
 pub data IsModel : List PlacedToken → Model → Type 0 where
   traces : {a : List PlacedToken} → IsSign TracesSign a → IsModel a Traces
   failures : {a : List PlacedToken} → IsSign FailuresSign a → IsModel a Failures
 
+-- the one token that is the name spelled so, which is no keyword
+pub data IsSpelled (cs : List ℕ) : List PlacedToken → Type 0 where
+  spelled : (t : PlacedToken) → t.token ≡ NameToken cs → IsSpelled cs (t ∷ [])
+
+-- "]" | "[" "F" ("]]" | "]" "]")
+pub data IsFreedomEnd : List PlacedToken → Type 0 where
+  plain_end : {a : List PlacedToken} → IsSign CloseSquareSign a → IsFreedomEnd a
+  joined_end : {a b c : List PlacedToken} → IsSign OpenSquareSign a → IsSpelled (codes "F") b → IsSign CloseRenamingSign c → IsFreedomEnd (a ++ b ++ c)
+  spaced_end : {a b c d : List PlacedToken} → IsSign OpenSquareSign a → IsSpelled (codes "F") b → IsSign CloseSquareSign c → IsSign CloseSquareSign d → IsFreedomEnd (a ++ b ++ c ++ d)
+
+-- "[" "deadlock" "free" and its end, "[" "divergence" "free" "]"
+pub data IsFreedom : List PlacedToken → RawProperty → Type 0 where
+  deadlock_free : {a b c d : List PlacedToken} → IsSign OpenSquareSign a → IsSpelled (codes "deadlock") b → IsSpelled (codes "free") c → IsFreedomEnd d → IsFreedom (a ++ b ++ c ++ d) RawDeadlockFree
+  divergence_free : {a b c d : List PlacedToken} → IsSign OpenSquareSign a → IsSpelled (codes "divergence") b → IsSpelled (codes "free") c → IsSign CloseSquareSign d →
+      IsFreedom (a ++ b ++ c ++ d) RawDivergenceFree
+
+-- ["not"] proc, behind "assert". A "not" there always negates, so a side that begins with one stands in parentheses.
+pub data IsFirstSide : List PlacedToken → Bool → RawProcess → Type 0 where
+  plain_side : (t : PlacedToken) (ts : List PlacedToken) {p : RawProcess} → t.token ≢ KeywordToken NotWord → IsProcess (t ∷ ts) p → IsFirstSide (t ∷ ts) false p
+  negated_side : {a b : List PlacedToken} {p : RawProcess} → IsWord NotWord a → IsProcess b p → IsFirstSide (a ++ b) true p
+
 pub data IsDeclaration : List PlacedToken → RawDeclaration → Type 0 where
-  datatype : {a b c d : List PlacedToken} {n : RawName} {ns : List RawName} → IsWord DatatypeWord a → IsName b n → IsSign EqualsSign c → AreAlternatives d ns →
-      IsDeclaration (a ++ b ++ c ++ d) (RawDatatype n ns)
+  datatype : {a b c d : List PlacedToken} {n : RawName} {cs : List RawClause} → IsWord DatatypeWord a → IsName b n → IsSign EqualsSign c → AreClauses d cs →
+      IsDeclaration (a ++ b ++ c ++ d) (RawDatatype n cs)
   nametype : (t : PlacedToken) (ts : List PlacedToken) {a b c : List PlacedToken} {n : RawName} {e : RawExpression} → IsWord NametypeWord a → IsName b n → IsSign EqualsSign c → IsExpression (t ∷ ts) e →
       IsDeclaration (a ++ b ++ c ++ t ∷ ts) (RawNametype n (record { place = t.place; set = e }))
   bare_channels : {a b : List PlacedToken} {ns : List RawName} → IsWord ChannelWord a → AreNames b ns → IsDeclaration (a ++ b) (RawChannels ns [])
@@ -255,8 +285,10 @@ pub data IsDeclaration : List PlacedToken → RawDeclaration → Type 0 where
   equation : {a b c : List PlacedToken} {n : RawName} {p : RawProcess} → IsName a n → IsSign EqualsSign b → IsProcess c p → IsDeclaration (a ++ b ++ c) (RawEquation n [] p)
   equation_with : {a b c d x y : List PlacedToken} {n : RawName} {ns : List RawName} {p : RawProcess} → IsName a n → IsSign OpenRoundSign b → AreNames c ns → IsSign CloseRoundSign d →
       IsSign EqualsSign x → IsProcess y p → IsDeclaration (a ++ b ++ c ++ d ++ x ++ y) (RawEquation n ns p)
-  assertion : (t : PlacedToken) {b c d : List PlacedToken} {m : Model} {p q : RawProcess} → IsWord AssertWord (t ∷ []) → IsProcess b p → IsModel c m → IsProcess d q →
-      IsDeclaration (t ∷ b ++ c ++ d) (RawAssertion t.place m p q)
+  assertion : (t : PlacedToken) {b c d : List PlacedToken} {n : Bool} {m : Model} {p q : RawProcess} → IsWord AssertWord (t ∷ []) → IsFirstSide b n p → IsModel c m → IsProcess d q →
+      IsDeclaration (t ∷ b ++ c ++ d) (RawAssertion t.place n (RawRefinementOf m p) q)
+  freedom : (t : PlacedToken) {b c d : List PlacedToken} {n : Bool} {a : RawProperty} {p : RawProcess} → IsWord AssertWord (t ∷ []) → IsFirstSide b n p → IsSign ColonSign c → IsFreedom d a →
+      IsDeclaration (t ∷ b ++ c ++ d) (RawAssertion t.place n a p)
 
 -- decl*
 pub data IsScript : List PlacedToken → RawScript → Type 0 where

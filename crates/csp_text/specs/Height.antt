@@ -1,17 +1,18 @@
 -- The height of tokens, and the refusals of the grammar.
-use Rattle.std.specs.Prelude.{◌≡◌, ℕ, ◌+◌, ◌<◌, max, List, [], ◌∷◌, ◌++◌}
+use Rattle.std.specs.Prelude.{◌≡◌, ℕ, ◌+◌, ◌<◌, max, Bool, true, false, cond, List, [], ◌∷◌, ◌++◌}
 use Rattle.csp_text.specs.Place.{Place}
-use Rattle.csp_text.specs.Token.{Token, KeywordToken, SignToken, PlacedToken, IfWord, ThenWord, ElseWord, AndWord, OrWord, NotWord, ArrowSign, BoxSign, InternalSign, TripleBarSign, OpenSharedSign, CloseSharedSign, OpenRenamingSign, CloseRenamingSign, OpenProductionsSign, CloseProductionsSign, InterruptSign, HidingSign, SemicolonSign, GuardSign, AtSign, SameSign, DiffersSign, AtMostSign, AtLeastSign, LessSign, GreaterSign, PlusSign, MinusSign, TimesSign, PercentSign, CaretSign, HashSign, OpenRoundSign, CloseRoundSign, OpenSquareSign, CloseSquareSign, OpenBraceSign, CloseBraceSign}
+use Rattle.csp_text.specs.Token.{Token, KeywordToken, SignToken, PlacedToken, IfWord, ThenWord, ElseWord, AndWord, OrWord, NotWord, ArrowSign, BoxSign, InternalSign, TripleBarSign, OpenSharedSign, CloseSharedSign, OpenRenamingSign, CloseRenamingSign, OpenProductionsSign, CloseProductionsSign, InterruptSign, SlidingSign, HidingSign, SemicolonSign, GuardSign, AtSign, SameSign, DiffersSign, AtMostSign, AtLeastSign, LessSign, GreaterSign, PlusSign, MinusSign, TimesSign, PercentSign, CaretSign, HashSign, OpenRoundSign, CloseRoundSign, OpenSquareSign, CloseSquareSign, OpenBraceSign, CloseBraceSign}
 use Rattle.csp_text.specs.Raw.{RawDeclaration, RawScript}
 use Rattle.csp_text.specs.Grammar.{IsDeclaration, IsScript, BeginsScript}
 
 -- What a token does for the height: it opens or closes a bracket group, counts one, or does nothing.
+-- `[` and `]]` are told apart, since `]]` behind a `[` closes that group and the one around it, as in `[deadlock free [F]]`.
 pub data Nesting : Type 0 where
-  Opens Closes Counts Plain : Nesting
+  Opens OpensSquare Closes ClosesDouble Counts Plain : Nesting
 
 abbrev pub nesting : Token → Nesting
 nesting (SignToken OpenRoundSign) = Opens
-nesting (SignToken OpenSquareSign) = Opens
+nesting (SignToken OpenSquareSign) = OpensSquare
 nesting (SignToken OpenSharedSign) = Opens
 nesting (SignToken OpenRenamingSign) = Opens
 nesting (SignToken OpenBraceSign) = Opens
@@ -19,7 +20,7 @@ nesting (SignToken OpenProductionsSign) = Opens
 nesting (SignToken CloseRoundSign) = Closes
 nesting (SignToken CloseSquareSign) = Closes
 nesting (SignToken CloseSharedSign) = Closes
-nesting (SignToken CloseRenamingSign) = Closes
+nesting (SignToken CloseRenamingSign) = ClosesDouble
 nesting (SignToken CloseBraceSign) = Closes
 nesting (SignToken CloseProductionsSign) = Closes
 nesting (SignToken ArrowSign) = Counts
@@ -30,6 +31,7 @@ nesting (SignToken InternalSign) = Counts
 nesting (SignToken SemicolonSign) = Counts
 nesting (SignToken TripleBarSign) = Counts
 nesting (SignToken InterruptSign) = Counts
+nesting (SignToken SlidingSign) = Counts
 nesting (SignToken HidingSign) = Counts
 nesting (SignToken SameSign) = Counts
 nesting (SignToken DiffersSign) = Counts
@@ -51,23 +53,28 @@ nesting (KeywordToken OrWord) = Counts
 nesting (KeywordToken NotWord) = Counts
 nesting _ = Plain
 
--- A list of tokens: how many count directly in it, an opening bracket among them, and the greatest height of a group in it.
+-- A list of tokens: whether `[` opened it, how many count directly in it, an opening bracket among them, and the greatest height of a group in it.
 pub record Group : Type 0 where
+  pub square : Bool
   pub direct : ℕ
   pub deepest : ℕ
 
 abbrev pub no_tokens : Group
-no_tokens = record { direct = 0; deepest = 0 }
+no_tokens = record { square = false; direct = 0; deepest = 0 }
+
+-- the same, opened by `[`
+abbrev pub no_tokens_yet : Bool → Group
+no_tokens_yet square = record { square = square; direct = 0; deepest = 0 }
 
 abbrev pub group_height : Group → ℕ
 group_height g = g.direct + g.deepest
 
 abbrev pub one_more : Group → Group
-one_more g = record { direct = g.direct + 1; deepest = g.deepest }
+one_more g = record { square = g.square; direct = g.direct + 1; deepest = g.deepest }
 
 -- a group in the list around it
 abbrev pub with_group : Group → Group → Group
-with_group around g = record { direct = around.direct; deepest = max around.deepest (group_height g) }
+with_group around g = record { square = around.square; direct = around.direct; deepest = max around.deepest (group_height g) }
 
 -- Where a token stands: the group that is open there, and the groups around it from the inside out.
 pub record Nest : Type 0 where
@@ -79,9 +86,15 @@ abbrev pub closed : Group → List Group → Nest
 closed g [] = record { current = g; around = [] }
 closed g (around ∷ gs) = record { current = with_group around g; around = gs }
 
+-- `]]` does, and where `[` opened that, it ends the one around it too
+abbrev pub closed_double : Nest → Nest
+closed_double n = cond n.current.square (let once = closed n.current n.around in closed once.current once.around) (closed n.current n.around)
+
 abbrev pub after_token : Nesting → Nest → Nest
 after_token Opens n = record { current = no_tokens; around = one_more n.current ∷ n.around }
+after_token OpensSquare n = record { current = no_tokens_yet true; around = one_more n.current ∷ n.around }
 after_token Closes n = closed n.current n.around
+after_token ClosesDouble n = closed_double n
 after_token Counts n = record { current = one_more n.current; around = n.around }
 after_token Plain n = n
 
@@ -136,6 +149,7 @@ token_fault (SignToken InternalSign) = MixedOperators
 token_fault (SignToken SemicolonSign) = MixedOperators
 token_fault (SignToken TripleBarSign) = MixedOperators
 token_fault (SignToken InterruptSign) = MixedOperators
+token_fault (SignToken SlidingSign) = MixedOperators
 token_fault (SignToken OpenSquareSign) = MixedOperators
 token_fault (SignToken OpenSharedSign) = MixedOperators
 token_fault (SignToken OpenRenamingSign) = MixedOperators

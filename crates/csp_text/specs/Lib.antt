@@ -7,3 +7,4 @@ pub mod Raw
 pub mod Grammar
 pub mod Height
 pub mod Reading
+pub mod Samples

@@ -20,6 +20,7 @@ mutual
     RawSequence : (items : RawExpressions) → RawExpression
     RawSet : (members : RawExpressions) → RawExpression
     RawRange : (from to : RawExpression) → RawExpression
+    RawConstructor : (constructor : RawName) (fields : RawExpressions) → RawExpression
 
   -- a list of expressions
   pub data RawExpressions : Type 0 where
@@ -48,9 +49,9 @@ pub record RawPair : Type 0 where
   pub from : RawEvent
   pub to : RawEvent
 
--- `[]`, `|~|`, `;`, `|||`, `/\`
+-- `[]`, `|~|`, `;`, `|||`, `/\`, `[>`
 pub data Infix : Type 0 where
-  ExternalInfix InternalInfix SequentialInfix InterleavingInfix InterruptInfix : Infix
+  ExternalInfix InternalInfix SequentialInfix InterleavingInfix InterruptInfix SlidingInfix : Infix
 
 -- `[]`, `|~|`, `|||` over a set
 pub data Replicator : Type 0 where
@@ -76,13 +77,24 @@ pub record RawDomain : Type 0 where
   pub place : Place
   pub set : RawExpression
 
+-- a constructor of a datatype, with the sets of its fields
+pub record RawClause : Type 0 where
+  pub name : RawName
+  pub fields : List RawDomain
+
+-- What an assertion asks: refinement of a specification, `:[deadlock free]`, or `:[divergence free]`.
+pub data RawProperty : Type 0 where
+  RawRefinementOf : (model : Model) (specification : RawProcess) → RawProperty
+  RawDeadlockFree : RawProperty
+  RawDivergenceFree : RawProperty
+
 -- A declaration. An equation begins with its name, so only an assertion needs the place of its first token.
 pub data RawDeclaration : Type 0 where
-  RawDatatype : (name : RawName) (constructors : List RawName) → RawDeclaration
+  RawDatatype : (name : RawName) (clauses : List RawClause) → RawDeclaration
   RawNametype : (name : RawName) (domain : RawDomain) → RawDeclaration
   RawChannels : (names : List RawName) (domains : List RawDomain) → RawDeclaration
   RawEquation : (name : RawName) (parameters : List RawName) (body : RawProcess) → RawDeclaration
-  RawAssertion : (place : Place) (model : Model) (specification implementation : RawProcess) → RawDeclaration
+  RawAssertion : (place : Place) (negated : Bool) (property : RawProperty) (implementation : RawProcess) → RawDeclaration
 
 -- the declarations of a script, in the order of the text
 abbrev pub RawScript : Type 0

@@ -35,3 +35,10 @@ pub data IsRead (bytes : List ℕ) (s : RawScript) : Type 0 where
 pub data IsReadingRefusal (bytes : List ℕ) : ReadingFault → Place → Type 0 where
   of_text : {f : TextFault} {p : Place} → IsTextRefusal bytes f p → IsReadingRefusal bytes (OfText f) p
   of_grammar : {tokens : List PlacedToken} {end p : Place} {f : GrammarFault} → AreTokens bytes tokens end → IsGrammarRefusal tokens end f p → IsReadingRefusal bytes (OfGrammar f) p
+
+-- no refusal of the grammar is one of the tokens, and none of reading one of the text
+abbrev pub AreUnrefused : List PlacedToken → Place → Type 0
+AreUnrefused tokens end = (f : GrammarFault) (p : Place) → ¬ (IsGrammarRefusal tokens end f p)
+
+abbrev pub IsUnrefusedText : List ℕ → Type 0
+IsUnrefusedText bytes = (f : ReadingFault) (p : Place) → ¬ (IsReadingRefusal bytes f p)

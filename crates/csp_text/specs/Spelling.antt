@@ -2,10 +2,10 @@
 use Rattle.std.specs.Prelude.{ℕ, Bool, true, cond, List, [], ◌∷◌, length, codes, nat_eq, Option, Some, None}
 use Rattle.std.specs.Str.{bytes_eq, all_ascii_digits}
 use Rattle.unicode_ident.specs.Ident.{is_xid_start, is_xid_continue}
-use Rattle.csp_text.specs.Token.{Keyword, keywords, keyword_spelling, is_keyword, Sign, sign_spelling, KeywordToken, SignToken, NameToken, NumberToken, digits_value, all_primes, is_white, Lexeme, TokenLexeme, White, ToLineEnd, ToMark, ArrowSign, BackArrowSign, BoxSign, InternalSign, TripleBarSign, DoubleBarSign, OpenSharedSign, CloseSharedSign, OpenRenamingSign, CloseRenamingSign, OpenProductionsSign, CloseProductionsSign, TracesSign, FailuresSign, InterruptSign, HidingSign, SemicolonSign, GuardSign, AtSign, SameSign, DiffersSign, AtMostSign, AtLeastSign, LessSign, GreaterSign, PlusSign, MinusSign, TimesSign, PercentSign, CaretSign, HashSign, OutputSign, InputSign, RangeSign, DotSign, ColonSign, CommaSign, EqualsSign, BarSign, OpenRoundSign, CloseRoundSign, OpenSquareSign, CloseSquareSign, OpenBraceSign, CloseBraceSign}
+use Rattle.csp_text.specs.Token.{Keyword, keywords, keyword_spelling, is_keyword, Sign, sign_spelling, KeywordToken, SignToken, NameToken, NumberToken, digits_value, all_primes, is_white, Lexeme, TokenLexeme, White, ToLineEnd, ToMark, ArrowSign, BackArrowSign, BoxSign, InternalSign, TripleBarSign, DoubleBarSign, OpenSharedSign, CloseSharedSign, OpenRenamingSign, CloseRenamingSign, OpenProductionsSign, CloseProductionsSign, TracesSign, FailuresSign, InterruptSign, SlidingSign, HidingSign, SemicolonSign, GuardSign, AtSign, SameSign, DiffersSign, AtMostSign, AtLeastSign, LessSign, GreaterSign, PlusSign, MinusSign, TimesSign, PercentSign, CaretSign, HashSign, OutputSign, InputSign, RangeSign, DotSign, ColonSign, CommaSign, EqualsSign, BarSign, OpenRoundSign, CloseRoundSign, OpenSquareSign, CloseSquareSign, OpenBraceSign, CloseBraceSign}
 
 abbrev pub signs : List Sign
-signs = ArrowSign ∷ BackArrowSign ∷ BoxSign ∷ InternalSign ∷ TripleBarSign ∷ DoubleBarSign ∷ OpenSharedSign ∷ CloseSharedSign ∷ OpenRenamingSign ∷ CloseRenamingSign ∷ OpenProductionsSign ∷ CloseProductionsSign ∷ TracesSign ∷ FailuresSign ∷ InterruptSign ∷ HidingSign ∷ SemicolonSign ∷ GuardSign ∷ AtSign ∷ SameSign ∷ DiffersSign ∷ AtMostSign ∷ AtLeastSign ∷ LessSign ∷ GreaterSign ∷ PlusSign ∷ MinusSign ∷ TimesSign ∷ PercentSign ∷ CaretSign ∷ HashSign ∷ OutputSign ∷ InputSign ∷ RangeSign ∷ DotSign ∷ ColonSign ∷ CommaSign ∷ EqualsSign ∷ BarSign ∷ OpenRoundSign ∷ CloseRoundSign ∷ OpenSquareSign ∷ CloseSquareSign ∷ OpenBraceSign ∷ CloseBraceSign ∷ []
+signs = ArrowSign ∷ BackArrowSign ∷ BoxSign ∷ InternalSign ∷ TripleBarSign ∷ DoubleBarSign ∷ OpenSharedSign ∷ CloseSharedSign ∷ OpenRenamingSign ∷ CloseRenamingSign ∷ OpenProductionsSign ∷ CloseProductionsSign ∷ TracesSign ∷ FailuresSign ∷ InterruptSign ∷ SlidingSign ∷ HidingSign ∷ SemicolonSign ∷ GuardSign ∷ AtSign ∷ SameSign ∷ DiffersSign ∷ AtMostSign ∷ AtLeastSign ∷ LessSign ∷ GreaterSign ∷ PlusSign ∷ MinusSign ∷ TimesSign ∷ PercentSign ∷ CaretSign ∷ HashSign ∷ OutputSign ∷ InputSign ∷ RangeSign ∷ DotSign ∷ ColonSign ∷ CommaSign ∷ EqualsSign ∷ BarSign ∷ OpenRoundSign ∷ CloseRoundSign ∷ OpenSquareSign ∷ CloseSquareSign ∷ OpenBraceSign ∷ CloseBraceSign ∷ []
 
 -- the rest of a name
 abbrev pub ends_name : List ℕ → Bool

@@ -47,7 +47,7 @@ is_keyword cs = list_any (λ k. bytes_eq (keyword_spelling k) cs) keywords
 pub data Sign : Type 0 where
   ArrowSign BackArrowSign BoxSign InternalSign TripleBarSign DoubleBarSign : Sign
   OpenSharedSign CloseSharedSign OpenRenamingSign CloseRenamingSign OpenProductionsSign CloseProductionsSign : Sign
-  TracesSign FailuresSign InterruptSign HidingSign SemicolonSign GuardSign : Sign
+  TracesSign FailuresSign InterruptSign SlidingSign HidingSign SemicolonSign GuardSign : Sign
   AtSign SameSign DiffersSign AtMostSign AtLeastSign LessSign : Sign
   GreaterSign PlusSign MinusSign TimesSign PercentSign CaretSign : Sign
   HashSign OutputSign InputSign RangeSign DotSign ColonSign : Sign
@@ -70,6 +70,7 @@ sign_spelling CloseProductionsSign = codes "|}"
 sign_spelling TracesSign = codes "[T="
 sign_spelling FailuresSign = codes "[F="
 sign_spelling InterruptSign = codes "/\\"
+sign_spelling SlidingSign = codes "[>"
 sign_spelling HidingSign = codes "\\"
 sign_spelling SemicolonSign = codes ";"
 sign_spelling GuardSign = codes "&"

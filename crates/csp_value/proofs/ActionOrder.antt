@@ -1,7 +1,7 @@
 -- The derived order of events and actions is the order of what they stand for.
 use denote.RattleType
 use mir.Syntax
-use Rattle.std.proofs.Common.{◌≡◌, refl, ap, ap₂}
+use Rattle.std.proofs.Common.{◌≡◌, refl, ap}
 use Rattle.std.specs.declared.alloc.Allocator as allocator
 use Rattle.std.specs.declared.clone.Clone as clone
 use Rattle.std.specs.declared.cmp.Ordering.{Ordering}

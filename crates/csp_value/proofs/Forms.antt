@@ -27,8 +27,8 @@ module _ (A : Type 0) where
   pub value_of_bool : (b : Bool) → value_of {A = A} (views.Bool b) ≡ pure.Truth b
   value_of_bool b = ap (value_of {A = A}) (sym (views.rolls-Bool b)) ∙ fold-roll-Value A pure.Value pure.Values value_step members_step (layer.Bool b)
 
-  pub value_of_con : (k : ConId) → value_of {A = A} (views.Con k) ≡ pure.Constructor k.0
-  value_of_con k = ap (value_of {A = A}) (sym (views.rolls-Con k)) ∙ fold-roll-Value A pure.Value pure.Values value_step members_step (layer.Con k)
+  pub value_of_con : (k : ConId) (vs : Vec (Value A) A) → value_of {A = A} (views.Con k vs) ≡ pure.Constructor k.0 (pure.to_values (values_of vs.items))
+  value_of_con k vs = ap (value_of {A = A}) (sym (views.rolls-Con k vs)) ∙ fold-roll-Value A pure.Value pure.Values value_step members_step (layer.Con k vs)
 
   pub value_of_seq : (vs : Vec (Value A) A) → value_of {A = A} (views.Seq vs) ≡ pure.Sequence (pure.to_values (values_of vs.items))
   value_of_seq vs = ap (value_of {A = A}) (sym (views.rolls-Seq vs)) ∙ fold-roll-Value A pure.Value pure.Values value_step members_step (layer.Seq vs)

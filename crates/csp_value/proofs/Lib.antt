@@ -12,3 +12,4 @@ pub mod Sorting
 pub mod ValueOrder
 pub mod Walking
 pub mod Measures
+pub mod Neighbours

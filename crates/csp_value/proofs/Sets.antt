@@ -2,12 +2,13 @@
 use Rattle.std.proofs.Common.{◌≡◌, ℕ, List, [], ◌∷◌, ◌++◌, map, filter, refl, sym, ◌∙◌, ap, subst, Bool, true, false, ◌||◌, Some, slice_get}
 use Rattle.std.specs.declared.cmp.Ordering.{Ordering}
 use Rattle.std.specs.declared.cmp.Ordering.TheVariants.{Less, Equal, Greater}
-use Rattle.std.specs.Ordering.{is_lt, is_eq, ordering_reverse}
+use Rattle.std.specs.Ordering.{is_eq}
 use Rattle.csp_syntax.specs.Value.{Value, value_cmp, value_eq, has_value, insert_value, insert_values, sorted_values}
 use Rattle.csp_semantics.specs.Meaning.Offers.{RisesBy}
 use Rattle.csp_syntax.proofs.Equalities.{is_eq-Equal, value_same, value_refl}
 use Rattle.csp_syntax.proofs.Orders.{value_total}
-use Rattle.csp_semantics.proofs.Rising.{Stands, rising_same, rises_behind, told_stands, stands_told}
+use Rattle.csp_semantics.proofs.Rising.{Stands, rising_same, told_stands, stands_told}
+pub use Rattle.csp_semantics.proofs.RisingValues.{insert_rises, inserts_rise, sorted_rise}
 
 abbrev pub Rises : List Value → Type 0
 Rises = RisesBy value_cmp
@@ -56,32 +57,7 @@ insert_has v (w ∷ ws) z = by_order (value_cmp v w) refl (insert_has v ws z)
     by_order Equal is behind = rw is (let same = value_same v w is in subst (λ u. value_eq z w || has_value ws z ≡ value_eq z u || (value_eq z w || has_value ws z)) (sym same) (or_again (value_eq z w) (has_value ws z)))
     by_order Greater is behind = rw is (ap (λ b. value_eq z w || b) behind ∙ or_swap (value_eq z w) (value_eq z v) (has_value ws z))
 
-above : (v w : Value) → value_cmp v w ≡ Greater → is_lt (value_cmp w v) ≡ true
-above v w is = ap is_lt (value_total.antisymm w v ∙ ap ordering_reverse is)
-
-pub insert_rises : (v : Value) (ws : List Value) → Rises ws → Rises (insert_value v ws)
-insert_rises v [] rises = tt
-insert_rises v (w ∷ ws) rises = by_order (value_cmp v w) refl (insert_rises v ws (rises_behind value_cmp w ws rises))
-  where
-    below : (us : List Value) → Rises (w ∷ us) → value_cmp v w ≡ Greater → Rises (insert_value v us) → Rises (w ∷ insert_value v us)
-    below [] r is behind = (above v w is, tt)
-    below (u ∷ us) r is behind = next (value_cmp v u) refl
-      where
-        next : (s : Ordering) → value_cmp v u ≡ s → Rises (w ∷ insert_value v (u ∷ us))
-        next Less to = rw to ((above v w is, (ap is_lt to, r.1)))
-        next Equal to = rw to (r.0, r.1)
-        next Greater to = rw to (r.0, rw to at behind)
-
-    by_order : (r : Ordering) → value_cmp v w ≡ r → Rises (insert_value v ws) → Rises (insert_value v (w ∷ ws))
-    by_order Less is behind = rw is (ap is_lt is, rises)
-    by_order Equal is behind = rw is rises
-    by_order Greater is behind = rw is (below ws rises is behind)
-
 -- ---- several values put in
-
-pub inserts_rise : (vs ws : List Value) → Rises ws → Rises (insert_values vs ws)
-inserts_rise [] ws rises = rises
-inserts_rise (v ∷ vs) ws rises = inserts_rise vs (insert_value v ws) (insert_rises v ws rises)
 
 pub inserts_have : (vs ws : List Value) (z : Value) → has_value (insert_values vs ws) z ≡ has_value vs z || has_value ws z
 inserts_have [] ws z = refl
@@ -96,9 +72,6 @@ inserts_have (v ∷ vs) ws z = inserts_have vs (insert_value v ws) z ∙ ap (λ 
 or_nothing : (a : Bool) → a || false ≡ a
 or_nothing true = refl
 or_nothing false = refl
-
-pub sorted_rise : (vs : List Value) → Rises (sorted_values vs)
-sorted_rise vs = inserts_rise vs [] tt
 
 pub sorted_have : (vs : List Value) (z : Value) → has_value (sorted_values vs) z ≡ has_value vs z
 sorted_have vs z = inserts_have vs [] z ∙ or_nothing (has_value vs z)

@@ -3,11 +3,11 @@ use denote.RattleType
 use mir.Syntax
 use denote.Enum.Declared
 use denote.Hole.Holds
-use Rattle.std.proofs.Common.{◌≡◌, refl, sym, ◌∙◌, ap₂, subst, inl, inr, ℤ, Bool, List, [], ◌∷◌, map}
+use Rattle.std.proofs.Common.{◌≡◌, refl, sym, ◌∙◌, ap, ap₂, subst, inl, inr, ℤ, Bool, List, [], ◌∷◌, map}
 use Rattle.std.specs.declared.alloc.Allocator as allocator
 use Rattle.std.specs.declared.vec.Vec.{Vec}
 use Rattle.std.specs.declared.cmp.Ordering.{Ordering}
-use Rattle.std.specs.Ordering.{ordering_then}
+use Rattle.std.specs.Ordering.{nat_cmp, ordering_then}
 use Rattle.std.specs.Cmp.Lexicographic.{slice_cmp}
 use Rattle.csp_syntax.specs.Value as pure
 use Rattle.csp_value.specs.declared.name.ConId.{ConId}
@@ -50,8 +50,8 @@ module _ (R : RattleType.RattleType) (A : allocator.Ghosts R.Denot) (ad dd : Syn
   abbrev bool : Bool → Value R.Denot
   bool b = views.Bool b
 
-  abbrev con : ConId → Value R.Denot
-  con k = views.Con k
+  abbrev con : ConId → Vec (Value R.Denot) R.Denot → Value R.Denot
+  con k v = views.Con k v
 
   abbrev seq : Vec (Value R.Denot) R.Denot → Value R.Denot
   seq v = views.Seq v
@@ -67,8 +67,8 @@ module _ (R : RattleType.RattleType) (A : allocator.Ghosts R.Denot) (ad dd : Syn
   parts_bool : (b : Bool) → contract.as_values R A (bool b) ≡ inr (inl (b, tt))
   parts_bool b = contract.the_beta R A (inr (inl (b, tt)))
 
-  parts_con : (k : ConId) → contract.as_values R A (con k) ≡ inr (inr (inl (k, tt)))
-  parts_con k = contract.the_beta R A (inr (inr (inl (k, tt))))
+  parts_con : (k : ConId) (u : Vec (Value R.Denot) R.Denot) → contract.as_values R A (con k u) ≡ inr (inr (inl (k, (u, tt))))
+  parts_con k u = contract.the_beta R A (inr (inr (inl (k, (u, tt)))))
 
   parts_seq : (v : Vec (Value R.Denot) R.Denot) → contract.as_values R A (seq v) ≡ inr (inr (inr (inl (v, tt))))
   parts_seq v = contract.the_beta R A (inr (inr (inr (inl (v, tt)))))
@@ -84,8 +84,8 @@ module _ (R : RattleType.RattleType) (A : allocator.Ghosts R.Denot) (ad dd : Syn
   int_bool : (n : ℤ) (b : Bool) → Agrees (int n) (bool b)
   int_bool n b = laws.is R A ad dd (int n) (bool b) ∙ rw (parts_int n, parts_bool b, value_of_int R.Denot n, value_of_bool R.Denot b) refl
 
-  int_con : (n : ℤ) (k : ConId) → Agrees (int n) (con k)
-  int_con n k = laws.is R A ad dd (int n) (con k) ∙ rw (parts_int n, parts_con k, value_of_int R.Denot n, value_of_con R.Denot k) refl
+  int_con : (n : ℤ) (k : ConId) (u : Vec (Value R.Denot) R.Denot) → Agrees (int n) (con k u)
+  int_con n k u = laws.is R A ad dd (int n) (con k u) ∙ rw (parts_int n, parts_con k u, value_of_int R.Denot n, value_of_con R.Denot k u) refl
 
   int_seq : (n : ℤ) (v : Vec (Value R.Denot) R.Denot) → Agrees (int n) (seq v)
   int_seq n v = laws.is R A ad dd (int n) (seq v) ∙ rw (parts_int n, parts_seq v, value_of_int R.Denot n, value_of_seq R.Denot v) refl
@@ -99,8 +99,8 @@ module _ (R : RattleType.RattleType) (A : allocator.Ghosts R.Denot) (ad dd : Syn
   bool_bool : (b b' : Bool) → Agrees (bool b) (bool b')
   bool_bool b b' = laws.is R A ad dd (bool b) (bool b') ∙ rw (parts_bool b, parts_bool b', value_of_bool R.Denot b, value_of_bool R.Denot b') refl
 
-  bool_con : (b : Bool) (k : ConId) → Agrees (bool b) (con k)
-  bool_con b k = laws.is R A ad dd (bool b) (con k) ∙ rw (parts_bool b, parts_con k, value_of_bool R.Denot b, value_of_con R.Denot k) refl
+  bool_con : (b : Bool) (k : ConId) (u : Vec (Value R.Denot) R.Denot) → Agrees (bool b) (con k u)
+  bool_con b k u = laws.is R A ad dd (bool b) (con k u) ∙ rw (parts_bool b, parts_con k u, value_of_bool R.Denot b, value_of_con R.Denot k u) refl
 
   bool_seq : (b : Bool) (v : Vec (Value R.Denot) R.Denot) → Agrees (bool b) (seq v)
   bool_seq b v = laws.is R A ad dd (bool b) (seq v) ∙ rw (parts_bool b, parts_seq v, value_of_bool R.Denot b, value_of_seq R.Denot v) refl
@@ -108,20 +108,21 @@ module _ (R : RattleType.RattleType) (A : allocator.Ghosts R.Denot) (ad dd : Syn
   bool_set : (b : Bool) (s : SetOf R.Denot) → Agrees (bool b) (set s)
   bool_set b s = laws.is R A ad dd (bool b) (set s) ∙ rw (parts_bool b, parts_set s, value_of_bool R.Denot b, value_of_set R.Denot s) refl
 
-  con_int : (k : ConId) (n : ℤ) → Agrees (con k) (int n)
-  con_int k n = laws.is R A ad dd (con k) (int n) ∙ rw (parts_con k, parts_int n, value_of_con R.Denot k, value_of_int R.Denot n) refl
+  con_int : (k : ConId) (u : Vec (Value R.Denot) R.Denot) (n : ℤ) → Agrees (con k u) (int n)
+  con_int k u n = laws.is R A ad dd (con k u) (int n) ∙ rw (parts_con k u, parts_int n, value_of_con R.Denot k u, value_of_int R.Denot n) refl
 
-  con_bool : (k : ConId) (b : Bool) → Agrees (con k) (bool b)
-  con_bool k b = laws.is R A ad dd (con k) (bool b) ∙ rw (parts_con k, parts_bool b, value_of_con R.Denot k, value_of_bool R.Denot b) refl
+  con_bool : (k : ConId) (u : Vec (Value R.Denot) R.Denot) (b : Bool) → Agrees (con k u) (bool b)
+  con_bool k u b = laws.is R A ad dd (con k u) (bool b) ∙ rw (parts_con k u, parts_bool b, value_of_con R.Denot k u, value_of_bool R.Denot b) refl
 
-  con_con : (k k' : ConId) → Agrees (con k) (con k')
-  con_con k k' = laws.is R A ad dd (con k) (con k') ∙ rw (parts_con k, parts_con k', value_of_con R.Denot k, value_of_con R.Denot k') refl
+  con_con : (k k' : ConId) (u u' : Vec (Value R.Denot) R.Denot) → AreOrdered u.items → Agrees (con k u) (con k' u')
+  con_con k k' u u' same =
+      laws.is R A ad dd (con k u) (con k' u') ∙ rw (parts_con k u, parts_con k' u', value_of_con R.Denot k u, value_of_con R.Denot k' u') (ap (ordering_then (nat_cmp k.0 k'.0)) (same u'.items))
 
-  con_seq : (k : ConId) (v : Vec (Value R.Denot) R.Denot) → Agrees (con k) (seq v)
-  con_seq k v = laws.is R A ad dd (con k) (seq v) ∙ rw (parts_con k, parts_seq v, value_of_con R.Denot k, value_of_seq R.Denot v) refl
+  con_seq : (k : ConId) (u : Vec (Value R.Denot) R.Denot) (v : Vec (Value R.Denot) R.Denot) → Agrees (con k u) (seq v)
+  con_seq k u v = laws.is R A ad dd (con k u) (seq v) ∙ rw (parts_con k u, parts_seq v, value_of_con R.Denot k u, value_of_seq R.Denot v) refl
 
-  con_set : (k : ConId) (s : SetOf R.Denot) → Agrees (con k) (set s)
-  con_set k s = laws.is R A ad dd (con k) (set s) ∙ rw (parts_con k, parts_set s, value_of_con R.Denot k, value_of_set R.Denot s) refl
+  con_set : (k : ConId) (u : Vec (Value R.Denot) R.Denot) (s : SetOf R.Denot) → Agrees (con k u) (set s)
+  con_set k u s = laws.is R A ad dd (con k u) (set s) ∙ rw (parts_con k u, parts_set s, value_of_con R.Denot k u, value_of_set R.Denot s) refl
 
   seq_int : (v : Vec (Value R.Denot) R.Denot) (n : ℤ) → Agrees (seq v) (int n)
   seq_int v n = laws.is R A ad dd (seq v) (int n) ∙ rw (parts_seq v, parts_int n, value_of_seq R.Denot v, value_of_int R.Denot n) refl
@@ -129,8 +130,8 @@ module _ (R : RattleType.RattleType) (A : allocator.Ghosts R.Denot) (ad dd : Syn
   seq_bool : (v : Vec (Value R.Denot) R.Denot) (b : Bool) → Agrees (seq v) (bool b)
   seq_bool v b = laws.is R A ad dd (seq v) (bool b) ∙ rw (parts_seq v, parts_bool b, value_of_seq R.Denot v, value_of_bool R.Denot b) refl
 
-  seq_con : (v : Vec (Value R.Denot) R.Denot) (k : ConId) → Agrees (seq v) (con k)
-  seq_con v k = laws.is R A ad dd (seq v) (con k) ∙ rw (parts_seq v, parts_con k, value_of_seq R.Denot v, value_of_con R.Denot k) refl
+  seq_con : (v : Vec (Value R.Denot) R.Denot) (k : ConId) (u : Vec (Value R.Denot) R.Denot) → Agrees (seq v) (con k u)
+  seq_con v k u = laws.is R A ad dd (seq v) (con k u) ∙ rw (parts_seq v, parts_con k u, value_of_seq R.Denot v, value_of_con R.Denot k u) refl
 
   seq_seq : (v v' : Vec (Value R.Denot) R.Denot) → AreOrdered v.items → Agrees (seq v) (seq v')
   seq_seq v v' same = laws.is R A ad dd (seq v) (seq v') ∙ rw (parts_seq v, parts_seq v', value_of_seq R.Denot v, value_of_seq R.Denot v') (same v'.items)
@@ -144,8 +145,8 @@ module _ (R : RattleType.RattleType) (A : allocator.Ghosts R.Denot) (ad dd : Syn
   set_bool : (s : SetOf R.Denot) (b : Bool) → Agrees (set s) (bool b)
   set_bool s b = laws.is R A ad dd (set s) (bool b) ∙ rw (parts_set s, parts_bool b, value_of_set R.Denot s, value_of_bool R.Denot b) refl
 
-  set_con : (s : SetOf R.Denot) (k : ConId) → Agrees (set s) (con k)
-  set_con s k = laws.is R A ad dd (set s) (con k) ∙ rw (parts_set s, parts_con k, value_of_set R.Denot s, value_of_con R.Denot k) refl
+  set_con : (s : SetOf R.Denot) (k : ConId) (u : Vec (Value R.Denot) R.Denot) → Agrees (set s) (con k u)
+  set_con s k u = laws.is R A ad dd (set s) (con k u) ∙ rw (parts_set s, parts_con k u, value_of_set R.Denot s, value_of_con R.Denot k u) refl
 
   set_seq : (s : SetOf R.Denot) (v : Vec (Value R.Denot) R.Denot) → Agrees (set s) (seq v)
   set_seq s v = laws.is R A ad dd (set s) (seq v) ∙ rw (parts_set s, parts_seq v, value_of_set R.Denot s, value_of_seq R.Denot v) refl
@@ -154,12 +155,12 @@ module _ (R : RattleType.RattleType) (A : allocator.Ghosts R.Denot) (ad dd : Syn
   set_set s s' same = laws.is R A ad dd (set s) (set s') ∙ rw (parts_set s, parts_set s', value_of_set R.Denot s, value_of_set R.Denot s') (same s')
 
   -- a value is one of its forms
-  by_form : (P : Value R.Denot → Type 0) → ((n : ℤ) → P (int n)) → ((b : Bool) → P (bool b)) → ((k : ConId) → P (con k)) → ((v : Vec (Value R.Denot) R.Denot) → P (seq v)) → ((s : SetOf R.Denot) → P (set s)) → (a : Value R.Denot) → P a
+  by_form : (P : Value R.Denot → Type 0) → ((n : ℤ) → P (int n)) → ((b : Bool) → P (bool b)) → ((k : ConId) (v : Vec (Value R.Denot) R.Denot) → P (con k v)) → ((v : Vec (Value R.Denot) R.Denot) → P (seq v)) → ((s : SetOf R.Denot) → P (set s)) → (a : Value R.Denot) → P a
   by_form P at_int at_bool at_con at_seq at_set a =
       let made : (v : Declared.Choice (contract.the_parts R A)) → P (contract.the_make R A v) = λ v. elim v as (λ v. P (contract.the_make R A v)) [
         | inl x ↦ at_int x.0
         | inr (inl x) ↦ at_bool x.0
-        | inr (inr (inl x)) ↦ at_con x.0
+        | inr (inr (inl x)) ↦ at_con x.0 x.1.0
         | inr (inr (inr (inl x))) ↦ at_seq x.0
         | inr (inr (inr (inr (inl x)))) ↦ at_set x.0
         | inr (inr (inr (inr (inr z)))) ↦ absurd z
@@ -171,8 +172,8 @@ module _ (R : RattleType.RattleType) (A : allocator.Ghosts R.Denot) (ad dd : Syn
   at_bool : (b : Bool) → IsOrdered (bool b)
   at_bool b = by_form (Agrees (bool b)) (bool_int b) (bool_bool b) (bool_con b) (bool_seq b) (bool_set b)
 
-  at_con : (k : ConId) → IsOrdered (con k)
-  at_con k = by_form (Agrees (con k)) (con_int k) (con_bool k) (con_con k) (con_seq k) (con_set k)
+  at_con : (k : ConId) (v : Vec (Value R.Denot) R.Denot) → AreOrdered v.items → IsOrdered (con k v)
+  at_con k v same = by_form (Agrees (con k v)) (con_int k v) (con_bool k v) (λ l w. con_con k l v w same) (con_seq k v) (con_set k v)
 
   at_seq : (v : Vec (Value R.Denot) R.Denot) → AreOrdered v.items → IsOrdered (seq v)
   at_seq v same = by_form (Agrees (seq v)) (seq_int v) (seq_bool v) (seq_con v) (λ w. seq_seq v w same) (seq_set v)
@@ -204,7 +205,7 @@ module _ (R : RattleType.RattleType) (A : allocator.Ghosts R.Denot) (ad dd : Syn
   step : (x : Layer) (y : layer.Value-F R.Denot Part SetPart) → map-Value R.Denot Part SetPart (Value R.Denot) (SetOf R.Denot) (λ e. e.0) (λ e. e.0) y ≡ x → IsOrderedLayer x
   step x (layer.Int n) is = subst IsOrderedLayer is (subst IsOrdered (sym (views.rolls-Int n)) (at_int n))
   step x (layer.Bool b) is = subst IsOrderedLayer is (subst IsOrdered (sym (views.rolls-Bool b)) (at_bool b))
-  step x (layer.Con k) is = subst IsOrderedLayer is (subst IsOrdered (sym (views.rolls-Con k)) (at_con k))
+  step x (layer.Con k v) is = subst IsOrderedLayer is (subst IsOrdered (sym (views.rolls-Con k _)) (at_con k _ (members_ordered v.items)))
   step x (layer.Seq v) is = subst IsOrderedLayer is (subst IsOrdered (sym (views.rolls-Seq _)) (at_seq _ (members_ordered v.items)))
   step x (layer.Set s) is = subst IsOrderedLayer is (subst IsOrdered (sym (views.rolls-Set s.0)) (at_set s.0 s.1))
 

@@ -1,4 +1,5 @@
 pub mod Action
 pub mod Copies
+pub mod Fields
 pub mod Handle
 pub mod Value

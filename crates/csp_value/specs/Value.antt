@@ -13,7 +13,7 @@ use Rattle.csp_value.specs.declared.value.Value.TheFolds.{fold-Value, fold-SetOf
 abbrev pub value_step : {A : Type 0} → layer.Value-F A pure.Value pure.Values → pure.Value
 value_step (layer.Int n) = pure.Integer n
 value_step (layer.Bool b) = pure.Truth b
-value_step (layer.Con k) = pure.Constructor k.0
+value_step (layer.Con k vs) = pure.Constructor k.0 (pure.to_values vs.items)
 value_step (layer.Seq vs) = pure.Sequence (pure.to_values vs.items)
 value_step (layer.Set vs) = pure.Set vs
 

@@ -1,4 +1,4 @@
-//! The sets of values of the fields of a channel.
+//! The sets of values of the fields of a channel, or of a constructor.
 
 ghost use Rattle.std.specs.Prelude.{◌≡◌, IfOk};
 ghost use Rattle.csp_syntax.specs.Value.{has_value, sorted_values, to_values, values_list};
@@ -10,7 +10,7 @@ use crate::set::SetOf;
 use crate::value::Value;
 use std::alloc::Allocator;
 
-/// The values that a field of a channel may have. That they rise is a fact of the type, so one is looked up by halving.
+/// The values that a field of a channel or of a constructor may have. That they rise is a fact of the type, so one is looked up by halving.
 #[derive(Drop)]
 #[derive_where(PartialEq, Eq)]
 pub struct FieldSet<A: Allocator> {

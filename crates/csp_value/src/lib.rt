@@ -13,6 +13,7 @@ pub mod laws;
 mod limits;
 mod memory;
 mod name;
+mod rising;
 mod set;
 mod value;
 
@@ -22,5 +23,6 @@ pub use field_set::FieldSet;
 pub use handle::AllocHandle;
 pub use memory::Memory;
 pub use name::{ChannelId, ConId};
+pub use rising::is_rising;
 pub use set::SetOf;
 pub use value::{Value, copy_values};

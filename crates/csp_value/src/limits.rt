@@ -17,7 +17,8 @@ impl<A: Allocator> Value<A> {
     {
         let rest = room.checked_sub(1)?;
         match self {
-            Value::Int(_) | Value::Bool(_) | Value::Con(_) => Some(rest),
+            Value::Int(_) | Value::Bool(_) => Some(rest),
+            Value::Con(_, fields) => room_left_by(fields, rest),
             Value::Seq(items) => room_left_by(items, rest),
             Value::Set(set) => set.room_left(rest),
         }
@@ -32,7 +33,8 @@ impl<A: Allocator> Value<A> {
             return false;
         }
         match self {
-            Value::Int(_) | Value::Bool(_) | Value::Con(_) => true,
+            Value::Int(_) | Value::Bool(_) => true,
+            Value::Con(_, fields) => are_within_depth(fields, most - 1),
             Value::Seq(items) => are_within_depth(items, most - 1),
             Value::Set(set) => set.is_within_depth(most - 1),
         }

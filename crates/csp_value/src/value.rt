@@ -19,8 +19,8 @@ pub enum Value<A: Allocator> {
     Int(i32),
     /// A truth value.
     Bool(bool),
-    /// A constructor of a datatype.
-    Con(ConId),
+    /// A constructor of a datatype, with the values of its fields.
+    Con(ConId, Vec<Value<A>, A>),
     /// A sequence.
     Seq(Vec<Value<A>, A>),
     /// A set, whose members rise.
@@ -36,7 +36,9 @@ impl<A: Allocator + Copy> Value<A> {
         match self {
             Value::Int(number) => Ok(Value::Int(*number)),
             Value::Bool(truth) => Ok(Value::Bool(*truth)),
-            Value::Con(constructor) => Ok(Value::Con(*constructor)),
+            Value::Con(constructor, fields) => {
+                Ok(Value::Con(*constructor, copy_values(alloc, fields)?))
+            }
             Value::Seq(items) => Ok(Value::Seq(copy_values(alloc, items)?)),
             Value::Set(set) => Ok(Value::Set(set.try_copy(alloc)?)),
         }

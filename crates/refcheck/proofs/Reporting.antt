@@ -2,7 +2,7 @@
 use Rattle.std.proofs.Common.{◌≡◌, ℕ, ◌≤◌, Bool, List, [], ◌∷◌, arith, inl, inr, ◌⊎◌}
 use Rattle.std.specs.Prelude.{Option, Result, Err}
 use Rattle.csp_syntax.specs.Process.{Script}
-use Rattle.csp_answers.specs.Outcome.{Bounds, Outcome, Holds, Fails, Unknown}
+use Rattle.csp_answers.specs.Outcome.{Bounds, Outcome, Holds, Fails, Unknown, Denied}
 use Rattle.csp_answers.specs.Printing.{report}
 use Rattle.report.specs.Sending.{Breaks}
 use Rattle.report.specs.declared.report.WriteFault.{WriteFault}
@@ -14,6 +14,7 @@ outcome_at_most : (o : Outcome) → outcome_status o ≤ 2
 outcome_at_most Holds = omega arith
 outcome_at_most (Fails v) = omega arith
 outcome_at_most (Unknown why) = omega arith
+outcome_at_most Denied = omega arith
 
 -- no status of outcomes is that of a refusal
 pub status_at_most : (os : List Outcome) → status_of os ≤ 2

@@ -3,8 +3,8 @@ use Rattle.std.specs.Prelude.{List}
 use Rattle.std.specs.List.{AllZip}
 use Rattle.csp_syntax.specs.Process.{Script, Assertion}
 use Rattle.csp_answers.specs.Outcome.{Bounds, Outcome}
-use Rattle.explore.specs.Answering.{IsRight}
+use Rattle.explore.specs.Answering.{IsRightAsWritten}
 
 -- the outcomes are right for the assertions, one for each in order
 abbrev pub AreRight : Script → Bounds → List Assertion → List Outcome → Type 0
-AreRight script bounds = AllZip (λ a o. IsRight script a bounds o)
+AreRight script bounds = AllZip (λ a o. IsRightAsWritten script a bounds o)

@@ -2,7 +2,7 @@
 use Rattle.std.specs.Prelude.{◌≡◌, ℕ, max, Bool, List, [], ◌∷◌, Option, Some, ◌⊎◌, ⊤, codes, map}
 use Rattle.std.specs.Borrow.{Bor}
 use Rattle.csp_syntax.specs.Process.{Script}
-use Rattle.csp_answers.specs.Outcome.{Bounds, Outcome, Holds, Fails, Unknown}
+use Rattle.csp_answers.specs.Outcome.{Bounds, Outcome, Holds, Fails, Unknown, Denied}
 use Rattle.csp_answers.specs.Printing.{report}
 use Rattle.csp_checking.specs.Checked.{IsCheckedText}
 use Rattle.report.specs.Sending.{Sends, Breaks}
@@ -19,6 +19,7 @@ abbrev pub outcome_status : Outcome → ℕ
 outcome_status Holds = 0
 outcome_status (Fails v) = 1
 outcome_status (Unknown why) = 2
+outcome_status Denied = 1
 
 -- the greatest status of an outcome: 2 where any is unknown, else 1 where any fails, else 0
 abbrev pub status_of : List Outcome → ℕ

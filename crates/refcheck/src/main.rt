@@ -2,8 +2,9 @@
 //!
 //! `run` is the whole program over words, files and streams that are handed in. Its contract says that either the
 //! report of right outcomes went out, one for each assertion of a script, and the status is that of the outcomes, or
-//! the status is 3 and the line of a refusal went to the error stream. `holds` means refinement, and `fails` shows a
-//! violation. Words that ask for the help or the version are answered with it.
+//! the status is 3 and the line of a refusal went to the error stream. `holds` means that what the assertion asks is so,
+//! and `fails` shows a violation, or stands alone where there is none and `not` asks for one. Words that ask for the
+//! help or the version are answered with it.
 #![tactic(auto)]
 
 mod files;

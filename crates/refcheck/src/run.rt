@@ -186,7 +186,7 @@ fn status_of_one<A: AllocHandle>(outcome: &Outcome<A>) -> u8
 {
     match outcome {
         Outcome::Holds => 0,
-        Outcome::Fails(_) => 1,
+        Outcome::Fails(_) | Outcome::Denied => 1,
         Outcome::Unknown(_) => 2,
     }
 }

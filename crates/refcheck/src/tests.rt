@@ -146,15 +146,31 @@ fn check<R: Threads + Wait + Sync>(alloc: Global, rt: &R, text: &[u8]) -> Told {
     run_on(alloc, rt, &["script"], text)
 }
 
+// How many workers each text is checked by, in turn.
+const WORKERS: [&str; 4] = ["--workers=1", "--workers=2", "--workers=8", "--workers=64"];
+
+fn is_answered_so<R: Abort + Threads + Wait + Sync>(
+    rt: &R,
+    alloc: Global,
+    status: u8,
+    row: &Row,
+) -> Result<(), Fail> {
+    let (text, lines) = *row;
+    for workers in &WORKERS {
+        let told = run_on(alloc, rt, &[*workers, "script"], text.as_bytes());
+        assert!(rt; told.is_answered(status, lines), "at {text} with {workers}");
+    }
+    Ok(())
+}
+
 fn are_answered_so<R: Abort + Threads + Wait + Sync>(
     rt: &R,
     alloc: Global,
     status: u8,
     rows: &[Row],
 ) -> Result<(), Fail> {
-    for (text, lines) in rows {
-        let told = check(alloc, rt, text.as_bytes());
-        assert!(rt; told.is_answered(status, lines), "at {text}");
+    for row in rows {
+        is_answered_so(rt, alloc, status, row)?;
     }
     Ok(())
 }

@@ -1,10 +1,11 @@
 -- The texts and the sizes of values.
 use Rattle.std.proofs.Common.{◌≡◌, ℕ, zero, suc, ◌<◌, ◌≤◌, List, [], ◌∷◌, ◌++◌, length, get_or, map, refl, sym, ◌∙◌, ap, append_assoc, arith}
+use Rattle.std.specs.Prelude.{codes, ◌==◌, false}
 use Rattle.std.specs.List.{join_with_byte}
 use Rattle.std.specs.declared.vec.Vec.{Vec}
 use Rattle.csp_syntax.specs.Value as pure
 use Rattle.csp_semantics.specs.Meaning.Limits.{value_size, values_size}
-use Rattle.csp_answers.specs.Printing.{value_text, values_text}
+use Rattle.csp_answers.specs.Printing.{dotted_text, fields_text, name_at, value_text, values_text}
 use Rattle.csp_value.specs.declared.value.Value.{Value}
 use Rattle.csp_value.specs.declared.value.Value.TheVariants as views
 use Rattle.csp_value.specs.declared.set.SetOf.{SetOf}
@@ -15,6 +16,17 @@ use Rattle.csp_value.proofs.Forms.{value_of_seq, value_of_set, unlisted}
 pub joined : (names : List (List ℕ)) (v : pure.Value) (vs : List pure.Value) → values_text names (pure.to_values (v ∷ vs)) ≡ join_with_byte 44 (map (value_text names) (v ∷ vs))
 joined names v [] = refl
 joined names v (w ∷ ws) = ap (λ (ts : List ℕ). value_text names v ++ (44 ∷ ts)) (joined names w ws)
+
+-- values with a point before each
+dotted : (names : List (List ℕ)) (vs : List pure.Value) → dotted_text names (pure.to_values vs) ≡ fields_text names vs
+dotted names [] = refl
+dotted names (v ∷ vs) = ap (λ ts. codes "." ++ (value_text names v ++ ts)) (dotted names vs)
+
+-- a constructor that has fields
+pub with_fields : {A : Type 0} (names : List (List ℕ)) (k : ℕ) (fields : List (Value A)) → (length fields == 0) ≡ false →
+    value_text names (pure.Constructor k (pure.to_values (values_of fields))) ≡ codes "(" ++ (name_at names k ++ (fields_text names (values_of fields) ++ codes ")"))
+with_fields names k [] some = absurd (cc some)
+with_fields names k (v ∷ vs) some = ap (λ ts. codes "(" ++ (name_at names k ++ (ts ++ codes ")"))) (dotted names (values_of (v ∷ vs)))
 
 -- the members of a sequence or a set, as they are read
 pub of_sequence : {A : Type 0} (v : Value A) (vs : Vec (Value A) A) (read : List (Value A)) → v ≡ views.Seq vs → read ≡ vs.items → value_of v ≡ pure.Sequence (pure.to_values (values_of read))
@@ -37,3 +49,7 @@ member_size (w ∷ ws) (suc i) v within read =
 -- a text between two marks, which was put behind what was there
 pub between : (r s t u a b c : List ℕ) → s ≡ r ++ a → t ≡ s ++ b → u ≡ t ++ c → u ≡ r ++ (a ++ (b ++ c))
 between r s t u a b c first second third = rw (third, second, first) (simp append_assoc)
+
+-- two texts between two marks
+pub between_both : (r s t u v a b c d : List ℕ) → s ≡ r ++ a → t ≡ s ++ b → u ≡ t ++ c → v ≡ u ++ d → v ≡ r ++ (a ++ (b ++ (c ++ d)))
+between_both r s t u v a b c d first second third fourth = rw (fourth, third, second, first) (simp append_assoc)

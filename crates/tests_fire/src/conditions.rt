@@ -10,7 +10,7 @@ T = false & c!1 -> STOP
 DOES = STOP
 OFFERS = STOP
 
-T = not false & c!1 -> STOP
+T = (not false & c!1 -> STOP)
 DOES = c!1 -> STOP
 OFFERS = c!1 -> STOP
 

@@ -15,6 +15,8 @@ mod choices;
 #[cfg(test)]
 mod conditions;
 #[cfg(test)]
+mod constructors;
+#[cfg(test)]
 mod copies;
 #[cfg(test)]
 mod counts;
@@ -59,6 +61,8 @@ mod sets;
 mod sets_of_events;
 #[cfg(test)]
 mod sizes;
+#[cfg(test)]
+mod sliding_choices;
 #[cfg(test)]
 mod substitution;
 #[cfg(test)]

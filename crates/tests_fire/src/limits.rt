@@ -51,6 +51,12 @@ FITS = STOP
 T = [] x:{<1>} @ ANY(<MANY(1000, x)>)
 PAST = STOP
 
+-- A constructor and each of its fields count one.
+T = [] x:{(F1.0.A0)} @ KEEP(<MANY(666, x)>)
+FITS = STOP
+T = [] x:{(F1.0.A0)} @ KEEP(<MANY(667, x)>)
+PAST = STOP
+
 -- A step past the limits makes a term large.
 -- One sequence of 1,000 numbers is within the limits, and two are past them.
 T = long?x!head(x) -> MUCH(x)

@@ -26,6 +26,9 @@ pub(crate) fn value<A: Allocator + Copy>(alloc: A, written: &Expr<A>) -> Result<
     }
     match written {
         Expr::Literal(value) => Ok(value.try_copy(alloc)?),
+        Expr::Constructor(constructor, fields) => {
+            Ok(Value::Con(*constructor, values(alloc, fields)?))
+        }
         Expr::Sequence(items) => Ok(Value::Seq(values(alloc, items)?)),
         Expr::Set(items) => Ok(Value::Set(SetOf::from_values(values(alloc, items)?))),
         _ => Err(Fail::new("no value")),

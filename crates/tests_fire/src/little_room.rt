@@ -151,7 +151,10 @@ fn try_line<'h>(
 ) -> Result<Counts, Fail>
     requires { HasSidesOf (script_of script.now) assertion.now }
 {
-    let (term, said) = (&assertion.specification, &assertion.implementation);
+    let Some(term) = assertion.property.specification() else {
+        return Err(Fail::new("no specification"));
+    };
+    let said = &assertion.implementation;
     let mut counts = Counts::none();
     match line.word {
         "FIRES" => {

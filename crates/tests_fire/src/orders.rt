@@ -45,6 +45,10 @@ ROW = if true then STOP else STOP
 ROW = if true then STOP else SKIP
 ROW = if true then SKIP else STOP
 ROW = |~| x:{true} @ if x then STOP else STOP
+ROW = ||| x:{1} @ STOP
+ROW = STOP [> STOP
+ROW = STOP [> SKIP
+ROW = SKIP [> STOP
 ";
 
 /// Sets of events of each form, behind `\\`.
@@ -75,6 +79,11 @@ ROW = 2147483647 == 2147483647 & STOP
 ROW = false == false & STOP
 ROW = true == true & STOP
 ROW = A3 == A3 & STOP
+ROW = F0 == F0 & STOP
+ROW = [] x:{(F1.0.A0)} @ x == x & STOP
+ROW = [] x:{(F1.0.A1)} @ x == x & STOP
+ROW = [] x:{(F1.1.A0)} @ x == x & STOP
+ROW = [] x:{(G0.F0)} @ x == x & STOP
 ROW = [] x:{<0>} @ x == x & STOP
 ROW = [] x:{{0}} @ x == x & STOP
 ROW = |~| x:{1} @ x == x & STOP
@@ -104,6 +113,11 @@ ROW = Bool == Bool & STOP
 ROW = B == B & STOP
 ROW = D == D & STOP
 ROW = N == N & STOP
+ROW = (F1.0.A0) == (F1.0.A0) & STOP
+ROW = (F1.0.A1) == (F1.0.A1) & STOP
+ROW = (F1.1.A0) == (F1.1.A0) & STOP
+ROW = |~| x:{1} @ (F1.x.A0) == (F1.x.A0) & STOP
+ROW = (G0.F0) == (G0.F0) & STOP
 ";
 
 static ORDERED: [&str; 3] = [TERMS, EVENT_SETS, EXPRESSIONS];

@@ -125,7 +125,10 @@ fn is_so(
 ) -> Result<bool, Fail>
     requires { HasSidesOf (script_of script.now) assertion.now }
 {
-    let (term, said) = (&assertion.specification, &assertion.implementation);
+    let Some(term) = assertion.property.specification() else {
+        return Err(Fail::new("no specification"));
+    };
+    let said = &assertion.implementation;
     if let Some(word) = line.word.strip_prefix("CAUSE ") {
         return values::is_cause(alloc, script.types(), said, word);
     }

@@ -76,9 +76,19 @@ LEADS = a -> PREFIXES(255)
 T = a -> PREFIXES(256)
 LEADS = a -> PAST
 
+T = P(0) [> PREFIXES(254)
+LEADS = tau -> PREFIXES(254) [] tau -> (c!0 -> STOP [> PREFIXES(254))
+T = P(0) [> PREFIXES(255)
+LEADS = tau -> PAST [] tau -> PREFIXES(255)
+T = a -> STOP [> PREFIXES(256)
+LEADS = tau -> PAST [] a -> STOP
+
 -- Values are put in.
 T = [] x:{1} @ c!x -> STOP
 LEADS = c!1 -> STOP
+
+T = [] x:{1} @ c!x -> STOP [> P(x)
+LEADS = tau -> P(1) [] c!1 -> STOP
 
 -- A rule without a value tells its first cause.
 T = [] x:{2} @ c!x -> STOP
@@ -99,6 +109,10 @@ T = OMEGA /\ (a -> STOP)
 LEADS = a -> STOP
 T = (a -> STOP) /\ OMEGA
 LEADS = a -> (STOP /\ OMEGA)
+T = OMEGA [> a -> STOP
+LEADS = tau -> a -> STOP
+T = a -> STOP [> OMEGA
+LEADS = tau -> OMEGA [] a -> STOP
 T = OMEGA \ {a}
 LEADS = STOP
 T = OMEGA[[a <- b]]
@@ -116,6 +130,14 @@ STUCK = kind
 T = |~| x:{true} @ if x then c!2 -> STOP else c!2 -> STOP
 STUCK = kind
 T = |~| x:{1} @ true & ([] y:{x} @ STOP)
+STUCK = kind
+T = |~| x:{1} @ c!x -> STOP [> c!2 -> STOP
+STUCK = kind
+T = |~| x:{1} @ c!2 -> STOP [> c!x -> STOP
+STUCK = range
+T = |~| x:{1} @ STOP [> c!x -> STOP
+STUCK = kind
+T = |~| x:{1} @ g!(F1.x.A0) -> STOP
 STUCK = kind
 T = |~| x:{1} @ STOP [| {c.x} |] STOP
 STUCK = kind

@@ -59,6 +59,12 @@ FIRES = (c?y -> STOP)[[c.1 <- a, a <- b]]
 T = [] x:{1} @ (c!x -> STOP) /\ SKIP
 PUT = (c!1 -> STOP) /\ SKIP
 FIRES = (c!1 -> STOP) /\ SKIP
+T = [] x:{1} @ c!x -> STOP [> P(x)
+PUT = c!1 -> STOP [> P(1)
+FIRES = c!1 -> STOP [> P(1)
+T = [] x:{1} @ g!(F1.x.A0) -> STOP
+PUT = g!(F1.1.A0) -> STOP
+FIRES = g!(F1.1.A0) -> STOP
 T = |~| z:{1} @ [] x:{1} @ |~| y:{0..x} @ c!y -> STOP
 PUT = |~| z:{1} @ |~| y:{0..1} @ c!y -> STOP
 FIRES = |~| z:{1} @ |~| y:{0..1} @ c!y -> STOP
@@ -83,4 +89,6 @@ VALUE = diff({1, 2}, {2, 3}) == {1}
 VALUE = card(Bool) == 2
 VALUE = card(D) == 3
 VALUE = N == {5, 7}
+VALUE = card(F) == 5
+VALUE = (G0.(F1.(2 - 1).A0)) == (G0.(F1.1.A0))
 ";

@@ -53,6 +53,16 @@ BOUND = TWO(1, 1)
 T = [] x:{1} @ [] y:{1} @ [] x:{2} @ TWO(x, y)
 BOUND = TWO(2, 1)
 
+-- Both sides of a sliding choice, and the fields of a constructor.
+T = [] x:{1} @ c!x -> STOP [> P(x)
+PUT = c!1 -> STOP [> P(1)
+T = |~| y:{1} @ [] x:{1} @ y == x & STOP [> (c?x -> P(x))
+PUT = |~| y:{1} @ y == 1 & STOP [> (c?x -> P(x))
+T = [] x:{1} @ KEEP((F1.x.A0))
+PUT = KEEP((F1.1.A0))
+T = |~| x:{1} @ [] y:{A1} @ KEEP((F1.x.y))
+PUT = |~| x:{1} @ KEEP((F1.x.A1))
+
 -- Values are put into sets of events and renamings.
 T = [] x:{7} @ STOP \ {c.x, c.1}
 PUT = STOP \ {c.7, c.1}
@@ -87,6 +97,14 @@ T = true & c!1 -> STOP
 MEASURES = OF(6, 4)
 T = if 1 == -1 then STOP else a -> STOP
 MEASURES = OF(8, 4)
+T = a -> STOP [> STOP
+MEASURES = OF(4, 3)
+T = SKIP [> a -> STOP
+MEASURES = OF(4, 3)
+T = |~| x:{1} @ KEEP((F1.x.A1))
+MEASURES = OF(4, 3)
+T = |~| x:{1} @ KEEP((F1.(x + 1).A1))
+MEASURES = OF(6, 4)
 
 -- One node for a set, an operator, each event, two for a pair, and each part of an expression, beside the two of the
 -- operator and `STOP`.

@@ -1,19 +1,20 @@
 //! The texts of rows, each with its name. They are statics that functions hand out, so that no proof looks into them.
 
 use crate::{
-    calls, choices, conditions, decisions, events_changed, faults, limits, numbers, parallels,
-    prefixes, replicated, rule_steps, sequences, sets, sets_of_events, substitution, successions,
-    worked,
+    calls, choices, conditions, constructors, decisions, events_changed, faults, limits, numbers,
+    parallels, prefixes, replicated, rule_steps, sequences, sets, sets_of_events, sliding_choices,
+    substitution, successions, worked,
 };
 
 /// A name, and a text.
 pub(crate) type Named = (&'static str, &'static str);
 
-static EXPRESSIONS: [Named; 4] = [
+static EXPRESSIONS: [Named; 5] = [
     ("numbers", numbers::TEXT),
     ("sequences", sequences::TEXT),
     ("sets", sets::TEXT),
     ("decisions", decisions::TEXT),
+    ("constructors", constructors::TEXT),
 ];
 
 /// The texts of values of expressions.
@@ -47,10 +48,11 @@ pub(crate) fn of_single_processes() -> &'static [Named] {
     &SINGLE
 }
 
-static COMPOSED: [Named; 4] = [
+static COMPOSED: [Named; 5] = [
     ("parallels", parallels::TEXT),
     ("events_changed", events_changed::TEXT),
     ("replicated", replicated::TEXT),
+    ("sliding_choices", sliding_choices::TEXT),
     ("worked", worked::TEXT),
 ];
 

@@ -111,6 +111,10 @@ pub(crate) fn meant<A: Allocator + Copy>(alloc: A, term: &Term<A>) -> Result<Ter
             let pairs = copy_all(alloc, pairs.as_slice())?;
             TermForm::Renaming(meant(alloc, body)?, pairs)
         }
+        TermForm::SlidingChoice(left, right) => {
+            let left = meant(alloc, left)?;
+            TermForm::SlidingChoice(left, meant(alloc, right)?)
+        }
         _ => return Ok(term.try_copy(alloc)?),
     };
     Ok(Term::new(alloc, form)?)

@@ -8,6 +8,8 @@
 #[cfg(test)]
 mod answers;
 #[cfg(test)]
+mod constructors;
+#[cfg(test)]
 mod counts;
 #[cfg(test)]
 mod declared_twice;

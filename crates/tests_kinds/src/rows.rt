@@ -3,7 +3,7 @@
 //! answer.
 
 use crate::answers::answer;
-use crate::{counts, declared_twice, inference, kinds, names, passes, sets, worked};
+use crate::{constructors, counts, declared_twice, inference, kinds, names, passes, sets, worked};
 use std::alloc::{AllocError, Global};
 use std::process::Abort;
 use std::test::Fail;
@@ -62,7 +62,8 @@ fn names_are_refused_so(rt: HostRuntime) -> Result<(), Fail> {
     are_answered_so(&rt, rt.alloc(), declared_twice::subjects())?;
     are_answered_so(&rt, rt.alloc(), names::subjects())?;
     are_answered_so(&rt, rt.alloc(), counts::subjects())?;
-    are_answered_so(&rt, rt.alloc(), sets::subjects())
+    are_answered_so(&rt, rt.alloc(), sets::subjects())?;
+    are_answered_so(&rt, rt.alloc(), constructors::subjects())
 }
 
 #[test]

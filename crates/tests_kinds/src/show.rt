@@ -1,8 +1,8 @@
 //! What a checked script holds, as text: the constructors of its datatypes, the members of its nametypes, its channels
-//! with their field sets, the number of parameters of each equation, and the model of each assertion.
+//! with their field sets, the number of parameters of each equation, and what each assertion asks.
 
 use csp_parse::Model;
-use csp_term::{Channel, Constructor, Script};
+use csp_term::{Channel, Constructor, Property, Script};
 use csp_value::Value;
 use std::alloc::{AllocError, Global};
 use std::fmt::Write;
@@ -25,8 +25,26 @@ fn constructor(
     }
 }
 
-/// A value that holds no others.
-fn single(
+/// A constructor, with its fields in brackets where it has some.
+#[cycle(value)]
+fn constructed(
+    shown: &mut String,
+    constructors: &[Constructor<Global>],
+    number: u32,
+    fields: &[Value<Global>],
+) -> Result<(), AllocError> {
+    if fields.is_empty() {
+        return constructor(shown, constructors, number);
+    }
+    shown.push_str("(")?;
+    constructor(shown, constructors, number)?;
+    shown.push_str(" of ")?;
+    values(shown, constructors, fields)?;
+    shown.push_str(")")
+}
+
+#[cycle(value)]
+fn value(
     shown: &mut String,
     constructors: &[Constructor<Global>],
     item: &Value<Global>,
@@ -34,72 +52,22 @@ fn single(
     match item {
         Value::Int(number) => write!(shown, "{number}"),
         Value::Bool(truth) => write!(shown, "{truth}"),
-        Value::Con(number) => constructor(shown, constructors, number.0),
-        Value::Seq(_) | Value::Set(_) => shown.push_str("?"),
+        Value::Con(number, fields) => constructed(shown, constructors, number.0, fields),
+        Value::Seq(items) => {
+            shown.push_str("<")?;
+            values(shown, constructors, items)?;
+            shown.push_str(">")
+        }
+        Value::Set(set) => {
+            shown.push_str("{")?;
+            values(shown, constructors, set.members())?;
+            shown.push_str("}")
+        }
     }
 }
 
-/// The members of a sequence or set with their brackets.
-fn bracketed(item: &Value<Global>) -> Option<(&'static str, &[Value<Global>], &'static str)> {
-    match item {
-        Value::Seq(items) => Some(("<", items.as_slice(), ">")),
-        Value::Set(set) => Some(("{", set.members(), "}")),
-        Value::Int(_) | Value::Bool(_) | Value::Con(_) => None,
-    }
-}
-
-fn singles(
-    shown: &mut String,
-    constructors: &[Constructor<Global>],
-    items: &[Value<Global>],
-) -> Result<(), AllocError> {
-    for (index, item) in items.iter().enumerate() {
-        comma(shown, index)?;
-        single(shown, constructors, item)?;
-    }
-    Ok(())
-}
-
-/// A value that holds at most single ones.
-fn inner(
-    shown: &mut String,
-    constructors: &[Constructor<Global>],
-    item: &Value<Global>,
-) -> Result<(), AllocError> {
-    let Some((open, items, close)) = bracketed(item) else {
-        return single(shown, constructors, item);
-    };
-    shown.push_str(open)?;
-    singles(shown, constructors, items)?;
-    shown.push_str(close)
-}
-
-fn inners(
-    shown: &mut String,
-    constructors: &[Constructor<Global>],
-    items: &[Value<Global>],
-) -> Result<(), AllocError> {
-    for (index, item) in items.iter().enumerate() {
-        comma(shown, index)?;
-        inner(shown, constructors, item)?;
-    }
-    Ok(())
-}
-
-/// A value, whose members hold at most single ones.
-fn value(
-    shown: &mut String,
-    constructors: &[Constructor<Global>],
-    item: &Value<Global>,
-) -> Result<(), AllocError> {
-    let Some((open, items, close)) = bracketed(item) else {
-        return single(shown, constructors, item);
-    };
-    shown.push_str(open)?;
-    inners(shown, constructors, items)?;
-    shown.push_str(close)
-}
-
+/// Values with commas between.
+#[cycle(value)]
 fn values(
     shown: &mut String,
     constructors: &[Constructor<Global>],
@@ -140,6 +108,21 @@ fn types(shown: &mut String, script: &Script<Global>) -> Result<(), AllocError> 
     Ok(())
 }
 
+fn property(asked: &Property<Global>) -> &'static str {
+    match asked {
+        Property::Refinement {
+            model: Model::Traces,
+            ..
+        } => "traces; ",
+        Property::Refinement {
+            model: Model::Failures,
+            ..
+        } => "failures; ",
+        Property::DeadlockFree => "never deadlocks; ",
+        Property::DivergenceFree => "never diverges; ",
+    }
+}
+
 pub(crate) fn script(alloc: Global, script: &Script<Global>) -> Result<String, AllocError> {
     let mut shown = String::new(alloc);
     types(&mut shown, script)?;
@@ -151,10 +134,10 @@ pub(crate) fn script(alloc: Global, script: &Script<Global>) -> Result<String, A
         write!(shown, "of {parameters}; ")?;
     }
     for assertion in script.assertions() {
-        shown.push_str(match assertion.model {
-            Model::Traces => "traces; ",
-            Model::Failures => "failures; ",
-        })?;
+        if assertion.negated {
+            shown.push_str("not ")?;
+        }
+        shown.push_str(property(&assertion.property))?;
     }
     Ok(shown)
 }

@@ -17,5 +17,8 @@ pub(crate) fn specification<A: Allocator>(script: &Script<A>) -> Result<&Term<A>
     if assertions.is_empty() {
         return Err(Fail::new("no assertion"));
     }
-    Ok(&assertions[0].specification)
+    match assertions[0].property.specification() {
+        Some(specification) => Ok(specification),
+        None => Err(Fail::new("no specification")),
+    }
 }

@@ -4,7 +4,7 @@ use crate::follows::{
     ANY_OPERATOR, ATOM, Beginning, DECLARATION, EXPRESSION, OPERATOR, SUM_OPERATOR,
 };
 
-static EXPRESSIONS: [Beginning; 65] = [
+static EXPRESSIONS: [Beginning; 71] = [
     ("nametype N = x", &[ANY_OPERATOR, DECLARATION]),
     ("nametype N = true", &[ANY_OPERATOR, DECLARATION]),
     ("nametype N = false", &[ANY_OPERATOR, DECLARATION]),
@@ -16,6 +16,12 @@ static EXPRESSIONS: [Beginning; 65] = [
     ("nametype N = (", &[EXPRESSION]),
     ("nametype N = ( 1", &[ANY_OPERATOR, " ) "]),
     ("nametype N = ( 1 )", &[ANY_OPERATOR, DECLARATION]),
+    ("nametype N = ( x", &[ANY_OPERATOR, " . ) "]),
+    ("nametype N = ( x .", &[ATOM]),
+    ("nametype N = ( x . 1", &[" . ) "]),
+    ("nametype N = ( x . ( y", &[ANY_OPERATOR, " . ) "]),
+    ("nametype N = ( x . ( y . 1 )", &[" . ) "]),
+    ("nametype N = ( x . 1 )", &[ANY_OPERATOR, DECLARATION]),
     ("nametype N = <", &[ATOM, " > "]),
     ("nametype N = < >", &[ANY_OPERATOR, DECLARATION]),
     ("nametype N = < 1", &[SUM_OPERATOR, " , > "]),

@@ -13,12 +13,13 @@ const TOKENS: &[&str] = &[
     "datatype", "nametype", "channel", "assert", "if", "then", "else", "and", "or", "not", "true",
     "false", "Bool", "STOP", "SKIP", "head", "tail", "null", "elem", "member", "union", "inter",
     "diff", "card", "->", "<-", "[]", "|~|", "|||", "||", "[|", "|]", "[[", "]]", "{|", "|}",
-    "[T=", "[F=", "/\\", "\\", ";", "&", "@", "==", "!=", "<=", ">=", "<", ">", "+", "-", "*", "%",
-    "^", "#", "!", "?", "..", ".", ":", ",", "=", "|", "(", ")", "[", "]", "{", "}", "1", "x",
+    "[T=", "[F=", "/\\", "[>", "\\", ";", "&", "@", "==", "!=", "<=", ">=", "<", ">", "+", "-",
+    "*", "%", "^", "#", "!", "?", "..", ".", ":", ",", "=", "|", "(", ")", "[", "]", "{", "}", "1",
+    "x",
 ];
 
 /// The tokens that are refused as mixed operators.
-const MIXED: &str = " [] |~| ; ||| /\\ [ [| [[ \\ ";
+const MIXED: &str = " [] |~| ; ||| /\\ [> [ [| [[ \\ ";
 
 /// What a declaration begins with.
 pub(crate) const DECLARATION: &str = " datatype nametype channel assert x ";
@@ -50,7 +51,10 @@ pub(crate) const OPERATOR: &str = " * % + - ^ and or ";
 pub(crate) const ANY_OPERATOR: &str = " * % + - ^ and or == != < <= > >= ";
 
 /// What goes on with a process behind an operand.
-pub(crate) const INFIX: &str = " [] |~| ; ||| /\\ [| [ ";
+pub(crate) const INFIX: &str = " [] |~| ; ||| /\\ [> [| [ ";
+
+/// What stands behind the first side of an assertion.
+pub(crate) const ASKED: &str = " [T= [F= : ";
 
 /// What goes on with a process behind a base that is no operand of another.
 pub(crate) const UNARY: &str = " [[ \\ ";

@@ -32,6 +32,54 @@ const HEIGHTS: &[Height] = &[
         None,
     ),
     (("P = (((1 == 1) & STOP))", "[]STOP", 95, ""), NOTHING, None),
+    (("P = STOP", "[>STOP", 100, ""), NOTHING, None),
+    (("P = d!", "(B.", 99, "1"), ("", ")", 99, " -> STOP"), None),
+    (
+        ("P = STOP nametype N = ", "(B.", 100, "1"),
+        ("", ")", 100, ""),
+        None,
+    ),
+    // Two closing brackets in one close both, so what stands behind them is no higher than before.
+    (
+        ("P = STOP ", "assert P :[deadlock free [F]]", 101, ""),
+        NOTHING,
+        None,
+    ),
+    (
+        ("P = STOP assert ", "(", 99, "STOP"),
+        ("", ")", 99, ":[deadlock free [F]]"),
+        None,
+    ),
+    (
+        ("P = STOP assert ", "a ->", 98, "STOP"),
+        ("", "", 0, ":[deadlock free [F]]"),
+        None,
+    ),
+    (
+        ("P = STOP assert not ", "(", 98, "STOP"),
+        ("", ")", 98, ":[divergence free]"),
+        None,
+    ),
+    (
+        ("P = STOP assert ", "a ->", 99, "STOP"),
+        ("", "", 0, ":[deadlock free [F]]"),
+        Some("S02 at 1:433"),
+    ),
+    (
+        ("P = STOP assert ", "a ->", 100, "STOP"),
+        ("", "", 0, ":[deadlock free]"),
+        Some("S02 at 1:422"),
+    ),
+    (
+        ("P = STOP assert not ", "(", 99, "STOP"),
+        ("", ")", 99, ":[deadlock free]"),
+        Some("S02 at 1:224"),
+    ),
+    (
+        ("P = STOP assert not ", "(", 100, "STOP"),
+        ("", ")", 100, ":[deadlock free]"),
+        Some("S02 at 1:120"),
+    ),
     // A refused token that is too high is refused for its height.
     (
         ("P = ", "(", 101, "STOP"),
@@ -72,6 +120,26 @@ const HEIGHTS: &[Height] = &[
         ("P = Q", "[[a <- b]]", 101, ""),
         NOTHING,
         Some("S02 at 1:1006"),
+    ),
+    (
+        ("P = STOP", "[>STOP", 101, ""),
+        NOTHING,
+        Some("S02 at 1:609"),
+    ),
+    (
+        ("P = d!", "(B.", 100, "1"),
+        ("", ")", 100, " -> STOP"),
+        Some("S02 at 1:409"),
+    ),
+    (
+        ("P = d!", "(B.", 101, "1"),
+        ("", ")", 101, " -> STOP"),
+        Some("S02 at 1:307"),
+    ),
+    (
+        ("datatype D = B.", "(B.", 101, "1"),
+        ("", ")", 101, ""),
+        Some("S02 at 1:316"),
     ),
     (
         ("nametype N = ", "(", 101, "1"),

@@ -32,6 +32,8 @@ mod processes;
 #[cfg(test)]
 mod refusals;
 #[cfg(test)]
+mod refused_declarations;
+#[cfg(test)]
 mod rows;
 #[cfg(test)]
 mod show;

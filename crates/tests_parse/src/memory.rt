@@ -29,7 +29,7 @@ fn refused_memory_is_told(rt: HostRuntime) -> Result<(), Fail> {
     for size in 1..2048 {
         match count_within(rt.alloc(), &list, 16 * size)? {
             Ok(count) => {
-                assert_eq!(rt; count, 15);
+                assert_eq!(rt; count, 22);
                 successes = successes.saturating_add(1);
             }
             Err(refused) => {

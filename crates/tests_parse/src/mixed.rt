@@ -6,17 +6,19 @@ use std::alloc::{AllocError, Global};
 /// A process, the refusal of an operator behind it, and the operators that are not refused there.
 pub(crate) type First = (&'static str, &'static str, [&'static str; 2]);
 
-static FIRSTS: [First; 16] = [
+static FIRSTS: [First; 18] = [
     ("P = Q [] R ", "S04 at 1:12", ["[]", ""]),
     ("P = Q |~| R ", "S04 at 1:13", ["|~|", ""]),
     ("P = Q ; R ", "S04 at 1:11", [";", ""]),
     ("P = Q ||| R ", "S04 at 1:13", ["|||", ""]),
     ("P = Q /\\ R ", "S04 at 1:12", ["/\\", ""]),
+    ("P = Q [> R ", "S04 at 1:12", ["[>", ""]),
     ("P = Q [] R [] S ", "S04 at 1:17", ["[]", ""]),
     ("P = Q |~| R |~| S ", "S04 at 1:19", ["|~|", ""]),
     ("P = Q ; R ; S ", "S04 at 1:15", [";", ""]),
     ("P = Q ||| R ||| S ", "S04 at 1:19", ["|||", ""]),
     ("P = Q /\\ R /\\ S ", "S04 at 1:17", ["/\\", ""]),
+    ("P = Q [> R [> S ", "S04 at 1:17", ["[>", ""]),
     ("P = Q [| {a} |] R ", "S04 at 1:19", ["", ""]),
     ("P = Q [{a} || {b}] R ", "S04 at 1:22", ["", ""]),
     ("P = Q \\ {a} ", "S04 at 1:13", ["\\", ""]),
@@ -36,6 +38,7 @@ const SECONDS: &[(&str, &str)] = &[
     (";", "; S"),
     ("|||", "||| S"),
     ("/\\", "/\\ S"),
+    ("[>", "[> S"),
     ("[|", "[| {c} |] S"),
     ("[", "[{c} || {d}] S"),
     ("\\", "\\ {c}"),

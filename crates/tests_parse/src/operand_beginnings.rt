@@ -5,7 +5,7 @@ use crate::follows::{
     OPERATOR, UNARY,
 };
 
-static OPERANDS: [Beginning; 35] = [
+static OPERANDS: [Beginning; 38] = [
     ("P = STOP", &[INFIX, UNARY, DECLARATION]),
     ("P = SKIP", &[INFIX, UNARY, DECLARATION]),
     ("P = Q", &[INFIX, UNARY, NAMED, ANY_OPERATOR, DECLARATION]),
@@ -18,6 +18,9 @@ static OPERANDS: [Beginning; 35] = [
     ("P = a . 1", &[" . ! ? -> "]),
     ("P = a !", &[ATOM]),
     ("P = a ! 1", &[" ! ? -> "]),
+    ("P = a ! ( x", &[ANY_OPERATOR, " . ) "]),
+    ("P = a ! ( x . 1", &[" . ) "]),
+    ("P = a ! ( x . 1 )", &[" ! ? -> "]),
     ("P = a ?", &[" x "]),
     ("P = a ? y", &[" ! ? : -> "]),
     ("P = a ? y :", &[ATOM]),
@@ -47,7 +50,7 @@ pub(crate) fn operands() -> &'static [Beginning] {
     &OPERANDS
 }
 
-static BRACKETS: [Beginning; 25] = [
+static BRACKETS: [Beginning; 33] = [
     ("P = (", &[OPERAND, CONTROL]),
     ("P = ( STOP", &[INFIX, UNARY, " ) "]),
     ("P = ( STOP )", &[INFIX, UNARY, DECLARATION]),
@@ -79,6 +82,14 @@ static BRACKETS: [Beginning; 25] = [
     ("P = ( ( x ) [] STOP", &[" [] ) "]),
     ("P = ( ( x ) [[ a <- b ]]", &[UNARY, " ) "]),
     ("P = ( STOP \\ { }", &[" \\ ) "]),
+    ("P = ( x .", &[ATOM]),
+    ("P = ( x . 1", &[" . ! ? -> ) "]),
+    ("P = ( x . 1 )", &[ANY_OPERATOR, " & "]),
+    ("P = ( x . 1 ! 2", &[" ! ? -> "]),
+    ("P = ( x . 1 -> STOP", &[INFIX, " ) "]),
+    ("P = Q ( ( x . 1", &[" . ) "]),
+    ("P = STOP [>", &[OPERAND]),
+    ("P = STOP [> STOP", &[" [> ", DECLARATION]),
 ];
 
 pub(crate) fn brackets() -> &'static [Beginning] {

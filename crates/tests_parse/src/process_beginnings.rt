@@ -5,7 +5,7 @@ use crate::follows::{
     OPERAND, OPERATOR, UNARY,
 };
 
-static PROCESSES: [Beginning; 40] = [
+static PROCESSES: [Beginning; 43] = [
     ("P = if", &[EXPRESSION]),
     ("P = if x", &[ANY_OPERATOR, " then "]),
     ("P = if x == y", &[OPERATOR, " then "]),
@@ -35,6 +35,9 @@ static PROCESSES: [Beginning; 40] = [
     ("P = STOP ||| STOP", &[" ||| ", DECLARATION]),
     ("P = STOP /\\", &[OPERAND]),
     ("P = STOP /\\ STOP", &[" /\\ ", DECLARATION]),
+    ("P = STOP [> Q", &[" [> ", NAMED, ANY_OPERATOR, DECLARATION]),
+    ("P = STOP [> a -> STOP [>", &[OPERAND]),
+    ("P = STOP [> a -> STOP [> STOP", &[" [> ", DECLARATION]),
     ("P = STOP [|", &[EVENT_SET]),
     ("P = STOP [| { a }", &[" |] "]),
     ("P = STOP [| { a } |]", &[OPERAND]),

@@ -5,6 +5,7 @@ use crate::texts::{read, repeated};
 use crate::{
     declaration_beginnings, declarations, expression_beginnings, expressions, mixed,
     operand_beginnings, out_of_place, process_beginnings, processes, refusals,
+    refused_declarations,
 };
 use std::alloc::Global;
 use std::process::Abort;
@@ -66,6 +67,7 @@ fn texts_are_read_so(rt: HostRuntime) -> Result<(), Fail> {
         processes::subject(),
         declarations::subject(),
         refusals::subject(),
+        refused_declarations::subject(),
         out_of_place::subject(),
     ] {
         subject_is_read_so(&rt, rt.alloc(), subject)?;

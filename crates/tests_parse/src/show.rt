@@ -1,8 +1,9 @@
 //! Trees as text, with brackets round each part. Each function writes its part behind what is shown.
 
 use csp_parse::{
-    BinaryOperator, Declaration, Domain, Event, EventSet, EventSetOperator, Expression, Field,
-    Model, Name, Pair, Process, ProcessOperator, Raw, ReplicatedOperator, UnaryOperator,
+    BinaryOperator, Clause, Declaration, Domain, Event, EventSet, EventSetOperator, Expression,
+    Field, Infix, Model, Name, Pair, Process, ProcessOperator, Property, Raw, ReplicatedOperator,
+    UnaryOperator,
 };
 use std::alloc::{AllocError, Allocator, Global};
 use std::fmt::Write;
@@ -50,13 +51,14 @@ fn joining(operator: EventSetOperator) -> &'static str {
     }
 }
 
-fn infix(operator: ProcessOperator) -> &'static str {
+fn infix(operator: Infix) -> &'static str {
     match operator {
-        ProcessOperator::ExternalChoice => " [] ",
-        ProcessOperator::InternalChoice => " |~| ",
-        ProcessOperator::Sequential => " ; ",
-        ProcessOperator::Interleaving => " ||| ",
-        ProcessOperator::Interrupt => " /\\ ",
+        Infix::Operator(ProcessOperator::ExternalChoice) => " [] ",
+        Infix::Operator(ProcessOperator::InternalChoice) => " |~| ",
+        Infix::Operator(ProcessOperator::Sequential) => " ; ",
+        Infix::Operator(ProcessOperator::Interleaving) => " ||| ",
+        Infix::Operator(ProcessOperator::Interrupt) => " /\\ ",
+        Infix::Sliding => " [> ",
     }
 }
 
@@ -83,6 +85,13 @@ fn number(shown: &mut String, value: u32) -> Result<(), AllocError> {
 
 fn truth(shown: &mut String, value: bool) -> Result<(), AllocError> {
     shown.push_str(if value { "true" } else { "false" })
+}
+
+/// What stands before the fields of a constructor.
+fn constructor_opening(shown: &mut String, constructor: &str) -> Result<(), AllocError> {
+    shown.push_str("(")?;
+    shown.push_str(constructor)?;
+    shown.push_str(" of ")
 }
 
 /// Items with commas between.
@@ -133,6 +142,11 @@ fn expression<A: Allocator>(
             shown.push_str(" .. ")?;
             expression(shown, to)?;
             shown.push_str("}")
+        }
+        Expression::Constructor(constructor, fields) => {
+            constructor_opening(shown, constructor.text)?;
+            listed(shown, fields)?;
+            shown.push_str(")")
         }
     }
 }
@@ -405,6 +419,37 @@ fn refinement<A: Allocator>(
     process(shown, implementation)
 }
 
+fn clause<A: Allocator>(shown: &mut String, item: &Clause<'_, A>) -> Result<(), AllocError> {
+    shown.push_str(" ")?;
+    name(shown, item.name)?;
+    for field in &item.fields {
+        shown.push_str(" of")?;
+        domain(shown, field)?;
+    }
+    Ok(())
+}
+
+fn assertion<A: Allocator>(
+    shown: &mut String,
+    property: &Property<'_, A>,
+    implementation: &Process<'_, A>,
+) -> Result<(), AllocError> {
+    match property {
+        Property::Refinement {
+            model,
+            specification,
+        } => refinement(shown, specification, *model, implementation),
+        Property::DeadlockFree => {
+            process(shown, implementation)?;
+            shown.push_str(" never deadlocks")
+        }
+        Property::DivergenceFree => {
+            process(shown, implementation)?;
+            shown.push_str(" never diverges")
+        }
+    }
+}
+
 fn declaration<A: Allocator>(
     shown: &mut String,
     item: &Declaration<'_, A>,
@@ -412,11 +457,13 @@ fn declaration<A: Allocator>(
     match item {
         Declaration::Datatype {
             name: datatype,
-            constructors,
+            clauses,
         } => {
             shown.push_str("datatype ")?;
             name(shown, *datatype)?;
-            names(shown, constructors)?;
+            for item in clauses {
+                clause(shown, item)?;
+            }
         }
         Declaration::Nametype {
             name: nametype,
@@ -434,12 +481,15 @@ fn declaration<A: Allocator>(
         } => equation(shown, *name, parameters, body)?,
         Declaration::Assertion {
             place,
-            model,
-            specification,
+            negated,
+            property,
             implementation,
         } => {
             write!(shown, "assert {place} ")?;
-            refinement(shown, specification, *model, implementation)?;
+            if *negated {
+                shown.push_str("not: ")?;
+            }
+            assertion(shown, property, implementation)?;
         }
     }
     shown.push_str("; ")

@@ -16,6 +16,8 @@ mod divergence;
 mod evidence;
 mod fired;
 #[cfg(test)]
+mod freedom;
+#[cfg(test)]
 mod growth;
 mod held;
 #[cfg(test)]
@@ -32,6 +34,8 @@ mod refused_memory;
 mod row;
 #[cfg(test)]
 mod show;
+#[cfg(test)]
+mod sliding;
 #[cfg(test)]
 mod stops;
 #[cfg(test)]

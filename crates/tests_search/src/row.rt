@@ -1,6 +1,9 @@
 //! Assertions with their answers, as the tables have them.
 
-use crate::{chains, divergence, evidence, growth, limits, paths, stops, systems, ticks, worked};
+use crate::{
+    chains, divergence, evidence, freedom, growth, limits, paths, sliding, stops, systems, ticks,
+    worked,
+};
 use csp_kinds::check;
 use csp_lex::tokens;
 use csp_parse::parse;
@@ -22,7 +25,7 @@ pub(crate) struct Row {
 }
 
 /// All tables.
-pub(crate) fn tables() -> [&'static [Row]; 10] {
+pub(crate) fn tables() -> [&'static [Row]; 12] {
     [
         worked::rows(),
         chains::rows(),
@@ -34,16 +37,19 @@ pub(crate) fn tables() -> [&'static [Row]; 10] {
         growth::rows(),
         limits::rows(),
         systems::rows(),
+        sliding::rows(),
+        freedom::rows(),
     ]
 }
 
 /// The tables whose answers rest on which of several rows of a level is looked at.
-pub(crate) fn small_tables() -> [&'static [Row]; 4] {
+pub(crate) fn small_tables() -> [&'static [Row]; 5] {
     [
         paths::rows(),
         evidence::rows(),
         stops::rows(),
         limits::rows(),
+        freedom::rows(),
     ]
 }
 

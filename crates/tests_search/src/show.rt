@@ -15,11 +15,13 @@ fn single(
     match value {
         Value::Int(number) => write!(text, "{number}"),
         Value::Bool(truth) => write!(text, "{truth}"),
-        Value::Con(number) => match constructors.get(number.0 as usize) {
-            Some(constructor) => text.push_str(constructor.spelling.as_str()),
-            None => text.push_str("?"),
-        },
-        Value::Seq(_) | Value::Set(_) => text.push_str("?"),
+        Value::Con(number, fields) if fields.is_empty() => {
+            match constructors.get(number.0 as usize) {
+                Some(constructor) => text.push_str(constructor.spelling.as_str()),
+                None => text.push_str("?"),
+            }
+        }
+        Value::Con(..) | Value::Seq(_) | Value::Set(_) => text.push_str("?"),
     }
 }
 
@@ -46,7 +48,7 @@ fn value(
     let (open, members, close) = match value {
         Value::Seq(items) => ("<", items.as_slice(), ">"),
         Value::Set(set) => ("{", set.members(), "}"),
-        Value::Int(_) | Value::Bool(_) | Value::Con(_) => {
+        Value::Int(_) | Value::Bool(_) | Value::Con(..) => {
             return single(text, constructors, value);
         }
     };
@@ -116,6 +118,8 @@ fn evidence(
             text.push_str(" offers")?;
             offered(text, script, offers)
         }
+        Evidence::Deadlock => text.push_str(" deadlock"),
+        Evidence::Divergence => text.push_str(" diverges"),
     }
 }
 
@@ -165,6 +169,7 @@ pub(crate) fn outcome(
         Outcome::Holds => text.push_str("holds")?,
         Outcome::Fails(shown) => violation(&mut text, script, shown)?,
         Outcome::Unknown(why) => reason(&mut text, *why)?,
+        Outcome::Denied => text.push_str("fails")?,
     }
     Ok(text)
 }

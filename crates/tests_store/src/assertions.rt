@@ -1,6 +1,6 @@
 //! The assertions of scripts, by their numbers from 0 on. Both sides of each are terms of its script.
 
-ghost use Rattle.std.specs.Prelude.{IfOk};
+ghost use Rattle.std.specs.Prelude.{IfOk, IfSome};
 ghost use Rattle.csp_semantics.specs.Kinds.Scripts.{IsTermOf};
 ghost use Rattle.csp_answers.specs.Terms.{IsAssertionOf};
 ghost use Rattle.csp_term.specs.Script.{HasSidesOf, assertion_of, script_of};
@@ -21,12 +21,15 @@ pub(crate) fn assertion(script: &Script<Global>, number: usize) -> Result<&Asser
     Ok(&assertions[number])
 }
 
-/// The specification of the assertion of that number.
-pub(crate) fn specification(script: &Script<Global>, number: usize) -> Result<&Term<Global>, Fail>
-    ensures { IfOk result (λ term. IsTermOf (script_of script.now) (process_of term.now)) }
+/// The specification of the assertion of that number, if it has one.
+pub(crate) fn specification(
+    script: &Script<Global>,
+    number: usize,
+) -> Result<Option<&Term<Global>>, Fail>
+    ensures { IfOk result (λ o. IfSome o (λ term. IsTermOf (script_of script.now) (process_of term.now))) }
 {
     let assertion = assertion(script, number)?;
-    Ok(&assertion.specification)
+    Ok(assertion.property.specification())
 }
 
 /// The implementation of the assertion of that number.

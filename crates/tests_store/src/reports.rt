@@ -15,8 +15,9 @@ use std::test::Fail;
 use std::{fmt, str};
 use verdict::{Evidence, Outcome, Shown};
 
-/// Three channels and a constructor.
-const SCRIPT: &str = "channel a, b, c\ndatatype Colour = Red\n";
+/// Three channels, and constructors without fields and with some.
+const SCRIPT: &str =
+    "channel a, b, c\ndatatype Colour = Red | Grey.{0..7}\ndatatype Frame = Empty | Full.Colour.Bool\n";
 
 /// Outcomes, and their report.
 const REPORTS: &[(&[&str], &str)] = &[
@@ -38,6 +39,9 @@ const REPORTS: &[(&[&str], &str)] = &[
         "1 fails trace <a.7> offers {tick,b.-1.0,c}\n",
     ),
     (&["fails <> offers"], "1 fails trace <> offers {}\n"),
+    (&["fails <a tau> deadlock"], "1 fails trace <a> deadlock\n"),
+    (&["fails <> diverges"], "1 fails trace <> diverges\n"),
+    (&["fails", "holds"], "1 fails\n2 holds\n"),
     (
         &["fails <c tick> offers"],
         "1 fails trace <c,tick> offers {}\n",
@@ -177,13 +181,24 @@ fn set(alloc: Global) -> Result<Value<Global>, Memory> {
     Ok(Value::Set(SetOf::from_values(members)))
 }
 
-// That set, then a truth value, an empty sequence and a constructor.
+// A constructor with a field, in one with two.
+fn framed(alloc: Global) -> Result<Value<Global>, Memory> {
+    let mut shade = Vec::new(alloc);
+    shade.push(Value::Int(7))?;
+    let mut fields = Vec::new(alloc);
+    fields.push(Value::Con(ConId(1), shade))?;
+    fields.push(Value::Bool(false))?;
+    Ok(Value::Con(ConId(3), fields))
+}
+
+// That set, then a truth value, an empty sequence and constructors.
 fn nested(alloc: Global) -> Result<SmallVec<Value<Global>, 2, Global>, Memory> {
     let mut fields = SmallVec::new(alloc);
     fields.push(set(alloc)?)?;
     fields.push(Value::Bool(false))?;
     fields.push(Value::Seq(Vec::new(alloc)))?;
-    fields.push(Value::Con(ConId(0)))?;
+    fields.push(Value::Con(ConId(0), Vec::new(alloc)))?;
+    fields.push(framed(alloc)?)?;
     Ok(fields)
 }
 
@@ -200,7 +215,8 @@ fn violation(alloc: Global) -> Result<Outcome<Global>, Memory> {
 // That values are printed as they are written.
 fn has_values(rt: &impl Abort, alloc: Global, script: &Script<Global>) -> Result<(), Fail> {
     let report = report(alloc, script, &[violation(alloc)?])?;
-    let expected = "1 fails trace <> event b.{<>,<-2147483648,true>}.false.<>.Red\n";
+    let expected =
+        "1 fails trace <> event b.{<>,<-2147483648,true>}.false.<>.Red.(Full.(Grey.7).false)\n";
     assert!(rt; report.as_str() == expected, "{report}");
     Ok(())
 }

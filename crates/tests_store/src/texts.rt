@@ -84,6 +84,12 @@ fn evidence(alloc: Global, text: &str) -> Result<Evidence<Global>, Fail> {
     if let Some(lacking) = text.strip_prefix(" event ") {
         return Ok(Evidence::Event(action(alloc, lacking)?));
     }
+    if text == " deadlock" {
+        return Ok(Evidence::Deadlock);
+    }
+    if text == " diverges" {
+        return Ok(Evidence::Divergence);
+    }
     match text.strip_prefix(" offers") {
         Some(lacking) => Ok(Evidence::Offers(actions(alloc, lacking)?)),
         None => Err(Fail::new("no evidence")),
@@ -131,6 +137,9 @@ pub(crate) fn outcome(alloc: Global, text: &str) -> Result<Outcome<Global>, Fail
     }
     if text == "holds" {
         return Ok(Outcome::Holds);
+    }
+    if text == "fails" {
+        return Ok(Outcome::Denied);
     }
     Err(Fail::new("no outcome"))
 }

@@ -1,6 +1,6 @@
 //! Orders, sets and copies of values, events and actions. Values are texts:
 //!
-//! - a number, `true` or `false`, or the number of a constructor behind `A`;
+//! - a number, `true` or `false`, or the number of a constructor behind `A`, and then its fields, which are numbers;
 //! - numbers in angle brackets, a sequence, or in braces, a set;
 //! - an action is `tau`, `tick` or an event: the number of its channel and its fields, with dots between.
 
@@ -30,7 +30,12 @@ const VALUES: &[&str] = &[
     "false",
     "true",
     "A0",
+    "A0 -1",
+    "A0 -1 7",
+    "A0 3",
+    "A0 3 0",
     "A1",
+    "A1 -1",
     "<>",
     "<0>",
     "<0 5>",
@@ -95,10 +100,15 @@ fn between<'t>(text: &'t str, opening: &str, closing: &str) -> Option<&'t str> {
     text.strip_prefix(opening)?.strip_suffix(closing)
 }
 
+/// The constructor with its fields, each behind a blank.
+fn constructor(alloc: Global, text: &str) -> Result<Value<Global>, Fail> {
+    let (number, fields) = text.split_once(' ').unwrap_or((text, ""));
+    let number = number.parse::<u32>()?;
+    let fields = integers(alloc, fields)?;
+    Ok(Value::Con(ConId(number), numbers(alloc, &fields)?))
+}
+
 fn scalar(text: &str) -> Result<Value<Global>, Fail> {
-    if let Some(number) = text.strip_prefix("A") {
-        return Ok(Value::Con(ConId(number.parse::<u32>()?)));
-    }
     if text == "true" || text == "false" {
         return Ok(Value::Bool(text == "true"));
     }
@@ -113,6 +123,9 @@ fn value(alloc: Global, text: &str) -> Result<Value<Global>, Fail> {
     if let Some(members) = between(text, "{", "}") {
         let members = integers(alloc, members)?;
         return Ok(Value::Set(set_of(alloc, &members)?));
+    }
+    if let Some(text) = text.strip_prefix("A") {
+        return constructor(alloc, text);
     }
     scalar(text)
 }
@@ -130,12 +143,29 @@ fn are_ordered(left: &Value<Global>, right: &Value<Global>, order: Ordering) -> 
     compare_values(left, right) == order && equal_values(left, right) == (order == Ordering::Equal)
 }
 
+fn hash_of<A: Allocator>(value: &Value<A>) -> u64 {
+    let mut hasher = DefaultHasher::new();
+    value.hash(&mut hasher);
+    hasher.finish()
+}
+
+fn is_equal<A: Allocator>(copy: &Value<A>, value: &Value<A>) -> bool {
+    copy == value && copy.cmp(value) == Ordering::Equal && hash_of(copy) == hash_of(value)
+}
+
+/// Whether a copy of the value is equal, with the same hash.
+fn is_value_copied(alloc: Global, value: &Value<Global>) -> Result<bool, Memory> {
+    let copy = value.try_copy(alloc)?;
+    Ok(is_equal(&copy, value))
+}
+
 fn values_rise(rt: &impl Abort, alloc: Global) -> Result<(), Fail> {
     let values = values(alloc, VALUES)?;
     for (i, left) in values.iter().enumerate() {
         for (j, right) in values.iter().enumerate() {
             assert!(rt; are_ordered(left, right, i.cmp(&j)), "{i} and {j}");
         }
+        assert!(rt; is_value_copied(alloc, left)?, "{i}");
     }
     Ok(())
 }
@@ -219,8 +249,8 @@ fn actions_rise(rt: &impl Abort, alloc: Global) -> Result<(), Fail> {
     Ok(())
 }
 
-/// Values rise by form and then by their parts, events by channel and then by fields, and actions from tau over tick to
-/// events.
+/// Values rise by form and then by their parts, constructors by their numbers and then by their fields, events by channel
+/// and then by fields, and actions from tau over tick to events.
 #[test]
 fn values_and_actions_rise(rt: HostRuntime) -> Result<(), Fail> {
     values_rise(&rt, rt.alloc())?;
@@ -352,22 +382,13 @@ fn sets_have_their_members(rt: HostRuntime) -> Result<(), Fail> {
     are_less(&rt, rt.alloc())
 }
 
-fn hash_of<A: Allocator>(value: &Value<A>) -> u64 {
-    let mut hasher = DefaultHasher::new();
-    value.hash(&mut hasher);
-    hasher.finish()
-}
-
-/// A sequence of a set and a sequence.
+/// A sequence of a set, a sequence and a constructor with fields.
 fn nested<A: Allocator + Copy>(alloc: A) -> Result<Value<A>, Memory> {
     let mut items = Vec::new(alloc);
     items.push(Value::Set(set_of(alloc, &[3, 1, 4, 5, 9, 2, 6])?))?;
     items.push(sequence(alloc, &[2, 7, 1, 8, 2, 8])?)?;
+    items.push(Value::Con(ConId(1), numbers(alloc, &[1, 6, 1])?))?;
     Ok(Value::Seq(items))
-}
-
-fn is_equal<A: Allocator>(copy: &Value<A>, value: &Value<A>) -> bool {
-    copy == value && copy.cmp(value) == Ordering::Equal && hash_of(copy) == hash_of(value)
 }
 
 /// Whether the copy in the other heap is equal and has the same hash.
@@ -384,11 +405,11 @@ fn are_copied_across(rt: &impl Abort, alloc: Global) -> Result<(), Fail> {
     Ok(())
 }
 
-/// Whether the value has the size 16 and the depth 3.
+/// Whether the value has the size 20 and the depth 3.
 fn has_size_and_depth(value: &Value<Global>) -> bool {
-    value.room_left(15) == None
-        && value.room_left(16) == Some(0)
-        && value.room_left(20) == Some(4)
+    value.room_left(19) == None
+        && value.room_left(20) == Some(0)
+        && value.room_left(24) == Some(4)
         && value.is_within_depth(3)
         && !value.is_within_depth(2)
 }

@@ -23,15 +23,18 @@ pub enum Why {
 /// The answer to an assertion.
 #[derive(Drop)]
 pub enum Outcome<A: AllocHandle> {
-    /// The implementation refines the specification.
+    /// What is asked is so.
     Holds,
-    /// It does not: this is a violation.
+    /// It is not: this is a violation.
     Fails(Shown<A>),
     /// There is no answer, for this reason.
     Unknown(Why),
+    /// What is asked with `not` is not so, since without it nothing is lacking.
+    Denied,
 }
 
 impl<A: AllocHandle> Outcome<A> {
+    ghost use Rattle.csp_answers.specs.Answer.{as_written, exchanged};
     ghost use Rattle.verdict.specs.Outcome.{outcome_of};
 
     /// An equal outcome in the given allocator, or `Memory` where that has no room.
@@ -42,6 +45,25 @@ impl<A: AllocHandle> Outcome<A> {
             Outcome::Holds => Ok(Outcome::Holds),
             Outcome::Fails(shown) => Ok(Outcome::Fails(shown.try_copy(alloc)?)),
             Outcome::Unknown(why) => Ok(Outcome::Unknown(*why)),
+            Outcome::Denied => Ok(Outcome::Denied),
+        }
+    }
+
+    /// The answer to an assertion, from the answer to it without its `not`: `not` exchanges that it holds and that it fails.
+    pub fn as_written(self, negated: bool) -> Outcome<A>
+        ensures { outcome_of result ≡ as_written negated (outcome_of self) }
+    {
+        if negated { self.exchanged() } else { self }
+    }
+
+    fn exchanged(&self) -> Outcome<A>
+        ensures { outcome_of result ≡ exchanged (outcome_of self.now) }
+    {
+        match self {
+            Outcome::Holds => Outcome::Denied,
+            Outcome::Fails(_) => Outcome::Holds,
+            Outcome::Unknown(why) => Outcome::Unknown(*why),
+            Outcome::Denied => Outcome::Holds,
         }
     }
 }

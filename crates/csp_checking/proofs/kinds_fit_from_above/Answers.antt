@@ -1,3 +1,4 @@
+use Rattle.csp_checking.proofs.AskingSets.{fit_fewer_clauses}
 use Rattle.csp_checking.proofs.FitsAbove.{fit_above, fit_fewer}
 use Rattle.csp_checking.proofs.kinds_fit_from_above.Goals as goal
 
@@ -6,3 +7,6 @@ returns-clause-above c = fit_above
 
 pub returns-clause-fields : goal.returns-clause-fields
 returns-clause-fields c = fit_fewer
+
+pub returns-clause-clauses : goal.returns-clause-clauses
+returns-clause-clauses c = λ types above name before rest constructor fields more fit. fit_fewer_clauses types above name before rest constructor fields more fit

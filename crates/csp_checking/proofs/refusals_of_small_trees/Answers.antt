@@ -1,9 +1,13 @@
 use Rattle.csp_checking.proofs.CheckedTrees.{itself_row, again_row, unlike_row, bare_row, mixed_row, many_row}
-use Rattle.csp_checking.proofs.CheckedRows.{unknown_row, parameter_row, class_row, count_row, empty_row, twice_row, large_row, events_row, kinds_row}
+use Rattle.csp_checking.proofs.CheckedRows.{unknown_row, freedom_row, parameter_row, class_row, count_row, empty_row, twice_row, large_row, events_row, kinds_row}
+use Rattle.csp_checking.proofs.ClauseTrees as clauses
 use Rattle.csp_checking.proofs.refusals_of_small_trees.Goals as goal
 
 pub returns-clause-unknown : goal.returns-clause-unknown
 returns-clause-unknown c = unknown_row
+
+pub returns-clause-freedom : goal.returns-clause-freedom
+returns-clause-freedom c = freedom_row
 
 pub returns-clause-parameter : goal.returns-clause-parameter
 returns-clause-parameter c = parameter_row
@@ -46,3 +50,9 @@ returns-clause-mixed_set c = mixed_row
 
 pub returns-clause-one_too_many : goal.returns-clause-one_too_many
 returns-clause-one_too_many c = many_row
+
+pub returns-clause-recursive : goal.returns-clause-recursive
+returns-clause-recursive c = clauses.itself_row
+
+pub returns-clause-bare : goal.returns-clause-bare
+returns-clause-bare c = clauses.bare_row

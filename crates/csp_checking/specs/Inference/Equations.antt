@@ -23,16 +23,17 @@ abbrev pub when : {A : Type 0} → Option A → (A → List KindEquation) → Li
 when (Some x) f = f x
 when None f = never
 
--- The numbers of the kinds of a script's parts: of the members of each nametype, of the fields of each channel and of the parameters
--- of each equation. And for each constructor its datatype.
+-- The numbers of the kinds of a script's parts: of the members of each nametype, of the fields of each constructor and channel
+-- and of the parameters of each equation. And for each constructor its datatype.
 pub record Numbering : Type 0 where
   pub owners : List ℕ
   pub nametypes : List ℕ
+  pub constructors : List (List ℕ)
   pub channels : List (List ℕ)
   pub parameters : List (List ℕ)
 
 abbrev pub kinds_under : Assignment → Numbering → Kinds
-kinds_under a o = record { nametypes = map a o.nametypes; channels = map (map a) o.channels; parameters = map (map a) o.parameters }
+kinds_under a o = record { nametypes = map a o.nametypes; constructors = map (map a) o.constructors; channels = map (map a) o.channels; parameters = map (map a) o.parameters }
 
 -- bound names with the numbers of their kinds, inner ones first
 abbrev pub Numbered : Type 0
@@ -48,6 +49,7 @@ number_of_name (b ∷ bs) n = cond (nat_eq b.0 n) (Some b.1) (number_of_name bs 
 -- All numbers in use are below n.
 pub record IsBelow (n : ℕ) (o : Numbering) : Type 0 where
   pub nametypes : Each (λ m. m < n) o.nametypes
+  pub constructors : Each (Each (λ m. m < n)) o.constructors
   pub channels : Each (Each (λ m. m < n)) o.channels
   pub parameters : Each (Each (λ m. m < n)) o.parameters
 
@@ -63,4 +65,4 @@ AreOwners types o = (d c : ℕ) → IsConstructorOf types d c ↔ (slice_get o.o
 
 -- the numbers of a script without names
 abbrev pub no_numbers : Numbering
-no_numbers = record { owners = []; nametypes = []; channels = []; parameters = [] }
+no_numbers = record { owners = []; nametypes = []; constructors = []; channels = []; parameters = [] }

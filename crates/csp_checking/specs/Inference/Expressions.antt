@@ -1,8 +1,9 @@
 -- The equations that expressions ask for.
-use Rattle.std.specs.Prelude.{ℕ, suc, List, [], ◌∷◌, ◌++◌, slice_get}
-use Rattle.csp_syntax.specs.Value.{Value, Integer, Truth, Constructor, Sequence, Set, Values, no_values, value_and}
-use Rattle.csp_syntax.specs.Expression.{Unary, Negate, Not, Length, Head, Tail, IsNull, Card, Binary, Add, Subtract, Multiply, Modulus, Concatenate, Equals, Differs, And, Or, IsElement, IsMember, Union, Intersection, Difference, Expression, Literal, Name, Apply, Combine, SequenceOf, SetOf, Range, Booleans, Datatype, Nametype, Expressions, no_expressions, expression_and}
+use Rattle.std.specs.Prelude.{ℕ, suc, cond, List, [], ◌∷◌, ◌++◌, slice_get}
+use Rattle.csp_syntax.specs.Value.{Value, Integer, Truth, Constructor, Sequence, Set, Values, no_values, value_and, values_list}
+use Rattle.csp_syntax.specs.Expression.{Unary, Negate, Not, Length, Head, Tail, IsNull, Card, Binary, Add, Subtract, Multiply, Modulus, Concatenate, Equals, Differs, And, Or, IsElement, IsMember, Union, Intersection, Difference, Expression, Literal, Name, Apply, Combine, SequenceOf, SetOf, Range, Booleans, Datatype, Nametype, ConstructorOf, Expressions, no_expressions, expression_and}
 use Rattle.csp_syntax.specs.Types.{Types}
+use Rattle.csp_semantics.specs.Meaning.Offers.{rises}
 use Rattle.csp_checking.specs.Inference.Chain.{Chain, IntEnd, BoolEnd, DatatypeEnd, OpenEnd, SequenceOver, SetOver}
 use Rattle.csp_checking.specs.Inference.State.{KindEquation}
 use Rattle.csp_checking.specs.Inference.Equations.{never, when, Numbering, Numbered, number_of_name}
@@ -78,7 +79,7 @@ abbrev mutual
   behind_value n (Set vs) = behind_values (suc n) vs
   behind_value n (Integer z) = n
   behind_value n (Truth b) = n
-  behind_value n (Constructor c) = n
+  behind_value n (Constructor c vs) = behind_values n vs
 
   pub behind_values : ℕ → Values → ℕ
   behind_values n no_values = n
@@ -96,10 +97,15 @@ abbrev mutual
   behind_expression n Booleans = n
   behind_expression n (Datatype d) = n
   behind_expression n (Nametype x) = n
+  behind_expression n (ConstructorOf c es) = behind_expressions n es
 
   pub behind_expressions : ℕ → Expressions → ℕ
   behind_expressions n no_expressions = n
   behind_expressions n (expression_and e es) = behind_expressions (behind_expression n e) es
+
+-- nothing is asked of the members of a set that rise, and no kinds fit others
+abbrev pub of_rising : Values → List KindEquation
+of_rising vs = cond (rises (values_list vs)) [] never
 
 -- ---- the equations of a value or an expression, in its order, that is to have the kind k; n is the next number
 
@@ -107,13 +113,19 @@ abbrev mutual
   pub of_value : Numbering → ℕ → Value → Chain → List KindEquation
   of_value o n (Integer z) k = (IntEnd, k) ∷ []
   of_value o n (Truth b) k = (BoolEnd, k) ∷ []
-  of_value o n (Constructor c) k = when (slice_get o.owners c) (λ d. (DatatypeEnd d, k) ∷ [])
+  of_value o n (Constructor c vs) k = when (slice_get o.owners c) (λ d. (DatatypeEnd d, k) ∷ when (slice_get o.constructors c) (of_values_in_turn o n vs))
   of_value o n (Sequence vs) k = (SequenceOver (OpenEnd n), k) ∷ of_values o (suc n) vs (OpenEnd n)
-  of_value o n (Set vs) k = (SetOver (OpenEnd n), k) ∷ of_values o (suc n) vs (OpenEnd n)
+  of_value o n (Set vs) k = (SetOver (OpenEnd n), k) ∷ of_values o (suc n) vs (OpenEnd n) ++ of_rising vs
 
   pub of_values : Numbering → ℕ → Values → Chain → List KindEquation
   of_values o n no_values k = []
   of_values o n (value_and v vs) k = of_value o n v k ++ of_values o (behind_value n v) vs k
+
+  -- values in turn, with the numbers of their kinds
+  pub of_values_in_turn : Numbering → ℕ → Values → List ℕ → List KindEquation
+  of_values_in_turn o n no_values [] = []
+  of_values_in_turn o n (value_and v vs) (m ∷ ms) = of_value o n v (OpenEnd m) ++ of_values_in_turn o (behind_value n v) vs ms
+  of_values_in_turn o n vs ms = never
 
 abbrev mutual
   pub of_expression : Types → Numbering → ℕ → Numbered → Expression → Chain → List KindEquation
@@ -130,16 +142,18 @@ abbrev mutual
   of_expression types o n names Booleans k = (SetOver BoolEnd, k) ∷ []
   of_expression types o n names (Datatype d) k = when (slice_get types.datatypes d) (λ cs. (SetOver (DatatypeEnd d), k) ∷ [])
   of_expression types o n names (Nametype x) k = when (slice_get o.nametypes x) (λ m. (SetOver (OpenEnd m), k) ∷ [])
+  of_expression types o n names (ConstructorOf c es) k =
+      when (slice_get o.owners c) (λ d. (DatatypeEnd d, k) ∷ when (slice_get o.constructors c) (of_all types o n names es))
 
   pub of_expressions : Types → Numbering → ℕ → Numbered → Expressions → Chain → List KindEquation
   of_expressions types o n names no_expressions k = []
   of_expressions types o n names (expression_and e es) k = of_expression types o n names e k ++ of_expressions types o (behind_expression n e) names es k
 
--- expressions in turn, with the numbers of their kinds
-abbrev pub of_all : Types → Numbering → ℕ → Numbered → Expressions → List ℕ → List KindEquation
-of_all types o n names no_expressions [] = []
-of_all types o n names (expression_and e es) (m ∷ ms) = of_expression types o n names e (OpenEnd m) ++ of_all types o (behind_expression n e) names es ms
-of_all types o n names es ms = never
+  -- expressions in turn, with the numbers of their kinds
+  pub of_all : Types → Numbering → ℕ → Numbered → Expressions → List ℕ → List KindEquation
+  of_all types o n names no_expressions [] = []
+  of_all types o n names (expression_and e es) (m ∷ ms) = of_expression types o n names e (OpenEnd m) ++ of_all types o (behind_expression n e) names es ms
+  of_all types o n names es ms = never
 
 -- expressions with the first of the numbers
 abbrev pub of_first : Types → Numbering → ℕ → Numbered → Expressions → List ℕ → List KindEquation

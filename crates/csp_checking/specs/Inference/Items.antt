@@ -1,11 +1,11 @@
 -- The equations that sets, equations and assertions of a script ask for.
 use Rattle.std.specs.Prelude.{◌≡◌, ℕ, zero, suc, ◌+◌, nat_eq, cond, List, [], ◌∷◌, ◌++◌, length, map, flat_map, replicate, slice_get, Option, Some, None}
 use Rattle.csp_syntax.specs.Expression.{Expression}
-use Rattle.csp_syntax.specs.Process.{Equation, Assertion, Script}
+use Rattle.csp_syntax.specs.Process.{Process, Equation, specification_of, Assertion, Script}
 use Rattle.csp_syntax.specs.Types.{Types}
 use Rattle.csp_semantics.specs.Kinds.Kind.{Kinds}
 use Rattle.csp_text.specs.Raw.{RawScript}
-use Rattle.csp_checking.specs.Sets.{nametype_sets, channel_sets}
+use Rattle.csp_checking.specs.Sets.{nametype_sets, constructor_sets, channel_sets}
 use Rattle.csp_checking.specs.Rules.{parameters_declared}
 use Rattle.csp_checking.specs.Fitting.{Item, EquationItem, AssertionItem}
 use Rattle.csp_checking.specs.Inference.Chain.{OpenEnd, SetOver, Assignment}
@@ -61,13 +61,26 @@ numbered (x ∷ xs) (m ∷ ms) = (x, m) ∷ numbered xs ms
 abbrev pub of_equation : Script → Numbering → ℕ → Equation → List ℕ → List state.KindEquation
 of_equation script o n q ms = cond (nat_eq (length q.parameters) (length ms)) (of_process script o n (numbered q.parameters ms) q.body) never
 
+-- of the specification that an assertion compares with, if there is one
+abbrev pub of_specification : Script → Numbering → ℕ → Option Process → List state.KindEquation
+of_specification script o n (Some p) = of_process script o n [] p
+of_specification script o n None = []
+
+abbrev pub behind_specification : ℕ → Option Process → ℕ
+behind_specification n (Some p) = behind_process n p
+behind_specification n None = n
+
+abbrev pub behind_assertion : ℕ → Assertion → ℕ
+behind_assertion n a = behind_process (behind_specification n (specification_of a.property)) a.implementation
+
 abbrev pub of_assertion : Script → Numbering → ℕ → Assertion → List state.KindEquation
-of_assertion script o n a = of_process script o n [] a.specification ++ of_process script o (behind_process n a.specification) [] a.implementation
+of_assertion script o n a =
+    of_specification script o n (specification_of a.property) ++ of_process script o (behind_specification n (specification_of a.property)) [] a.implementation
 
 abbrev pub behind_item : Script → ℕ → Item → ℕ
 behind_item script n (EquationItem p m) = elim (slice_get script.equations m) [ Some q ↦ behind_process n q.body | None ↦ n ]
 behind_item script n (AssertionItem p m) = elim (slice_get script.assertions m) [
-  | Some a ↦ behind_process (behind_process n a.specification) a.implementation
+  | Some a ↦ behind_assertion n a
   | None ↦ n
 ]
 
@@ -85,9 +98,10 @@ of_items script o n (x ∷ xs) = of_item script o n x ++ of_items script o (behi
 
 -- ---- numbers for a tree
 
--- as many kinds as the tree has nametypes, fields of channels and parameters of equations
+-- as many kinds as the tree has nametypes, fields of constructors and channels and parameters of equations
 pub record HaveShape (raw : RawScript) (kinds : Kinds) : Type 0 where
   pub nametypes : length kinds.nametypes ≡ length (nametype_sets raw)
+  pub constructors : map length kinds.constructors ≡ map length (constructor_sets raw)
   pub channels : map length kinds.channels ≡ map length (channel_sets raw)
   pub parameters : map length kinds.parameters ≡ flat_map parameters_declared raw
 
@@ -95,6 +109,7 @@ pub record HaveShape (raw : RawScript) (kinds : Kinds) : Type 0 where
 pub record AreNumbersFor (raw : RawScript) (n : ℕ) (o : Numbering) : Type 0 where
   pub below : IsBelow n o
   pub nametypes : length o.nametypes ≡ length (nametype_sets raw)
+  pub constructors : map length o.constructors ≡ map length (constructor_sets raw)
   pub channels : map length o.channels ≡ map length (channel_sets raw)
   pub parameters : map length o.parameters ≡ flat_map parameters_declared raw
   pub cover : (kinds : Kinds) → HaveShape raw kinds → (a : Assignment) × (kinds_under a o ≡ kinds)
@@ -117,14 +132,25 @@ abbrev pub behind_all : ℕ → List ℕ → ℕ
 behind_all n [] = n
 behind_all n (k ∷ ks) = behind_all (n + k) ks
 
--- Nametypes, then the fields of channels, then the parameters of equations, in a row from zero, and the next number.
+-- the next number behind the nametypes, and behind the fields of the constructors and the channels too
+abbrev pub behind_nametypes : RawScript → ℕ
+behind_nametypes raw = length (nametype_sets raw)
+
+abbrev pub behind_constructors : RawScript → ℕ
+behind_constructors raw = behind_all (behind_nametypes raw) (map length (constructor_sets raw))
+
+abbrev pub behind_channels : RawScript → ℕ
+behind_channels raw = behind_all (behind_constructors raw) (map length (channel_sets raw))
+
+-- Nametypes, then the fields of constructors, then those of channels, then the parameters of equations, in a row from zero, and the next number.
 abbrev pub numbers_of : List ℕ → RawScript → Numbering
 numbers_of owners raw = record {
   owners = owners;
   nametypes = numbers_from 0 (length (nametype_sets raw));
-  channels = rows_from (length (nametype_sets raw)) (map length (channel_sets raw));
-  parameters = rows_from (behind_all (length (nametype_sets raw)) (map length (channel_sets raw))) (flat_map parameters_declared raw);
+  constructors = rows_from (behind_nametypes raw) (map length (constructor_sets raw));
+  channels = rows_from (behind_constructors raw) (map length (channel_sets raw));
+  parameters = rows_from (behind_channels raw) (flat_map parameters_declared raw);
 }
 
 abbrev pub next_number : RawScript → ℕ
-next_number raw = behind_all (behind_all (length (nametype_sets raw)) (map length (channel_sets raw))) (flat_map parameters_declared raw)
+next_number raw = behind_all (behind_channels raw) (flat_map parameters_declared raw)

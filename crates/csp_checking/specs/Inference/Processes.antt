@@ -1,7 +1,7 @@
 -- The equations that fields, sets of events, renamings and processes ask for.
 use Rattle.std.specs.Prelude.{ℕ, suc, Bool, false, ◌&&◌, cond, List, [], ◌∷◌, ◌++◌, slice_get, Option, Some}
 use Rattle.csp_syntax.specs.Value.{Value}
-use Rattle.csp_syntax.specs.Process.{Field, Given, Input, InputFrom, EventExpression, EventSet, Enumeration, Productions, EventUnion, EventIntersection, EventDifference, RenamingPair, Process, Stop, Skip, Omega, Call, Prefix, Guard, If, ExternalChoice, InternalChoice, Sequential, Interleaving, Interrupt, GeneralisedParallel, AlphabetisedParallel, Hiding, Renaming, ReplicatedExternalChoice, ReplicatedInternalChoice, ReplicatedInterleaving, Script}
+use Rattle.csp_syntax.specs.Process.{Field, Given, Input, InputFrom, EventExpression, EventSet, Enumeration, Productions, EventUnion, EventIntersection, EventDifference, RenamingPair, Process, Stop, Skip, Omega, Call, Prefix, Guard, If, ExternalChoice, InternalChoice, Sequential, Interleaving, Interrupt, GeneralisedParallel, AlphabetisedParallel, Hiding, Renaming, ReplicatedExternalChoice, ReplicatedInternalChoice, ReplicatedInterleaving, SlidingChoice, Script}
 use Rattle.csp_syntax.specs.Types.{Types}
 use Rattle.csp_semantics.specs.Meaning.Events.{is_bare, same_sets}
 use Rattle.csp_checking.specs.Inference.Chain.{BoolEnd, OpenEnd, SetOver}
@@ -56,6 +56,7 @@ behind_process n (Renaming p rs) = behind_pairs (behind_process n p) rs
 behind_process n (ReplicatedExternalChoice x e p) = behind_process (behind_expression (suc n) e) p
 behind_process n (ReplicatedInternalChoice x e p) = behind_process (behind_expression (suc n) e) p
 behind_process n (ReplicatedInterleaving x e p) = behind_process (behind_expression (suc n) e) p
+behind_process n (SlidingChoice p q) = behind_process (behind_process n p) q
 
 -- ---- the equations of a part, in its order; n is the next number
 
@@ -143,3 +144,4 @@ of_process script o n names (ReplicatedInternalChoice x e p) =
     of_expression script.types o (suc n) names e (SetOver (OpenEnd n)) ++ of_process script o (behind_expression (suc n) e) ((x, n) ∷ names) p
 of_process script o n names (ReplicatedInterleaving x e p) =
     of_expression script.types o (suc n) names e (SetOver (OpenEnd n)) ++ of_process script o (behind_expression (suc n) e) ((x, n) ∷ names) p
+of_process script o n names (SlidingChoice p q) = of_process script o n names p ++ of_process script o (behind_process n p) names q

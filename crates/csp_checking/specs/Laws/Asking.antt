@@ -26,8 +26,9 @@ AreBelow n o names = IsBelow n o × NamesBelow n names
 -- the equations of a value ask that it has the kind
 abbrev pub ValuesAskForKinds : Types → Numbering → Type 0
 ValuesAskForKinds types o = (n : ℕ) (v : Value) (k : Chain) →
+    IsBelow n o →
     IsChainBelow n k →
-    Ask n (of_value o n v k) (behind_value n v) (λ a. IsValueOf types v (kind_of a k))
+    Ask n (of_value o n v k) (behind_value n v) (λ a. IsValueOf types (kinds_under a o) v (kind_of a k))
 
 -- the equations of an expression ask that it has the kind
 abbrev pub ExpressionsAskForKinds : Types → Numbering → Type 0

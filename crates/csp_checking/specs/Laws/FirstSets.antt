@@ -1,9 +1,10 @@
 -- Kinds for the sets of a tree's first declarations, and how their equations go on.
-use Rattle.std.specs.Prelude.{◌≡◌, ◌↔◌, ℕ, ◌+◌, ◌≤◌, List, [], ◌∷◌, ◌++◌, length, drop, slice_get, Some}
+use Rattle.std.specs.Prelude.{◌≡◌, ◌↔◌, ℕ, ◌+◌, ◌≤◌, ◌<◌, List, [], ◌∷◌, ◌++◌, length, drop, slice_get, Some}
 use Rattle.csp_syntax.specs.Types.{Types}
 use Rattle.csp_semantics.specs.Kinds.Kind.{Kinds, BeginsInTurn}
-use Rattle.csp_text.specs.Raw.{RawName, RawDomain, RawDeclaration, RawNametype, RawChannels, RawScript}
-use Rattle.csp_checking.specs.Sets.{set_expression, nametypes_declared, channels_declared, IsSetOf, nametype_sets, channel_sets}
+use Rattle.csp_text.specs.Raw.{RawName, RawDomain, RawClause, RawDeclaration, RawDatatype, RawNametype, RawChannels, RawScript}
+use Rattle.csp_checking.specs.Sets.{set_expression, nametypes_declared, clauses_declared, channels_declared, IsSetOf, nametype_sets, constructor_sets, channel_sets}
+use Rattle.csp_checking.specs.Sites.{with_clause}
 use Rattle.csp_checking.specs.Rules.{SomeFit}
 use Rattle.csp_checking.specs.Inference.State.{KindEquation}
 use Rattle.csp_checking.specs.Inference.Equations.{Ask, Numbering, kinds_under, IsBelow}
@@ -41,10 +42,23 @@ FirstFieldsFit types above = (names : List RawName) (ds more : List RawDomain) �
     SomeFit types (with_channels above names (ds ++ more)) →
     SomeFit types (with_channels above names ds)
 
+-- and where some fit a datatype's clauses, some fit its first ones and the first fields of the last of these
+abbrev pub FirstClausesFit : Types → RawScript → Type 0
+FirstClausesFit types above = (name : RawName) (before rest : List RawClause) (constructor : RawName) (fields more : List RawDomain) →
+    let whole : RawClause = record { name = constructor; fields = fields ++ more } in
+    SomeFit types (above ++ RawDatatype name (before ++ whole ∷ rest) ∷ []) →
+    SomeFit types (with_clause above name before constructor fields)
+
 -- a channel with its first fields is the beginning of one with more
 abbrev pub FirstFieldsAreABeginning : RawScript → RawScript → Type 0
 FirstFieldsAreABeginning above below = (names : List RawName) (ds rest : List RawDomain) →
     IsBeginningOf (above ++ RawChannels names (ds ++ rest) ∷ below) (with_channels above names ds)
+
+-- so is a datatype with its first clauses and the first fields of the last of these
+abbrev pub FirstClausesAreABeginning : RawScript → RawScript → Type 0
+FirstClausesAreABeginning above below = (name : RawName) (before rest : List RawClause) (constructor : RawName) (fields more : List RawDomain) →
+    let whole : RawClause = record { name = constructor; fields = fields ++ more } in
+    IsBeginningOf (above ++ RawDatatype name (before ++ whole ∷ rest) ∷ below) (with_clause above name before constructor fields)
 
 -- ---- what comes with one more declaration, behind equations that ask for the sets above
 
@@ -57,6 +71,25 @@ NametypesAskForTheirSet types o =
     AskForFirstSets types above o n es m →
     let e = set_expression above domain in
     AskForFirstSets types (above ++ RawNametype name domain ∷ []) o n (es ++ of_set types o m e x) (behind_set m e)
+
+-- with one more clause of a datatype no equations before those of its fields
+abbrev pub ClausesAskForNothing : Types → Numbering → Type 0
+ClausesAskForNothing types o = (above : RawScript) (n m : ℕ) (es : List KindEquation) (name : RawName) (before : List RawClause) (constructor : RawName) →
+    length (constructor_sets above) + length before < length o.constructors →
+    AskForFirstSets types (above ++ RawDatatype name before ∷ []) o n es m →
+    AskForFirstSets types (with_clause above name before constructor []) o n es m
+
+-- with one more field of it those of its set
+abbrev pub ClauseFieldsAskForTheirSet : Types → Numbering → Type 0
+ClauseFieldsAskForTheirSet types o =
+    (above : RawScript) (n m x : ℕ) (es : List KindEquation)
+    (name : RawName) (before : List RawClause) (constructor : RawName) (fields : List RawDomain) (d : RawDomain) (row : List ℕ) →
+    IsBelow n o →
+    slice_get o.constructors (length (constructor_sets above) + length before) ≡ Some row →
+    slice_get row (length fields) ≡ Some x →
+    AskForFirstSets types (with_clause above name before constructor fields) o n es m →
+    let e = set_expression above d in
+    AskForFirstSets types (with_clause above name before constructor (fields ++ d ∷ [])) o n (es ++ of_set types o m e x) (behind_set m e)
 
 -- with one more field of channels those of its set, once for each channel
 abbrev pub FieldsAskForTheirSet : Types → Numbering → Type 0
@@ -81,6 +114,7 @@ HeadsAskForNothing types o = (above : RawScript) (n m : ℕ) (es : List KindEqua
 abbrev pub OthersAskForNothing : Types → Numbering → Type 0
 OthersAskForNothing types o = (above : RawScript) (n m : ℕ) (es : List KindEquation) (d : RawDeclaration) →
     nametypes_declared above d ≡ [] →
+    clauses_declared above d ≡ [] →
     channels_declared above d ≡ [] →
     AskForFirstSets types above o n es m →
     AskForFirstSets types (above ++ d ∷ []) o n es m
@@ -89,6 +123,7 @@ OthersAskForNothing types o = (above : RawScript) (n m : ℕ) (es : List KindEqu
 abbrev pub FitItsSets : Types → RawScript → RawDeclaration → Kinds → Type 0
 FitItsSets types above d kinds =
     BeginsInTurn (IsSetOf types kinds) (nametypes_declared above d) (drop (length (nametype_sets above)) kinds.nametypes)
+    × BeginsInTurn (BeginsInTurn (IsSetOf types kinds)) (clauses_declared above d) (drop (length (constructor_sets above)) kinds.constructors)
     × BeginsInTurn (BeginsInTurn (IsSetOf types kinds)) (channels_declared above d) (drop (length (channel_sets above)) kinds.channels)
 
 -- kinds fit the sets up to a declaration just where they fit those above it and its own

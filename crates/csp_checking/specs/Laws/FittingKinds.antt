@@ -4,7 +4,7 @@ use Rattle.csp_syntax.specs.Process.{Script}
 use Rattle.csp_syntax.specs.Types.{Types}
 use Rattle.csp_semantics.specs.Kinds.Kind.{Kinds}
 use Rattle.csp_text.specs.Raw.{RawScript}
-use Rattle.csp_checking.specs.Sets.{nametype_sets, channel_sets, types_of, FitSets}
+use Rattle.csp_checking.specs.Sets.{nametype_sets, constructor_sets, channel_sets, types_of, FitSets}
 use Rattle.csp_checking.specs.Rules.{SomeFit}
 use Rattle.csp_checking.specs.Faults.{KindFault}
 use Rattle.csp_checking.specs.Fitting.{Item, FitKinds, IsMisfit}
@@ -19,15 +19,23 @@ use Rattle.csp_checking.specs.Inference.Items.{behind_sets, of_sets, behind_rows
 abbrev pub AskForSets : Types → RawScript → Numbering → ℕ → List KindEquation → ℕ → Type 0
 AskForSets types raw o n es m = Ask n es m (λ a. FitSets types raw (kinds_under a o))
 
--- the equations of all sets, those of nametypes first
+-- the first number behind the equations of the sets of nametypes, and behind those of constructors too
+abbrev pub behind_first : RawScript → ℕ → ℕ
+behind_first raw n = behind_sets n (nametype_sets raw)
+
+abbrev pub behind_second : RawScript → ℕ → ℕ
+behind_second raw n = behind_rows (behind_first raw n) (constructor_sets raw)
+
+-- the equations of all sets, those of nametypes first, then those of constructors
 abbrev pub of_tree : Types → RawScript → Numbering → ℕ → List KindEquation
 of_tree types raw o n =
     of_sets types o n (nametype_sets raw) o.nametypes
-    ++ of_rows types o (behind_sets n (nametype_sets raw)) (channel_sets raw) o.channels
+    ++ (of_rows types o (behind_first raw n) (constructor_sets raw) o.constructors
+    ++ of_rows types o (behind_second raw n) (channel_sets raw) o.channels)
 
 -- the first number behind them
 abbrev pub behind_tree : RawScript → ℕ → ℕ
-behind_tree raw n = behind_rows (behind_sets n (nametype_sets raw)) (channel_sets raw)
+behind_tree raw n = behind_rows (behind_second raw n) (channel_sets raw)
 
 -- they ask that kinds fit all sets
 abbrev pub TreeAsksForSets : Types → RawScript → Numbering → Type 0

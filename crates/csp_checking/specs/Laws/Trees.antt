@@ -1,10 +1,10 @@
 -- Small trees, for the worked rows. Each is given with the text that has it; `;;` ends a line.
-use Rattle.std.specs.Prelude.{ℕ, true, List, [], ◌∷◌, codes}
+use Rattle.std.specs.Prelude.{ℕ, true, false, List, [], ◌∷◌, codes}
 use Rattle.csp_syntax.specs.Expression.{Name, no_expressions, expression_and}
-use Rattle.csp_syntax.specs.Process.{Given, Input, Stop, Call, Prefix, Traces, Script}
+use Rattle.csp_syntax.specs.Process.{Given, Input, Stop, Call, Prefix, Traces, RefinementOf, Script}
 use Rattle.csp_text.specs.Place.{Place}
-use Rattle.csp_text.specs.Raw.{RawName, RawExpression, RawNumber, RawTruth, RawUse, RawSequence, RawSet, RawRange, RawExpressions, no_raw_expressions, raw_expression_and, RawGiven, RawInput, RawEvent, RawStop, RawCall, RawPrefix, RawRenaming, RawDomain, RawNametype, RawChannels, RawEquation, RawAssertion, RawScript}
-use Rattle.csp_semantics.specs.Laws.Terms.{no_types, num, bits}
+use Rattle.csp_text.specs.Raw.{RawName, RawExpression, RawNumber, RawTruth, RawUse, RawSequence, RawSet, RawRange, RawConstructor, RawExpressions, no_raw_expressions, raw_expression_and, RawGiven, RawInput, RawEvent, RawStop, RawCall, RawPrefix, RawRenaming, RawDomain, RawClause, RawDatatype, RawNametype, RawChannels, RawEquation, RawRefinementOf, RawDivergenceFree, RawAssertion, RawScript}
+use Rattle.csp_semantics.specs.Laws.Terms.{no_types, num, bits, some_bit, no_bit, bit, the_bit}
 
 abbrev pub at : ℕ → ℕ → Place
 at line column = record { line = line; column = column }
@@ -24,7 +24,11 @@ up_to n = RawRange (RawNumber 0) (RawNumber n)
 
 -- `assert P [T= STOP`
 abbrev pub unknown_process : RawScript
-unknown_process = RawAssertion (at 1 1) Traces (RawCall (named (codes "P") 1 8) no_raw_expressions) RawStop ∷ []
+unknown_process = RawAssertion (at 1 1) false (RawRefinementOf Traces (RawCall (named (codes "P") 1 8) no_raw_expressions)) RawStop ∷ []
+
+-- `assert not P :[divergence free]`
+abbrev pub unknown_in_freedom : RawScript
+unknown_in_freedom = RawAssertion (at 1 1) true RawDivergenceFree (RawCall (named (codes "P") 1 12) no_raw_expressions) ∷ []
 
 -- `channel n` ;; `P(n) = STOP`
 abbrev pub declared_parameter : RawScript
@@ -40,7 +44,7 @@ channel_as_process =
 abbrev pub too_few_arguments : RawScript
 too_few_arguments =
     RawEquation (named (codes "P") 1 1) (named (codes "n") 1 3 ∷ []) RawStop
-    ∷ RawAssertion (at 2 1) Traces (RawCall (named (codes "P") 2 8) no_raw_expressions) RawStop ∷ []
+    ∷ RawAssertion (at 2 1) false (RawRefinementOf Traces (RawCall (named (codes "P") 2 8) no_raw_expressions)) RawStop ∷ []
 
 -- `channel c : {}`
 abbrev pub empty_field_set : RawScript
@@ -107,7 +111,7 @@ outputs =
     ∷ RawEquation (named (codes "P") 2 1) (named (codes "n") 2 3 ∷ [])
     (RawPrefix (named (codes "c") 2 8) (RawGiven (RawUse (named (codes "n") 2 10)) ∷ [])
     (RawCall (named (codes "P") 2 15) (one (RawUse (named (codes "n") 2 17)))))
-    ∷ RawAssertion (at 3 1) Traces (RawCall (named (codes "P") 3 8) (one (RawNumber 0)))
+    ∷ RawAssertion (at 3 1) false (RawRefinementOf Traces (RawCall (named (codes "P") 3 8) (one (RawNumber 0))))
     (RawPrefix (named (codes "c") 3 17) (RawInput (named (codes "x") 3 19) ∷ []) RawStop) ∷ []
 
 -- its script: `n` and `x` are the bound names 0 and 1
@@ -117,10 +121,47 @@ outputs_script = record {
   channels = (bits ∷ []) ∷ [];
   equations = record { parameters = 0 ∷ []; body = Prefix 0 (Given (Name 0) ∷ []) (Call 0 (expression_and (Name 0) no_expressions)) } ∷ [];
   assertions = record {
-    model = Traces;
-    specification = Call 0 (expression_and (num 0) no_expressions);
+    negated = false;
+    property = RefinementOf Traces (Call 0 (expression_and (num 0) no_expressions));
     implementation = Prefix 0 (Input 1 ∷ []) Stop;
   } ∷ [];
   channel_names = codes "c" ∷ [];
   constructor_names = [];
+}
+
+-- ---- constructors with fields
+
+abbrev pub clause : List ℕ → ℕ → ℕ → List RawDomain → RawClause
+clause spelling line column fields = record { name = named spelling line column; fields = fields }
+
+-- `datatype D = N | B.D`
+abbrev pub datatype_of_itself : RawScript
+datatype_of_itself = RawDatatype (named (codes "D") 1 10) (clause (codes "N") 1 14 [] ∷ clause (codes "B") 1 18 (domain 1 20 (RawUse (named (codes "D") 1 20)) ∷ []) ∷ []) ∷ []
+
+-- `datatype D = N | B.{0..1}` ;; `channel d : D`, and more
+abbrev pub with_datatype : RawScript → RawScript
+with_datatype more =
+    RawDatatype (named (codes "D") 1 10) (clause (codes "N") 1 14 [] ∷ clause (codes "B") 1 18 (domain 1 20 (up_to 1) ∷ []) ∷ [])
+    ∷ RawChannels (named (codes "d") 2 9 ∷ []) (domain 2 13 (RawUse (named (codes "D") 2 13)) ∷ [])
+    ∷ more
+
+-- `assert STOP [T= d!B -> STOP`
+abbrev pub bare_constructor_sent : RawScript
+bare_constructor_sent = with_datatype
+    (RawAssertion (at 3 1) false (RawRefinementOf Traces RawStop) (RawPrefix (named (codes "d") 3 17) (RawGiven (RawUse (named (codes "B") 3 19)) ∷ []) RawStop) ∷ [])
+
+-- `P = d!(B.1) -> STOP`
+abbrev pub constructor_sent : RawScript
+constructor_sent = with_datatype
+    (RawEquation (named (codes "P") 3 1) [] (RawPrefix (named (codes "d") 3 5) (RawGiven (RawConstructor (named (codes "B") 3 8) (one (RawNumber 1))) ∷ []) RawStop) ∷ [])
+
+-- its script
+abbrev pub constructor_sent_script : Script
+constructor_sent_script = record {
+  types = some_bit;
+  channels = ((no_bit ∷ bit 0 ∷ bit 1 ∷ []) ∷ []) ∷ [];
+  equations = record { parameters = []; body = Prefix 0 (Given (the_bit 1) ∷ []) Stop } ∷ [];
+  assertions = [];
+  channel_names = codes "d" ∷ [];
+  constructor_names = codes "N" ∷ codes "B" ∷ [];
 }

@@ -48,6 +48,10 @@ IsAtLeast k count = (p : ℕ) × (count ≡ Some p) × (k ≤ p)
 abbrev pub IsLessThan : ℕ → Option ℕ → Type 0
 IsLessThan k count = (p : ℕ) × (count ≡ Some p) × (p < k)
 
+-- it is zero, if there is one
+abbrev pub IsNoneOrZero : Option ℕ → Type 0
+IsNoneOrZero count = (p : ℕ) → count ≡ Some p → p ≡ 0
+
 -- ---- two bare channels
 
 -- both have as many fields

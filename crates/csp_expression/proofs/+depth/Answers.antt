@@ -3,7 +3,7 @@ use Rattle.std.proofs.Common.{◌+◌, refl, sym, ◌∙◌, ap, arith}
 use Rattle.csp_semantics.specs.Meaning.Limits.{expression_depth}
 use Rattle.csp_value.proofs.Walking.{one_more, one_beyond, none_beyond, told_beyond, told_within}
 use Rattle.csp_expression.specs.Expression.{expression_of}
-use Rattle.csp_expression.proofs.ExpressionForms.{of_sequence, of_set}
+use Rattle.csp_expression.proofs.ExpressionForms.{of_constructor, of_sequence, of_set}
 use Rattle.csp_expression.proofs.Measures.{one_depth, depths, depth_within}
 use Rattle.csp_expression.proofs.+depth.Goals as goal
 
@@ -31,3 +31,8 @@ pub expr::Expr::is_within_depth-returns-in-Set : goal.expr::Expr::is_within_dept
 expr::Expr::is_within_depth-returns-in-Set g t c =
     let is = ap expression_depth (ap expression_of c.in-Set.is ∙ of_set g.row.A.Denot c.in-Set.members) ∙ ap (λ es. 1 + depths es) (sym c.deref-in-Set.ensures.value) in
     depth_within c.are_within_depth-in-Set.result (depths c.deref-in-Set.result.now) (one_depth c.args.self.now) c.args.most is (let some = c.if-most-eq0.false in omega arith) c.are_within_depth-in-Set.ensures
+
+pub expr::Expr::is_within_depth-returns-in-Constructor : goal.expr::Expr::is_within_depth-returns-in-Constructor
+expr::Expr::is_within_depth-returns-in-Constructor g t c =
+    let is = ap expression_depth (ap expression_of c.in-Constructor.is ∙ of_constructor g.row.A.Denot _ c.in-Constructor.fields) ∙ ap (λ es. 1 + depths es) (sym c.deref-in-Constructor.ensures.value) in
+    depth_within c.are_within_depth-in-Constructor.result (depths c.deref-in-Constructor.result.now) (one_depth c.args.self.now) c.args.most is (let some = c.if-most-eq0.false in omega arith) c.are_within_depth-in-Constructor.ensures

@@ -3,7 +3,7 @@ use Rattle.std.proofs.Common.{◌+◌, refl, sym, ◌∙◌, ap}
 use Rattle.csp_semantics.specs.Meaning.Limits.{expression_size}
 use Rattle.csp_value.proofs.Walking.{one_less, one_too_many}
 use Rattle.csp_expression.specs.Expression.{expression_of}
-use Rattle.csp_expression.proofs.ExpressionForms.{of_sequence, of_set}
+use Rattle.csp_expression.proofs.ExpressionForms.{of_constructor, of_sequence, of_set}
 use Rattle.csp_expression.proofs.Measures.{one_size, sizes, size_left}
 use Rattle.csp_expression.proofs.+room.Goals as goal
 
@@ -26,3 +26,8 @@ pub expr::Expr::room_left-returns-in_ok-checked_sub-in-Set : goal.expr::Expr::ro
 expr::Expr::room_left-returns-in_ok-checked_sub-in-Set g t c =
     let is = ap expression_size (ap expression_of c.in-Set.is ∙ of_set g.row.A.Denot c.in-Set.members) ∙ ap (λ es. 1 + sizes es) (sym c.deref-in-Set.ensures.value) in
     size_left c.room_left_by-in-Set.result (sizes c.deref-in-Set.result.now) (one_size c.args.self.now) c.in_ok-checked_sub-in-Set.field-0 c.args.room is c.in_ok-checked_sub-in-Set.ensures.0 c.in_ok-checked_sub-in-Set.ensures.1 c.room_left_by-in-Set.ensures
+
+pub expr::Expr::room_left-returns-in_ok-checked_sub-in-Constructor : goal.expr::Expr::room_left-returns-in_ok-checked_sub-in-Constructor
+expr::Expr::room_left-returns-in_ok-checked_sub-in-Constructor g t c =
+    let is = ap expression_size (ap expression_of c.in-Constructor.is ∙ of_constructor g.row.A.Denot _ c.in-Constructor.fields) ∙ ap (λ es. 1 + sizes es) (sym c.deref-in-Constructor.ensures.value) in
+    size_left c.room_left_by-in-Constructor.result (sizes c.deref-in-Constructor.result.now) (one_size c.args.self.now) c.in_ok-checked_sub-in-Constructor.field-0 c.args.room is c.in_ok-checked_sub-in-Constructor.ensures.0 c.in_ok-checked_sub-in-Constructor.ensures.1 c.room_left_by-in-Constructor.ensures

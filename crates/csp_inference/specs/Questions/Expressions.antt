@@ -1,9 +1,10 @@
 -- What expressions ask that are to have a kind, where names have the kinds of their numbers.
 use Rattle.std.specs.Prelude.{List, [], ◌∷◌, slice_get}
-use Rattle.csp_syntax.specs.Expression.{to_expressions}
+use Rattle.csp_syntax.specs.Expression.{ConstructorOf, to_expressions}
 use Rattle.csp_checking.specs.Inference.Chain.{DatatypeEnd, OpenEnd, SetOver}
 use Rattle.csp_checking.specs.Inference.Equations.{number_of_name, when}
 use Rattle.csp_checking.specs.Inference.Expressions.{behind_expression, behind_expressions, of_expression, of_expressions}
+use Rattle.csp_value.specs.declared.name.ConId.{ConId}
 use Rattle.csp_expression.specs.declared.expr.Expr.{Expr}
 use Rattle.csp_expression.specs.declared.name.DatatypeId.{DatatypeId}
 use Rattle.csp_expression.specs.declared.name.Name.{Name}
@@ -51,4 +52,11 @@ abbrev pub nametype_question : {A : Type 0} → Numbering A → NametypeId → D
 nametype_question numbering nametype kind = record {
   equations = λ n. when (slice_get (numbering_of numbering).nametypes nametype.0) (λ m. (SetOver (OpenEnd m), demand_of kind) ∷ []);
   behind = λ n. n;
+}
+
+-- what a constructor with fields asks: that it has a datatype, whose kind this is, and that its fields have the kinds of their sets
+abbrev pub constructed_question : {A : Type 0} → TypeTable A → Numbering A → List NumberedName → ConId → List (Expr A) → Demand → Question
+constructed_question types numbering names constructor fields kind = record {
+  equations = λ n. of_expression (table_of types) (numbering_of numbering) n (names_of names) (ConstructorOf constructor.0 (to_expressions (expressions_of fields))) (demand_of kind);
+  behind = λ n. behind_expressions n (to_expressions (expressions_of fields));
 }

@@ -11,7 +11,7 @@ ghost use Rattle.csp_expression.specs.Bindings.{bindings_of};
 ghost use Rattle.csp_expression.specs.Expression.{expression_of};
 ghost use Rattle.csp_term.specs.Field.{fields_of};
 ghost use Rattle.csp_rules.specs.Communicating.{FindsBehind, FindsField, lent_values};
-ghost use Rattle.csp_event_tests.specs.Testing.{sets_of};
+ghost use Rattle.csp_value.specs.Fields.{sets_of};
 
 use csp_expression::{Binding, Expr, NoValue, TypeTable};
 use csp_operators::{RuleStep, Target};

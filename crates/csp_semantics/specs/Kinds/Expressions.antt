@@ -1,9 +1,9 @@
 -- The kinds of expressions.
-use Rattle.std.specs.Prelude.{◌≡◌, ℕ, List, slice_get, Some, ⊤}
-use Rattle.csp_syntax.specs.Expression.{Unary, Negate, Not, Length, Head, Tail, IsNull, Card, Binary, Add, Subtract, Multiply, Modulus, Concatenate, Equals, Differs, LessThan, AtMost, GreaterThan, AtLeast, And, Or, IsElement, IsMember, Union, Intersection, Difference, Expression, Literal, Name, Apply, Combine, SequenceOf, SetOf, Range, Booleans, Datatype, Nametype, Expressions, no_expressions, expression_and, expressions_list}
+use Rattle.std.specs.Prelude.{◌≡◌, ℕ, List, [], ◌∷◌, slice_get, Some, ⊤}
+use Rattle.csp_syntax.specs.Expression.{Unary, Negate, Not, Length, Head, Tail, IsNull, Card, Binary, Add, Subtract, Multiply, Modulus, Concatenate, Equals, Differs, LessThan, AtMost, GreaterThan, AtLeast, And, Or, IsElement, IsMember, Union, Intersection, Difference, Expression, Literal, Name, Apply, Combine, SequenceOf, SetOf, Range, Booleans, Datatype, Nametype, ConstructorOf, Expressions, no_expressions, expression_and, expressions_list}
 use Rattle.csp_syntax.specs.Types.{Types}
-use Rattle.csp_semantics.specs.Kinds.Kind.{Kind, IntKind, BoolKind, DatatypeKind, SequenceKind, SetKind, Kinds, Scope, kind_of_name, InTurn, BeginsInTurn}
-use Rattle.csp_semantics.specs.Kinds.Values.{IsValueOf}
+use Rattle.csp_semantics.specs.Kinds.Kind.{Kind, IntKind, BoolKind, DatatypeKind, SequenceKind, SetKind, Kinds, Scope, kind_of_name, BeginsInTurn}
+use Rattle.csp_semantics.specs.Kinds.Values.{IsConstructorOf, IsValueOf}
 
 -- the kinds of an operator's operand and of its value
 pub data UnaryKinds : Unary → Kind → Kind → Type 0 where
@@ -40,7 +40,7 @@ pub data BinaryKinds : Binary → Kind → Kind → Kind → Type 0 where
 -- An expression may have several kinds: `<>` is of every kind of sequences, `{}` of every kind of sets.
 abbrev mutual
   pub HasKind : Types → Kinds → Scope → Expression → Kind → Type 0
-  HasKind types kinds scope (Literal v) k = IsValueOf types v k
+  HasKind types kinds scope (Literal v) k = IsValueOf types kinds v k
   HasKind types kinds scope (Name n) k = kind_of_name scope n ≡ Some k
   HasKind types kinds scope (Apply op e) k = (m : Kind) × UnaryKinds op m k × HasKind types kinds scope e m
   HasKind types kinds scope (Combine op e f) k = (m n : Kind) × BinaryKinds op m n k × HasKind types kinds scope e m × HasKind types kinds scope f n
@@ -50,15 +50,19 @@ abbrev mutual
   HasKind types kinds scope Booleans (SetKind BoolKind) = ⊤
   HasKind types kinds scope (Datatype d) (SetKind (DatatypeKind c)) = (d ≡ c) × ((cs : List ℕ) × (slice_get types.datatypes d ≡ Some cs))
   HasKind types kinds scope (Nametype n) (SetKind k) = slice_get kinds.nametypes n ≡ Some k
+  HasKind types kinds scope (ConstructorOf c es) (DatatypeKind d) =
+      IsConstructorOf types d c × ((ks : List Kind) × (slice_get kinds.constructors c ≡ Some ks) × HaveKinds types kinds scope es ks)
   HasKind types kinds scope e k = ⊥
 
   pub AllHaveKind : Types → Kinds → Scope → Expressions → Kind → Type 0
   AllHaveKind types kinds scope no_expressions k = ⊤
   AllHaveKind types kinds scope (expression_and e es) k = HasKind types kinds scope e k × AllHaveKind types kinds scope es k
 
--- the expressions have the kinds in turn
-abbrev pub HaveKinds : Types → Kinds → Scope → Expressions → List Kind → Type 0
-HaveKinds types kinds scope es ks = InTurn (HasKind types kinds scope) (expressions_list es) ks
+  -- the expressions have the kinds in turn
+  pub HaveKinds : Types → Kinds → Scope → Expressions → List Kind → Type 0
+  HaveKinds types kinds scope no_expressions [] = ⊤
+  HaveKinds types kinds scope (expression_and e es) (k ∷ ks) = HasKind types kinds scope e k × HaveKinds types kinds scope es ks
+  HaveKinds types kinds scope es ks = ⊥
 
 -- the expressions have the first of the kinds in turn
 abbrev pub HaveFirstKinds : Types → Kinds → Scope → Expressions → List Kind → Type 0

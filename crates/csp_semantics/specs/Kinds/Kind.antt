@@ -10,10 +10,11 @@ pub data Kind : Type 0 where
   SequenceKind : (item : Kind) → Kind
   SetKind : (member : Kind) → Kind
 
--- The kinds of the members of each nametype, of the fields of each channel, and of the parameters of each equation,
--- each in the order of the script's own lists.
+-- The kinds of the members of each nametype, of the fields of each constructor and of each channel, and of the parameters
+-- of each equation, each in the order of the script's own lists.
 pub record Kinds : Type 0 where
   pub nametypes : List Kind
+  pub constructors : List (List Kind)
   pub channels : List (List Kind)
   pub parameters : List (List Kind)
 

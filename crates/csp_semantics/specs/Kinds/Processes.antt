@@ -1,6 +1,6 @@
 -- Well-kinded processes.
 use Rattle.std.specs.Prelude.{◌≡◌, List, [], ◌∷◌, slice_get, Some, ⊤}
-use Rattle.csp_syntax.specs.Process.{Process, Stop, Skip, Omega, Call, Prefix, Guard, If, ExternalChoice, InternalChoice, Sequential, Interleaving, Interrupt, GeneralisedParallel, AlphabetisedParallel, Hiding, Renaming, ReplicatedExternalChoice, ReplicatedInternalChoice, ReplicatedInterleaving, Script}
+use Rattle.csp_syntax.specs.Process.{Process, Stop, Skip, Omega, Call, Prefix, Guard, If, ExternalChoice, InternalChoice, Sequential, Interleaving, Interrupt, GeneralisedParallel, AlphabetisedParallel, Hiding, Renaming, ReplicatedExternalChoice, ReplicatedInternalChoice, ReplicatedInterleaving, SlidingChoice, Script}
 use Rattle.csp_semantics.specs.Kinds.Kind.{Kind, BoolKind, SetKind, Kinds, Scope, Each}
 use Rattle.csp_semantics.specs.Kinds.Expressions.{HasKind, HaveKinds}
 use Rattle.csp_semantics.specs.Kinds.Events.{FieldsHaveKinds, scope_behind, IsEventSet, IsPair}
@@ -28,6 +28,7 @@ IsWellKinded script kinds scope (Renaming p rs) = IsWellKinded script kinds scop
 IsWellKinded script kinds scope (ReplicatedExternalChoice n e p) = (k : Kind) × HasKind script.types kinds scope e (SetKind k) × IsWellKinded script kinds ((n, k) ∷ scope) p
 IsWellKinded script kinds scope (ReplicatedInternalChoice n e p) = (k : Kind) × HasKind script.types kinds scope e (SetKind k) × IsWellKinded script kinds ((n, k) ∷ scope) p
 IsWellKinded script kinds scope (ReplicatedInterleaving n e p) = (k : Kind) × HasKind script.types kinds scope e (SetKind k) × IsWellKinded script kinds ((n, k) ∷ scope) p
+IsWellKinded script kinds scope (SlidingChoice p q) = IsWellKinded script kinds scope p × IsWellKinded script kinds scope q
 
 -- A closed term: well-kinded with no bound name. So it has no free name.
 abbrev pub IsClosedTerm : Script → Kinds → Process → Type 0

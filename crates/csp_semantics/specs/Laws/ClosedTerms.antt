@@ -1,8 +1,8 @@
 -- Closed terms, for the laws: what leads to them, and what they do.
-use Rattle.std.specs.Prelude.{◌≡◌, ◌≢◌, ◌⊎◌, ℕ, List, [], ◌∷◌, Some, Ok, slice_get}
+use Rattle.std.specs.Prelude.{◌≡◌, ◌≢◌, ◌⊎◌, ℕ, List, [], ◌∷◌, Some, IfSome, Ok, slice_get}
 use Rattle.csp_syntax.specs.Value.{Value, Action}
 use Rattle.csp_syntax.specs.Expression.{Expression, Expressions}
-use Rattle.csp_syntax.specs.Process.{Field, Process, Prefix, Assertion, Script}
+use Rattle.csp_syntax.specs.Process.{Field, Process, Prefix, specification_of, Assertion, Script}
 use Rattle.csp_semantics.specs.Meaning.Evaluation.{Cause, IllKinded}
 use Rattle.csp_semantics.specs.Meaning.Substitution.{put}
 use Rattle.csp_semantics.specs.Meaning.Events.{Communication, elements, prefix_communications, called, instances}
@@ -70,4 +70,4 @@ FaultsAreNoMisfits script t = (c : Cause) → SomeReachable script t (λ u. IsFa
 
 -- both sides of the assertion are terms of the script
 abbrev pub SidesAreTerms : Script → Assertion → Type 0
-SidesAreTerms script a = IsTermOf script a.specification × IsTermOf script a.implementation
+SidesAreTerms script a = IfSome (specification_of a.property) (IsTermOf script) × IsTermOf script a.implementation

@@ -6,11 +6,11 @@ use Rattle.csp_syntax.specs.Process.{Field, EventExpression, EventSet, RenamingP
 use Rattle.csp_semantics.specs.Meaning.Evaluation.{IllKinded, values}
 use Rattle.csp_semantics.specs.Meaning.Substitution.{Bindings}
 use Rattle.csp_semantics.specs.Meaning.Events.{condition, elements, communications, prefix_communications, event_of, beginning_of, event_test, renaming, called}
-use Rattle.csp_semantics.specs.Kinds.Kind.{Kind, BoolKind, SetKind, Kinds, Scope, InTurn, Each}
+use Rattle.csp_semantics.specs.Kinds.Kind.{Kind, BoolKind, SetKind, Kinds, Scope, Each}
 use Rattle.csp_semantics.specs.Kinds.Expressions.{HasKind, HaveKinds}
 use Rattle.csp_semantics.specs.Kinds.Events.{FieldsHaveKinds, IsEvent, IsBeginning, IsEventSet, IsPair}
 use Rattle.csp_semantics.specs.Kinds.Putting.{BindingsFit}
-use Rattle.csp_semantics.specs.Kinds.Scripts.{MembersHaveKind}
+use Rattle.csp_semantics.specs.Kinds.Scripts.{SetsHaveTheirKinds}
 
 -- a condition has a value, or a cause that is no misfit
 abbrev pub ConditionsAreNoMisfits : Script → Kinds → Type 0
@@ -34,7 +34,7 @@ abbrev pub OpenFieldsAreNoMisfits : Script → Kinds → Type 0
 OpenFieldsAreNoMisfits script kinds =
     (bs : Bindings) (scope : Scope) (fs : List Field) (sets : List (List Value)) (ks : List Kind) →
     BindingsFit script.types kinds bs scope [] → FieldsHaveKinds script.types kinds scope fs ks →
-    InTurn (MembersHaveKind script.types) sets ks →
+    SetsHaveTheirKinds script.types kinds sets ks →
     communications script.types bs fs sets ≢ Err IllKinded
 
 -- an event

@@ -51,5 +51,5 @@ ProcessesStayKinded script kinds =
 abbrev pub OneValueCloses : Script → Kinds → Type 0
 OneValueCloses script kinds =
     (n : ℕ) (v : Value) (k : Kind) (p : Process) →
-    IsValueOf script.types v k → IsWellKinded script kinds ((n, k) ∷ []) p →
+    IsValueOf script.types kinds v k → IsWellKinded script kinds ((n, k) ∷ []) p →
     IsClosedTerm script kinds (put ((n, v) ∷ []) p)

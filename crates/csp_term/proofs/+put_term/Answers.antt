@@ -9,7 +9,7 @@ use Rattle.csp_event_sets.specs.Events.{renaming_pairs_of}
 use Rattle.csp_term.specs.Field.{fields_of}
 use Rattle.csp_term.specs.Term.{process_of, process_of_form}
 use Rattle.csp_term.proofs.Forms.{of_stop, of_skip, of_omega_term, of_call, of_prefix, of_renaming, of_replicated}
-use Rattle.csp_term.proofs.TermPutting.{put_form, made_conditional, made_binary, made_generalised, made_alphabetised, put_standing, put_prefix, put_guard, put_conditional, put_binary, put_generalised, put_alphabetised, put_hiding, put_renaming, put_replicated}
+use Rattle.csp_term.proofs.TermPutting.{put_form, made_conditional, made_binary, made_generalised, made_alphabetised, made_sliding, put_standing, put_prefix, put_guard, put_conditional, put_binary, put_generalised, put_alphabetised, put_sliding, put_hiding, put_renaming, put_replicated}
 use Rattle.csp_term.proofs.+put_term.Goals as goal
 
 pub operands::put_in_conditional-returns : goal.operands::put_in_conditional-returns
@@ -27,6 +27,9 @@ pub operands::put_in_alphabetised-returns : goal.operands::put_in_alphabetised-r
 operands::put_in_alphabetised-returns g t c =
     made_alphabetised (bindings_of c.args.bindings.now) c.args.left c.args.own.now c.in_ok-own.own c.args.other.now c.in_ok-put_in.field-0 c.args.right.now c.in_ok-right.right
     c.in_ok-own.ensures c.in_ok-put_in.ensures c.in_ok-right.ensures
+
+pub operands::put_in_sliding-returns : goal.operands::put_in_sliding-returns
+operands::put_in_sliding-returns g t c = made_sliding (bindings_of c.args.bindings.now) c.args.left c.args.right.now c.in_ok-put_in.field-0 c.in_ok-put_in.ensures
 
 pub replicated::put_in_replicated-returns : goal.replicated::put_in_replicated-returns
 replicated::put_in_replicated-returns g t c =
@@ -63,6 +66,10 @@ term::TermForm::put_in-returns-in_ok-left-in-GeneralisedParallel g t c =
 pub term::TermForm::put_in-returns-in_ok-left-in-AlphabetisedParallel : goal.term::TermForm::put_in-returns-in_ok-left-in-AlphabetisedParallel
 term::TermForm::put_in-returns-in_ok-left-in-AlphabetisedParallel g t c =
     put_alphabetised (bindings_of c.args.bindings.now) c.args.self.now c.in-AlphabetisedParallel.left c.in_ok-left-in-AlphabetisedParallel.left c.in-AlphabetisedParallel.own c.in-AlphabetisedParallel.other c.in-AlphabetisedParallel.right c.put_in_alphabetised.result c.in-AlphabetisedParallel.is c.in_ok-left-in-AlphabetisedParallel.ensures c.put_in_alphabetised.ensures
+
+pub term::TermForm::put_in-returns-in_ok-left-in-SlidingChoice : goal.term::TermForm::put_in-returns-in_ok-left-in-SlidingChoice
+term::TermForm::put_in-returns-in_ok-left-in-SlidingChoice g t c =
+    put_sliding (bindings_of c.args.bindings.now) c.args.self.now c.in-SlidingChoice.left c.in_ok-left-in-SlidingChoice.left c.in-SlidingChoice.right c.put_in_sliding.result c.in-SlidingChoice.is c.in_ok-left-in-SlidingChoice.ensures c.put_in_sliding.ensures
 
 pub term::TermForm::put_in-returns-in-Replicated : goal.term::TermForm::put_in-returns-in-Replicated
 term::TermForm::put_in-returns-in-Replicated g t c =

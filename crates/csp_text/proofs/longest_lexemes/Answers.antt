@@ -1,4 +1,4 @@
-use Rattle.csp_text.proofs.Longest.{comment_longest, line_longest, shared_longest, primed_longest, tilde_is_nothing, large_refused}
+use Rattle.csp_text.proofs.Longest.{comment_longest, line_longest, shared_longest, sliding_longest, primed_longest, tilde_is_nothing, large_refused}
 use Rattle.csp_text.proofs.longest_lexemes.Goals as goal
 
 pub returns-clause-comment : goal.returns-clause-comment
@@ -9,6 +9,9 @@ returns-clause-line c = line_longest
 
 pub returns-clause-shared : goal.returns-clause-shared
 returns-clause-shared c = shared_longest
+
+pub returns-clause-sliding : goal.returns-clause-sliding
+returns-clause-sliding c = sliding_longest
 
 pub returns-clause-primed : goal.returns-clause-primed
 returns-clause-primed c = primed_longest

@@ -15,7 +15,7 @@ const CHOICE: &str = "channel a, b, c\nassert a -> STOP [T= a -> STOP |~| b -> S
 // A specification whose states never end.
 const COUNTING: &str = "channel a, b, c\nP(n) = a -> P(n+1)\nassert P(0) [T= P(0)";
 
-static CHECKED: [Line; 22] = [
+static CHECKED: [Line; 26] = [
     (&["--workers", "1", "script"], 1, CHAIN),
     (&["--workers", "2", "script"], 1, CHAIN),
     (&["--workers", "8", "script"], 1, CHAIN),
@@ -69,6 +69,38 @@ static CHECKED: [Line; 22] = [
         &["--max-pairs", "1", "script"],
         3,
         ("channel", "refused S03 at 1:8\n"),
+    ),
+    (
+        &["--max-pairs=1", "script"],
+        1,
+        (
+            "channel a, b, c\nP = P\nassert P :[divergence free]",
+            "1 fails trace <> diverges\n",
+        ),
+    ),
+    (
+        &["--max-pairs=1", "script"],
+        2,
+        (
+            "channel a, b, c\nP = P\nassert P |~| STOP :[divergence free]",
+            "1 unknown pairs\n",
+        ),
+    ),
+    (
+        &["--max-pairs=10", "script"],
+        2,
+        (
+            "channel a\nP(n) = a -> P(n+1)\nassert P(0) :[deadlock free]\nassert not P(0) :[divergence free]",
+            "1 unknown pairs\n2 unknown pairs\n",
+        ),
+    ),
+    (
+        &["--max-nodes=1", "script"],
+        1,
+        (
+            "channel a, b, c\nassert STOP :[deadlock free]",
+            "1 fails trace <> deadlock\n",
+        ),
     ),
 ];
 

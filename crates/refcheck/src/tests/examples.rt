@@ -8,7 +8,7 @@ pub(crate) struct Example {
     pub(crate) lines: &'static str,
 }
 
-static EXAMPLES: [Example; 13] = [
+static EXAMPLES: [Example; 14] = [
     Example {
         name: "alternating_bit",
         text: r"-- The alternating-bit protocol over a line that loses frames and replies.
@@ -127,11 +127,13 @@ assert COUNT(0) [T= CELL ||| CELLS
         text: r"-- Two philosophers at a table with two forks. Each needs both to eat.
 --
 -- Shows a deadlock as a refusal: the specification says that someone can eat again and again, and the philosophers
--- who both hold their left fork refuse all events.
+-- who both hold their left fork refuse all events. Deadlock freedom asks for it without a specification.
 --
 -- refcheck prints
 --   1 fails trace <> offers {}
 --   2 holds
+--   3 fails trace <> deadlock
+--   4 holds
 -- and ends with status 1.
 
 nametype Seat = {0..1}
@@ -155,9 +157,12 @@ LIVELY = |~| i:Seat @ eat.i -> LIVELY
 
 assert LIVELY [F= ALIKE
 assert LIVELY [F= IN_ORDER
+
+assert ALIKE :[deadlock free]
+assert IN_ORDER :[deadlock free]
 ",
         status: 1,
-        lines: "1 fails trace <> offers {}\n2 holds\n",
+        lines: "1 fails trace <> offers {}\n2 holds\n3 fails trace <> deadlock\n4 holds\n",
     },
     Example {
         name: "empty",
@@ -274,6 +279,49 @@ assert BUFFER [F= in?x -> out!x -> STOP
         lines: "1 holds\n2 fails trace <in.0> event out.1\n3 fails trace <> event in.1\n4 holds\n5 fails trace <in.0,out.0> offers {}\n",
     },
     Example {
+        name: "register",
+        text: r"-- A register that is read and written by messages, and a session with it that may be closed.
+--
+-- Shows a datatype whose constructors have fields, as the type of a channel's messages; sliding choice, for a service
+-- that is offered for a while; and deadlock freedom.
+--
+-- refcheck prints
+--   1 fails trace <ask.(Write.1),answer.Done,ask.Read> event answer.(Value.0)
+--   2 holds
+--   3 fails trace <> offers {}
+--   4 holds
+--   5 fails trace <closed> deadlock
+-- and ends with status 1.
+
+datatype Request = Read | Write.{0..1}
+datatype Reply = Done | Value.{0..1}
+channel ask : Request
+channel answer : Reply
+channel closed
+
+REGISTER(v) = ask!Read -> answer!(Value.v) -> REGISTER(v)
+  [] ([] w:{0..1} @ ask!(Write.w) -> answer!Done -> REGISTER(w))
+
+-- It confirms each write, and forgets it.
+FORGETFUL(v) = ask!Read -> answer!(Value.v) -> FORGETFUL(v)
+  [] ([] w:{0..1} @ ask!(Write.w) -> answer!Done -> FORGETFUL(v))
+
+assert REGISTER(0) [T= FORGETFUL(0)
+
+-- Requests are taken until the session closes, which it may do whenever it waits for one.
+SESSION(v) = (ask!Read -> answer!(Value.v) -> SESSION(v)
+  [] ([] w:{0..1} @ ask!(Write.w) -> answer!Done -> SESSION(w))) [> closed -> STOP
+
+assert REGISTER(0) [T= SESSION(0) \ {closed}
+assert REGISTER(0) [F= SESSION(0) \ {closed}
+
+assert REGISTER(0) :[deadlock free]
+assert SESSION(0) :[deadlock free]
+",
+        status: 1,
+        lines: "1 fails trace <ask.(Write.1),answer.Done,ask.Read> event answer.(Value.0)\n2 holds\n3 fails trace <> offers {}\n4 holds\n5 fails trace <closed> deadlock\n",
+    },
+    Example {
         name: "token_ring",
         text: r"-- Three stations in a ring, and a token that goes round: a station works only while it has the token.
 --
@@ -368,11 +416,15 @@ assert OWN [F= SYSTEM
         name: "two_place_buffer",
         text: r"-- Two copiers in a chain are a buffer with two places, and none with one.
 --
--- Shows refinement in the stable failures model, a sequence as a parameter, and hiding.
+-- Shows refinement in the stable failures model, a sequence as a parameter, hiding, and divergence: a chain whose
+-- every event is hidden goes on by taus for ever.
 --
 -- refcheck prints
 --   1 holds
 --   2 fails trace <in.0> event in.0
+--   3 holds
+--   4 fails trace <> diverges
+--   5 holds
 -- and ends with status 1.
 
 channel in, mid, out : {0..1}
@@ -385,9 +437,13 @@ BUF(n,s) = (#s < n & in?x -> BUF(n,s^<x>)) [] (#s > 0 & out!head(s) -> BUF(n,tai
 
 assert BUF(2,<>) [F= CHAIN
 assert BUF(1,<>) [F= CHAIN
+
+assert CHAIN :[divergence free]
+assert CHAIN \ {| in, out |} :[divergence free]
+assert not CHAIN \ {| in, out |} :[divergence free]
 ",
         status: 1,
-        lines: "1 holds\n2 fails trace <in.0> event in.0\n",
+        lines: "1 holds\n2 fails trace <in.0> event in.0\n3 holds\n4 fails trace <> diverges\n5 holds\n",
     },
     Example {
         name: "vending_machine",
@@ -455,7 +511,7 @@ static WITH_OPTIONS: [WithOptions; 3] = [
         "dining_philosophers",
         &["--workers", "8", "script"],
         1,
-        "1 fails trace <> offers {}\n2 holds\n",
+        "1 fails trace <> offers {}\n2 holds\n3 fails trace <> deadlock\n4 holds\n",
     ),
     (
         "alternating_bit",
@@ -467,7 +523,7 @@ static WITH_OPTIONS: [WithOptions; 3] = [
         "two_place_buffer",
         &["--max-nodes", "5", "script"],
         2,
-        "1 unknown nodes\n2 fails trace <in.0> event in.0\n",
+        "1 unknown nodes\n2 fails trace <in.0> event in.0\n3 holds\n4 fails trace <> diverges\n5 holds\n",
     ),
 ];
 

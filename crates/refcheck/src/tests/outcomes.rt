@@ -11,7 +11,7 @@ pub(crate) const BEYOND_STOP: Row = (
 /// A script whose one assertion holds.
 pub(crate) const WITHIN_PREFIX: Row = ("channel a, b, c\nassert a -> STOP [T= STOP\n", "1 holds\n");
 
-static HOLDING: [Row; 34] = [
+static HOLDING: [Row; 42] = [
     ("", ""),
     WITHIN_PREFIX,
     ("channel a' -- nothing to check é", ""),
@@ -121,6 +121,32 @@ static HOLDING: [Row; 34] = [
         "channel a, b, c\nassert a -> SKIP [F= SKIP ||| a -> SKIP",
         "1 holds\n",
     ),
+    (
+        "channel a, b, c\nassert (a -> STOP [] b -> STOP) |~| b -> STOP [F= a -> STOP [> b -> STOP",
+        "1 holds\n",
+    ),
+    (
+        "channel a, b, c\nassert b -> STOP [F= STOP [> STOP [> b -> STOP\nP = P\nassert b -> STOP [F= P [> b -> STOP",
+        "1 holds\n2 holds\n",
+    ),
+    (
+        "datatype D = N | B.{0..1}\nchannel d : D\nassert d?x -> STOP [T= d!(B.1) -> STOP\nassert STOP [T= (B.0) == (B.1) & d!N -> STOP\nassert STOP [T= (B.1) != (B.1) & d!N -> STOP\nassert STOP [T= (d?x -> STOP) \\ {d.N, d.(B.0), d.(B.1)}",
+        "1 holds\n2 holds\n3 holds\n4 holds\n",
+    ),
+    ("datatype D = B.{0..1023}\nchannel d : D", ""),
+    ("datatype D = N | B.{0..1023}", ""),
+    (
+        "channel a, b, c\nassert not true & STOP [T= a -> STOP\nassert not not true & STOP [T= a -> STOP\nassert not a -> STOP [F= STOP",
+        "1 holds\n2 holds\n3 holds\n",
+    ),
+    (
+        "channel a, b, c\nP = P\nassert SKIP :[deadlock free [F]]\nassert P :[deadlock free]\nassert not STOP :[deadlock free]\nassert STOP [> a -> SKIP :[deadlock free [F] ]",
+        "1 holds\n2 holds\n3 holds\n4 holds\n",
+    ),
+    (
+        "channel a, b, c\nP = a -> P\nQ = Q\nR = a -> b -> R\nassert P :[divergence free]\nassert not Q :[divergence free]\nassert R \\ {a} :[divergence free]",
+        "1 holds\n2 holds\n3 holds\n",
+    ),
 ];
 
 /// Scripts whose assertions hold.
@@ -141,7 +167,7 @@ assert BUF(1,<>) [F= CHAIN
     "1 holds\n2 fails trace <in.0> event in.0\n",
 );
 
-static FAILING: [Row; 28] = [
+static FAILING: [Row; 39] = [
     BEYOND_STOP,
     (
         "channel α\nassert STOP [T= α -> STOP",
@@ -245,6 +271,50 @@ static FAILING: [Row; 28] = [
         "channel c : {0..1}\nassert c?x -> SKIP [F= c!1 -> SKIP",
         "1 fails trace <> offers {c.1}\n",
     ),
+    (
+        "channel a, b, c\nassert a -> STOP [] b -> STOP [F= a -> STOP [> b -> STOP\nassert SKIP [F= SKIP [> STOP\nassert STOP [T= a -> STOP [> b -> STOP",
+        "1 fails trace <> offers {b}\n2 fails trace <> offers {}\n3 fails trace <> event a\n",
+    ),
+    (
+        "datatype D = N | B.{0..1}\nchannel d : D\nassert d!N -> STOP [T= d?x -> STOP",
+        "1 fails trace <> event d.(B.0)\n",
+    ),
+    (
+        "datatype D = N | B.{0..1}\nchannel d : D\nchannel e\nP(x) = d!x -> P(x)\nassert d.N -> STOP [T= P((B.1))\nassert d.N -> STOP [T= d?x:{N, (B.1)} -> STOP\nassert (d?x -> STOP) [] e -> STOP [F= [] x:D @ d!x -> STOP\nassert STOP [T= (d.N -> STOP)[[d.N <- d.(B.1)]]",
+        "1 fails trace <> event d.(B.1)\n2 fails trace <> event d.(B.1)\n3 fails trace <> offers {d.N,d.(B.0),d.(B.1)}\n4 fails trace <> event d.(B.1)\n",
+    ),
+    (
+        "datatype E = C.{0..1}\ndatatype D = N | B.E\nchannel d : D\nassert d?x -> STOP [T= d!(B.(C.1)) -> d.N -> STOP\nassert d?x -> STOP [F= d!(B.(C.1)) -> STOP\nassert d!N -> STOP [T= d?x -> STOP",
+        "1 fails trace <d.(B.(C.1))> event d.N\n2 fails trace <> offers {d.(B.(C.1))}\n3 fails trace <> event d.(B.(C.0))\n",
+    ),
+    (
+        "datatype D = N | B.{ -1..0}.{<>,<true>}\nchannel d : D\nchannel e : {<(B.0.<>),N>}\nchannel f : {{(B.0.<>),(B.-1.<true>),N}}\nassert STOP [T= d!(B.-1.<true>) -> STOP\nassert STOP [T= e!<(B.0.<>),N> -> STOP\nassert STOP [T= f!{N,(B.0.<>),(B.-1.<true>)} -> STOP\nassert STOP [T= elem((B.0.<>),<N,(B.0.<>)>) and card(D) == 5 & d!N -> STOP",
+        "1 fails trace <> event d.(B.-1.<true>)\n2 fails trace <> event e.<(B.0.<>),N>\n3 fails trace <> event f.{N,(B.-1.<true>),(B.0.<>)}\n4 fails trace <> event d.N\n",
+    ),
+    (
+        "datatype D = B.{0..1023}\nchannel a\nassert STOP [T= card(D) == 1024 & a -> STOP",
+        "1 fails trace <> event a\n",
+    ),
+    (
+        "channel a, b, c\nassert not a -> STOP [T= STOP\nassert (not true & STOP) [T= a -> STOP\nassert not SKIP :[deadlock free]\nP = a -> P\nassert not P :[divergence free]",
+        "1 fails\n2 fails trace <> event a\n3 fails\n4 fails\n",
+    ),
+    (
+        "channel a, b, c\nP(n) = P(n+1)\nassert STOP :[deadlock free]\nassert (a -> SKIP) [| {a} |] (b -> SKIP) :[deadlock free]\nassert SKIP ||| STOP :[deadlock free]\nassert b -> STOP [] a -> a -> STOP :[deadlock free]\nassert STOP |~| P(2147483647+1) :[deadlock free]",
+        "1 fails trace <> deadlock\n2 fails trace <b> deadlock\n3 fails trace <> deadlock\n4 fails trace <b> deadlock\n5 fails trace <> deadlock\n",
+    ),
+    (
+        "channel a, b, c\nP = P\nR = a -> R\nassert P :[divergence free]\nassert a -> (R \\ {a}) :[divergence free]\nassert (b -> P) |~| (a -> P) :[divergence free]\nassert (a -> a -> P) [] b -> P :[divergence free]",
+        "1 fails trace <> diverges\n2 fails trace <a> diverges\n3 fails trace <a> diverges\n4 fails trace <b> diverges\n",
+    ),
+    (
+        "channel a, b, c\nS = T\nT = S\nP = a -> b -> P\nQ = a -> b -> Q\nassert c -> S :[divergence free]\nassert c -> ((P [| {a, b} |] Q) \\ {a, b}) :[divergence free]\nassert P ||| (SKIP ; S) :[divergence free]",
+        "1 fails trace <c> diverges\n2 fails trace <c> diverges\n3 fails trace <> diverges\n",
+    ),
+    (
+        "channel deadlock, divergence, free, F\nassert deadlock -> divergence -> STOP [T= free -> F -> STOP",
+        "1 fails trace <> event free\n",
+    ),
 ];
 
 /// Scripts with an assertion that fails, the others having answers.
@@ -252,7 +322,7 @@ pub(crate) fn failing() -> &'static [Row] {
     &FAILING
 }
 
-static UNKNOWN: [Row; 8] = [
+static UNKNOWN: [Row; 16] = [
     (
         "P(n) = P(n+1)\nassert STOP [T= P(2147483647)",
         "1 unknown fault overflow\n",
@@ -281,6 +351,38 @@ static UNKNOWN: [Row; 8] = [
     (
         "channel c : {0..1}\nR = c?x -> R\nP(n) = c!n -> P(n+1)\nassert R [T= P(0)\nassert STOP [T= c!1 -> STOP\nassert STOP [T= STOP",
         "1 unknown fault range\n2 fails trace <> event c.1\n3 holds\n",
+    ),
+    (
+        "datatype D = N | B.{0..1}\nchannel d : D\nassert STOP [T= d!(B.2) -> STOP\nassert STOP [T= d!(B.(head(<>))) -> STOP",
+        "1 unknown fault range\n2 unknown fault empty\n",
+    ),
+    (
+        "datatype D = C.{0..1}.{0..1}\nchannel d : D\nassert STOP [T= d!(C.2.head(<>)) -> STOP\nassert STOP [T= d!(C.head(<>).2) -> STOP",
+        "1 unknown fault range\n2 unknown fault empty\n",
+    ),
+    (
+        "datatype D = N | B.{0..1023}\nchannel a\nassert STOP [T= card(D) > 0 & a -> STOP",
+        "1 unknown fault overflow\n",
+    ),
+    (
+        "channel a, b, c\nassert STOP [T= STOP [> ([] x:{head(<>)} @ STOP)",
+        "1 unknown fault empty\n",
+    ),
+    (
+        "channel a, b, c\nP(n) = P(n+1)\nassert not STOP [T= P(2147483647)\nassert not P(2147483647) :[deadlock free]",
+        "1 unknown fault overflow\n2 unknown fault overflow\n",
+    ),
+    (
+        "P(n) = P(n+1)\nR = R\nassert P(2147483647) :[divergence free]\nassert R |~| P(2147483647) :[divergence free]",
+        "1 unknown fault overflow\n2 unknown fault overflow\n",
+    ),
+    (
+        "P = P ; SKIP\nassert P :[divergence free]",
+        "1 unknown term\n",
+    ),
+    (
+        "P = P ; SKIP\nQ = Q\nassert Q |~| P :[divergence free]",
+        "1 unknown term\n",
     ),
 ];
 

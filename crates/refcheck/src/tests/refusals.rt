@@ -2,7 +2,7 @@
 
 use super::rows::Row;
 
-static NO_SCRIPTS: [Row; 30] = [
+static NO_SCRIPTS: [Row; 37] = [
     (
         "channel a, b, c\nassert STOP [T= a -> STOP \\ {a}",
         "refused S04 at 2:27\n",
@@ -48,6 +48,19 @@ static NO_SCRIPTS: [Row; 30] = [
     ("$", "refused L01 at 1:1\n"),
     ("assert a, assert", "refused S01 at 1:9\n"),
     ("channel a, a\nP =", "refused S03 at 2:4\n"),
+    ("assert STOP :[deadlock free", "refused S03 at 1:28\n"),
+    (
+        "assert STOP :[divergence free [F]]",
+        "refused S04 at 1:31\n",
+    ),
+    ("assert STOP :[free]", "refused S01 at 1:15\n"),
+    ("assert not STOP", "refused S03 at 1:16\n"),
+    (
+        "assert STOP [T= STOP :[deadlock free]",
+        "refused S01 at 1:22\n",
+    ),
+    ("P = STOP [> STOP [] STOP", "refused S04 at 1:18\n"),
+    ("datatype D = N | B.", "refused S03 at 1:20\n"),
 ];
 
 /// Texts that are no scripts.
@@ -55,7 +68,7 @@ pub(crate) fn no_scripts() -> &'static [Row] {
     &NO_SCRIPTS
 }
 
-static UNCHECKED: [Row; 42] = [
+static UNCHECKED: [Row; 54] = [
     ("assert P [T= STOP", "refused K01 at 1:8\n"),
     ("assert P [F= STOP", "refused K01 at 1:8\n"),
     (
@@ -154,6 +167,42 @@ static UNCHECKED: [Row; 42] = [
     (
         "channel a, b : {0..1023}.{0..1}\nchannel c",
         "refused K06 at 2:9\n",
+    ),
+    (
+        "datatype D = N | B.{0..1}\nchannel d : D\nassert STOP [T= d!B -> STOP",
+        "refused K04 at 3:19\n",
+    ),
+    (
+        "datatype D = N | B.{0..1}\nchannel d : D\nassert STOP [T= d!(N.1) -> STOP",
+        "refused K04 at 3:20\n",
+    ),
+    (
+        "datatype D = N | B.{0..1}\nchannel d : D\nassert STOP [T= d!(B.0.1) -> STOP",
+        "refused K04 at 3:20\n",
+    ),
+    (
+        "datatype D = N | B.{0..1}\nchannel d : D\nassert STOP [T= d!(C.0) -> STOP",
+        "refused K01 at 3:20\n",
+    ),
+    (
+        "datatype D = N | B.{0..1}\nchannel d : D\nP(x) = d!(x.1) -> STOP",
+        "refused K03 at 3:11\n",
+    ),
+    (
+        "datatype D = N | B.{0..1}\nchannel d : D\nassert STOP [T= d!(B.true) -> STOP",
+        "refused K03 at 3:1\n",
+    ),
+    (
+        "datatype D = N | B.{0..1}\nchannel d : D\nassert STOP [T= (B.0) < (B.1) & d!N -> STOP",
+        "refused K03 at 3:1\n",
+    ),
+    ("datatype D = N | B.D", "refused K01 at 1:20\n"),
+    ("datatype D = B.{}", "refused K05 at 1:16\n"),
+    ("datatype D = B.{0..1024}", "refused K05 at 1:16\n"),
+    ("datatype D = B.{0,true}", "refused K03 at 1:16\n"),
+    (
+        "datatype D = N | B.{0..1023}\nchannel d : D",
+        "refused K05 at 2:13\n",
     ),
 ];
 

@@ -99,11 +99,27 @@ const QUEUE_WITHOUT_END: &str =
 assert QUEUE(<>) [T= PROTOCOL
 ";
 
+const DEADLOCK: &str = r"assert PROTOCOL :[deadlock free]
+";
+
+const DIVERGENCE: &str = r"assert PROTOCOL :[deadlock free]
+assert PROTOCOL :[divergence free]
+assert not PROTOCOL :[divergence free]
+";
+
+// A frame is one value.
+const FRAMES: &str = r"datatype Frame = Numbered.{0..1}.{0..1} | Empty
+channel send, receive : Frame
+
+LINE = send?f -> ((receive!f -> LINE) [> LINE)
+assert STOP [T= LINE [| {| send |} |] send!(Numbered.0.1) -> STOP
+";
+
 const MIXED_OPERATORS: &str = r"channel a
 P = STOP [] a -> STOP |~| STOP
 ";
 
-static TOUR: [Stop; 8] = [
+static TOUR: [Stop; 11] = [
     (
         &["protocol.csp"],
         1,
@@ -133,6 +149,24 @@ static TOUR: [Stop; 8] = [
         1,
         (ALTERNATING, BOUNDED_QUEUE),
         "1 holds\n2 fails trace <put.0> offers {get.0}\n",
+    ),
+    (
+        &["protocol.csp"],
+        1,
+        (WITHOUT_CLOCK, DEADLOCK),
+        "1 fails trace <put.0> deadlock\n",
+    ),
+    (
+        &["protocol.csp"],
+        1,
+        (ALTERNATING, DIVERGENCE),
+        "1 holds\n2 fails trace <put.0> diverges\n3 holds\n",
+    ),
+    (
+        &["protocol.csp"],
+        1,
+        (FRAMES, ""),
+        "1 fails trace <> event send.(Numbered.0.1)\n",
     ),
     (
         &["--max-pairs", "100", "protocol.csp"],

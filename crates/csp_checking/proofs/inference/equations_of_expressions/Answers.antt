@@ -3,7 +3,7 @@ use Rattle.csp_checking.proofs.AskingExpressions.{value_asks, expression_asks, e
 use Rattle.csp_checking.proofs.inference.equations_of_expressions.Goals as goal
 
 pub returns-clause-values : goal.returns-clause-values
-returns-clause-values c = λ types o owners n v k h. value_asks types o owners n v k (fixed_chain n k h)
+returns-clause-values c = λ types o owners n v k below h. value_asks types o owners n v k below (fixed_chain n k h)
 
 pub returns-clause-expressions : goal.returns-clause-expressions
 returns-clause-expressions c = λ types o owners n names e k below h. expression_asks types o owners names n e k below (fixed_chain n k h)

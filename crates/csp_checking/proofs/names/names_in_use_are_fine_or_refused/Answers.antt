@@ -1,5 +1,5 @@
-use Rattle.csp_checking.proofs.FineSites.{expression_fine, equation_fine, event_fine}
-use Rattle.csp_checking.proofs.SingleSites.{unknown_stops, class_stops, arguments_stop, fields_stop, productions_fine, productions_stop}
+use Rattle.csp_checking.proofs.FineSites.{expression_fine, constructor_fine, equation_fine, event_fine}
+use Rattle.csp_checking.proofs.SingleSites.{unknown_stops, class_stops, bare_stops, constructor_stops, arguments_stop, fields_stop, productions_fine, productions_stop}
 use Rattle.csp_checking.proofs.names.names_in_use_are_fine_or_refused.Goals as goal
 
 pub returns-clause-unknown : goal.returns-clause-unknown
@@ -9,7 +9,16 @@ pub returns-clause-class : goal.returns-clause-class
 returns-clause-class c = λ env u n h. class_stops env u n h.0 h.1 h.2
 
 pub returns-clause-expression : goal.returns-clause-expression
-returns-clause-expression c = λ env n h. expression_fine env n h.0 h.1 h.2
+returns-clause-expression c = λ env n h alone. expression_fine env n h.0 h.1 h.2 alone
+
+pub returns-clause-bare : goal.returns-clause-bare
+returns-clause-bare c = λ env n h other. bare_stops env n h.0 other.0 h.1 h.2 other.1 other.2
+
+pub returns-clause-constructor : goal.returns-clause-constructor
+returns-clause-constructor c = λ env k n h count. constructor_fine env k n h.0 h.1 h.2 count
+
+pub returns-clause-constructor_fields : goal.returns-clause-constructor_fields
+returns-clause-constructor_fields c = λ env k n h other. constructor_stops env k n h.0 other.0 h.1 h.2 other.1 other.2
 
 pub returns-clause-equation : goal.returns-clause-equation
 returns-clause-equation c = λ env k n h count. equation_fine env k n h.0 h.1 h.2 count

@@ -3,8 +3,8 @@ use Rattle.std.proofs.Common.{List, Result, Err, sym, ◌∙◌, ap, subst}
 use Rattle.std.proofs.lemmas.Result.{err_from_is_err_and}
 use Rattle.csp_syntax.specs.Value as pure
 use Rattle.csp_syntax.specs.Expression.{to_expressions}
-use Rattle.csp_semantics.specs.Meaning.Evaluation.{Cause}
-use Rattle.csp_semantics.specs.Meaning.Events.{beginning_of, given_values}
+use Rattle.csp_semantics.specs.Meaning.Evaluation.{Cause, given_values}
+use Rattle.csp_semantics.specs.Meaning.Events.{beginning_of}
 use Rattle.csp_value.specs.declared.action.Event.{Event}
 use Rattle.csp_value.specs.Value.{values_of}
 use Rattle.csp_expression.specs.Evaluation.{table_of}
@@ -12,7 +12,8 @@ use Rattle.csp_expression.specs.Expression.{expressions_of}
 use Rattle.csp_event_sets.specs.Events.{event_expression_of}
 use Rattle.csp_term.specs.Script.{script_of_parts}
 use Rattle.csp_expression.specs.declared.no_value.NoValue.{NoValue}
-use Rattle.csp_event_tests.specs.Testing.{AreGivenBy, IsEventOf, sets_of}
+use Rattle.csp_value.specs.Fields.{sets_of}
+use Rattle.csp_event_tests.specs.Testing.{AreGivenBy, IsEventOf}
 use Rattle.csp_event_tests.proofs.Giving.{begun, sets_stuck, values_stuck}
 use Rattle.csp_event_tests.proofs.event_test.beginning.Goals as goal
 

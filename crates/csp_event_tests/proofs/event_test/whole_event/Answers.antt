@@ -1,14 +1,15 @@
 -- The beginning is whole where it has as many fields as the channel.
-use Rattle.std.proofs.Common.{Result, Err, sym, ◌∙◌, ap, subst, arith}
+use Rattle.std.proofs.Common.{Result, Err, sym, ◌∙◌, ap, subst, inl, inr, lit<, arith}
 use Rattle.std.proofs.lemmas.Result.{err_from_is_err_and}
 use Rattle.csp_semantics.specs.Meaning.Events as events
 use Rattle.csp_value.specs.declared.action.Event.{Event}
 use Rattle.csp_value.specs.Action.{event_of}
 use Rattle.csp_value.specs.Value.{value_of}
 use Rattle.csp_event_sets.specs.Events.{event_expression_of}
-use Rattle.csp_term.specs.Script.{field_values, script_of_parts}
+use Rattle.csp_value.specs.Fields.{field_values, sets_of}
+use Rattle.csp_term.specs.Script.{script_of_parts}
 use Rattle.csp_expression.specs.declared.no_value.NoValue.{NoValue}
-use Rattle.csp_event_tests.specs.Testing.{IsEventOf, sets_of}
+use Rattle.csp_event_tests.specs.Testing.{IsEventOf}
 use Rattle.csp_event_tests.proofs.Giving.{beginning_stuck, not_all, sets_stuck, whole}
 use Rattle.std.proofs.lemmas.List.{length-map}
 use Rattle.csp_event_tests.proofs.event_test.whole_event.Goals as goal
@@ -37,3 +38,6 @@ returns-else-len-sets g c =
     let fields = length-map event.fields.items value_of in
     let wanted = length-map sets field_values in
     not_all (script_of_parts c.args.script.now) (event_expression_of c.args.written.now) (sets_of sets) c.in_ok-sets.ensures (event_of event) c.in_ok-event.ensures (λ e. c.if-len-sets.false (omega (arith, e, c.len.ensures.value, fields, wanted)))
+
+pub array_drop-event-requires-else-len-sets : goal.array_drop-event-requires-else-len-sets
+array_drop-event-requires-else-len-sets g c = elim g.met.A.AllocHandle.small [ inl e ↦ rw (e.0, e.1) (lit< tt) | inr e ↦ rw (e.0, e.1) (lit< tt) ]

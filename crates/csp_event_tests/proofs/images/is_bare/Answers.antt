@@ -1,6 +1,5 @@
 -- No fields are no expressions.
-use Rattle.std.proofs.Common.{◌≡◌, Bool, true, false, List, [], ◌∷◌, length, refl, sym, ◌∙◌}
-use Rattle.csp_semantics.specs.Meaning.Events.{is_bare}
+use Rattle.std.proofs.Common.{◌∙◌}
 use Rattle.csp_event_tests.proofs.Naming.{none_is_bare}
 use Rattle.csp_event_tests.proofs.images.is_bare.Goals as goal
 

@@ -1,4 +1,4 @@
-use Rattle.csp_inference.proofs.AskingEvents.{found_at}
+use Rattle.csp_inference.proofs.Asking.{found_at}
 use Rattle.csp_fitting.proofs.AskingItems.{assertion_asked, equation_asked}
 use Rattle.csp_fitting.proofs.items.ask_item.Goals as goal
 

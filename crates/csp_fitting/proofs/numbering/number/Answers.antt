@@ -9,14 +9,18 @@ pub returns-clause-numbers : goal.returns-clause-numbers
 returns-clause-numbers g c =
     let are = subst (λ ds. AreCountsOf (map declaration_of ds) c.in_ok-counts.counts) c.deref.ensures.value c.in_ok-counts.ensures in
     let start = c.in_ok-nametypes.ensures.next ∙ zero-add c.in_ok-counts.counts.nametypes ∙ are.nametypes in
-    let fields = c.deref-3.ensures.value ∙ are.fields in
-    let middle = c.in_ok-channels.ensures.next ∙ ap₂ behind_all start fields in
-    same_numbers _ _ _ _ _ _ _ _ (c.in_ok-owners.ensures ∙ ap (owners_from 0) (c.deref-2.ensures.value ∙ are.constructors)) (c.in_ok-nametypes.ensures.numbers ∙ ap (numbers_from 0) are.nametypes)
-    (c.in_ok-channels.ensures.rows ∙ ap₂ rows_from start fields) (c.in_ok-parameters.ensures.rows ∙ ap₂ rows_from middle (c.deref-4.ensures.value ∙ are.parameters))
+    let clauses = c.deref-3.ensures.value ∙ are.constructor_fields in
+    let between = c.in_ok-constructors.ensures.next ∙ ap₂ behind_all start clauses in
+    let fields = c.deref-4.ensures.value ∙ are.fields in
+    let middle = c.in_ok-channels.ensures.next ∙ ap₂ behind_all between fields in
+    same_numbers _ _ _ _ _ _ _ _ _ _ (c.in_ok-owners.ensures ∙ ap (owners_from 0) (c.deref-2.ensures.value ∙ are.constructors)) (c.in_ok-nametypes.ensures.numbers ∙ ap (numbers_from 0) are.nametypes)
+    (c.in_ok-constructors.ensures.rows ∙ ap₂ rows_from start clauses) (c.in_ok-channels.ensures.rows ∙ ap₂ rows_from between fields)
+    (c.in_ok-parameters.ensures.rows ∙ ap₂ rows_from middle (c.deref-5.ensures.value ∙ are.parameters))
 
 pub returns-clause-next : goal.returns-clause-next
 returns-clause-next g c =
     let are = subst (λ ds. AreCountsOf (map declaration_of ds) c.in_ok-counts.counts) c.deref.ensures.value c.in_ok-counts.ensures in
     let start = c.in_ok-nametypes.ensures.next ∙ zero-add c.in_ok-counts.counts.nametypes ∙ are.nametypes in
-    let middle = c.in_ok-channels.ensures.next ∙ ap₂ behind_all start (c.deref-3.ensures.value ∙ are.fields) in
-    c.in_ok-parameters.ensures.next ∙ ap₂ behind_all middle (c.deref-4.ensures.value ∙ are.parameters)
+    let between = c.in_ok-constructors.ensures.next ∙ ap₂ behind_all start (c.deref-3.ensures.value ∙ are.constructor_fields) in
+    let middle = c.in_ok-channels.ensures.next ∙ ap₂ behind_all between (c.deref-4.ensures.value ∙ are.fields) in
+    c.in_ok-parameters.ensures.next ∙ ap₂ behind_all middle (c.deref-5.ensures.value ∙ are.parameters)

@@ -1,11 +1,12 @@
 -- A declaration's names come behind those of the declarations above it.
 use Rattle.std.specs.Prelude.{flat_map}
 use Rattle.std.proofs.Common.{[], append-nil, map, sym, ap, ◌∙◌}
-use Rattle.csp_checking.specs.Names.{ConstructorName, declared_as}
-use Rattle.csp_parse.specs.Declarations.{declaration_of}
+use Rattle.csp_checking.specs.Names.{ConstructorName, clause_names, declared_as}
+use Rattle.csp_parse.specs.Declarations.{clause_of, declaration_of}
+use Rattle.csp_parse.specs.Names.{name_of}
 use Rattle.csp_kinds.proofs.Spelling.{all_named, constructors_declared, no_constructors, some_more_named}
 use Rattle.csp_kinds.proofs.names_in_order.constructor_names.Goals as goal
-use Rattle.csp_kinds.proofs.names_in_order.constructor_names.Goals.{in-Datatype+in_ok-extend_from_slice, in_default}
+use Rattle.csp_kinds.proofs.names_in_order.constructor_names.Goals.{in-Datatype+in_ok-add_clauses, in_default}
 
 pub loop-declaration-preserved : goal.loop-declaration-preserved
 loop-declaration-preserved g c =
@@ -14,10 +15,12 @@ loop-declaration-preserved g c =
     let d = c.declaration-item.result in
     let old = c.loop-declaration.all in
     elim c.match-declaration.branch [
-      | in-Datatype+in_ok-extend_from_slice w ↦ some_more_named (declared_as ConstructorName) ds n d old.items w.deref.result.now c.match-declaration.all w.extend_from_slice.new.self c.loop-declaration-test.true c.declaration-item.is c.loop-declaration.invariant
-          (constructors_declared d w.in-Datatype.name w.in-Datatype.constructors w.deref.result.now w.in-Datatype.is w.deref.ensures.value) w.all-is w.in_ok-extend_from_slice.ensures.items
-      | in_default w ↦ some_more_named (declared_as ConstructorName) ds n d old.items [] c.match-declaration.all old c.loop-declaration-test.true c.declaration-item.is c.loop-declaration.invariant
-          (no_constructors d w.in_default.not-Datatype) w.all-is (sym (append-nil old.items))
+      | in-Datatype+in_ok-add_clauses w ↦
+          some_more_named (declared_as ConstructorName) ds n d old.items (clause_names (map clause_of w.deref.result.now)) c.match-declaration.all w.add_clauses.new.all c.loop-declaration-test.true c.declaration-item.is
+          c.loop-declaration.invariant (constructors_declared d w.in-Datatype.name w.in-Datatype.clauses w.deref.result.now w.in-Datatype.is w.deref.ensures.value) w.all-is w.in_ok-add_clauses.ensures
+      | in_default w ↦
+          some_more_named (declared_as ConstructorName) ds n d old.items [] c.match-declaration.all old c.loop-declaration-test.true c.declaration-item.is c.loop-declaration.invariant (no_constructors d w.in_default.not-Datatype) w.all-is
+          (sym (append-nil (map name_of old.items)))
     ]
 
 pub returns : goal.returns

@@ -7,7 +7,7 @@ use Rattle.csp_names.proofs.Walking.{handed_on}
 use Rattle.csp_names.proofs.name_table.names_of.Goals as goal
 
 pub loop-declaration-init : goal.loop-declaration-init
-loop-declaration-init g c = no_declarations _ c.new.ensures.empty c.new-2.ensures.items c.new-3.ensures.items refl refl refl
+loop-declaration-init g c = no_declarations _ c.new.ensures.empty c.new-2.ensures.items c.new-3.ensures.items c.new-4.ensures.items refl refl
 
 pub returns-in_err-add_declaration-clause-refusal : goal.returns-in_err-add_declaration-clause-refusal
 returns-in_err-add_declaration-clause-refusal g c =

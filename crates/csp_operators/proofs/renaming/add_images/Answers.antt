@@ -1,5 +1,5 @@
 -- Each image, in turn.
-use Rattle.std.proofs.Common.{◌++◌, map, sym, ◌∙◌, ap}
+use Rattle.std.proofs.Common.{◌++◌, map, sym, ◌∙◌, ap, inl, inr, lit<}
 use Rattle.std.proofs.lemmas.List.{append-nil}
 use Rattle.std.proofs.lemmas.Iterator.Adapters.{YieldsList-from_vec}
 use Rattle.std.proofs.lemmas.Iterator.Consumers.{YieldsList-end}
@@ -25,3 +25,7 @@ returns g c =
     let yielded = c.loop-image.yielded in
     let t = YieldsList-end (YieldsList-from_vec {s = c.into_iter-image-iterator.result} items given.0 (given.1 ∙ c.args.images.ok.0)) yielded c.loop-image.image-iterator c.loop-image.yielded_by c.next.result c.next.new.self c.in-None.is c.next.ensures.steps in
     c.loop-image.invariant ∙ ap (λ xs. map answered_of c.args.steps.now.items ++ image_answers (target_of c.args.target.now) (map event_of xs)) (yielded_all yielded items t.0)
+
+-- an image is of a known size
+pub array_drop-image-requires : goal.array_drop-image-requires
+array_drop-image-requires g c = elim g.met.A.AllocHandle.small [ inl e ↦ rw (e.0, e.1) (lit< tt) | inr e ↦ rw (e.0, e.1) (lit< tt) ]

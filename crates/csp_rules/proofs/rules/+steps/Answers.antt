@@ -8,7 +8,7 @@ use Rattle.csp_syntax.specs.Process as pure
 use Rattle.csp_syntax.specs.declared.process_operator.ProcessOperator.{ProcessOperator}
 use Rattle.csp_expression.specs.Expression.{expression_of, expressions_of}
 use Rattle.csp_term.specs.Field.{fields_of}
-use Rattle.csp_term.proofs.Forms.{of_alphabetised, of_binary, of_call, of_conditional, of_generalised, of_guard, of_hiding, of_omega_term, of_prefix, of_renaming, of_replicated, of_skip, of_stop}
+use Rattle.csp_term.proofs.Forms.{of_alphabetised, of_binary, of_call, of_conditional, of_generalised, of_guard, of_hiding, of_omega_term, of_prefix, of_renaming, of_replicated, of_skip, of_sliding, of_stop}
 use Rattle.csp_term.proofs.OperatorForms.{replicated_put}
 use Rattle.csp_syntax.specs.Expression.{to_expressions}
 use Rattle.csp_syntax.specs.Process.{EventSet, Process}
@@ -34,7 +34,7 @@ use Rattle.csp_rules.specs.Replicating.{AnswersChoices, instance_of, instances_o
 use Rattle.csp_rules.proofs.Members.{no_members}
 use Rattle.csp_rules.proofs.Replicating.{external_by_chain, grouped_more, instances_are, interleaving_by_chain, internal_by_chain, last_choice, mapped_more, mapped_split, no_set, seen_elements, set_stuck, stuck_at_first, stuck_behind, two_sides}
 use Rattle.csp_operators.proofs.Siding.{side_of_stuck, stuck_at_first_side, stuck_at_second_side, stuck_of_side}
-use Rattle.csp_rules.proofs.Smaller.{alphabetised_height, binary_height, branch_height, generalised_height, guard_height, height_of, hiding_height, renaming_height, replicated_height}
+use Rattle.csp_rules.proofs.Smaller.{alphabetised_height, binary_height, branch_height, generalised_height, guard_height, height_of, hiding_height, renaming_height, replicated_height, sliding_height}
 use Rattle.csp_rules.proofs.Ruling.{guarded, closed, first_branch, second_branch, guard_stuck, if_stuck, ended, stopped}
 use Rattle.csp_rules.proofs.rules.+steps.Goals as goal
 
@@ -184,6 +184,11 @@ steps-steps-requires-in-Replicated g t c κs within =
     let less = replicated_height g.row.A.Denot c.args.term.now c.form.result.now c.form.ensures c.in-Replicated.operator c.in-Replicated.name c.in-Replicated.set c.in-Replicated.body c.in-Replicated.is in
     (omega (arith, below (height_of c.in-Replicated.body) (height_of c.args.term.now) t less c.decreases), (within, elim g.met.A.AllocHandle.small [ inl e ↦ rw (e.0, e.1) (lit< tt) | inr e ↦ rw (e.0, e.1) (lit< tt) ]))
 
+pub steps-steps-requires-in-SlidingChoice : goal.steps-steps-requires-in-SlidingChoice
+steps-steps-requires-in-SlidingChoice g t c κs within =
+    let less = sliding_height g.row.A.Denot c.args.term.now c.form.result.now c.form.ensures c.in-SlidingChoice.left c.in-SlidingChoice.right c.in-SlidingChoice.is in
+    (omega (arith, below (max (height_of c.in-SlidingChoice.left) (height_of c.in-SlidingChoice.right)) (height_of c.args.term.now) t less c.decreases), (within, elim g.met.A.AllocHandle.small [ inl e ↦ rw (e.0, e.1) (lit< tt) | inr e ↦ rw (e.0, e.1) (lit< tt) ]))
+
 pub steps-returns-in-Binary : goal.steps-returns-in-Binary
 steps-returns-in-Binary g t c =
     let is : process_of c.args.term.now ≡ binary_process c.in-Binary.operator (process_of c.in-Binary.left) (process_of c.in-Binary.right) =
@@ -260,6 +265,13 @@ steps-returns-in-Replicated g t c =
     let is : process_of c.args.term.now ≡ replicated_process w.operator w.name.0 (expression_of w.set) (process_of w.body) =
     sym c.form.ensures ∙ ap process_of_form w.is ∙ of_replicated g.row.A.Denot w.operator w.name w.set w.body
     in let P : pure.Process → Type 0 = λ p. Answers (script_of_parts c.args.script.now) (put (bindings_of c.args.bindings.now) p) c.steps-in-Replicated.result in subst P (sym is) c.steps-in-Replicated.ensures
+
+pub steps-returns-in-SlidingChoice : goal.steps-returns-in-SlidingChoice
+steps-returns-in-SlidingChoice g t c =
+    let w = c.in-SlidingChoice in
+    let is : process_of c.args.term.now ≡ pure.SlidingChoice (process_of w.left) (process_of w.right) =
+    sym c.form.ensures ∙ ap process_of_form w.is ∙ of_sliding g.row.A.Denot w.left w.right
+    in let P : pure.Process → Type 0 = λ p. Answers (script_of_parts c.args.script.now) (put (bindings_of c.args.bindings.now) p) c.steps-in-SlidingChoice.result in subst P (sym is) c.steps-in-SlidingChoice.ensures
 
 pub side::under-steps-requires : goal.side::under-steps-requires
 side::under-steps-requires g t c κs within = (omega (arith, c.decreases), (within, elim g.met.A.AllocHandle.small [ inl e ↦ rw (e.0, e.1) (lit< tt) | inr e ↦ rw (e.0, e.1) (lit< tt) ]))
@@ -482,6 +494,11 @@ choice::external-returns g t c =
 
 pub interrupt::steps-returns : goal.interrupt::steps-returns
 interrupt::steps-returns g t c =
+    let bs = bindings_of c.args.bindings.now in
+    c.by_sides.ensures (script_of_parts c.args.script.now) (put bs (process_of c.args.left.now)) (put bs (process_of c.args.right.now)) c.both-sides.ensures
+
+pub sliding::steps-returns : goal.sliding::steps-returns
+sliding::steps-returns g t c =
     let bs = bindings_of c.args.bindings.now in
     c.by_sides.ensures (script_of_parts c.args.script.now) (put bs (process_of c.args.left.now)) (put bs (process_of c.args.right.now)) c.both-sides.ensures
 

@@ -31,6 +31,9 @@ decreases-sequential::steps g l = 3 + 6 * max (height_of l.left.now) (height_of 
 abbrev pub decreases-interrupt::steps : goal.decreases-interrupt::steps
 decreases-interrupt::steps g l = 3 + 6 * max (height_of l.left.now) (height_of l.right.now)
 
+abbrev pub decreases-sliding::steps : goal.decreases-sliding::steps
+decreases-sliding::steps g l = 3 + 6 * max (height_of l.left.now) (height_of l.right.now)
+
 abbrev pub decreases-parallel::interleaving : goal.decreases-parallel::interleaving
 decreases-parallel::interleaving g l = 3 + 6 * max (height_of l.left.now) (height_of l.right.now)
 

@@ -2,10 +2,10 @@ use Rattle.csp_semantics.proofs.KindedSets.{same_value, same_members, same_expre
 use Rattle.csp_semantics.proofs.kinds.kinds_hang_on_datatypes.Goals as goal
 
 pub returns-clause-values : goal.returns-clause-values
-returns-clause-values c = same_value
+returns-clause-values c = λ types others same kinds. same_value types others kinds same
 
 pub returns-clause-members : goal.returns-clause-members
-returns-clause-members c = same_members
+returns-clause-members c = λ types others same kinds. same_members types others kinds same
 
 pub returns-clause-expressions : goal.returns-clause-expressions
-returns-clause-expressions c = same_expression
+returns-clause-expressions c = λ types others same kinds. same_expression types others kinds same

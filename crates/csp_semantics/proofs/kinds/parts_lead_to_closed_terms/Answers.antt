@@ -5,7 +5,7 @@ use Rattle.csp_semantics.specs.Kinds.Kind.{Each}
 use Rattle.csp_semantics.specs.Kinds.Events.{scope_behind}
 use Rattle.csp_semantics.specs.Kinds.Processes.{IsClosedTerm}
 use Rattle.csp_semantics.specs.Kinds.Putting.{BindingsFit}
-use Rattle.csp_semantics.specs.Kinds.Scripts.{MembersHaveKind}
+use Rattle.csp_semantics.specs.Kinds.Values.{AreMembersOf}
 use Rattle.csp_semantics.proofs.Misfits.{gives_value, each_map}
 use Rattle.csp_semantics.proofs.KindedPutting.{put_kinded}
 use Rattle.csp_semantics.proofs.KindedTerms.{elements_kind, prefix_fit, instances_closed, called_closed}
@@ -16,7 +16,7 @@ returns-clause-bodies c = λ script kinds good n es ks t e h is. gives_value (Is
 
 pub returns-clause-instances : goal.returns-clause-instances
 returns-clause-instances c = λ script kinds sets n e k p vs h g is.
-    instances_closed script kinds sets n p k vs g (gives_value (λ us. MembersHaveKind script.types us k) (elements script.types e) vs (elements_kind script kinds sets e k h) is)
+    instances_closed script kinds sets n p k vs g (gives_value (λ us. AreMembersOf script.types kinds us k) (elements script.types e) vs (elements_kind script kinds sets e k h) is).0
 
 pub returns-clause-prefixes : goal.returns-clause-prefixes
 returns-clause-prefixes c = λ script kinds sets n fs p ms h is.

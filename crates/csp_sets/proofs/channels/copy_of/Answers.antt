@@ -6,7 +6,7 @@ use Rattle.csp_value.specs.Copies.{AreCopies}
 use Rattle.csp_value.specs.Value.{members_of}
 use Rattle.csp_value.proofs.Copying.{copies_read}
 use Rattle.csp_names.specs.Scopes.{known_sets}
-use Rattle.csp_term.specs.Script.{field_values}
+use Rattle.csp_value.specs.Fields.{field_values}
 use Rattle.csp_sets.proofs.channels.copy_of.Goals as goal
 
 pub returns-in_ok-copy_all-in-Some : goal.returns-in_ok-copy_all-in-Some

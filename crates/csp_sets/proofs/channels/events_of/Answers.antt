@@ -3,7 +3,7 @@ use Rattle.std.proofs.Common.{refl, arith, ap, subst}
 use Rattle.std.specs.Prelude.{map}
 use Rattle.std.proofs.lemmas.List.{take_all}
 use Rattle.csp_checking.specs.Sets.{product_of_sizes}
-use Rattle.csp_term.specs.Script.{field_values}
+use Rattle.csp_value.specs.Fields.{field_values}
 use Rattle.csp_sets.specs.Members.{IsCount}
 use Rattle.csp_sets.proofs.Counting.{count_and_one}
 use Rattle.csp_sets.proofs.channels.events_of.Goals as goal

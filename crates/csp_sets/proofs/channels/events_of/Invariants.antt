@@ -1,6 +1,6 @@
 use Rattle.std.specs.Prelude.{map, take}
 use Rattle.csp_checking.specs.Sets.{product_of_sizes}
-use Rattle.csp_term.specs.Script.{field_values}
+use Rattle.csp_value.specs.Fields.{field_values}
 use Rattle.csp_sets.specs.Members.{IsCount}
 use Rattle.csp_sets.proofs.channels.events_of.Given as goal
 

@@ -8,4 +8,5 @@ returns-then-is_empty g c = empty_none c.members-values.result.now c.args.member
 
 pub returns : goal.returns
 returns g c =
-    filled_some c.members-values.result.now c.in_ok-values.values.items c.args.members.now c.from_values.result c.members-values.ensures (sym c.is_empty.ensures ∙ c.if-is_empty.false) c.in_ok-values.ensures c.from_values.ensures
+    filled_some c.members-values.result.now c.in_ok-values.values.items c.args.members.now c.from_values.result c.members-values.ensures
+    (sym c.is_empty.ensures ∙ c.if-is_empty.false) c.in_ok-values.ensures c.from_values.ensures

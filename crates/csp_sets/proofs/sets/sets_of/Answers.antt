@@ -6,15 +6,16 @@ use Rattle.csp_checking.specs.ConstructorRows.{constructor_counts}
 use Rattle.csp_checking.specs.Inference.Items.{rows_from}
 use Rattle.csp_parse.specs.Declarations.{declaration_of, script_of}
 use Rattle.csp_sets.specs.Pass.{AreSetsSoFar, IsPosition}
-use Rattle.csp_sets.proofs.Starting.{cut_there, next_position, one_longer, start_sets}
+use Rattle.csp_sets.proofs.Starting.{next_position, start_sets}
+use Rattle.csp_sets.proofs.Turns.{cut_there, one_longer}
 use Rattle.csp_sets.proofs.sets.sets_of.Goals as goal
 
 pub loop-declaration-init : goal.loop-declaration-init
 loop-declaration-init g c = record {
   position = record { names = c.requires; passed = refl; visible = refl };
   so_far =
-      start_sets (script_of c.args.raw.now) _ c.requires.once (c.in_ok-datatypes_of.ensures ∙ ap (λ ds. rows_from 0 (constructor_counts (map declaration_of ds))) c.deref.ensures.value) c.new.ensures.items c.new-2.ensures.items refl
-      (c.in_ok-new.ensures c.requires.once) c.new-4.ensures.items refl refl;
+      start_sets (script_of c.args.raw.now) _ c.requires.once (c.in_ok-datatypes_of.ensures ∙ ap (λ ds. rows_from 0 (constructor_counts (map declaration_of ds))) c.deref.ensures.value) c.new.ensures.items c.new-2.ensures.items c.new-4.ensures.items c.new-3.ensures.items refl
+      (c.in_ok-new.ensures c.requires.once) c.new-6.ensures.items refl refl;
 }
 
 pub add-requires : goal.add-requires
@@ -23,14 +24,14 @@ add-requires g c = record {
   above = map declaration_of (take c.loop-declaration.declaration-index c.deref-declaration-items.result.now);
   below = map declaration_of (drop (c.loop-declaration.declaration-index + 1) c.deref-declaration-items.result.now);
   stands =
-      ap (map declaration_of) (sym c.deref-declaration-items.ensures.value) ∙ cut_there c.deref-declaration-items.result.now c.loop-declaration.declaration-index c.declaration-item.result c.loop-declaration-test.true c.declaration-item.is;
+      ap (map declaration_of) (sym c.deref-declaration-items.ensures.value) ∙ cut_there declaration_of c.deref-declaration-items.result.now c.loop-declaration.declaration-index c.declaration-item.result c.loop-declaration-test.true c.declaration-item.is;
   position = c.loop-declaration.invariant.position;
   so_far = c.loop-declaration.invariant.so_far;
 }
 
 pub loop-declaration-preserved : goal.loop-declaration-preserved
 loop-declaration-preserved g c =
-    let longer = one_longer c.deref-declaration-items.result.now c.loop-declaration.declaration-index c.declaration-item.result c.loop-declaration-test.true c.declaration-item.is in
+    let longer = one_longer declaration_of c.deref-declaration-items.result.now c.loop-declaration.declaration-index c.declaration-item.result c.loop-declaration-test.true c.declaration-item.is in
     record {
       position =
           subst (λ ds. IsPosition (script_of c.args.raw.now) ds c.in_ok-at.at) (sym longer)
@@ -40,7 +41,7 @@ loop-declaration-preserved g c =
           subst (λ ds. AreSetsSoFar (script_of c.args.raw.now) ds c.add.new.self) (sym longer)
           (c.in_ok-add.ensures (script_of c.args.raw.now) (map declaration_of (take c.loop-declaration.declaration-index c.deref-declaration-items.result.now))
           (map declaration_of (drop (c.loop-declaration.declaration-index + 1) c.deref-declaration-items.result.now))
-          (ap (map declaration_of) (sym c.deref-declaration-items.ensures.value) ∙ cut_there c.deref-declaration-items.result.now c.loop-declaration.declaration-index c.declaration-item.result c.loop-declaration-test.true c.declaration-item.is)
+          (ap (map declaration_of) (sym c.deref-declaration-items.ensures.value) ∙ cut_there declaration_of c.deref-declaration-items.result.now c.loop-declaration.declaration-index c.declaration-item.result c.loop-declaration-test.true c.declaration-item.is)
           c.loop-declaration.invariant.position c.loop-declaration.invariant.so_far);
     }
 

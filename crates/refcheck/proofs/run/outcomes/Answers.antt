@@ -47,7 +47,7 @@ loop-assertion-preserved g c =
     let a = assertion_of c.assertion-item.result in
     let bounds = bounds_of c.args.limits in
     let says = c.explore.ensures in
-    let right = is_right script a bounds (outcome_of c.explore.result) says.answer says.holds says.none_stuck says.fails says.pairs says.nodes says.term says.fault in
+    let right = is_right script a bounds (outcome_of c.explore.result) says.answer says.soundly says.denied says.fails says.pairs says.nodes says.term says.fault in
     one_more_right assertion_of outcome_of script bounds c.assertions-assertion-items.result.now c.loop-assertion.outcomes.items c.push.new.self.items c.loop-assertion.assertion-index
     c.assertion-item.result c.explore.result c.loop-assertion.invariant c.loop-assertion-test.true c.assertion-item.is c.in_ok-push.ensures.items right
 

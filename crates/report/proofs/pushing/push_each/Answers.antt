@@ -1,4 +1,4 @@
-use Rattle.std.proofs.Common.{◌≡◌, ◌++◌, ◌+◌, ◌∷◌, ◌<◌, List, [], ℕ, length, get_or, map, drop, drop-cons, add-one, ap, ◌∙◌, sym, subst}
+use Rattle.std.proofs.Common.{◌≡◌, ◌++◌, ◌+◌, ◌<◌, List, [], ℕ, length, get_or, map, drop, drop-cons, add-one, ap, ◌∙◌, sym, subst}
 use Rattle.std.specs.List.{concat}
 use Rattle.std.specs.Prelude.{Result, Ok, Err, OnErr}
 use Rattle.report.proofs.Sending.{IsUnderWay, goes_on, stops}

@@ -1,5 +1,5 @@
 -- The pairs that name the event stand together, and are found by halving.
-use Rattle.std.proofs.Common.{◌≡◌, ℕ, Bool, true, false, List, ◌∷◌, [], ◌++◌, flat_map, inl, inr, map, refl, sym, ◌∙◌, ap, subst, arith, rules, lit<}
+use Rattle.std.proofs.Common.{◌≡◌, ℕ, true, false, List, ◌++◌, flat_map, inl, inr, map, sym, ◌∙◌, ap, subst, arith, rules, lit<}
 use Rattle.std.proofs.lemmas.List.{append-nil}
 use Rattle.std.proofs.lemmas.List.Sorted.{IsPartitionPoint-from_clause}
 use Rattle.std.specs.List.Sorted.{IsPartitionPoint}

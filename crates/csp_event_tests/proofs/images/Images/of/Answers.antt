@@ -1,5 +1,5 @@
 -- Each pair in turn, or the first cause; all are sorted then.
-use Rattle.std.proofs.Common.{◌≡◌, Result, Ok, Err, inl, inr, lit<, sym, ◌∙◌, ap, subst, arith}
+use Rattle.std.proofs.Common.{◌≡◌, Result, Err, inl, inr, lit<, sym, ◌∙◌, ap, subst, arith}
 use Rattle.std.proofs.lemmas.List.{take_all}
 use Rattle.std.proofs.lemmas.Result.{err_from_is_err_and}
 use Rattle.std.specs.declared.cmp.Ordering.{Ordering}

@@ -1,7 +1,7 @@
 -- What both lists make of the event, or itself.
-use Rattle.std.proofs.Common.{◌≡◌, ◌++◌, flat_map, map, sym, ◌∙◌, ap}
+use Rattle.std.proofs.Common.{sym, ◌∙◌, inl, inr, lit<}
 use Rattle.csp_value.specs.Action.{event_of}
-use Rattle.csp_event_tests.specs.Imaging.{channel_image, event_image, found_images}
+use Rattle.csp_event_tests.specs.Imaging.{found_images}
 use Rattle.csp_event_tests.proofs.Naming.{found_in_both, no_items, other_images, own_image, some_items}
 use Rattle.csp_event_tests.proofs.images.Images.of_event.Goals as goal
 
@@ -18,3 +18,12 @@ returns g c =
     own_image c.args.event (found_images c.args.self.now (event_of c.args.event)) all.items
     (found_in_both c.args.self.now (event_of c.args.event) c.new-found.result.items c.add_by_channels.new.found.items all.items c.new-found.ensures.items c.in_ok-add_by_channels.ensures c.in_ok-add_by_events.ensures) c.push.new.self.items
     (no_items all (sym c.is_empty.ensures ∙ c.if-not-is_empty.false)) c.in_ok-push.ensures.items
+
+pub array_drop-event-requires : goal.array_drop-event-requires
+array_drop-event-requires g c = elim g.met.A.AllocHandle.small [ inl e ↦ rw (e.0, e.1) (lit< tt) | inr e ↦ rw (e.0, e.1) (lit< tt) ]
+
+pub array_drop-event-requires-in_err-add_by_events : goal.array_drop-event-requires-in_err-add_by_events
+array_drop-event-requires-in_err-add_by_events g c = elim g.met.A.AllocHandle.small [ inl e ↦ rw (e.0, e.1) (lit< tt) | inr e ↦ rw (e.0, e.1) (lit< tt) ]
+
+pub array_drop-event-requires-then-not-is_empty : goal.array_drop-event-requires-then-not-is_empty
+array_drop-event-requires-then-not-is_empty g c = elim g.met.A.AllocHandle.small [ inl e ↦ rw (e.0, e.1) (lit< tt) | inr e ↦ rw (e.0, e.1) (lit< tt) ]

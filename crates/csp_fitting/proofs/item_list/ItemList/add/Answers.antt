@@ -6,7 +6,7 @@ returns-in-Equation g c = equation_added c.args.declaration.now c.args.self.now 
 
 pub returns-in-Assertion : goal.returns-in-Assertion
 returns-in-Assertion g c =
-    assertion_added c.args.declaration.now c.args.self.now c.in-Assertion.place c.in-Assertion.model c.in-Assertion.specification c.in-Assertion.implementation c.add_assertion.new.self c.add_assertion.result c.in-Assertion.is c.add_assertion.ensures
+    assertion_added c.args.declaration.now c.args.self.now c.in-Assertion.place c.in-Assertion.negated c.in-Assertion.property c.in-Assertion.implementation c.add_assertion.new.self c.add_assertion.result c.in-Assertion.is c.add_assertion.ensures
 
 pub returns-in_default : goal.returns-in_default
 returns-in_default g c = others_listed c.args.declaration.now c.args.self.now c.in_default.not-Equation c.in_default.not-Assertion

@@ -11,7 +11,7 @@ use Rattle.csp_term.proofs.Forms as forms
 use Rattle.csp_inference.specs.Equations.{HasNames, names_behind_prefix}
 use Rattle.csp_inference.specs.Numbering.{names_of, numbering_of}
 use Rattle.csp_inference.proofs.Adding.{if_ok}
-use Rattle.csp_inference.proofs.AskingProcesses.{asked_alphabetised, asked_binary, asked_generalised, asked_guard, asked_hiding, asked_if, asked_prefix, asked_renaming, asked_replicated, whole}
+use Rattle.csp_inference.proofs.AskingProcesses.{asked_alphabetised, asked_binary, asked_generalised, asked_guard, asked_hiding, asked_if, asked_prefix, asked_renaming, asked_replicated, asked_sliding, whole}
 use Rattle.csp_inference.proofs.equations.Equations.+ask_process.Goals as goal
 
 pub returns-in-Call : goal.returns-in-Call
@@ -159,3 +159,16 @@ returns-in_ok-bind_name-in-Replicated g t c =
     ∙ ap (λ xs. (c.in-Replicated.name.0, c.in_ok-number-in-Replicated.number.0) ∷ names_of xs) c.in_ok-inner-in-Replicated.ensures.items)
     c.in_ok-number-in-Replicated.ensures.behind c.in_ok-ask_expression-in-Replicated.ensures)
     c.ask_process-in-Replicated.ensures
+
+pub returns-in_ok-ask_process-in-SlidingChoice : goal.returns-in_ok-ask_process-in-SlidingChoice
+returns-in_ok-ask_process-in-SlidingChoice g t c =
+    let script = script_of_parts c.args.script.now in
+    let o = numbering_of c.args.numbering.now in
+    let names = names_of c.args.names.now in
+    let s = c.args.self.now in
+    let p = process_of c.args.process.now in
+    let is = sym c.form.ensures ∙ ap process_of_form c.in-SlidingChoice.is ∙ forms.of_sliding g.row.A.Denot c.in-SlidingChoice.left c.in-SlidingChoice.right in
+    if_ok c.ask_process-in-SlidingChoice-2.result
+    (λ _. asked_sliding script o names s p c.ask_process-in-SlidingChoice.new.self c.ask_process-in-SlidingChoice-2.new.self
+    (process_of c.in-SlidingChoice.left) (process_of c.in-SlidingChoice.right) is c.in_ok-ask_process-in-SlidingChoice.ensures)
+    c.ask_process-in-SlidingChoice-2.ensures

@@ -5,7 +5,7 @@ use Rattle.csp_checking.specs.Inference.Expressions.{behind_expressions, of_all}
 use Rattle.csp_expression.specs.Expression.{expressions_of}
 use Rattle.csp_expression.specs.Evaluation.{table_of}
 use Rattle.csp_inference.specs.Numbering.{names_of, numbering_of}
-use Rattle.csp_inference.proofs.AskingEvents.{found_at, none_asks, not_found}
+use Rattle.csp_inference.proofs.Asking.{found_at, none_asks, not_found}
 use Rattle.csp_inference.proofs.AskingFields.{asked_arguments}
 use Rattle.csp_inference.proofs.equations.Equations.ask_call.Goals as goal
 

@@ -1,6 +1,7 @@
 use Rattle.csp_expression.specs.Evaluation.{table_of}
 use Rattle.csp_inference.specs.Numbering.{names_of}
-use Rattle.csp_inference.proofs.AskingEvents.{asked_fields_all, found_at}
+use Rattle.csp_inference.proofs.Asking.{found_at}
+use Rattle.csp_inference.proofs.AskingEvents.{asked_fields_all}
 use Rattle.csp_inference.proofs.equations.Equations.ask_event.Goals as goal
 
 pub returns : goal.returns

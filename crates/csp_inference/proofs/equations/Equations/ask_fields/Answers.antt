@@ -4,7 +4,7 @@ use Rattle.csp_checking.specs.Inference.Equations.{never}
 use Rattle.csp_checking.specs.Inference.Processes.{behind_fields, of_fields}
 use Rattle.csp_expression.specs.Evaluation.{table_of}
 use Rattle.csp_term.specs.Field.{field_of, fields_of}
-use Rattle.csp_inference.specs.Equations.{equations_of, exactly}
+use Rattle.csp_inference.specs.Equations.{equations_of}
 use Rattle.csp_inference.specs.Numbering.{names_of, numbering_of}
 use Rattle.csp_inference.proofs.Asking.{hopeless_back, hopeless_same, never_asks, never_hopeless}
 use Rattle.csp_inference.proofs.AskingFields.{cut_map, cut_number, fields_all, fields_more, fields_names, fields_unequal}
@@ -43,9 +43,9 @@ returns-clause-asks g c =
     let right = length-map c.args.numbers.now (λ n. n.0) in
     let same : length (fields_of c.args.fields.now) ≡ length (map (λ n. n.0) c.args.numbers.now) = omega arith in
     let over : length (fields_of c.args.fields.now) ≤ c.loop-index.index = omega arith in
-    exactly (fields_all (table_of c.args.types.now) (numbering_of c.args.numbering.now) c.args.self.now c.loop-index.self (names_of c.args.names.now)
+    fields_all (table_of c.args.types.now) (numbering_of c.args.numbering.now) c.args.self.now c.loop-index.self (names_of c.args.names.now)
     (names_of c.loop-index.inner.items) (fields_of c.args.fields.now) (map (λ n. n.0) c.args.numbers.now) c.loop-index.index over same
-    c.loop-index.invariant)
+    c.loop-index.invariant
 
 pub returns-clause-names : goal.returns-clause-names
 returns-clause-names g c =

@@ -5,7 +5,7 @@ use Rattle.csp_expression.specs.Evaluation.{table_of}
 use Rattle.csp_term.specs.Field.{fields_of}
 use Rattle.csp_inference.specs.Numbering.{names_of, numbering_of}
 use Rattle.csp_inference.proofs.Adding.{if_ok}
-use Rattle.csp_inference.proofs.AskingEvents.{found_at, none_asks, not_found}
+use Rattle.csp_inference.proofs.Asking.{found_at, none_asks, not_found}
 use Rattle.csp_inference.proofs.AskingFields.{asked_prefix, named_prefix, unnamed_prefix}
 use Rattle.csp_inference.proofs.equations.Equations.ask_prefix.Goals as goal
 

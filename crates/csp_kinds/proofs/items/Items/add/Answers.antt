@@ -1,8 +1,7 @@
 -- An equation and an assertion are resolved and added.
 use Rattle.std.proofs.Common.{map, refl}
-use Rattle.csp_syntax.specs.Models.{model_of}
 use Rattle.csp_lex.specs.Places.{place_of}
-use Rattle.csp_parse.specs.Declarations.{declaration_of}
+use Rattle.csp_parse.specs.Declarations.{declaration_of, property_of}
 use Rattle.csp_parse.specs.Names.{name_of}
 use Rattle.csp_parse.specs.Processes.{process_of}
 use Rattle.csp_names.proofs.Walking.{handed_on}
@@ -26,11 +25,10 @@ returns-in_err-assertion-in-Assertion g c =
     let d = declaration_of c.args.declaration.now in
     let here = c.in-Assertion in
     let p = c.deref-in-Assertion.result.now in
-    let q = c.deref-in-Assertion-2.result.now in
-    let is = written_assertion c.args.declaration.now here.place here.model here.specification here.implementation p q here.is c.deref-in-Assertion.ensures c.deref-in-Assertion-2.ensures in
+    let is = written_assertion c.args.declaration.now here.place here.negated here.property here.implementation p here.is c.deref-in-Assertion.ensures in
     let e = c.in_err-assertion-in-Assertion.field-0.0 in
     handed_on (AddsItem c.args.scope.now c.args.bound.now c.resolve_assertion.new.bound d c.args.self.now c.args.self.now) c.from_residual-in_err-assertion-in-Assertion.result e c.from_residual-in_err-assertion-in-Assertion.ensures
-    (assertion_stops c.args.scope.now c.args.bound.now c.resolve_assertion.new.bound d c.args.self.now c.args.self.now (place_of here.place) (model_of here.model) (process_of p) (process_of q) is e c.in_err-assertion-in-Assertion.ensures)
+    (assertion_stops c.args.scope.now c.args.bound.now c.resolve_assertion.new.bound d c.args.self.now c.args.self.now (place_of here.place) here.negated (property_of here.property) (process_of p) is e c.in_err-assertion-in-Assertion.ensures)
 
 pub returns-in_ok-push-in-Equation : goal.returns-in_ok-push-in-Equation
 returns-in_ok-push-in-Equation g c =
@@ -47,7 +45,6 @@ returns-in_ok-push-in-Assertion g c =
     let d = declaration_of c.args.declaration.now in
     let here = c.in-Assertion in
     let p = c.deref-in-Assertion.result.now in
-    let q = c.deref-in-Assertion-2.result.now in
-    let is = written_assertion c.args.declaration.now here.place here.model here.specification here.implementation p q here.is c.deref-in-Assertion.ensures c.deref-in-Assertion-2.ensures in
-    assertion_added c.args.scope.now c.args.bound.now c.resolve_assertion.new.bound d c.args.self.now (record { equations = c.args.self.now.equations; assertions = c.push-in-Assertion.new.self }) (place_of here.place) (model_of here.model) (process_of p) (process_of q) is
+    let is = written_assertion c.args.declaration.now here.place here.negated here.property here.implementation p here.is c.deref-in-Assertion.ensures in
+    assertion_added c.args.scope.now c.args.bound.now c.resolve_assertion.new.bound d c.args.self.now (record { equations = c.args.self.now.equations; assertions = c.push-in-Assertion.new.self }) (place_of here.place) here.negated (property_of here.property) (process_of p) is
     c.in_ok-assertion-in-Assertion.assertion c.in_ok-assertion-in-Assertion.ensures c.in_ok-push-in-Assertion.ensures.items refl

@@ -19,4 +19,4 @@ returns-then-contains_key g c =
 
 pub returns : goal.returns
 returns g c =
-    name_put c.args.self.now _ c.as_bytes-text.result (name_of c.args.name) c.args.declared c.as_bytes-text.ensures.utf8 (ap chars c.as_bytes-text.ensures.value) (sym c.contains_key.ensures ∙ c.if-contains_key.false) c.in_ok-insert.ensures.entries refl refl
+    name_put c.args.self.now _ c.as_bytes-text.result (name_of c.args.name) c.args.declared c.as_bytes-text.ensures.utf8 (ap chars c.as_bytes-text.ensures.value) (sym c.contains_key.ensures ∙ c.if-contains_key.false) c.in_ok-insert.ensures.entries refl refl refl

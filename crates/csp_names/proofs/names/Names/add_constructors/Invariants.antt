@@ -1,10 +1,5 @@
-use Rattle.std.proofs.Common.{◌≡◌, ◌+◌, []}
-use Rattle.csp_checking.specs.Names.{ConstructorName}
-use Rattle.csp_names.proofs.NamesAdded.{AddsFirst}
+use Rattle.csp_names.proofs.ConstructorsAdded.{AddsClauses}
 use Rattle.csp_names.proofs.names.Names.add_constructors.Given as goal
 
-abbrev pub invariant-loop-name : goal.invariant-loop-name
-invariant-loop-name g l = record {
-  added : AddsFirst ConstructorName l.fn.next l.constructors l.name-index l.fn.self l.self [] [];
-  next : l.next ≡ l.fn.next + l.name-index;
-}
+abbrev pub invariant-loop-clause : goal.invariant-loop-clause
+invariant-loop-clause g l = AddsClauses l.clauses l.clause-index l.fn.self l.self

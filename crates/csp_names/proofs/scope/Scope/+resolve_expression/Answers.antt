@@ -1,13 +1,14 @@
 -- Each form is resolved by its parts, in order.
-use Rattle.std.proofs.Common.{◌+◌, ◌*◌, ◌<◌, ap, arith, refl, rules}
+use Rattle.std.proofs.Common.{◌+◌, ◌*◌, ◌<◌, ◌∙◌, ap, arith, length, refl, rules, sym}
 use Rattle.csp_parse.specs.Expressions.{expression_of, expressions_of}
 use Rattle.csp_parse.specs.Names.{name_of}
 use Rattle.csp_syntax.specs.Expression as pure
 use Rattle.csp_syntax.specs.Operators.{binary_of, unary_of}
 use Rattle.csp_text.specs.Raw.{RawCombine, RawRange, RawSequence, RawSet, RawUse}
 use Rattle.csp_expression.proofs.ExpressionForms as forms
+use Rattle.csp_names.specs.declared.refusals.Refused.TheVariants.{Memory as no_room}
 use Rattle.csp_names.specs.Walks.{ResolvesExpression, ResolvesExpressions}
-use Rattle.csp_names.proofs.Expressions.{all_resolved, apply_resolved, apply_stops, booleans_resolved, items_resolved, items_stop, left_stops, number_resolved, one_resolved, one_stops, right_stops, truth_resolved, two_resolved, whole}
+use Rattle.csp_names.proofs.Expressions.{all_resolved, apply_resolved, apply_stops, booleans_resolved, constructor_resolved, constructor_stops, fields_stop, items_resolved, items_stop, left_stops, number_resolved, one_resolved, one_stops, right_stops, room_stops, truth_resolved, two_resolved, whole}
 use Rattle.csp_names.proofs.Sizes.{part_size, raw_size, raw_sizes}
 use Rattle.csp_names.proofs.Walking.{handed_on}
 use Rattle.csp_names.proofs.Written as written
@@ -128,6 +129,40 @@ resolve_expression-returns-in_ok-members-in-Set g t c =
     let is = written.of_set e c.in-Set.members c.deref-in-Set.result.now c.in-Set.is c.deref-in-Set.ensures.value in
     items_resolved c.args.self.now c.args.bound.now (expression_of e) xs pure.SetOf (RawSet xs) c.in_ok-members-in-Set.members _ is (λ env. refl) (λ env. refl) c.in_ok-members-in-Set.ensures (forms.of_set g.row.A.Denot c.in_ok-members-in-Set.members)
 
+pub resolve_expression-returns-in_err-constructor-in-Constructor : goal.resolve_expression-returns-in_err-constructor-in-Constructor
+resolve_expression-returns-in_err-constructor-in-Constructor g t c =
+    let e = c.args.expression.now in
+    let es = c.in-Constructor.fields.items in
+    let is = written.of_constructor e c.in-Constructor.name c.in-Constructor.fields es c.in-Constructor.is refl in
+    handed_on (ResolvesExpression c.args.self.now c.args.bound.now (expression_of e)) c.from_residual-in_err-constructor-in-Constructor.result c.in_err-constructor-in-Constructor.field-0.0 c.from_residual-in_err-constructor-in-Constructor.ensures
+    (constructor_stops c.args.self.now c.args.bound.now (expression_of e) (name_of c.in-Constructor.name) es c.len.result (c.len.ensures ∙ c.in-Constructor.fields.ok.0) is c.in_err-constructor-in-Constructor.field-0.0 c.in_err-constructor-in-Constructor.ensures)
+
+pub resolve_expression-returns-in_err-fields-in-Constructor : goal.resolve_expression-returns-in_err-fields-in-Constructor
+resolve_expression-returns-in_err-fields-in-Constructor g t c =
+    let e = c.args.expression.now in
+    let es = c.deref-in-Constructor.result.now in
+    let is = written.of_constructor e c.in-Constructor.name c.in-Constructor.fields es c.in-Constructor.is c.deref-in-Constructor.ensures.value in
+    let count = c.len.ensures ∙ c.in-Constructor.fields.ok.0 ∙ ap length (sym c.deref-in-Constructor.ensures.value) in
+    handed_on (ResolvesExpression c.args.self.now c.args.bound.now (expression_of e)) c.from_residual-in_err-fields-in-Constructor.result c.in_err-fields-in-Constructor.field-0.0 c.from_residual-in_err-fields-in-Constructor.ensures
+    (fields_stop c.args.self.now c.args.bound.now (expression_of e) (name_of c.in-Constructor.name) es c.len.result count is c.in_ok-constructor-in-Constructor.constructor c.in_err-fields-in-Constructor.field-0.0
+    c.in_ok-constructor-in-Constructor.ensures c.in_err-fields-in-Constructor.ensures)
+
+pub resolve_expression-returns-in_ok-fields-in-Constructor : goal.resolve_expression-returns-in_ok-fields-in-Constructor
+resolve_expression-returns-in_ok-fields-in-Constructor g t c =
+    let e = c.args.expression.now in
+    let es = c.deref-in-Constructor.result.now in
+    let is = written.of_constructor e c.in-Constructor.name c.in-Constructor.fields es c.in-Constructor.is c.deref-in-Constructor.ensures.value in
+    let count = c.len.ensures ∙ c.in-Constructor.fields.ok.0 ∙ ap length (sym c.deref-in-Constructor.ensures.value) in
+    constructor_resolved c.args.self.now c.args.bound.now (expression_of e) (name_of c.in-Constructor.name) es c.len.result count is c.in_ok-constructor-in-Constructor.constructor c.in_ok-fields-in-Constructor.fields _
+    c.in_ok-constructor-in-Constructor.ensures c.in_ok-fields-in-Constructor.ensures (forms.of_constructor g.row.A.Denot c.in_ok-constructor-in-Constructor.constructor c.in_ok-fields-in-Constructor.fields)
+
+pub resolve_expression-resolve_expressions-requires-in-Constructor : goal.resolve_expression-resolve_expressions-requires-in-Constructor
+resolve_expression-resolve_expressions-requires-in-Constructor g t c =
+    let e = c.args.expression.now in
+    let size = ap raw_size (written.of_constructor e c.in-Constructor.name c.in-Constructor.fields c.deref-in-Constructor.result.now c.in-Constructor.is c.deref-in-Constructor.ensures.value) in
+    let smaller : 2 * raw_sizes (expressions_of c.deref-in-Constructor.result.now) + 1 < 2 * raw_size (expression_of e) = omega (arith, size) in
+    search rules
+
 pub resolve_expression-resolve_expression-requires : goal.resolve_expression-resolve_expression-requires
 resolve_expression-resolve_expression-requires g t c =
     let e = c.args.expression.now in
@@ -193,6 +228,11 @@ resolve_expressions-returns-in_err-one g t c =
     handed_on (ResolvesExpressions c.args.self.now c.args.bound.now (expressions_of c.args.expressions.now)) c.from_residual.result c.in_err-one.field-0.0 c.from_residual.ensures
     (one_stops c.args.self.now c.args.bound.now c.args.expressions.now c.loop-expression.expression-index c.loop-expression.resolved.items c.expression-item.result c.in_err-one.field-0.0
     c.loop-expression-test.true c.expression-item.is c.loop-expression.invariant c.in_err-one.ensures)
+
+pub resolve_expressions-returns-in_err-push : goal.resolve_expressions-returns-in_err-push
+resolve_expressions-returns-in_err-push g t c =
+    handed_on (ResolvesExpressions c.args.self.now c.args.bound.now (expressions_of c.args.expressions.now)) c.from_residual-in_err-push.result no_room c.from_residual-in_err-push.ensures
+    (room_stops c.args.self.now c.args.bound.now c.args.expressions.now no_room refl)
 
 pub resolve_expressions-returns : goal.resolve_expressions-returns
 resolve_expressions-returns g t c =

@@ -15,7 +15,7 @@ use Rattle.csp_term.specs.Term as term
 use Rattle.csp_term.proofs.Forms as made
 use Rattle.csp_names.specs.Walks.{ResolvesProcess}
 use Rattle.csp_names.proofs.BindingForms.{channel_stops, channel_there, prefix_body_stops, prefix_channel_stops, prefix_done, prefix_fields_stop, replicated_body_stops, replicated_done, replicated_name_stops, replicated_set_stops}
-use Rattle.csp_names.proofs.Forms.{alphabetised_done, alphabetised_left_stops, alphabetised_other_stops, alphabetised_own_stops, alphabetised_right_stops, as_written, expression_stops, expression_there, generalised_done, generalised_left_stops, generalised_right_stops, generalised_set_stops, guard_body_stops, guard_condition_stops, guard_done, hiding_body_stops, hiding_done, hiding_set_stops, if_condition_stops, if_done, if_first_stops, if_second_stops, infix_done, infix_left_stops, infix_right_stops, infix_term, pairs_stop, pairs_there, renaming_body_stops, renaming_done, renaming_pairs_stop, replicated_term, no_room, set_stops, set_there, skip_resolved, stop_resolved, term_made}
+use Rattle.csp_names.proofs.Forms.{alphabetised_done, alphabetised_left_stops, alphabetised_other_stops, alphabetised_own_stops, alphabetised_right_stops, as_written, expression_stops, expression_there, generalised_done, generalised_left_stops, generalised_right_stops, generalised_set_stops, guard_body_stops, guard_condition_stops, guard_done, hiding_body_stops, hiding_done, hiding_set_stops, if_condition_stops, if_done, if_first_stops, if_second_stops, infix_done, infix_left_stops, infix_right_stops, pairs_stop, pairs_there, renaming_body_stops, renaming_done, renaming_pairs_stop, replicated_term, no_room, set_stops, set_there, skip_resolved, stop_resolved, term_made}
 use Rattle.csp_names.proofs.Walking.{handed_on}
 use Rattle.csp_names.proofs.WrittenProcesses as written
 use Rattle.csp_names.proofs.scope.Scope.+resolve_process.Goals as goal
@@ -162,9 +162,8 @@ resolve_infix-returns g t c =
     let v = term.process_of c.in_ok-right.right in
     let op = infix_of c.args.operator in
     let whole = RawInfix op p q in
-    term_made scope old last whole (resolving.infix_process op u v) _ c.term.result
-    (infix_done scope old mid last p q op u v c.in_ok-left.ensures c.in_ok-right.ensures)
-    (made.of_binary g.row.A.Denot c.args.operator c.in_ok-left.left c.in_ok-right.right ∙ infix_term c.args.operator u v) c.term.ensures.makes c.term.ensures.stops
+    term_made scope old last whole (resolving.infix_process op u v) c.joined.result c.term.result
+    (infix_done scope old mid last p q op u v c.in_ok-left.ensures c.in_ok-right.ensures) c.joined.ensures c.term.ensures.makes c.term.ensures.stops
 
 pub resolve_generalised-returns-in_err-left : goal.resolve_generalised-returns-in_err-left
 resolve_generalised-returns-in_err-left g t c =

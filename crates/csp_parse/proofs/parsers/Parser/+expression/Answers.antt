@@ -16,8 +16,8 @@ use Rattle.csp_parse.specs.Expressions.{expression_of, expressions_of}
 use Rattle.csp_parse.specs.Levels.{IsAt, stronger}
 use Rattle.csp_parse.specs.Reading.{left_of, standing_of, IsNext, Reads}
 use Rattle.csp_parse.specs.Words.{comparison_of, operator_at}
-use Rattle.csp_parse.proofs.Atoms.{number_atom, name_atom, negate_atom, length_atom, bracketed_atom, one_atom, two_atom, empty_sequence, empty_set, sequence_atom, set_atom, range_atom}
-use Rattle.csp_parse.proofs.AtomsTurn.{some_bracketed, some_two_bracketed, some_items, some_inside, last_in_brackets, last_stops_in_brackets, first_in_brackets, first_stops_in_brackets, no_items_here, items_here, item_behind, item_stops, items_behind, items_stop, no_members_here, members_here, member_behind, member_stops, range_here, no_range_here, last_behind, last_stops, members_behind, members_stop, negated_form, length_form, bracketed_form, sequence_form, set_form, no_sign_form, unary_here, binary_here, name_form, number_form, name_at_end, number_done, number_stop, opens_none}
+use Rattle.csp_parse.proofs.Atoms.{number_atom, name_atom, negate_atom, length_atom, round_atom, one_atom, two_atom, empty_sequence, empty_set, sequence_atom, set_atom, range_atom}
+use Rattle.csp_parse.proofs.AtomsTurn.{some_bracketed, some_two_bracketed, some_items, some_inside, last_in_brackets, last_stops_in_brackets, first_in_brackets, first_stops_in_brackets, no_items_here, items_here, item_behind, item_stops, items_behind, items_stop, no_members_here, members_here, member_behind, member_stops, range_here, no_range_here, last_behind, last_stops, members_behind, members_stop, negated_form, length_form, round_form, some_enclosed_closed, enclosed_behind, enclosed_stops, sequence_form, set_form, no_sign_form, unary_here, binary_here, name_form, number_form, name_at_end, number_done, number_stop, opens_none}
 use Rattle.csp_parse.proofs.Chaining.{rest_step, rest_step_stop, rest_end}
 use Rattle.csp_parse.proofs.Deciding.{avoids_nothing}
 use Rattle.csp_parse.proofs.Expressing.{some_at, disjunction_chains, conjunction_chains, sum_chains, product_chains, chain_form, chain_begun, chain_not_begun, is_operator, is_comparing, not_found, none_at_end, OperatorNext, chain_more, chain_stop_at, chain_end, comparison_begun, comparison_not_begun, ComparisonNext, compared_done, compared_stop_at, uncompared_done, negation_form, comparison_only, told_at, atom_done, atom_stop, done_at, stop_at, operand_at, operand_stop_at, not_next, not_not_next}
@@ -25,10 +25,13 @@ use Rattle.csp_parse.proofs.Leaves.{name_done, name_fails, sign_first, sign_not_
 use Rattle.csp_parse.proofs.Memory.{handed, memory_stops, memory_only}
 use Rattle.csp_parse.proofs.Repeating.{repeats_none}
 use Rattle.csp_parse.proofs.Turning.{turn, finished, stopped, whole, wider, never_within, sign_behind, word_behind, sign_stops, word_stops, within_first, all_done, all_stop}
+use Rattle.csp_parse.proofs.ConstructorTurns.{same_front, constructed_enclosed, expression_enclosed, constructed_here, no_constructed_here, constructed_read, constructed_form, behind_constructor, constructor_stops, dot_behind, fields_done, fields_stop}
+use Rattle.csp_parse.proofs.Eventing.{nothing_dotted, more_dotted}
+use Rattle.csp_parse.proofs.EventsTurn.{dotted_form, told_dots}
 use Rattle.csp_parse.proofs.Listing.{first_listed, more_listed, sums_read, expressions_read}
 use Rattle.csp_parse.proofs.Operations.{alone, stay, longer, compared, uncompared, negated, unnegated, extended, retold}
 use Rattle.csp_parse.proofs.Passing.{in_any_case, reads_number, renamed}
-use Rattle.csp_parse.proofs.Trees.{tree_of_number, tree_of_use, tree_of_sequence, tree_of_set}
+use Rattle.csp_parse.proofs.Trees.{tree_of_number, tree_of_use, tree_of_sequence, tree_of_set, tree_of_constructor}
 use Rattle.csp_parse.proofs.Wording.{unary_words, binary_words, next_comparison, next_operator}
 use Rattle.csp_parse.proofs.parsers.Parser.+expression.Goals as goal
 use Rattle.csp_parse.proofs.parsers.Parser.+expression.Goals.{chained-in-Some+in_default-operator, chained-in_default}
@@ -42,7 +45,7 @@ pub atom-returns-in_ok-name-in-Name-clause-reads : goal.atom-returns-in_ok-name-
 atom-returns-in_ok-name-in-Name-clause-reads g t c = renamed _ _ (tree_of_use g.row.A.Denot c.in_ok-name-in-Name.name) (name_atom c.in_ok-name-in-Name.ensures.reads)
 
 pub atom_of_sign-returns-in-OpenRound-clause-reads : goal.atom_of_sign-returns-in-OpenRound-clause-reads
-atom_of_sign-returns-in-OpenRound-clause-reads g t c = IfOk-weaker c.bracketed.result _ _ (λ e r. bracketed_atom r) c.bracketed.ensures.reads
+atom_of_sign-returns-in-OpenRound-clause-reads g t c = IfOk-weaker c.round.result _ _ (λ e r. round_atom r) c.round.ensures.reads
 
 pub atom_of_word-returns-in-Some-clause-reads : goal.atom_of_word-returns-in-Some-clause-reads
 atom_of_word-returns-in-Some-clause-reads g t c =
@@ -215,11 +218,11 @@ listed-returns-clause-done g t c =
 
 pub atom_of_sign-returns-in-OpenRound-clause-done : goal.atom_of_sign-returns-in-OpenRound-clause-done
 atom_of_sign-returns-in-OpenRound-clause-done g t c =
-    IfOk-weaker c.bracketed.result _ _ (λ _ done next. finished (bracketed_form (subst (λ s. IsNext (kind.Sign s) (left_of c.args.self.now)) c.in-OpenRound.is next)) done) c.bracketed.ensures.done
+    IfOk-weaker c.round.result _ _ (λ _ done next. finished (round_form (subst (λ s. IsNext (kind.Sign s) (left_of c.args.self.now)) c.in-OpenRound.is next)) done) c.round.ensures.done
 
 pub atom_of_sign-returns-in-OpenRound-clause-stops : goal.atom_of_sign-returns-in-OpenRound-clause-stops
 atom_of_sign-returns-in-OpenRound-clause-stops g t c =
-    IfErr-weaker c.bracketed.result _ _ (λ _ stop next. stopped (bracketed_form (subst (λ s. IsNext (kind.Sign s) (left_of c.args.self.now)) c.in-OpenRound.is next)) stop) c.bracketed.ensures.stops
+    IfErr-weaker c.round.result _ _ (λ _ stop next. stopped (round_form (subst (λ s. IsNext (kind.Sign s) (left_of c.args.self.now)) c.in-OpenRound.is next)) stop) c.round.ensures.stops
 
 pub atom_of_sign-returns-in-Less-clause-done : goal.atom_of_sign-returns-in-Less-clause-done
 atom_of_sign-returns-in-Less-clause-done g t c =
@@ -656,3 +659,91 @@ pub listed-returns-in_err-item-clause-stops : goal.listed-returns-in_err-item-cl
 listed-returns-in_err-item-clause-stops g t c =
     handed c.from_residual-in_err-item.result _ c.from_residual-in_err-item.ensures
     (rest_step_stop (told_at c.args.level) c.loop-level.invariant.rest (sign_first signs.Comma (left_of c.loop-level.self) (c.is_at.ensures.yes c.loop-level-test.true)) c.in_err-item.ensures.stops)
+
+pub dotted-loop-self-init : goal.dotted-loop-self-init
+dotted-loop-self-init g t c = record { list = nothing_dotted c.new-fields.result.items refl c.new-fields.ensures.items; rest = repeats_none refl; not_longer = omega arith }
+
+pub dotted-loop-self-preserved : goal.dotted-loop-self-preserved
+dotted-loop-self-preserved g t c =
+    record {
+      list = more_dotted c.in_ok-field.field c.loop-self.fields.items c.push.new.self.items c.loop-self.invariant.list c.in_ok-field.ensures.reads.passes c.in_ok-field.ensures.reads.reads c.in_ok-push.ensures.items;
+      rest = rest_step told_dots c.loop-self.invariant.rest (sign_first signs.Dot (left_of c.loop-self.self) (c.is_at.ensures.yes c.loop-self-test.true)) (atom_done c.in_ok-field.ensures.done);
+      not_longer = omega (arith, c.loop-self.invariant.not_longer, c.in_ok-field.ensures.shorter);
+    }
+
+pub dotted-returns-clause-reads : goal.dotted-returns-clause-reads
+dotted-returns-clause-reads g t c = c.loop-self.invariant.list
+
+pub dotted-returns-in_err-field-clause-stops : goal.dotted-returns-in_err-field-clause-stops
+dotted-returns-in_err-field-clause-stops g t c =
+    let first = sign_first signs.Dot (left_of c.loop-self.self) (c.is_at.ensures.yes c.loop-self-test.true) in
+    handed c.from_residual.result _ c.from_residual.ensures (stopped dotted_form (rest_step_stop told_dots c.loop-self.invariant.rest first (atom_stop c.in_err-field.ensures.stops)))
+
+pub dotted-returns-in_err-push-clause-stops : goal.dotted-returns-in_err-push-clause-stops
+dotted-returns-in_err-push-clause-stops g t c =
+    memory_stops c.from_residual-in_err-push.result _ _ _ _ c.from_residual-in_err-push.ensures
+
+pub dotted-returns-clause-done : goal.dotted-returns-clause-done
+dotted-returns-clause-done g t c =
+    finished dotted_form (rest_end c.loop-self.invariant.rest (sign_not_first signs.Dot (left_of c.loop-self.self) (c.is_at.ensures.no c.loop-self-test.false)))
+
+pub round-returns-clause-reads : goal.round-returns-clause-reads
+round-returns-clause-reads g t c =
+    record { behind_opening = _; behind_inner = _; opens = c.in_ok-sign.ensures.passes; inner = c.in_ok-inner.ensures.reads; closes = c.in_ok-sign-2.ensures.passes }
+
+pub round-returns-in_err-sign-clause-stops : goal.round-returns-in_err-sign-clause-stops
+round-returns-in_err-sign-clause-stops g t c =
+    handed c.from_residual.result _ c.from_residual.ensures (sign_stops some_enclosed_closed c.in_err-sign.ensures.stops)
+
+pub round-returns-in_err-inner-clause-stops : goal.round-returns-in_err-inner-clause-stops
+round-returns-in_err-inner-clause-stops g t c =
+    handed c.from_residual-in_err-inner.result _ c.from_residual-in_err-inner.ensures (stopped (sign_behind c.in_ok-sign.ensures.passes) (enclosed_stops c.in_err-inner.ensures.stops))
+
+pub round-returns-in_err-sign-2-clause-stops : goal.round-returns-in_err-sign-2-clause-stops
+round-returns-in_err-sign-2-clause-stops g t c =
+    handed c.from_residual-in_err-sign-2.result _ c.from_residual-in_err-sign-2.ensures (stopped (turn (sign_behind c.in_ok-sign.ensures.passes) (enclosed_behind c.in_ok-inner.ensures.done)) c.in_err-sign-2.ensures.stops)
+
+pub round-returns-clause-done : goal.round-returns-clause-done
+round-returns-clause-done g t c =
+    finished (turn (sign_behind c.in_ok-sign.ensures.passes) (enclosed_behind c.in_ok-inner.ensures.done)) (sign_done CloseRoundSign c.in_ok-sign-2.ensures.passes)
+
+pub enclosed-returns-then-is_at_dotted_name-clause-reads : goal.enclosed-returns-then-is_at_dotted_name-clause-reads
+enclosed-returns-then-is_at_dotted_name-clause-reads g t c =
+    IfOk-weaker c.constructed.result _ _ (λ e r. constructed_enclosed (r (c.is_at_dotted_name.ensures.yes c.if-is_at_dotted_name.true))) c.constructed.ensures.reads
+
+pub enclosed-returns-then-is_at_dotted_name-clause-done : goal.enclosed-returns-then-is_at_dotted_name-clause-done
+enclosed-returns-then-is_at_dotted_name-clause-done g t c =
+    let next = c.is_at_dotted_name.ensures.yes c.if-is_at_dotted_name.true in
+    IfOk-weaker c.constructed.result _ _ (λ e done. finished (constructed_here next) (done next)) c.constructed.ensures.done
+
+pub enclosed-returns-then-is_at_dotted_name-clause-stops : goal.enclosed-returns-then-is_at_dotted_name-clause-stops
+enclosed-returns-then-is_at_dotted_name-clause-stops g t c =
+    let next = c.is_at_dotted_name.ensures.yes c.if-is_at_dotted_name.true in
+    IfErr-weaker c.constructed.result _ _ (λ e stop. stopped (constructed_here next) (stop next)) c.constructed.ensures.stops
+
+pub enclosed-returns-clause-reads : goal.enclosed-returns-clause-reads
+enclosed-returns-clause-reads g t c = IfOk-weaker c.expression.result _ _ (λ e r. expression_enclosed r) c.expression.ensures.reads
+
+pub enclosed-returns-clause-done : goal.enclosed-returns-clause-done
+enclosed-returns-clause-done g t c = all_done c.expression.result _ (no_constructed_here (c.is_at_dotted_name.ensures.no c.if-is_at_dotted_name.false)) c.expression.ensures.done
+
+pub enclosed-returns-clause-stops : goal.enclosed-returns-clause-stops
+enclosed-returns-clause-stops g t c = all_stop c.expression.result _ (no_constructed_here (c.is_at_dotted_name.ensures.no c.if-is_at_dotted_name.false)) c.expression.ensures.stops
+
+pub constructed-returns-clause-reads : goal.constructed-returns-clause-reads
+constructed-returns-clause-reads g t c next =
+    renamed _ _ (tree_of_constructor g.row.A.Denot c.in_ok-name.name c.in_ok-fields.fields)
+    (constructed_read c.in_ok-name.ensures.reads c.in_ok-fields.ensures.reads (dot_behind next c.in_ok-name.ensures.reads) c.in_ok-fields.ensures.done (same_front c.in_ok-fields.ensures.reads c.in_ok-fields.ensures.done))
+
+pub constructed-returns-clause-done : goal.constructed-returns-clause-done
+constructed-returns-clause-done g t c next =
+    finished (turn constructed_form (behind_constructor (name_done c.in_ok-name.ensures.reads))) (fields_done (dot_behind next c.in_ok-name.ensures.reads) c.in_ok-fields.ensures.done)
+
+pub constructed-returns-in_err-name-clause-stops : goal.constructed-returns-in_err-name-clause-stops
+constructed-returns-in_err-name-clause-stops g t c =
+    handed c.from_residual.result _ c.from_residual.ensures (λ next. stopped constructed_form (constructor_stops c.in_err-name.ensures.stops))
+
+pub constructed-returns-in_err-fields-clause-stops : goal.constructed-returns-in_err-fields-clause-stops
+constructed-returns-in_err-fields-clause-stops g t c =
+    handed c.from_residual-in_err-fields.result _ c.from_residual-in_err-fields.ensures
+    (λ next. stopped (turn constructed_form (behind_constructor (name_done c.in_ok-name.ensures.reads))) (fields_stop c.in_err-fields.ensures.stops))

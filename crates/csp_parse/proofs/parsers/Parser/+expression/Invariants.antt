@@ -3,7 +3,11 @@ use Rattle.csp_parse.specs.Continuing.{continues, lists, IsStep, IsItem}
 use Rattle.csp_parse.proofs.Repeating.{Repeats}
 use Rattle.csp_parse.specs.Expressions.{expression_of, expressions_of}
 use Rattle.csp_parse.specs.Levels.{IsAt, AreListed, rank}
-use Rattle.csp_parse.specs.Reading.{left_of, standing_of, Extends}
+use Rattle.csp_parse.specs.Reading.{left_of, standing_of, Reads, Extends}
+use Rattle.csp_text.specs.Grammar.{IsAtom, AreDotted}
+use Rattle.csp_text.specs.Token.{DotSign}
+use Rattle.csp_parse.specs.Deciding.{only}
+use Rattle.csp_parse.specs.Forms.{HasTree, Next}
 use Rattle.csp_parse.proofs.parsers.Parser.+expression.Given as goal
 
 abbrev pub decreases-atom : goal.decreases-atom
@@ -79,3 +83,25 @@ invariant-listed-loop-level g l = record {
 
 abbrev pub decreases-listed-loop-level : goal.decreases-listed-loop-level
 decreases-listed-loop-level g l = length (left_of l.self)
+
+abbrev pub decreases-round : goal.decreases-round
+decreases-round g l = 32 * length (left_of l.self.now) + 1
+
+abbrev pub decreases-enclosed : goal.decreases-enclosed
+decreases-enclosed g l = 32 * length (left_of l.self.now) + 17
+
+abbrev pub decreases-constructed : goal.decreases-constructed
+decreases-constructed g l = 32 * length (left_of l.self.now) + 16
+
+abbrev pub decreases-dotted : goal.decreases-dotted
+decreases-dotted g l = 32 * length (left_of l.self.now) + 1
+
+abbrev pub invariant-dotted-loop-self : goal.invariant-dotted-loop-self
+invariant-dotted-loop-self g l = record {
+  list : Reads AreDotted (standing_of l.fn.self) (standing_of l.self) (expressions_of l.fields.items);
+  rest : Repeats (Next DotSign (HasTree IsAtom)) (only DotSign) (standing_of l.fn.self) (standing_of l.self);
+  not_longer : length (left_of l.self) ≤ length (left_of l.fn.self);
+}
+
+abbrev pub decreases-dotted-loop-self : goal.decreases-dotted-loop-self
+decreases-dotted-loop-self g l = length (left_of l.self)

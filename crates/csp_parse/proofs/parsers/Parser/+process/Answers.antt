@@ -21,19 +21,24 @@ use Rattle.csp_parse.specs.declared.starts.Inner.TheVariants as inner
 use Rattle.csp_parse.proofs.Chaining.{rest_end, rest_step, rest_step_stop}
 use Rattle.csp_parse.proofs.Comparing.{perhaps_none}
 use Rattle.csp_parse.proofs.Expressing.{atom_done, atom_stop}
-use Rattle.csp_parse.proofs.InnerTurns.{at_once, behind_inner_process, closed_form, inner_base, inner_expression, inner_form, inner_operand, inner_start_stops, inner_stops, no_expression_inside, no_process, process_inside}
-use Rattle.csp_parse.proofs.JoinTurns.{alphabets_here, bound_read, bound_stops, chain_here, condition_read, condition_stops, conditional_here, fields_behind, fields_stop, first_process_stops, first_read, last_operand, last_operand_stops, no_suffixes_here, nothing_joined, renamings_behind, renamings_stop, replicated_here, second_read, second_stops, set_read, set_stops, set_then, set_then_stops, shared_here, some_double, some_shared_right, some_square_right, suffixes_here, told_operands}
+use Rattle.csp_parse.proofs.InnerTurns.{plain_here, at_once, behind_inner_process, closed_form, inner_base, inner_expression, inner_form, inner_operand, inner_start_stops, inner_stops, no_expression_inside, no_process, process_inside}
+use Rattle.csp_parse.proofs.JoinTurns.{prefixed_form, values_behind, values_stop, alphabets_here, bound_read, bound_stops, chain_here, condition_read, condition_stops, conditional_here, fields_behind, fields_stop, first_process_stops, first_read, last_operand, last_operand_stops, no_suffixes_here, nothing_joined, renamings_behind, renamings_stop, replicated_here, second_read, second_stops, set_read, set_stops, set_then, set_then_stops, shared_here, some_double, some_shared_right, some_square_right, suffixes_here, told_operands}
 use Rattle.csp_parse.proofs.Leaves.{name_done, sign_done, sign_first, sign_not_first}
 use Rattle.csp_parse.proofs.Memory.{handed, memory_here, memory_only}
 use Rattle.csp_parse.proofs.NamesTurn.{arguments_here, expression_guarded, expression_unguarded, name_alone, no_arguments_here, no_prefix_here, prefix_here}
 use Rattle.csp_parse.proofs.NextTokens.{closing_next, guard_here, neither_goes_on, no_prefix_next, no_suffix_next, none_behind, prefix_next, some_closed_start, starts_none, suffix_next}
 use Rattle.csp_parse.proofs.Operating.{something_read}
 use Rattle.csp_parse.proofs.Operations.{extended}
+use Rattle.csp_parse.specs.Levels.{IsEnclosed}
+use Rattle.csp_parse.proofs.ConstructorTurns.{constructed_enclosed, constructed_read, dot_behind, expression_enclosed, same_front}
+use Rattle.csp_parse.proofs.DottedTurns.{constructor_told, dotted_here, dotted_name, dotted_name_stops, dotted_process_told, dotted_values, dotted_values_stop, nothing_behind_values, operand_start_stops, prefix_behind_values, rest_done, rest_here, rest_stops}
+use Rattle.csp_parse.proofs.Trees.{tree_of_constructor}
+use Rattle.csp_parse.proofs.Fielding.{fields_read}
 use Rattle.csp_parse.proofs.Passing.{in_any_case, renamed}
 use Rattle.csp_parse.proofs.ProcessTurns.{base_operand, begun_form, no_operand, operand_done, operand_stops, some_operand, some_process, start_stops}
-use Rattle.csp_parse.proofs.Processing.{alphabetised_read, conditional_read, expression_in_brackets, generalised_read, guard_read, hidden_process, longer_read, name_in_brackets, name_read, prefix_read, process_in_brackets, read_as, replicated_read, two_read}
+use Rattle.csp_parse.proofs.Processing.{alphabetised_read, conditional_read, enclosed_in_brackets, generalised_read, guard_read, hidden_process, longer_read, name_in_brackets, name_read, prefix_read, process_in_brackets, read_as, replicated_read, two_read}
 use Rattle.csp_parse.proofs.Repeating.{repeats_none}
-use Rattle.csp_parse.proofs.StartCases.{both_told, closing_stops, first_so, front_is, here_behind, in_brackets, infix_next, joins_none, memory_behind, name_base, name_expressed, name_then, name_then_stops, next_name_of, next_so, next_stop_so, none_told, not_first_so, opening_next, opens_none, process_finished, process_stopped, replicator_next, shut_process, skip_form, skip_told, stop_form, stop_told, told_of, word_first}
+use Rattle.csp_parse.proofs.StartCases.{expressed_enclosed, both_told, closing_stops, first_so, front_is, here_behind, in_brackets, infix_next, joins_none, memory_behind, name_base, name_expressed, name_then, name_then_stops, next_name_of, next_so, next_stop_so, none_told, not_first_so, opening_next, opens_none, process_finished, process_stopped, replicator_next, shut_process, skip_form, skip_told, stop_form, stop_told, told_of, word_first}
 use Rattle.csp_parse.proofs.StartsTurn.{bracket_form, expression_form, name_starts}
 use Rattle.csp_parse.proofs.Telling.{atom_brackets_told, atom_told, behind_inner_told, behind_name_told, call_told, guard_read_told, inner_name_told, name_brackets_told, named_told, otherwise_told, prefix_told, process_brackets_told, process_inside_told, told_once}
 use Rattle.csp_parse.proofs.Turning.{all_done, all_stop, finished, never_within, sign_begins, sign_behind, sign_stops, stopped, then_begins, turn, wider_done, wider_stop, word_behind, word_stops}
@@ -89,8 +94,8 @@ alphabetised-returns-clause-continues g t c =
 pub chain-loop-operator-init : goal.chain-loop-operator-init
 chain-loop-operator-init g t c =
     record {
-      continues = λ before r. renamed _ _ c.in_ok-chain.ensures.makes (two_read (infix_of c.args.operator) (sign_of c.operator_sign-written.result) c.operator_sign-written.ensures r c.in_ok-second.ensures.reads.passes c.in_ok-second.ensures.reads.reads);
-      links = record { middle = _; begun = second_read (infix_of c.args.operator) (next_so c.operator_sign-written.ensures c.in_ok-second.ensures.done); rest = repeats_none refl };
+      continues = λ before r. renamed _ _ c.in_ok-chain.ensures.makes (two_read (infix_of c.args.operator) (sign_of c.infix_sign-written.result) c.infix_sign-written.ensures r c.in_ok-second.ensures.reads.passes c.in_ok-second.ensures.reads.reads);
+      links = record { middle = _; begun = second_read (infix_of c.args.operator) (next_so c.infix_sign-written.ensures c.in_ok-second.ensures.done); rest = repeats_none refl };
       not_longer = omega (arith, c.in_ok-second.ensures.shorter);
     }
 
@@ -98,11 +103,11 @@ pub chain-loop-operator-preserved : goal.chain-loop-operator-preserved
 chain-loop-operator-preserved g t c =
     record {
       continues = λ before r.
-          renamed _ _ c.in_ok-chain-2.ensures.makes (longer_read (infix_of c.args.operator) (sign_of c.operator_sign-written.result) c.operator_sign-written.ensures (c.loop-operator.invariant.continues before r) c.in_ok-operand.ensures.reads.passes c.in_ok-operand.ensures.reads.reads);
+          renamed _ _ c.in_ok-chain-2.ensures.makes (longer_read (infix_of c.args.operator) (sign_of c.infix_sign-written.result) c.infix_sign-written.ensures (c.loop-operator.invariant.continues before r) c.in_ok-operand.ensures.reads.passes c.in_ok-operand.ensures.reads.reads);
       links = record {
         middle = c.loop-operator.invariant.links.middle;
         begun = c.loop-operator.invariant.links.begun;
-        rest = rest_step (told_operands (infix_of c.args.operator)) c.loop-operator.invariant.links.rest (first_so (left_of c.loop-operator.self) c.operator_sign-written.ensures (sign_first c.operator_sign-written.result (left_of c.loop-operator.self) (c.is_at.ensures.yes c.loop-operator-test.true))) (next_so c.operator_sign-written.ensures c.in_ok-operand.ensures.done);
+        rest = rest_step (told_operands (infix_of c.args.operator)) c.loop-operator.invariant.links.rest (first_so (left_of c.loop-operator.self) c.infix_sign-written.ensures (sign_first c.infix_sign-written.result (left_of c.loop-operator.self) (c.is_at.ensures.yes c.loop-operator-test.true))) (next_so c.infix_sign-written.ensures c.in_ok-operand.ensures.done);
       };
       not_longer = omega (arith, c.loop-operator.invariant.not_longer, c.in_ok-operand.ensures.shorter);
     }
@@ -302,9 +307,13 @@ pub start_of_expression-returns-clause-reads : goal.start_of_expression-returns-
 start_of_expression-returns-clause-reads g t c =
     IfOk-weaker c.guarded.result _ _ (λ s k. k (standing_of c.args.self.now) c.in_ok-expression.ensures.reads) c.guarded.ensures.continues
 
+pub prefix_behind-returns-clause-continues : goal.prefix_behind-returns-clause-continues
+prefix_behind-returns-clause-continues g t c =
+    IfOk-weaker c.prefix.result _ _ (λ s k before behind r dots. k before _ (prefix_read r (fields_read dots c.in_ok-fields.ensures.extends) c.in_ok-body.ensures.reads.passes c.in_ok-body.ensures.reads.reads)) c.prefix.ensures.makes
+
 pub prefix_of-returns-clause-continues : goal.prefix_of-returns-clause-continues
 prefix_of-returns-clause-continues g t c =
-    IfOk-weaker c.prefix.result _ _ (λ s k before r. k before _ (prefix_read r c.in_ok-fields.ensures.reads c.in_ok-body.ensures.reads.passes c.in_ok-body.ensures.reads.reads)) c.prefix.ensures.makes
+    IfOk-weaker c.prefix_behind.result _ _ (λ s k before r. k before _ r c.in_ok-values.ensures.reads) c.prefix_behind.ensures.continues
 
 pub bracketed_inner-returns-clause-reads : goal.bracketed_inner-returns-clause-reads
 bracketed_inner-returns-clause-reads g t c =
@@ -322,7 +331,7 @@ pub start_of_brackets-returns-in-Expression-clause-reads : goal.start_of_bracket
 start_of_brackets-returns-in-Expression-clause-reads g t c =
     let all = c.in_ok-inner.ensures.reads in
     let read = subst (ReadsInner all.behind_opening all.behind_inside) c.in-Expression.is all.inside in
-    IfOk-weaker c.start_from_atom.result _ _ (λ s k. k (standing_of c.args.self.now) (expression_in_brackets all.opens read all.closes)) c.start_from_atom.ensures.continues
+    IfOk-weaker c.start_from_atom.result _ _ (λ s k. k (standing_of c.args.self.now) (enclosed_in_brackets all.opens read all.closes)) c.start_from_atom.ensures.continues
 
 pub start_from_atom-returns-clause-continues : goal.start_from_atom-returns-clause-continues
 start_from_atom-returns-clause-continues g t c =
@@ -456,7 +465,7 @@ alphabetised-returns-clause-stops g t c =
 
 pub chain-returns-in_err-second-clause-stops : goal.chain-returns-in_err-second-clause-stops
 chain-returns-in_err-second-clause-stops g t c =
-    handed c.from_residual.result _ c.from_residual.ensures (second_stops (infix_of c.args.operator) (next_stop_so c.operator_sign-written.ensures c.in_err-second.ensures.stops))
+    handed c.from_residual.result _ c.from_residual.ensures (second_stops (infix_of c.args.operator) (next_stop_so c.infix_sign-written.ensures c.in_err-second.ensures.stops))
 
 pub chain-returns-in_err-chain-clause-stops : goal.chain-returns-in_err-chain-clause-stops
 chain-returns-in_err-chain-clause-stops g t c =
@@ -464,7 +473,7 @@ chain-returns-in_err-chain-clause-stops g t c =
 
 pub chain-returns-in_err-operand-clause-stops : goal.chain-returns-in_err-operand-clause-stops
 chain-returns-in_err-operand-clause-stops g t c =
-    handed c.from_residual-in_err-operand.result _ c.from_residual-in_err-operand.ensures (stopped c.loop-operator.invariant.links.begun (rest_step_stop (told_operands (infix_of c.args.operator)) c.loop-operator.invariant.links.rest (first_so (left_of c.loop-operator.self) c.operator_sign-written.ensures (sign_first c.operator_sign-written.result (left_of c.loop-operator.self) (c.is_at.ensures.yes c.loop-operator-test.true))) (next_stop_so c.operator_sign-written.ensures c.in_err-operand.ensures.stops)))
+    handed c.from_residual-in_err-operand.result _ c.from_residual-in_err-operand.ensures (stopped c.loop-operator.invariant.links.begun (rest_step_stop (told_operands (infix_of c.args.operator)) c.loop-operator.invariant.links.rest (first_so (left_of c.loop-operator.self) c.infix_sign-written.ensures (sign_first c.infix_sign-written.result (left_of c.loop-operator.self) (c.is_at.ensures.yes c.loop-operator-test.true))) (next_stop_so c.infix_sign-written.ensures c.in_err-operand.ensures.stops)))
 
 pub chain-returns-in_err-chain-2-clause-stops : goal.chain-returns-in_err-chain-2-clause-stops
 chain-returns-in_err-chain-2-clause-stops g t c =
@@ -473,7 +482,7 @@ chain-returns-in_err-chain-2-clause-stops g t c =
 pub chain-returns-clause-done : goal.chain-returns-clause-done
 chain-returns-clause-done g t c =
     finished c.loop-operator.invariant.links.begun
-    (rest_end c.loop-operator.invariant.links.rest (not_first_so (left_of c.loop-operator.self) c.operator_sign-written.ensures (sign_not_first c.operator_sign-written.result (left_of c.loop-operator.self) (c.is_at.ensures.no c.loop-operator-test.false))))
+    (rest_end c.loop-operator.invariant.links.rest (not_first_so (left_of c.loop-operator.self) c.infix_sign-written.ensures (sign_not_first c.infix_sign-written.result (left_of c.loop-operator.self) (c.is_at.ensures.no c.loop-operator-test.false))))
 
 pub start_of_expression-returns-in_err-expression-clause-stops : goal.start_of_expression-returns-in_err-expression-clause-stops
 start_of_expression-returns-in_err-expression-clause-stops g t c =
@@ -519,21 +528,31 @@ pub start_of_name-returns-clause-only : goal.start_of_name-returns-clause-only
 start_of_name-returns-clause-only g t c =
     both_told c.start_from_name.result c.start_from_name.ensures.done c.start_from_name.ensures.only (λ x two told. named_told x (next_name_of c.in_ok-name.ensures.reads) (name_done c.in_ok-name.ensures.reads) two told)
 
-pub prefix_of-returns-in_err-fields-clause-stops : goal.prefix_of-returns-in_err-fields-clause-stops
-prefix_of-returns-in_err-fields-clause-stops g t c =
+pub prefix_behind-returns-in_err-fields-clause-stops : goal.prefix_behind-returns-in_err-fields-clause-stops
+prefix_behind-returns-in_err-fields-clause-stops g t c =
     handed c.from_residual.result _ c.from_residual.ensures (fields_stop c.in_err-fields.ensures.stops)
 
-pub prefix_of-returns-in_err-body-clause-stops : goal.prefix_of-returns-in_err-body-clause-stops
-prefix_of-returns-in_err-body-clause-stops g t c =
+pub prefix_behind-returns-in_err-body-clause-stops : goal.prefix_behind-returns-in_err-body-clause-stops
+prefix_behind-returns-in_err-body-clause-stops g t c =
     handed c.from_residual-in_err-body.result _ c.from_residual-in_err-body.ensures (stopped (fields_behind c.in_ok-fields.ensures.done) c.in_err-body.ensures.stops)
 
-pub prefix_of-returns-clause-done : goal.prefix_of-returns-clause-done
-prefix_of-returns-clause-done g t c =
+pub prefix_behind-returns-clause-done : goal.prefix_behind-returns-clause-done
+prefix_behind-returns-clause-done g t c =
     in_any_case c.prefix.result _ (λ _. finished (fields_behind c.in_ok-fields.ensures.done) c.in_ok-body.ensures.done)
 
-pub prefix_of-returns-clause-stops : goal.prefix_of-returns-clause-stops
-prefix_of-returns-clause-stops g t c =
+pub prefix_behind-returns-clause-stops : goal.prefix_behind-returns-clause-stops
+prefix_behind-returns-clause-stops g t c =
     memory_only c.prefix.result _ memory c.prefix.ensures.stops
+
+pub prefix_of-returns-in_err-values-clause-stops : goal.prefix_of-returns-in_err-values-clause-stops
+prefix_of-returns-in_err-values-clause-stops g t c =
+    handed c.from_residual.result _ c.from_residual.ensures (stopped prefixed_form (values_stop c.in_err-values.ensures.stops))
+
+pub prefix_of-returns-clause-done : goal.prefix_of-returns-clause-done
+prefix_of-returns-clause-done g t c = all_done c.prefix_behind.result _ (turn prefixed_form (values_behind c.in_ok-values.ensures.done)) c.prefix_behind.ensures.done
+
+pub prefix_of-returns-clause-stops : goal.prefix_of-returns-clause-stops
+prefix_of-returns-clause-stops g t c = all_stop c.prefix_behind.result _ (turn prefixed_form (values_behind c.in_ok-values.ensures.done)) c.prefix_behind.ensures.stops
 
 pub start_from_name-returns-in_err-expression-clause-stops : goal.start_from_name-returns-in_err-expression-clause-stops
 start_from_name-returns-in_err-expression-clause-stops g t c =
@@ -571,13 +590,13 @@ pub start_of_brackets-returns-in-Name-clause-done : goal.start_of_brackets-retur
 start_of_brackets-returns-in-Name-clause-done g t c =
     let all = c.in_ok-inner.ensures.reads in
     let read = subst (ReadsInner all.behind_opening all.behind_inside) c.in-Name.is all.inside in
-    all_done c.start_from_name.result _ (in_brackets all.opens all.done (name_expressed read all.done) all.closes) c.start_from_name.ensures.done
+    all_done c.start_from_name.result _ (in_brackets all.opens all.done (expressed_enclosed (name_expressed read all.done)) all.closes) c.start_from_name.ensures.done
 
 pub start_of_brackets-returns-in-Name-clause-stops : goal.start_of_brackets-returns-in-Name-clause-stops
 start_of_brackets-returns-in-Name-clause-stops g t c =
     let all = c.in_ok-inner.ensures.reads in
     let read = subst (ReadsInner all.behind_opening all.behind_inside) c.in-Name.is all.inside in
-    all_stop c.start_from_name.result _ (in_brackets all.opens all.done (name_expressed read all.done) all.closes) c.start_from_name.ensures.stops
+    all_stop c.start_from_name.result _ (in_brackets all.opens all.done (expressed_enclosed (name_expressed read all.done)) all.closes) c.start_from_name.ensures.stops
 
 pub start_of_brackets-returns-in-Name-clause-only : goal.start_of_brackets-returns-in-Name-clause-only
 start_of_brackets-returns-in-Name-clause-only g t c =
@@ -589,13 +608,13 @@ pub start_of_brackets-returns-in-Expression-clause-done : goal.start_of_brackets
 start_of_brackets-returns-in-Expression-clause-done g t c =
     let all = c.in_ok-inner.ensures.reads in
     let read = subst (ReadsInner all.behind_opening all.behind_inside) c.in-Expression.is all.inside in
-    all_done c.start_from_atom.result _ (in_brackets all.opens all.done (_, front_is read all.done) all.closes) c.start_from_atom.ensures.done
+    all_done c.start_from_atom.result _ (in_brackets all.opens all.done (_, front_is {Is = IsEnclosed} read all.done) all.closes) c.start_from_atom.ensures.done
 
 pub start_of_brackets-returns-in-Expression-clause-stops : goal.start_of_brackets-returns-in-Expression-clause-stops
 start_of_brackets-returns-in-Expression-clause-stops g t c =
     let all = c.in_ok-inner.ensures.reads in
     let read = subst (ReadsInner all.behind_opening all.behind_inside) c.in-Expression.is all.inside in
-    all_stop c.start_from_atom.result _ (in_brackets all.opens all.done (_, front_is read all.done) all.closes) c.start_from_atom.ensures.stops
+    all_stop c.start_from_atom.result _ (in_brackets all.opens all.done (_, front_is {Is = IsEnclosed} read all.done) all.closes) c.start_from_atom.ensures.stops
 
 pub start_of_brackets-returns-in-Expression-clause-only : goal.start_of_brackets-returns-in-Expression-clause-only
 start_of_brackets-returns-in-Expression-clause-only g t c =
@@ -640,23 +659,23 @@ inner-returns-in_err-process-clause-stops g t c =
 
 pub inner-returns-in_err-name-clause-stops : goal.inner-returns-in_err-name-clause-stops
 inner-returns-in_err-name-clause-stops g t c =
-    handed c.from_residual-in_err-name.result _ c.from_residual-in_err-name.ensures (stopped (inner_form (opens_none (left_of c.args.self.now) (c.is_at_process.ensures.no c.if-is_at_process.false).0 (c.is_at_process.ensures.no c.if-is_at_process.false).1)) (inner_start_stops c.in_err-name.ensures.stops))
+    handed c.from_residual-in_err-name.result _ c.from_residual-in_err-name.ensures (stopped (turn (plain_here (c.is_at_dotted_name.ensures.no c.if-is_at_dotted_name.false)) (inner_form (opens_none (left_of c.args.self.now) (c.is_at_process.ensures.no c.if-is_at_process.false).0 (c.is_at_process.ensures.no c.if-is_at_process.false).1))) (inner_start_stops c.in_err-name.ensures.stops))
 
 pub inner-returns-in-Name-clause-done : goal.inner-returns-in-Name-clause-done
 inner-returns-in-Name-clause-done g t c =
-    all_done c.inner_from_name.result _ (turn (inner_form (opens_none (left_of c.args.self.now) (c.is_at_process.ensures.no c.if-is_at_process.false).0 (c.is_at_process.ensures.no c.if-is_at_process.false).1)) (inner_base c.in_ok-name.ensures.done (name_base (subst (ReadsStart (standing_of c.args.self.now) (standing_of c.start.new.self)) c.in-Name.is c.in_ok-name.ensures.reads) c.in_ok-name.ensures.done))) c.inner_from_name.ensures.done
+    all_done c.inner_from_name.result _ (turn (turn (plain_here (c.is_at_dotted_name.ensures.no c.if-is_at_dotted_name.false)) (inner_form (opens_none (left_of c.args.self.now) (c.is_at_process.ensures.no c.if-is_at_process.false).0 (c.is_at_process.ensures.no c.if-is_at_process.false).1))) (inner_base c.in_ok-name.ensures.done (name_base (subst (ReadsStart (standing_of c.args.self.now) (standing_of c.start.new.self)) c.in-Name.is c.in_ok-name.ensures.reads) c.in_ok-name.ensures.done))) c.inner_from_name.ensures.done
 
 pub inner-returns-in-Name-clause-stops : goal.inner-returns-in-Name-clause-stops
 inner-returns-in-Name-clause-stops g t c =
-    all_stop c.inner_from_name.result _ (turn (inner_form (opens_none (left_of c.args.self.now) (c.is_at_process.ensures.no c.if-is_at_process.false).0 (c.is_at_process.ensures.no c.if-is_at_process.false).1)) (inner_base c.in_ok-name.ensures.done (name_base (subst (ReadsStart (standing_of c.args.self.now) (standing_of c.start.new.self)) c.in-Name.is c.in_ok-name.ensures.reads) c.in_ok-name.ensures.done))) c.inner_from_name.ensures.stops
+    all_stop c.inner_from_name.result _ (turn (turn (plain_here (c.is_at_dotted_name.ensures.no c.if-is_at_dotted_name.false)) (inner_form (opens_none (left_of c.args.self.now) (c.is_at_process.ensures.no c.if-is_at_process.false).0 (c.is_at_process.ensures.no c.if-is_at_process.false).1))) (inner_base c.in_ok-name.ensures.done (name_base (subst (ReadsStart (standing_of c.args.self.now) (standing_of c.start.new.self)) c.in-Name.is c.in_ok-name.ensures.reads) c.in_ok-name.ensures.done))) c.inner_from_name.ensures.stops
 
 pub inner-returns-in-Name-clause-only : goal.inner-returns-in-Name-clause-only
 inner-returns-in-Name-clause-only g t c =
-    both_told c.inner_from_name.result c.inner_from_name.ensures.done c.inner_from_name.ensures.only (λ x two told. inner_name_told x (left_of c.inner_from_name.new.self) c.in_ok-name.ensures.done two told)
+    both_told c.inner_from_name.result c.inner_from_name.ensures.done c.inner_from_name.ensures.only (λ x two told. inner_name_told x (left_of c.inner_from_name.new.self) (c.is_at_dotted_name.ensures.no c.if-is_at_dotted_name.false) c.in_ok-name.ensures.done two told)
 
 pub inner-returns-in-Expression-clause-done : goal.inner-returns-in-Expression-clause-done
 inner-returns-in-Expression-clause-done g t c =
-    finished (turn (inner_form (opens_none (left_of c.args.self.now) (c.is_at_process.ensures.no c.if-is_at_process.false).0 (c.is_at_process.ensures.no c.if-is_at_process.false).1)) (inner_expression c.in_ok-name.ensures.done (_, front_is (subst (ReadsStart (standing_of c.args.self.now) (standing_of c.start.new.self)) c.in-Expression.is c.in_ok-name.ensures.reads) c.in_ok-name.ensures.done) (told_of (subst (λ x. Tells (OnlyStart x) (standing_of c.args.self.now) (standing_of c.start.new.self)) c.in-Expression.is c.in_ok-name.ensures.only) c.in_ok-name.ensures.done))) at_once
+    finished (turn (turn (plain_here (c.is_at_dotted_name.ensures.no c.if-is_at_dotted_name.false)) (inner_form (opens_none (left_of c.args.self.now) (c.is_at_process.ensures.no c.if-is_at_process.false).0 (c.is_at_process.ensures.no c.if-is_at_process.false).1))) (inner_expression c.in_ok-name.ensures.done (_, front_is (subst (ReadsStart (standing_of c.args.self.now) (standing_of c.start.new.self)) c.in-Expression.is c.in_ok-name.ensures.reads) c.in_ok-name.ensures.done) (told_of (subst (λ x. Tells (OnlyStart x) (standing_of c.args.self.now) (standing_of c.start.new.self)) c.in-Expression.is c.in_ok-name.ensures.only) c.in_ok-name.ensures.done))) at_once
 
 pub inner-returns-in-Expression-clause-only : goal.inner-returns-in-Expression-clause-only
 inner-returns-in-Expression-clause-only g t c =
@@ -666,37 +685,37 @@ pub inner-returns-in-Base-clause-done : goal.inner-returns-in-Base-clause-done
 inner-returns-in-Base-clause-done g t c =
     let read = subst (ReadsStart (standing_of c.args.self.now) (standing_of c.start.new.self)) c.in-Base.is c.in_ok-name.ensures.reads in
     let told = subst (λ x. Tells (OnlyStart x) (standing_of c.args.self.now) (standing_of c.start.new.self)) c.in-Base.is c.in_ok-name.ensures.only in
-    all_done c.inner_process.result _ (turn (inner_form (opens_none (left_of c.args.self.now) (c.is_at_process.ensures.no c.if-is_at_process.false).0 (c.is_at_process.ensures.no c.if-is_at_process.false).1)) (inner_base c.in_ok-name.ensures.done (_, front_is read c.in_ok-name.ensures.done))) c.inner_process.ensures.done
+    all_done c.inner_process.result _ (turn (turn (plain_here (c.is_at_dotted_name.ensures.no c.if-is_at_dotted_name.false)) (inner_form (opens_none (left_of c.args.self.now) (c.is_at_process.ensures.no c.if-is_at_process.false).0 (c.is_at_process.ensures.no c.if-is_at_process.false).1))) (inner_base c.in_ok-name.ensures.done (_, front_is read c.in_ok-name.ensures.done))) c.inner_process.ensures.done
 
 pub inner-returns-in-Base-clause-stops : goal.inner-returns-in-Base-clause-stops
 inner-returns-in-Base-clause-stops g t c =
     let read = subst (ReadsStart (standing_of c.args.self.now) (standing_of c.start.new.self)) c.in-Base.is c.in_ok-name.ensures.reads in
     let told = subst (λ x. Tells (OnlyStart x) (standing_of c.args.self.now) (standing_of c.start.new.self)) c.in-Base.is c.in_ok-name.ensures.only in
-    all_stop c.inner_process.result _ (turn (inner_form (opens_none (left_of c.args.self.now) (c.is_at_process.ensures.no c.if-is_at_process.false).0 (c.is_at_process.ensures.no c.if-is_at_process.false).1)) (inner_base c.in_ok-name.ensures.done (_, front_is read c.in_ok-name.ensures.done))) c.inner_process.ensures.stops
+    all_stop c.inner_process.result _ (turn (turn (plain_here (c.is_at_dotted_name.ensures.no c.if-is_at_dotted_name.false)) (inner_form (opens_none (left_of c.args.self.now) (c.is_at_process.ensures.no c.if-is_at_process.false).0 (c.is_at_process.ensures.no c.if-is_at_process.false).1))) (inner_base c.in_ok-name.ensures.done (_, front_is read c.in_ok-name.ensures.done))) c.inner_process.ensures.stops
 
 pub inner-returns-in-Base-clause-only : goal.inner-returns-in-Base-clause-only
 inner-returns-in-Base-clause-only g t c =
     let read = subst (ReadsStart (standing_of c.args.self.now) (standing_of c.start.new.self)) c.in-Base.is c.in_ok-name.ensures.reads in
     let told = subst (λ x. Tells (OnlyStart x) (standing_of c.args.self.now) (standing_of c.start.new.self)) c.in-Base.is c.in_ok-name.ensures.only in
-    both_told c.inner_process.result c.inner_process.ensures.process c.inner_process.ensures.done (λ x is two. process_inside_told x (left_of c.inner_process.new.self) is c.in_ok-name.ensures.done (told_of told c.in_ok-name.ensures.done) two)
+    both_told c.inner_process.result c.inner_process.ensures.process c.inner_process.ensures.done (λ x is two. process_inside_told x (left_of c.inner_process.new.self) (c.is_at_dotted_name.ensures.no c.if-is_at_dotted_name.false) is c.in_ok-name.ensures.done (told_of told c.in_ok-name.ensures.done) two)
 
 pub inner-returns-in-Operand-clause-done : goal.inner-returns-in-Operand-clause-done
 inner-returns-in-Operand-clause-done g t c =
     let read = subst (ReadsStart (standing_of c.args.self.now) (standing_of c.start.new.self)) c.in-Operand.is c.in_ok-name.ensures.reads in
     let told = subst (λ x. Tells (OnlyStart x) (standing_of c.args.self.now) (standing_of c.start.new.self)) c.in-Operand.is c.in_ok-name.ensures.only in
-    all_done c.inner_process-in-Operand.result _ (turn (inner_form (opens_none (left_of c.args.self.now) (c.is_at_process.ensures.no c.if-is_at_process.false).0 (c.is_at_process.ensures.no c.if-is_at_process.false).1)) (inner_operand c.in_ok-name.ensures.done (_, front_is read c.in_ok-name.ensures.done) (told_of told c.in_ok-name.ensures.done).1)) c.inner_process-in-Operand.ensures.done
+    all_done c.inner_process-in-Operand.result _ (turn (turn (plain_here (c.is_at_dotted_name.ensures.no c.if-is_at_dotted_name.false)) (inner_form (opens_none (left_of c.args.self.now) (c.is_at_process.ensures.no c.if-is_at_process.false).0 (c.is_at_process.ensures.no c.if-is_at_process.false).1))) (inner_operand c.in_ok-name.ensures.done (_, front_is read c.in_ok-name.ensures.done) (told_of told c.in_ok-name.ensures.done).1)) c.inner_process-in-Operand.ensures.done
 
 pub inner-returns-in-Operand-clause-stops : goal.inner-returns-in-Operand-clause-stops
 inner-returns-in-Operand-clause-stops g t c =
     let read = subst (ReadsStart (standing_of c.args.self.now) (standing_of c.start.new.self)) c.in-Operand.is c.in_ok-name.ensures.reads in
     let told = subst (λ x. Tells (OnlyStart x) (standing_of c.args.self.now) (standing_of c.start.new.self)) c.in-Operand.is c.in_ok-name.ensures.only in
-    all_stop c.inner_process-in-Operand.result _ (turn (inner_form (opens_none (left_of c.args.self.now) (c.is_at_process.ensures.no c.if-is_at_process.false).0 (c.is_at_process.ensures.no c.if-is_at_process.false).1)) (inner_operand c.in_ok-name.ensures.done (_, front_is read c.in_ok-name.ensures.done) (told_of told c.in_ok-name.ensures.done).1)) c.inner_process-in-Operand.ensures.stops
+    all_stop c.inner_process-in-Operand.result _ (turn (turn (plain_here (c.is_at_dotted_name.ensures.no c.if-is_at_dotted_name.false)) (inner_form (opens_none (left_of c.args.self.now) (c.is_at_process.ensures.no c.if-is_at_process.false).0 (c.is_at_process.ensures.no c.if-is_at_process.false).1))) (inner_operand c.in_ok-name.ensures.done (_, front_is read c.in_ok-name.ensures.done) (told_of told c.in_ok-name.ensures.done).1)) c.inner_process-in-Operand.ensures.stops
 
 pub inner-returns-in-Operand-clause-only : goal.inner-returns-in-Operand-clause-only
 inner-returns-in-Operand-clause-only g t c =
     let read = subst (ReadsStart (standing_of c.args.self.now) (standing_of c.start.new.self)) c.in-Operand.is c.in_ok-name.ensures.reads in
     let told = subst (λ x. Tells (OnlyStart x) (standing_of c.args.self.now) (standing_of c.start.new.self)) c.in-Operand.is c.in_ok-name.ensures.only in
-    both_told c.inner_process-in-Operand.result c.inner_process-in-Operand.ensures.process c.inner_process-in-Operand.ensures.done (λ x is two. process_inside_told x (left_of c.inner_process-in-Operand.new.self) is c.in_ok-name.ensures.done (told_of told c.in_ok-name.ensures.done).0 two)
+    both_told c.inner_process-in-Operand.result c.inner_process-in-Operand.ensures.process c.inner_process-in-Operand.ensures.done (λ x is two. process_inside_told x (left_of c.inner_process-in-Operand.new.self) (c.is_at_dotted_name.ensures.no c.if-is_at_dotted_name.false) is c.in_ok-name.ensures.done (told_of told c.in_ok-name.ensures.done).0 two)
 
 pub inner_process-returns-clause-done : goal.inner_process-returns-clause-done
 inner_process-returns-clause-done g t c =
@@ -849,3 +868,65 @@ process_from_base-returns-then-is_at_suffix-clause-done g t c =
 pub process_from_base-returns-then-is_at_suffix-clause-stops : goal.process_from_base-returns-then-is_at_suffix-clause-stops
 process_from_base-returns-then-is_at_suffix-clause-stops g t c =
     all_stop c.hidden.result _ (turn (suffixes_here (suffix_next (left_of c.args.self.now) (c.is_at_suffix.ensures.yes c.if-is_at_suffix.true))) (renamings_behind c.in_ok-renamed.ensures.done)) c.hidden.ensures.stops
+
+pub inner-returns-in-Expression-clause-reads : goal.inner-returns-in-Expression-clause-reads
+inner-returns-in-Expression-clause-reads g t c =
+    expression_enclosed (subst (ReadsStart (standing_of c.args.self.now) (standing_of c.start.new.self)) c.in-Expression.is c.in_ok-name.ensures.reads)
+
+pub inner-returns-then-is_at_dotted_name-clause-reads : goal.inner-returns-then-is_at_dotted_name-clause-reads
+inner-returns-then-is_at_dotted_name-clause-reads g t c =
+    IfOk-weaker c.inner_of_dotted.result _ _ (λ r k. k (c.is_at_dotted_name.ensures.yes c.if-is_at_dotted_name.true)) c.inner_of_dotted.ensures.reads
+
+pub inner-returns-then-is_at_dotted_name-clause-done : goal.inner-returns-then-is_at_dotted_name-clause-done
+inner-returns-then-is_at_dotted_name-clause-done g t c =
+    IfOk-weaker c.inner_of_dotted.result _ _ (λ r k. k (c.is_at_dotted_name.ensures.yes c.if-is_at_dotted_name.true)) c.inner_of_dotted.ensures.done
+
+pub inner-returns-then-is_at_dotted_name-clause-only : goal.inner-returns-then-is_at_dotted_name-clause-only
+inner-returns-then-is_at_dotted_name-clause-only g t c =
+    IfOk-weaker c.inner_of_dotted.result _ _ (λ r k. k (c.is_at_dotted_name.ensures.yes c.if-is_at_dotted_name.true)) c.inner_of_dotted.ensures.only
+
+pub inner-returns-then-is_at_dotted_name-clause-stops : goal.inner-returns-then-is_at_dotted_name-clause-stops
+inner-returns-then-is_at_dotted_name-clause-stops g t c =
+    IfErr-weaker c.inner_of_dotted.result _ _ (λ e k. k (c.is_at_dotted_name.ensures.yes c.if-is_at_dotted_name.true)) c.inner_of_dotted.ensures.stops
+
+pub inner_of_dotted-returns-then-not-is_at_prefix-clause-reads : goal.inner_of_dotted-returns-then-not-is_at_prefix-clause-reads
+inner_of_dotted-returns-then-not-is_at_prefix-clause-reads g t c next =
+    constructed_enclosed (renamed _ _ (tree_of_constructor g.row.A.Denot c.in_ok-name.name c.in_ok-values.values)
+    (constructed_read c.in_ok-name.ensures.reads c.in_ok-values.ensures.reads (dot_behind next c.in_ok-name.ensures.reads) c.in_ok-values.ensures.done (same_front c.in_ok-values.ensures.reads c.in_ok-values.ensures.done)))
+
+pub inner_of_dotted-returns-then-not-is_at_prefix-clause-done : goal.inner_of_dotted-returns-then-not-is_at_prefix-clause-done
+inner_of_dotted-returns-then-not-is_at_prefix-clause-done g t c next =
+    finished (turn (turn (dotted_here next) (dotted_name (name_done c.in_ok-name.ensures.reads))) (dotted_values c.in_ok-values.ensures.done)) (nothing_behind_values (no_prefix_next (left_of c.dotted.new.self) (c.is_at_prefix.ensures.no c.if-not-is_at_prefix.true)))
+
+pub inner_of_dotted-returns-then-not-is_at_prefix-clause-only : goal.inner_of_dotted-returns-then-not-is_at_prefix-clause-only
+inner_of_dotted-returns-then-not-is_at_prefix-clause-only g t c next =
+    constructor_told next (name_done c.in_ok-name.ensures.reads) (dot_behind next c.in_ok-name.ensures.reads) c.in_ok-values.ensures.done
+
+pub inner_of_dotted-returns-clause-reads : goal.inner_of_dotted-returns-clause-reads
+inner_of_dotted-returns-clause-reads g t c =
+    IfOk-weaker c.inner_process.result _ _ (λ r k next. k (standing_of c.args.self.now) (c.in_ok-prefix.ensures.continues (standing_of c.args.self.now) _ c.in_ok-name.ensures.reads c.in_ok-values.ensures.reads)) c.inner_process.ensures.continues
+
+pub inner_of_dotted-returns-clause-done : goal.inner_of_dotted-returns-clause-done
+inner_of_dotted-returns-clause-done g t c =
+    IfOk-weaker c.inner_process.result _ _ (λ r done next. finished (turn (turn (turn (dotted_here next) (dotted_name (name_done c.in_ok-name.ensures.reads))) (dotted_values c.in_ok-values.ensures.done)) (prefix_behind_values (prefix_next (left_of c.dotted.new.self) (c.is_at_prefix.ensures.yes c.if-not-is_at_prefix.false)))) (rest_done c.in_ok-prefix.prefix c.in_ok-prefix.ensures.operand c.in_ok-prefix.ensures.done done)) c.inner_process.ensures.done
+
+pub inner_of_dotted-returns-clause-stops : goal.inner_of_dotted-returns-clause-stops
+inner_of_dotted-returns-clause-stops g t c =
+    IfErr-weaker c.inner_process.result _ _ (λ e stop next. stopped (turn (turn (turn (turn (dotted_here next) (dotted_name (name_done c.in_ok-name.ensures.reads))) (dotted_values c.in_ok-values.ensures.done)) (prefix_behind_values (prefix_next (left_of c.dotted.new.self) (c.is_at_prefix.ensures.yes c.if-not-is_at_prefix.false)))) (rest_here c.in_ok-prefix.ensures.done)) (operand_start_stops c.in_ok-prefix.prefix c.in_ok-prefix.ensures.operand stop)) c.inner_process.ensures.stops
+
+pub inner_of_dotted-returns-clause-only : goal.inner_of_dotted-returns-clause-only
+inner_of_dotted-returns-clause-only g t c =
+    both_told c.inner_process.result c.inner_process.ensures.process c.inner_process.ensures.done (λ x is done next.
+    dotted_process_told x is (record { next = next; name = name_done c.in_ok-name.ensures.reads; dot = dot_behind next c.in_ok-name.ensures.reads; values = c.in_ok-values.ensures.done; rest = rest_done c.in_ok-prefix.prefix c.in_ok-prefix.ensures.operand c.in_ok-prefix.ensures.done done }))
+
+pub inner_of_dotted-returns-in_err-name-clause-stops : goal.inner_of_dotted-returns-in_err-name-clause-stops
+inner_of_dotted-returns-in_err-name-clause-stops g t c =
+    handed c.from_residual.result _ c.from_residual.ensures (λ next. stopped (dotted_here next) (dotted_name_stops c.in_err-name.ensures.stops))
+
+pub inner_of_dotted-returns-in_err-values-clause-stops : goal.inner_of_dotted-returns-in_err-values-clause-stops
+inner_of_dotted-returns-in_err-values-clause-stops g t c =
+    handed c.from_residual-in_err-values.result _ c.from_residual-in_err-values.ensures (λ next. stopped (turn (dotted_here next) (dotted_name (name_done c.in_ok-name.ensures.reads))) (dotted_values_stop c.in_err-values.ensures.stops))
+
+pub inner_of_dotted-returns-in_err-prefix-clause-stops : goal.inner_of_dotted-returns-in_err-prefix-clause-stops
+inner_of_dotted-returns-in_err-prefix-clause-stops g t c =
+    handed c.from_residual-in_err-prefix.result _ c.from_residual-in_err-prefix.ensures (λ next. stopped (turn (turn (turn (dotted_here next) (dotted_name (name_done c.in_ok-name.ensures.reads))) (dotted_values c.in_ok-values.ensures.done)) (prefix_behind_values (prefix_next (left_of c.dotted.new.self) (c.is_at_prefix.ensures.yes c.if-not-is_at_prefix.false)))) (rest_stops c.in_err-prefix.ensures.stops))

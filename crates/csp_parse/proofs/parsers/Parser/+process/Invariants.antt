@@ -69,7 +69,7 @@ abbrev pub decreases-start_of_expression : goal.decreases-start_of_expression
 decreases-start_of_expression g l = 32 * length (left_of l.self.now) + 1
 
 abbrev pub decreases-prefix_of : goal.decreases-prefix_of
-decreases-prefix_of g l = 32 * length (left_of l.self.now) + 1
+decreases-prefix_of g l = 32 * length (left_of l.self.now) + 2
 
 abbrev pub decreases-bracketed_inner : goal.decreases-bracketed_inner
 decreases-bracketed_inner g l = 32 * length (left_of l.self.now) + 0
@@ -89,3 +89,9 @@ invariant-chain-loop-operator g l = record {
 
 abbrev pub decreases-chain-loop-operator : goal.decreases-chain-loop-operator
 decreases-chain-loop-operator g l = length (left_of l.self)
+
+abbrev pub decreases-inner_of_dotted : goal.decreases-inner_of_dotted
+decreases-inner_of_dotted g l = 32 * length (left_of l.self.now) + 3
+
+abbrev pub decreases-prefix_behind : goal.decreases-prefix_behind
+decreases-prefix_behind g l = 32 * length (left_of l.self.now) + 1

@@ -10,7 +10,7 @@ use Rattle.csp_semantics.specs.Meaning.Substitution.{Bindings, bind, put_express
 use Rattle.csp_value.specs.Value.{value_of, values_of}
 use Rattle.csp_expression.specs.Bindings.{bindings_of}
 use Rattle.csp_expression.specs.Evaluation.{Sees, members_listed, table_of}
-use Rattle.csp_term.specs.Script.{field_values}
+use Rattle.csp_value.specs.Fields.{field_values, sets_of}
 use Rattle.csp_expression.specs.Expression.{expression_of}
 use Rattle.csp_term.specs.Field.{field_of, fields_of}
 use Rattle.csp_term.specs.Term.{process_of}
@@ -19,7 +19,6 @@ use Rattle.csp_operators.specs.declared.rule_step.RuleStep.{RuleStep}
 use Rattle.std.specs.declared.vec.Vec.{Vec}
 use Rattle.csp_expression.specs.declared.no_value.NoValue.{NoValue}
 use Rattle.csp_rules.specs.Communicating.{Finds, lent_values}
-use Rattle.csp_event_tests.specs.Testing.{sets_of}
 use Rattle.csp_rules.proofs.Further.{FoundSoFar, none_so_far, one_further, stopped_at, with_one}
 use Rattle.csp_rules.proofs.Members.{no_members}
 use Rattle.csp_rules.proofs.Walking.{behind_input, chosen_from, chosen_from_none, chosen_more, chosen_same, chosen_split, chosen_stuck, ended_fields, ended_sets, given_stuck, given_within, values_more, values_split}

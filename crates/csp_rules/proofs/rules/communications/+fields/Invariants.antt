@@ -7,11 +7,10 @@ use Rattle.csp_semantics.specs.Meaning.Substitution.{bind}
 use Rattle.csp_value.specs.Value.{values_of}
 use Rattle.csp_expression.specs.Bindings.{bindings_of}
 use Rattle.csp_expression.specs.Evaluation.{table_of}
-use Rattle.csp_term.specs.Script.{field_values}
+use Rattle.csp_value.specs.Fields.{field_values, sets_of}
 use Rattle.csp_term.specs.Field.{fields_of}
 use Rattle.csp_term.specs.Term.{process_of}
 use Rattle.csp_rules.specs.Communicating.{lent_values}
-use Rattle.csp_event_tests.specs.Testing.{sets_of}
 use Rattle.csp_rules.proofs.Further.{FoundSoFar}
 use Rattle.csp_rules.proofs.rules.communications.+fields.Given as goal
 

@@ -34,3 +34,6 @@ returns g c =
     let put_in = c.in_ok-target.ensures ∙ ap (λ ds. within_limits (put (bindings_of ds) body)) c.deref-2.ensures.value in
     let fields : values_of c.in_ok-fields.fields.items ≡ lent_values front.values.items = c.in_ok-fields.ensures ∙ ap lent_values c.deref.ensures.value in
     (last_one bs, refl, reached channel body (lent_values front.values.items) bs c.args.found c.push.new.self _ c.in_ok-push.ensures.items (λ i. (Ev (record { channel = channel; fields = fields i }), put_in i)))
+
+pub array_drop-action-requires : goal.array_drop-action-requires
+array_drop-action-requires g c = elim g.met.A.AllocHandle.small [ inl e ↦ rw (e.0, e.1) (lit< tt) | inr e ↦ rw (e.0, e.1) (lit< tt) ]

@@ -11,7 +11,7 @@ use Rattle.csp_term.specs.Script.{field_sets_of, script_of_parts}
 use Rattle.csp_term.specs.Term.{process_of}
 use Rattle.csp_expression.proofs.Forming.{get_none}
 use Rattle.csp_rules.specs.Communicating.{Finds}
-use Rattle.csp_event_tests.specs.Testing.{sets_of}
+use Rattle.csp_value.specs.Fields.{sets_of}
 use Rattle.csp_rules.proofs.Prefixing.{answered_fields, no_channel}
 use Rattle.csp_rules.proofs.rules.prefix.steps.Goals as goal
 

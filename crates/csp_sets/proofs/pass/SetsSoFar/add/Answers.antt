@@ -1,8 +1,8 @@
 -- Each sort of declaration is taken up.
 use Rattle.std.specs.Prelude.{map}
 use Rattle.std.proofs.Common.{◌∙◌, sym, ap, ap₂, subst}
-use Rattle.csp_text.specs.Raw.{RawChannels}
-use Rattle.csp_parse.specs.Declarations.{declaration_of, domain_of}
+use Rattle.csp_text.specs.Raw.{RawChannels, RawDatatype}
+use Rattle.csp_parse.specs.Declarations.{clause_of, declaration_of, domain_of}
 use Rattle.csp_parse.specs.Names.{name_of}
 use Rattle.csp_sets.specs.Pass.{HasNext, TakesUp}
 use Rattle.csp_sets.specs.Passing.{declares_sets}
@@ -31,8 +31,19 @@ returns-in-Channels g c =
     (sym (ap declaration_of c.in-Channels.is ∙ ap₂ (λ ns ds. RawChannels (map name_of ns) (map domain_of ds)) (sym c.deref.ensures.value) (sym c.deref-in-Channels.ensures.value))) taken)
     c.add_channels.ensures
 
+pub add_datatype-requires : goal.add_datatype-requires
+add_datatype-requires g c = (
+  name_of c.in-Datatype.name,
+  subst (HasNext c.args.at.now c.args.self.now) (ap declaration_of c.in-Datatype.is ∙ ap (λ cs. RawDatatype (name_of c.in-Datatype.name) (map clause_of cs)) (sym c.deref-in-Datatype.ensures.value)) c.requires,
+)
+
 pub returns-in-Datatype : goal.returns-in-Datatype
-returns-in-Datatype g c = other_up c.args.at.now c.args.self.now (declaration_of c.args.declaration.now) (ap (λ d. declares_sets (declaration_of d)) c.in-Datatype.is)
+returns-in-Datatype g c =
+    on_ok c.add_datatype.result
+    (λ taken.
+    subst (λ d. TakesUp c.args.at.now d c.args.self.now c.add_datatype.new.self)
+    (sym (ap declaration_of c.in-Datatype.is ∙ ap (λ cs. RawDatatype (name_of c.in-Datatype.name) (map clause_of cs)) (sym c.deref-in-Datatype.ensures.value))) (taken (name_of c.in-Datatype.name)))
+    c.add_datatype.ensures
 
 pub returns-in-Equation : goal.returns-in-Equation
 returns-in-Equation g c = other_up c.args.at.now c.args.self.now (declaration_of c.args.declaration.now) (ap (λ d. declares_sets (declaration_of d)) c.in-Equation.is)

@@ -2,13 +2,12 @@
 use Rattle.std.proofs.Common.{◌∙◌, ◌++◌, ◌∷◌, [], refl, sym, ap, subst}
 use Rattle.csp_text.specs.Raw.{RawNametype}
 use Rattle.csp_lex.specs.Places.{place_of}
-use Rattle.csp_checking.specs.Sets.{datatypes_of}
+use Rattle.csp_checking.specs.Sets.{datatypes_of, members_above, with_nametype}
 use Rattle.csp_expression.specs.Evaluation.{table_of}
 use Rattle.csp_parse.specs.Declarations.{domain_of}
 use Rattle.csp_sets.specs.Faults.{fault_of_set}
 use Rattle.csp_sets.specs.Fit.{TakesNametype}
 use Rattle.csp_sets.specs.Looking.{IsTableOf, looked_refusal}
-use Rattle.csp_sets.specs.Members.{members_above}
 use Rattle.csp_sets.specs.Pass.{AreSetsSoFar}
 use Rattle.csp_sets.proofs.FieldsInTurn.{on_ok}
 use Rattle.csp_sets.proofs.Passed.{nametype_taken}
@@ -25,5 +24,5 @@ returns g c =
     (nametype_taken raw above below name (domain_of c.args.domain.now) stands c.args.at.now position c.args.self.now so_far c.in_ok-looked.looked looked c.len-number.result c.add_nametype.new.self c.fault-fault.result c.push.new.self (c.len-number.ensures ∙ c.args.self.now.table.types.nametypes.ok.0)
     (subst (λ e. TakesNametype (table_of c.args.self.now.table.types) c.len-number.result e c.args.self.now.fit c.add_nametype.new.self) c.expression.ensures c.in_ok-add_nametype.ensures)
     (c.fault-fault.ensures ∙ ap (fault_of_set (looked_refusal c.in_ok-looked.looked) (place_of c.args.domain.now.place) c.add_nametype.new.self.some) c.has_value.ensures)
-    (subst (λ m. IsTableOf (datatypes_of raw) (members_above raw above ++ m ∷ []) c.push.new.self) c.into_members.ensures (pushed (datatypes_of raw) (members_above raw above) so_far.table))))
+    (subst (λ m. IsTableOf (datatypes_of raw) (with_nametype m (members_above raw above)) c.push.new.self) c.into_members.ensures (pushed (datatypes_of raw) (members_above raw above) so_far.table))))
     c.push.ensures

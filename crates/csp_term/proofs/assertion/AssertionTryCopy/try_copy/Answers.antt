@@ -1,8 +1,7 @@
--- The model and each side are copied.
-use Rattle.csp_syntax.specs.Models.{model_of}
+-- The property and the implementation are copied.
 use Rattle.csp_term.proofs.assertion.AssertionTryCopy.try_copy.Goals as goal
 
 pub returns : goal.returns
 returns g c =
-    let model = model_of c.args.self.now.model in
-    λ i. record { model = model; specification = c.in_ok-try_copy.ensures i; implementation = c.in_ok-try_copy-2.ensures i }
+    let negated = c.args.self.now.negated in
+    λ i. record { negated = negated; property = c.in_ok-try_copy.ensures i; implementation = c.in_ok-try_copy-2.ensures i }

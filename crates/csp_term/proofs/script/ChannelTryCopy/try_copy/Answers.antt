@@ -5,7 +5,7 @@ use Rattle.csp_syntax.specs.Value.{values_list}
 use Rattle.csp_value.specs.declared.field_set.FieldSet.{FieldSet}
 use Rattle.csp_value.specs.Copies.{AreCopies}
 use Rattle.csp_value.specs.Value.{members_of}
-use Rattle.csp_term.specs.Script.{field_values}
+use Rattle.csp_value.specs.Fields.{field_values}
 use Rattle.csp_value.proofs.Copying.{copies_read}
 use Rattle.csp_term.proofs.script.ChannelTryCopy.try_copy.Goals as goal
 

@@ -6,8 +6,11 @@ use Rattle.csp_term.proofs.Forms.{of_call, of_prefix, of_renaming}
 use Rattle.csp_expression.proofs.Measures.{depths}
 use Rattle.csp_event_sets.proofs.EventMeasures.{pair_depths}
 use Rattle.csp_term.proofs.FieldMeasures.{field_depths}
-use Rattle.csp_term.proofs.TermMeasures.{same_within}
+use Rattle.csp_term.proofs.TermMeasures.{bare_depth, bare_within, same_within}
 use Rattle.csp_term.proofs.term.TermForm.is_head_within_depth.Goals as goal
+
+pub returns-in-Stop : goal.returns-in-Stop
+returns-in-Stop g c = bare_within (own_depth (process_of_form c.args.self.now)) c.args.most (bare_depth c.args.self.now c.in-Stop.is)
 
 pub returns-in-Call : goal.returns-in-Call
 returns-in-Call g c =

@@ -5,7 +5,12 @@ use Rattle.csp_term.specs.Term.{process_of_form}
 use Rattle.csp_term.proofs.Forms.{of_call, of_prefix}
 use Rattle.csp_expression.proofs.Measures.{sizes, size_left}
 use Rattle.csp_term.proofs.FieldMeasures.{field_sizes}
+use Rattle.csp_term.proofs.TermMeasures.{bare_left, bare_size}
 use Rattle.csp_term.proofs.term.TermForm.room_left_by_head.Goals as goal
+
+pub returns-in-Stop : goal.returns-in-Stop
+returns-in-Stop g c =
+    bare_left (own_size (process_of_form c.args.self.now)) c.in_ok-rest.rest c.args.room (bare_size c.args.self.now c.in-Stop.is) c.in_ok-rest.ensures.0 c.in_ok-rest.ensures.1
 
 pub returns-in-Call : goal.returns-in-Call
 returns-in-Call g c =

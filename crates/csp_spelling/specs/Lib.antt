@@ -1,0 +1,5 @@
+pub mod Spelling
+pub mod Spellable
+pub mod Reading
+pub mod Packable
+pub mod Ranges
