@@ -9,7 +9,7 @@ use std::alloc::{AllocError, Global};
 use std::time::Instant;
 
 /// What a text begins with, what it repeats, each time with the next number in the place of `$` and the one behind it
-/// in that of `~`, how often, and its end.
+/// in that of a backtick, how often, and its end.
 struct Text {
     name: &'static str,
     begin: &'static str,
@@ -22,21 +22,21 @@ static TEXTS: [Text; 8] = [
     Text {
         name: "a chain of calls from above",
         begin: "",
-        part: "P$(n) = P~(n)\n",
+        part: "P$(n) = P`(n)\n",
         times: 3200,
         end: "P3200(n) = n & STOP\n",
     },
     Text {
         name: "a chain of calls from below",
         begin: "P0(n) = n & STOP\n",
-        part: "P~(n) = P$(n)\n",
+        part: "P`(n) = P$(n)\n",
         times: 3200,
         end: "",
     },
     Text {
         name: "calls that nest a kind",
         begin: "",
-        part: "P$(n) = P~(<n>)\n",
+        part: "P$(n) = P`(<n>)\n",
         times: 2800,
         end: "P2800(n) = STOP\n",
     },
@@ -57,7 +57,7 @@ static TEXTS: [Text; 8] = [
     Text {
         name: "channels of 4,096 events",
         begin: "channel c : {0..1023}.{0..3}\n",
-        part: "P$ = c!0!0 -> P~\n",
+        part: "P$ = c!0!0 -> P`\n",
         times: 2700,
         end: "P2700 = STOP\n",
     },

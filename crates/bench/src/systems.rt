@@ -10,7 +10,7 @@ pub(crate) struct Size {
     pub(crate) pairs: u32,
 }
 
-/// A script whose one assertion holds. Its text has the size in the place of `$`, and one less in that of `~`.
+/// A script whose one assertion holds. Its text has the size in the place of `$`, and one less in that of a backtick.
 pub(crate) struct System {
     pub(crate) name: &'static str,
     text: &'static str,
@@ -25,7 +25,7 @@ pub(crate) static SYSTEMS: [System; 6] = [
 BUFFER(i) = c!i?x -> c!(i+1)!x -> BUFFER(i)
 CHAIN(n) = if n == 0 then BUFFER(0) else (CHAIN(n-1) [| {| c.n |} |] BUFFER(n))
 ENDS = (c!0?x -> ENDS) [] (c!$?x -> ENDS)
-assert ENDS [T= CHAIN(~) \\ diff({| c |},{| c.0, c.$ |})
+assert ENDS [T= CHAIN(`) \\ diff({| c |},{| c.0, c.$ |})
 ",
         small: Size { size: 3, pairs: 75 },
         large: Size {
@@ -35,11 +35,11 @@ assert ENDS [T= CHAIN(~) \\ diff({| c |},{| c.0, c.$ |})
     },
     System {
         name: "philosophers",
-        text: "channel get, put : {0..~}.{0..~}
+        text: "channel get, put : {0..`}.{0..`}
 PHILOSOPHER(i) = get!i!i -> get!i!((i+1) % $) -> put!i!i -> put!i!((i+1) % $) -> PHILOSOPHER(i)
-FORK(i) = (get!i!i -> put!i!i -> FORK(i)) [] (get!((i+~) % $)!i -> put!((i+~) % $)!i -> FORK(i))
-PHILOSOPHERS = ||| i:{0..~} @ PHILOSOPHER(i)
-FORKS = ||| i:{0..~} @ FORK(i)
+FORK(i) = (get!i!i -> put!i!i -> FORK(i)) [] (get!((i+`) % $)!i -> put!((i+`) % $)!i -> FORK(i))
+PHILOSOPHERS = ||| i:{0..`} @ PHILOSOPHER(i)
+FORKS = ||| i:{0..`} @ FORK(i)
 ANY = (get?i?f -> ANY) [] (put?i?f -> ANY)
 assert ANY [T= PHILOSOPHERS [| {| get, put |} |] FORKS
 ",
@@ -51,11 +51,11 @@ assert ANY [T= PHILOSOPHERS [| {| get, put |} |] FORKS
     },
     System {
         name: "ring with a token",
-        text: "channel enter, leave, pass : {0..~}
+        text: "channel enter, leave, pass : {0..`}
 NODE(i) = pass!i -> HOLDER(i)
 HOLDER(i) = enter!i -> leave!i -> pass!((i+1) % $) -> NODE(i)
 NODES(n) = if n == 0 then HOLDER(0) else (NODES(n-1) [| {pass.n} |] NODE(n))
-RING = NODES(~-1) [| {pass.0,pass.~} |] NODE(~)
+RING = NODES(`-1) [| {pass.0,pass.`} |] NODE(`)
 SAFE = enter?i -> leave!i -> SAFE
 assert SAFE [T= RING \\ {| pass |}
 ",

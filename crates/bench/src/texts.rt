@@ -20,7 +20,7 @@ pub(crate) fn repeated(alloc: Global, sample: &str) -> Result<String, AllocError
     Ok(text)
 }
 
-/// Pushes the part with a number in the place of each `$`, and another one in that of each `~`.
+/// Pushes the part with a number in the place of each `$`, and another one in that of each backtick.
 pub(crate) fn push_numbered(
     alloc: Global,
     text: &mut String,
@@ -28,11 +28,11 @@ pub(crate) fn push_numbered(
     number: u32,
     other: u32,
 ) -> Result<(), AllocError> {
-    for piece in part.split_inclusive(['$', '~']) {
+    for piece in part.split_inclusive(['$', '`']) {
         if let Some(before) = piece.strip_suffix('$') {
             text.push_str(before)?;
             text.push_str(format!(in alloc; "{number}")?.as_str())?;
-        } else if let Some(before) = piece.strip_suffix('~') {
+        } else if let Some(before) = piece.strip_suffix('`') {
             text.push_str(before)?;
             text.push_str(format!(in alloc; "{other}")?.as_str())?;
         } else {
