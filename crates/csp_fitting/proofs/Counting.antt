@@ -2,7 +2,7 @@
 use Rattle.std.specs.Prelude.{OnOk, replicate}
 use Rattle.std.specs.declared.vec.Vec.{Vec}
 use Rattle.std.proofs.lemmas.Result.{on_ok_weaker}
-use Rattle.std.proofs.Common.{◌≡◌, ℕ, zero, suc, ◌+◌, ◌<◌, List, [], ◌∷◌, ◌++◌, append-nil, append_assoc, arith, length, length-append, Result, map, take, get_or, refl, sym, subst, ◌∙◌, ap, ap₂}
+use Rattle.std.proofs.Common.{◌≡◌, ℕ, zero, suc, ◌+◌, ◌<◌, ◌≤◌, List, [], ◌∷◌, ◌++◌, append-nil, append_assoc, arith, length, length-append, Result, map, take, get_or, refl, sym, subst, ◌∙◌, ap, ap₂}
 use Rattle.std.proofs.lemmas.List.{flat_map_more, length-map, map-append, take_more}
 use Rattle.csp_text.specs.Raw.{RawClause, RawDeclaration, RawDatatype, RawNametype, RawChannels, RawEquation, RawAssertion, RawScript}
 use Rattle.csp_checking.specs.ConstructorRows.{constructors_declared}
@@ -35,6 +35,23 @@ one_counted above (RawChannels names domains) = refl
 one_counted above (RawEquation name ns p) = refl
 one_counted above (RawAssertion place n a p) = refl
 
+-- one declaration more
+pub nametypes_more : {A : Type 0} (ds : List (Declaration A)) (i count k : ℕ) (x : Declaration A) → i < length ds → x ≡ get_or ds i x → k ≡ nametypes_counted (declaration_of x) → count ≡ length (nametype_sets (map declaration_of (take i ds))) →
+    count + k ≡ length (nametype_sets (map declaration_of (take (i + 1) ds)))
+nametypes_more ds i count k x within read is so_far =
+    let above = map declaration_of (take i ds) in
+    let d = declaration_of x in
+    ap₂ (λ n m. n + m) so_far (is ∙ sym (one_counted above d))
+    ∙ sym (ap length (behind_one_more nametypes_declared above d) ∙ length-append (nametype_sets above) (nametypes_declared above d))
+    ∙ sym (ap (λ raw. length (nametype_sets raw)) (read_one_more declaration_of ds i x within ∙ ap (λ y. above ++ declaration_of y ∷ []) (sym read)))
+
+pub at_most_one : (d : RawDeclaration) → nametypes_counted d ≤ 1
+at_most_one (RawDatatype name cs) = omega arith
+at_most_one (RawNametype name domain) = omega arith
+at_most_one (RawChannels names domains) = omega arith
+at_most_one (RawEquation name ns p) = omega arith
+at_most_one (RawAssertion place n a p) = omega arith
+
 fields_counted : (above : RawScript) (d : RawDeclaration) → map length (channels_declared above d) ≡ fields_declared d
 fields_counted above (RawDatatype name cs) = refl
 fields_counted above (RawNametype name domain) = refl
@@ -46,9 +63,6 @@ fields_counted above (RawAssertion place n a p) = refl
 pub counts_more : {A : Type 0} (raw : RawScript) (d : RawDeclaration) (old new : Counts A) → AreCountsOf raw old → AddsCounts d old new → AreCountsOf (raw ++ d ∷ []) new
 counts_more raw d old new are adds = record {
   constructors = adds.constructors ∙ ap (λ z. z ++ constructors_declared d) are.constructors ∙ flat_map_more constructors_declared [] raw d;
-  nametypes =
-      adds.nametypes ∙ ap₂ (λ k l. k + l) are.nametypes (sym (one_counted raw d))
-      ∙ sym (ap length (behind_one_more nametypes_declared raw d) ∙ length-append (nametype_sets raw) (nametypes_declared raw d));
   constructor_fields =
       adds.constructor_fields ∙ ap (λ z. z ++ constructor_fields d) (are.constructor_fields ∙ sizes_of_constructors raw)
       ∙ flat_map_more constructor_fields [] raw d ∙ sym (sizes_of_constructors (raw ++ d ∷ []));
@@ -66,19 +80,18 @@ counts_step {A} ds i x old new within read are adds =
 -- ---- the clauses of a datatype
 
 pub clauses_at_first : {A : Type 0} (old : Counts A) → AddsClauses [] old old
-clauses_at_first old = record { constructors = refl; nametypes = refl; constructor_fields = sym (append-nil old.constructor_fields.items); fields = refl; parameters = refl }
+clauses_at_first old = record { constructors = refl; constructor_fields = sym (append-nil old.constructor_fields.items); fields = refl; parameters = refl }
 
 pub clause_step : {A B : Type 0} (cs : List (Clause A)) (i : ℕ) (x : Clause A) (old now : Counts B) (made : Vec ℕ B) (k : ℕ) → i < length cs → x ≡ get_or cs i x → k ≡ length x.fields.items →
     made.items ≡ now.constructor_fields.items ++ k ∷ [] → AddsClauses (map clause_of (take i cs)) old now →
     AddsClauses (map clause_of (take (i + 1) cs)) old
-    (record { constructors = now.constructors; nametypes = now.nametypes; constructor_fields = made; fields = now.fields; parameters = now.parameters })
+    (record { constructors = now.constructors; constructor_fields = made; fields = now.fields; parameters = now.parameters })
 clause_step cs i x old now made k within read is pushed adds =
     let count : RawClause → ℕ = λ c. length c.fields in
     let before = map clause_of (take i cs) in
     let start = old.constructor_fields.items in
     record {
       constructors = adds.constructors;
-      nametypes = adds.nametypes;
       constructor_fields =
           pushed ∙ ap₂ (λ z l. z ++ l ∷ []) adds.constructor_fields (is ∙ sym (length-map x.fields.items domain_of))
           ∙ append_assoc start (map count before) (count (clause_of x) ∷ [])
@@ -92,14 +105,13 @@ clause_step cs i x old now made k within read is pushed adds =
 pub datatype_counted : {A B : Type 0} (d : Declaration A) (name : Name) (cs : Vec (Clause A) A) (read : List (Clause A)) (old new : Counts B) (made : Vec ℕ B) (k : ℕ) (r : Result (Unit {0}) Memory) →
     d ≡ declaration.Datatype name cs → read ≡ cs.items → k ≡ length cs.items → made.items ≡ old.constructors.items ++ k ∷ [] →
     OnOk r (AddsClauses (map clause_of read)
-    (record { constructors = made; nametypes = old.nametypes; constructor_fields = old.constructor_fields; fields = old.fields; parameters = old.parameters }) new) →
+    (record { constructors = made; constructor_fields = old.constructor_fields; fields = old.fields; parameters = old.parameters }) new) →
     OnOk r (AddsCounts (declaration_of d) old new)
 datatype_counted {A} d name cs read old new made k r is same count pushed h =
     let P : Declaration A → Type 0 = λ x. OnOk r (AddsCounts (declaration_of x) old new) in
     subst P (sym is) (on_ok_weaker r (λ adds. record {
       constructors =
           adds.constructors ∙ pushed ∙ ap (λ l. old.constructors.items ++ l ∷ []) (count ∙ sym (length-map (map clause_of cs.items) (λ c. c.name) ∙ length-map cs.items clause_of));
-      nametypes = let e : new.nametypes ≡ old.nametypes = adds.nametypes in omega arith;
       constructor_fields = adds.constructor_fields ∙ ap (λ xs. old.constructor_fields.items ++ map (λ c. length c.fields) (map clause_of xs)) same;
       fields = adds.fields ∙ sym (append-nil old.fields.items);
       parameters = adds.parameters ∙ sym (append-nil old.parameters.items);

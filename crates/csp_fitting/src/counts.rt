@@ -1,20 +1,20 @@
 //! How many constructors, nametypes, fields and parameters a tree has.
 
-ghost use Rattle.std.specs.Prelude.{IfOk, OnOk, map};
+ghost use Rattle.std.specs.Prelude.{◌≡◌, IfOk, OnOk, length, map};
+ghost use Rattle.csp_checking.specs.Sets.{nametype_sets};
 ghost use Rattle.csp_parse.specs.Declarations.{clause_of, declaration_of};
-ghost use Rattle.csp_fitting.specs.Counts.{AddsClauses, AddsCounts, AreCountsOf};
+ghost use Rattle.csp_fitting.specs.Counts.{AddsClauses, AddsCounts, AreCountsOf, nametypes_counted};
 
 use crate::copies::push_copies;
 use csp_parse::{Clause, Declaration};
 use csp_value::Memory;
 use std::alloc::Allocator;
 
-/// How many parts of a tree have kinds, or are of a datatype.
+/// How many parts of a tree, its nametypes aside, have kinds or are of a datatype.
 #[derive(Drop)]
 pub(crate) struct Counts<A: Allocator> {
     /// The constructors of each datatype.
     pub(crate) constructors: Vec<usize, A>,
-    pub(crate) nametypes: usize,
     /// The fields of each constructor.
     pub(crate) constructor_fields: Vec<usize, A>,
     /// The fields of each channel.
@@ -30,7 +30,6 @@ impl<A: Allocator + Copy> Counts<A> {
     {
         let mut counts = Counts {
             constructors: Vec::new(alloc),
-            nametypes: 0,
             constructor_fields: Vec::new(alloc),
             fields: Vec::new(alloc),
             parameters: Vec::new(alloc),
@@ -49,10 +48,6 @@ impl<A: Allocator + Copy> Counts<A> {
                 self.constructors.push(clauses.len())?;
                 self.add_clauses(clauses)
             }
-            Declaration::Nametype { .. } => {
-                self.nametypes = self.nametypes.checked_add(1).ok_or(Memory)?;
-                Ok(())
-            }
             Declaration::Channels { names, domains } => {
                 push_copies(&mut self.fields, names.len(), domains.len())
             }
@@ -60,7 +55,7 @@ impl<A: Allocator + Copy> Counts<A> {
                 self.parameters.push(parameters.len())?;
                 Ok(())
             }
-            Declaration::Assertion { .. } => Ok(()),
+            Declaration::Nametype { .. } | Declaration::Assertion { .. } => Ok(()),
         }
     }
 
@@ -71,5 +66,29 @@ impl<A: Allocator + Copy> Counts<A> {
             self.constructor_fields.push(clause.fields.len())?;
         }
         Ok(())
+    }
+}
+
+/// How many nametypes the declarations declare.
+pub(crate) fn nametype_count<A: Allocator>(declarations: &[Declaration<'_, A>]) -> usize
+    ensures { result ≡ length (nametype_sets (map declaration_of declarations.now)) }
+{
+    let mut count = 0;
+    for declaration in declarations {
+        count += nametypes_in(declaration);
+    }
+    count
+}
+
+/// One where the declaration declares a nametype.
+fn nametypes_in<A: Allocator>(declaration: &Declaration<'_, A>) -> usize
+    ensures { result ≡ nametypes_counted (declaration_of declaration.now) }
+{
+    match declaration {
+        Declaration::Nametype { .. } => 1,
+        Declaration::Datatype { .. }
+        | Declaration::Channels { .. }
+        | Declaration::Equation { .. }
+        | Declaration::Assertion { .. } => 0,
     }
 }

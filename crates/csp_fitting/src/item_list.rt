@@ -1,10 +1,9 @@
 //! The equations and assertions of a tree, in the order of the text.
 
-ghost use Rattle.std.specs.Prelude.{◌≡◌, IfOk, OnOk, map};
+ghost use Rattle.std.specs.Prelude.{◌≡◌, ◌≤◌, IfOk, OnOk, length, map};
 ghost use Rattle.csp_checking.specs.Fitting.{item_place};
 ghost use Rattle.csp_lex.specs.Places.{place_of};
 ghost use Rattle.csp_parse.specs.Declarations.{declaration_of};
-ghost use Rattle.csp_fitting.specs.Items.{AddsAssertion, AddsEquation, AddsItems, AreItemsOf, item_of};
 
 use csp_lex::Place;
 use csp_parse::Declaration;
@@ -19,6 +18,8 @@ pub(crate) enum Item {
 }
 
 impl Item {
+    ghost use Rattle.csp_fitting.specs.Items.{item_of};
+
     /// The place of its first token.
     pub(crate) fn place(self) -> Place
         ensures { place_of result ≡ item_place (item_of self) }
@@ -35,9 +36,13 @@ pub(crate) struct ItemList<A: Allocator> {
     pub(crate) items: Vec<Item, A>,
     equations: usize,
     assertions: usize,
+    ghost equations_listed: { equations ≤ length items.items },
+    ghost assertions_listed: { assertions ≤ length items.items },
 }
 
 impl<A: Allocator + Copy> ItemList<A> {
+    ghost use Rattle.csp_fitting.specs.Items.{AddsAssertion, AddsEquation, AddsItems, AreItemsOf};
+
     /// The items of the declarations, or `Memory` where there is no room for them.
     pub(crate) fn of(alloc: A, declarations: &[Declaration<'_, A>]) -> Result<ItemList<A>, Memory>
         ensures { IfOk result (AreItemsOf (map declaration_of declarations.now)) }
@@ -67,8 +72,8 @@ impl<A: Allocator + Copy> ItemList<A> {
         ensures { OnOk result (AddsEquation place self.old self.new) }
     {
         let number = self.equations;
-        self.equations = number.checked_add(1).ok_or(Memory)?;
         self.items.push(Item::Equation { place, number })?;
+        self.equations += 1;
         Ok(())
     }
 
@@ -76,8 +81,8 @@ impl<A: Allocator + Copy> ItemList<A> {
         ensures { OnOk result (AddsAssertion place self.old self.new) }
     {
         let number = self.assertions;
-        self.assertions = number.checked_add(1).ok_or(Memory)?;
         self.items.push(Item::Assertion { place, number })?;
+        self.assertions += 1;
         Ok(())
     }
 }

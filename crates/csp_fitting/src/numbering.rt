@@ -8,7 +8,7 @@ ghost use Rattle.csp_parse.specs.Declarations.{script_of};
 ghost use Rattle.csp_fitting.specs.Numbering.{number_rows, owner_numbers, row_numbers};
 
 use crate::copies::push_copies;
-use crate::counts::Counts;
+use crate::counts::{Counts, nametype_count};
 use csp_expression::DatatypeId;
 use csp_inference::{KindNumber, Numbering};
 use csp_parse::Raw;
@@ -26,7 +26,7 @@ pub fn number<A: Allocator + Copy>(
 {
     let counts = Counts::of(alloc, &raw.declarations)?;
     let owners = owners_of(alloc, &counts.constructors)?;
-    let (nametypes, next) = numbers_in_a_row(alloc, 0, counts.nametypes)?;
+    let (nametypes, next) = numbers_in_a_row(alloc, 0, nametype_count(&raw.declarations))?;
     let (constructors, next) = rows_in_a_row(alloc, next, &counts.constructor_fields)?;
     let (channels, next) = rows_in_a_row(alloc, next, &counts.fields)?;
     let (parameters, next) = rows_in_a_row(alloc, next, &counts.parameters)?;

@@ -1,5 +1,6 @@
-use Rattle.std.proofs.Common.{map, subst, zero-add, ◌∙◌, ap, ap₂}
+use Rattle.std.proofs.Common.{length, map, subst, zero-add, ◌∙◌, ap, ap₂}
 use Rattle.csp_checking.specs.Inference.Items.{behind_all, numbers_from, owners_from, rows_from}
+use Rattle.csp_checking.specs.Sets.{nametype_sets}
 use Rattle.csp_parse.specs.Declarations.{declaration_of}
 use Rattle.csp_fitting.specs.Counts.{AreCountsOf}
 use Rattle.csp_fitting.proofs.Rowing.{same_numbers}
@@ -8,19 +9,21 @@ use Rattle.csp_fitting.proofs.numbering.number.Goals as goal
 pub returns-clause-numbers : goal.returns-clause-numbers
 returns-clause-numbers g c =
     let are = subst (λ ds. AreCountsOf (map declaration_of ds) c.in_ok-counts.counts) c.deref.ensures.value c.in_ok-counts.ensures in
-    let start = c.in_ok-nametypes.ensures.next ∙ zero-add c.in_ok-counts.counts.nametypes ∙ are.nametypes in
-    let clauses = c.deref-3.ensures.value ∙ are.constructor_fields in
+    let nametypes = c.nametype_count.ensures ∙ ap (λ ds. length (nametype_sets (map declaration_of ds))) c.deref-3.ensures.value in
+    let start = c.in_ok-nametypes.ensures.next ∙ zero-add c.nametype_count.result ∙ nametypes in
+    let clauses = c.deref-4.ensures.value ∙ are.constructor_fields in
     let between = c.in_ok-constructors.ensures.next ∙ ap₂ behind_all start clauses in
-    let fields = c.deref-4.ensures.value ∙ are.fields in
+    let fields = c.deref-5.ensures.value ∙ are.fields in
     let middle = c.in_ok-channels.ensures.next ∙ ap₂ behind_all between fields in
-    same_numbers _ _ _ _ _ _ _ _ _ _ (c.in_ok-owners.ensures ∙ ap (owners_from 0) (c.deref-2.ensures.value ∙ are.constructors)) (c.in_ok-nametypes.ensures.numbers ∙ ap (numbers_from 0) are.nametypes)
+    same_numbers _ _ _ _ _ _ _ _ _ _ (c.in_ok-owners.ensures ∙ ap (owners_from 0) (c.deref-2.ensures.value ∙ are.constructors)) (c.in_ok-nametypes.ensures.numbers ∙ ap (numbers_from 0) nametypes)
     (c.in_ok-constructors.ensures.rows ∙ ap₂ rows_from start clauses) (c.in_ok-channels.ensures.rows ∙ ap₂ rows_from between fields)
-    (c.in_ok-parameters.ensures.rows ∙ ap₂ rows_from middle (c.deref-5.ensures.value ∙ are.parameters))
+    (c.in_ok-parameters.ensures.rows ∙ ap₂ rows_from middle (c.deref-6.ensures.value ∙ are.parameters))
 
 pub returns-clause-next : goal.returns-clause-next
 returns-clause-next g c =
     let are = subst (λ ds. AreCountsOf (map declaration_of ds) c.in_ok-counts.counts) c.deref.ensures.value c.in_ok-counts.ensures in
-    let start = c.in_ok-nametypes.ensures.next ∙ zero-add c.in_ok-counts.counts.nametypes ∙ are.nametypes in
-    let between = c.in_ok-constructors.ensures.next ∙ ap₂ behind_all start (c.deref-3.ensures.value ∙ are.constructor_fields) in
-    let middle = c.in_ok-channels.ensures.next ∙ ap₂ behind_all between (c.deref-4.ensures.value ∙ are.fields) in
-    c.in_ok-parameters.ensures.next ∙ ap₂ behind_all middle (c.deref-5.ensures.value ∙ are.parameters)
+    let nametypes = c.nametype_count.ensures ∙ ap (λ ds. length (nametype_sets (map declaration_of ds))) c.deref-3.ensures.value in
+    let start = c.in_ok-nametypes.ensures.next ∙ zero-add c.nametype_count.result ∙ nametypes in
+    let between = c.in_ok-constructors.ensures.next ∙ ap₂ behind_all start (c.deref-4.ensures.value ∙ are.constructor_fields) in
+    let middle = c.in_ok-channels.ensures.next ∙ ap₂ behind_all between (c.deref-5.ensures.value ∙ are.fields) in
+    c.in_ok-parameters.ensures.next ∙ ap₂ behind_all middle (c.deref-6.ensures.value ∙ are.parameters)
