@@ -26,6 +26,7 @@ use Rattle.csp_sets.specs.Looking.{fault_in}
 use Rattle.csp_sets.proofs.ClauseFits.{clause_begins, datatype_begins}
 use Rattle.csp_sets.proofs.ClauseSteps.{in_more_clauses}
 use Rattle.csp_sets.proofs.FieldSteps.{or_none}
+use Rattle.csp_sets.proofs.Numbered.{constructors_numbered}
 use Rattle.csp_sets.proofs.SetSites.{fault_of_both}
 use Rattle.csp_sets.proofs.Turns.{counted_so_far, cut_there, one_longer}
 
@@ -36,7 +37,7 @@ pub are_of : {A : Type 0} (c : Clause A) (lent : List (Domain A)) → lent ≡ c
 are_of {A} c lent same s old constructor fields new looks next =
     let P : List (Domain A) → Type 0 = λ ds. LooksAtClause s old constructor (map domain_of ds) new fields in (subst P same looks) next
 
-module _ {A : Type 0} (s : Above A) (start : Fit A) (first : ℕ) (cs : List (Clause A)) (next : IsNextDatatype s start first (map clause_of cs)) where
+module _ {A : Type 0} (s : Above A) (start : Fit A) (cs : List (Clause A)) (next : IsNextDatatype s start (map clause_of cs)) where
   pub no_clauses : (all : Clauses A) → all.sets.items ≡ [] → all.fault ≡ None → AreClausesOf next.raw next.above next.name [] start.some all start
   no_clauses all empty none = record {
     known = datatype_begins next.raw next.above next.name start next.known;
@@ -54,7 +55,7 @@ module _ {A : Type 0} (s : Above A) (start : Fit A) (first : ℕ) (cs : List (Cl
     pub stands : next.raw ≡ next.above ++ RawDatatype next.name (map clause_of (take i cs) ++ clause_of c ∷ map clause_of (drop (i + 1) cs)) ∷ next.below
     stands = next.stands ∙ ap (λ xs. next.above ++ RawDatatype next.name xs ∷ next.below) (cut_there clause_of cs i c within read)
 
-    abbrev pub next_clause : (constructor : ℕ) → constructor ≡ first + i → IsNextClause s fit constructor (map domain_of c.fields.items)
+    abbrev pub next_clause : (constructor : ℕ) → constructor ≡ length s.table.now.types.constructors.items + i → IsNextClause s fit constructor (map domain_of c.fields.items)
     next_clause constructor is = record {
       raw = next.raw;
       above = next.above;
@@ -66,7 +67,7 @@ module _ {A : Type 0} (s : Above A) (start : Fit A) (first : ℕ) (cs : List (Cl
       stands = stands;
       over = next.over;
       known = clause_begins next.raw next.above next.below next.name (map clause_of (take i cs)) (map clause_of (drop (i + 1) cs)) (clause_of c) fit stands so_far.known;
-      number = is ∙ ap₂ (λ m n. m + n) next.number (sym (counted_so_far clause_of cs i c within read));
+      number = is ∙ ap₂ (λ m n. m + n) (constructors_numbered next.raw next.above s.table.now next.over.table) (sym (counted_so_far clause_of cs i c within read));
     }
 
     module _ (fields : Fields A) (new_fit : Fit A) (new : Clauses A) (own : Option (Vec (FieldSet A) A))

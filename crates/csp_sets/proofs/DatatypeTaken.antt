@@ -1,12 +1,9 @@
 -- A datatype is taken up.
-use Rattle.std.specs.Prelude.{unwrap_or}
-use Rattle.std.proofs.lemmas.List.{length-map}
-use Rattle.std.proofs.Common.{◌≡◌, ℕ, List, [], ◌∷◌, ◌++◌, length, map, refl, sym, ap, ◌∙◌, subst}
+use Rattle.std.proofs.Common.{◌≡◌, List, [], ◌∷◌, ◌++◌, map, refl, sym, ap, ◌∙◌, subst}
 use Rattle.csp_text.specs.Raw.{RawName, RawClause, RawDatatype, RawScript}
-use Rattle.csp_checking.specs.Sets.{constructor_sets, datatypes_of, members_above, with_constructors}
+use Rattle.csp_checking.specs.Sets.{datatypes_of, members_above, with_constructors}
 use Rattle.csp_checking.proofs.ScriptThere.{members_one_more}
 use Rattle.csp_names.specs.Scopes.{known_sets}
-use Rattle.csp_value.specs.Fields.{sets_of}
 use Rattle.csp_sets.specs.declared.clauses.Clauses.{Clauses}
 use Rattle.csp_sets.specs.declared.fit.Fit.{Fit}
 use Rattle.csp_sets.specs.declared.pass.Position.{Position}
@@ -15,17 +12,10 @@ use Rattle.csp_sets.specs.declared.table.Table.{Table}
 use Rattle.csp_sets.specs.Clauses.{AreClausesOf}
 use Rattle.csp_sets.specs.Looking.{IsTableOf}
 use Rattle.csp_sets.specs.Pass.{AreSetsSoFar, first_refusal, IsPosition}
-use Rattle.csp_sets.proofs.Numbered.{constructors_above}
 use Rattle.csp_sets.proofs.Passed.{same_channels}
 use Rattle.csp_sets.proofs.Refusing.{one_refusal_more}
 
 module _ {A : Type 0} (raw above : RawScript) (s : SetsSoFar A) (h : AreSetsSoFar raw above s) where
-  -- the next constructor has the number of those above
-  pub constructors_numbered : (n : ℕ) → n ≡ length s.table.types.constructors.items → n ≡ length (constructor_sets above)
-  constructors_numbered n is =
-      is ∙ sym (length-map s.table.types.constructors.items (λ c. sets_of c.sets.items)) ∙ ap (λ t. length t.constructors) h.table.types
-      ∙ length-map (members_above raw above).constructors (λ m. unwrap_or m []) ∙ constructors_above raw above
-
   module _ (below : RawScript) (name : RawName) (clauses : List RawClause) (stands : raw ≡ above ++ RawDatatype name clauses ∷ below) (at : Position A) (position : IsPosition raw above at)
       (all : Clauses A) (fit : Fit A) (are : AreClausesOf raw above name clauses s.fit.some all fit) where
     longer_table : members_above raw (above ++ RawDatatype name clauses ∷ []) ≡ with_constructors (map known_sets all.sets.items) (members_above raw above)

@@ -18,6 +18,9 @@ use Rattle.csp_checking.proofs.Meant as meant
 use Rattle.csp_checking.proofs.Sizes.{sizes_of_constructors}
 use Rattle.csp_checking.proofs.UsedAbove.{nametypes_counted}
 use Rattle.std.specs.Prelude.{option_and_then}
+use Rattle.csp_value.specs.Fields.{sets_of}
+use Rattle.csp_sets.specs.declared.table.Table.{Table}
+use Rattle.csp_sets.specs.Looking.{IsTableOf}
 
 -- ---- as many members as sets
 
@@ -54,6 +57,12 @@ nametypes_above raw above = let all = nametypes_behind (datatypes_of raw) no_mem
 
 pub constructors_above : (raw above : RawScript) → length (members_above raw above).constructors ≡ length (constructor_sets above)
 constructors_above raw above = let all = constructors_behind (datatypes_of raw) no_members [] above in omega (arith, all)
+
+-- so many constructors stand in a table of the types above
+pub constructors_numbered : {A : Type 0} (raw above : RawScript) (table : Table A) → IsTableOf (datatypes_of raw) (members_above raw above) table → length table.types.constructors.items ≡ length (constructor_sets above)
+constructors_numbered raw above table h =
+    sym (length-map table.types.constructors.items (λ c. sets_of c.sets.items)) ∙ ap (λ t. length t.constructors) h.types ∙ length-map (members_above raw above).constructors (λ m. unwrap_or m [])
+    ∙ constructors_above raw above
 
 -- ---- as many members as names
 

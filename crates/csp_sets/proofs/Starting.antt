@@ -1,5 +1,7 @@
 -- Before the first declaration, and from one to the next.
-use Rattle.std.proofs.Common.{◌≡◌, ◌+◌, true, [], ◌∷◌, ◌++◌, length, length-append, map, Some, None, refl, sym, ap, ◌∙◌, subst, arith}
+use Rattle.std.specs.Str.{chars}
+use Rattle.std.proofs.lemmas.List.{length-map}
+use Rattle.std.proofs.Common.{◌≡◌, ◌≤◌, ℕ, ◌+◌, ◌-◌, true, [], ◌∷◌, ◌++◌, length, length-append, map, Some, None, refl, sym, ap, ◌∙◌, subst, arith}
 use Rattle.csp_text.specs.Raw.{RawDeclaration, RawScript}
 use Rattle.csp_checking.specs.ConstructorRows.{constructor_counts}
 use Rattle.csp_checking.specs.Faults.{NoneRefused}
@@ -8,18 +10,20 @@ use Rattle.csp_checking.specs.Names.{declared}
 use Rattle.csp_checking.specs.Rules.{IsRedeclared, all_declared}
 use Rattle.csp_checking.specs.Sets.{number_of_events}
 use Rattle.csp_checking.proofs.ConstructorRows.{datatypes_in_rows}
+use Rattle.csp_checking.proofs.DeclaredRows.{declared_go_on, rows_counted}
 use Rattle.csp_checking.proofs.OneMore.{flat_map_one_more}
 use Rattle.csp_expression.specs.Evaluation.{constructors_of, members_listed}
 use Rattle.csp_expression.specs.declared.types.ConstructorFields.{ConstructorFields}
 use Rattle.csp_value.specs.Fields.{sets_of}
+use Rattle.csp_names.specs.declared.names.Names.{Names}
 use Rattle.csp_names.specs.FirstPass.{AreNamesOf}
+use Rattle.csp_names.specs.Meanings.{declared_of}
 use Rattle.csp_names.specs.Scopes.{known_sets}
 use Rattle.csp_fitting.specs.KnownKinds.{KnowsKinds}
-use Rattle.csp_sets.specs.declared.pass.Position.{Position}
 use Rattle.csp_sets.specs.declared.pass.SetsSoFar.{SetsSoFar}
 use Rattle.csp_sets.specs.Channels.{sets_in}
 use Rattle.csp_sets.specs.Members.{IsCount}
-use Rattle.csp_sets.specs.Pass.{AreFittedChannels, AreSetsSoFar, Goes, IsPosition, IsRefusalSoFar}
+use Rattle.csp_sets.specs.Pass.{AreFittedChannels, AreSetsSoFar, IsRefusalSoFar}
 use Rattle.csp_sets.specs.Passing.{AreCutOff}
 use Rattle.csp_sets.proofs.Fitting.{is_fit, match_true}
 use Rattle.csp_sets.proofs.Refusing.{nothing_refused}
@@ -45,9 +49,19 @@ start_sets {A} raw s once rows none_named none_built none_valued none_filled som
     no_sets : sets_in s.channels ≡ []
     no_sets = ap (map (known_sets {A = A})) none_there
 
-pub next_position : {A : Type 0} (raw above : RawScript) (d : RawDeclaration) (old new : Position A) → IsPosition raw above old → Goes old d new → IsPosition raw (above ++ d ∷ []) new
-next_position raw above d old new h goes = record {
-  names = subst (λ n. AreNamesOf n.now raw) (sym goes.names) h.names;
-  passed = goes.passed ∙ ap (λ n. n + 1) h.passed ∙ sym (length-append above (d ∷ []));
-  visible = goes.visible ∙ ap (λ n. n + length (declared d)) h.visible ∙ sym (ap length (flat_map_one_more declared above d) ∙ length-append (all_declared above) (declared d));
-}
+-- ---- from one declaration to the next
+
+-- how many names are declared here and below
+pub names_counted : {A : Type 0} (names : Names A) (raw : RawScript) → AreNamesOf names raw → length names.table.entries ≡ length (all_declared raw)
+names_counted names raw h = sym (length-map names.table.entries (λ e. (chars e.0.now, declared_of e.1))) ∙ ap length h.rows ∙ rows_counted raw
+
+-- those of the next declaration are among the names below
+pub names_below : (raw above : RawScript) (d : RawDeclaration) (below : RawScript) (all left : ℕ) → all ≡ length (all_declared raw) → raw ≡ above ++ d ∷ below → left + length (all_declared above) ≡ all → length (declared d) ≤ left
+names_below raw above d below all left counted stands rest =
+    let cut = ap (λ ds. length (all_declared ds)) stands ∙ ap length (declared_go_on above (d ∷ below)) ∙ length-append (all_declared above) (declared d ++ all_declared below) in
+    let more = length-append (declared d) (all_declared below) in omega (arith, counted, cut, more, rest)
+
+-- and then there are so many fewer
+pub names_passed : (above : RawScript) (d : RawDeclaration) (all left : ℕ) → left + length (all_declared above) ≡ all → length (declared d) ≤ left → (left - length (declared d)) + length (all_declared (above ++ d ∷ [])) ≡ all
+names_passed above d all left rest within =
+    let one = ap length (flat_map_one_more declared above d) ∙ length-append (all_declared above) (declared d) in omega (arith, one, rest, within)

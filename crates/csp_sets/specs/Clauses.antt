@@ -1,8 +1,8 @@
 -- The clauses of a datatype.
-use Rattle.std.specs.Prelude.{◌≡◌, ℕ, Bool, true, List, [], ◌∷◌, ◌++◌, length, map, None}
+use Rattle.std.specs.Prelude.{◌≡◌, Bool, true, List, [], ◌∷◌, ◌++◌, map, None}
 use Rattle.csp_text.specs.Raw.{RawName, RawClause, RawDatatype, RawScript}
 use Rattle.csp_checking.specs.Resolving.{every}
-use Rattle.csp_checking.specs.Sets.{clause_sets, constructor_sets, datatypes_of, field_members_with, members_above}
+use Rattle.csp_checking.specs.Sets.{clause_sets, datatypes_of, field_members_with, members_above}
 use Rattle.csp_checking.specs.Sites.{in_clauses}
 use Rattle.csp_names.specs.Scopes.{known_sets}
 use Rattle.csp_sets.specs.declared.clauses.Clauses.{Clauses}
@@ -21,8 +21,8 @@ pub record AreClausesOf {A : Type 0} (raw above : RawScript) (name : RawName) (c
   pub fine : fault_in all.fault ≡ None → fitted ≡ true → fit.some ≡ true
   pub before : fit.some ≡ true → fitted ≡ true
 
--- The next declaration of some tree declares a datatype with these clauses, behind so many constructors.
-pub record IsNextDatatype {A : Type 0} (s : Above A) (fit : Fit A) (first : ℕ) (clauses : List RawClause) : Type 0 where
+-- The next declaration of some tree declares a datatype with these clauses.
+pub record IsNextDatatype {A : Type 0} (s : Above A) (fit : Fit A) (clauses : List RawClause) : Type 0 where
   pub raw : RawScript
   pub above : RawScript
   pub below : RawScript
@@ -30,8 +30,7 @@ pub record IsNextDatatype {A : Type 0} (s : Above A) (fit : Fit A) (first : ℕ)
   pub stands : raw ≡ above ++ RawDatatype name clauses ∷ below
   pub over : StandsAbove raw above s
   pub known : IsFitOf raw above fit
-  pub number : first ≡ length (constructor_sets above)
 
 -- The clauses are those of that datatype.
-abbrev pub LooksAtClauses : {A : Type 0} → Above A → Fit A → ℕ → List RawClause → Fit A → Clauses A → Type 0
-LooksAtClauses s old first clauses new all = (next : IsNextDatatype s old first clauses) → AreClausesOf next.raw next.above next.name clauses old.some all new
+abbrev pub LooksAtClauses : {A : Type 0} → Above A → Fit A → List RawClause → Fit A → Clauses A → Type 0
+LooksAtClauses s old clauses new all = (next : IsNextDatatype s old clauses) → AreClausesOf next.raw next.above next.name clauses old.some all new

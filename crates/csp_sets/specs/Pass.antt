@@ -1,7 +1,6 @@
 -- The pass over the declarations.
-use Rattle.std.specs.Prelude.{◌≡◌, ℕ, ◌+◌, Bool, true, List, [], ◌∷◌, ◌++◌, length, map, MatchBool, Option, Some, None}
+use Rattle.std.specs.Prelude.{◌≡◌, ℕ, Bool, true, List, [], ◌∷◌, ◌++◌, length, map, MatchBool, Option, Some, None}
 use Rattle.csp_text.specs.Raw.{RawName, RawClause, RawDatatype, RawDeclaration, RawScript}
-use Rattle.csp_checking.specs.Names.{declared}
 use Rattle.csp_checking.specs.Sets.{datatypes_of, members_above, number_of_events}
 use Rattle.csp_checking.specs.Rules.{all_declared}
 use Rattle.csp_names.specs.FirstPass.{AreNamesOf}
@@ -28,12 +27,6 @@ pub record IsPosition {A : Type 0} (raw above : RawScript) (p : Position A) : Ty
   pub names : AreNamesOf p.names.now raw
   pub passed : p.passed ≡ length above
   pub visible : p.visible ≡ length (all_declared above)
-
--- Behind the declaration so many declarations and names stand above.
-pub record Goes {A : Type 0} (old : Position A) (d : RawDeclaration) (new : Position A) : Type 0 where
-  pub names : new.names ≡ old.names
-  pub passed : new.passed ≡ old.passed + 1
-  pub visible : new.visible ≡ old.visible + length (declared d)
 
 -- each is there
 abbrev pub AreAllThere : {X : Type 0} → List (Option X) → Type 0

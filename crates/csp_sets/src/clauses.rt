@@ -21,27 +21,25 @@ pub(crate) struct Clauses<A: Allocator> {
     pub(crate) fault: Option<SetFault>,
 }
 
-/// Looks at the clauses, of which the first is that of the constructor of this number.
+/// Looks at the clauses of the next datatype, whose constructors are numbered behind those above.
 pub(crate) fn look_at_clauses<'t, A: Allocator + Copy>(
     alloc: A,
     above: &Above<'_, 't, A>,
     fit: &mut Fit<A>,
-    first: usize,
     clauses: &[Clause<'t, A>],
 ) -> Result<Clauses<A>, Memory>
-    requires { IsNextDatatype above.now fit.old first (map clause_of clauses.now) }
-    ensures { IfOk result (LooksAtClauses above.now fit.old first (map clause_of clauses.now) fit.new) }
+    requires { IsNextDatatype above.now fit.old (map clause_of clauses.now) }
+    ensures { IfOk result (LooksAtClauses above.now fit.old (map clause_of clauses.now) fit.new) }
 {
+    let first = above.table.types.constructors.len();
     let mut all = Clauses {
         sets: Vec::new(alloc),
         fault: None,
     };
-    let mut constructor = first;
-    for clause in clauses {
-        let fields = look_at_clause(alloc, above, fit, constructor, &clause.fields)?;
+    for (place, clause) in clauses.iter().enumerate() {
+        let fields = look_at_clause(alloc, above, fit, first + place, &clause.fields)?;
         all.fault = first_of(all.fault, fields.fault);
         all.sets.push(fields.into_sets(true))?;
-        constructor = constructor.checked_add(1).ok_or(Memory)?;
     }
     Ok(all)
 }

@@ -1,12 +1,11 @@
 //! The pass over the declarations.
 
-ghost use Rattle.std.specs.Prelude.{◌≡◌, ◌∷◌, ◌++◌, [], IfOk, OnOk, length, map};
+ghost use Rattle.std.specs.Prelude.{◌≡◌, OnOk, map};
 ghost use Rattle.csp_text.specs.Raw.{RawChannels, RawDatatype, RawNametype, RawName, RawScript};
-ghost use Rattle.csp_checking.specs.Names.{declared};
 ghost use Rattle.csp_parse.specs.Declarations.{clause_of, declaration_of, domain_of};
 ghost use Rattle.csp_parse.specs.Names.{name_of};
 ghost use Rattle.csp_sets.specs.Fit.{IsOpen};
-ghost use Rattle.csp_sets.specs.Pass.{AreSetsSoFar, Goes, HasNext, HasNextDatatype, TakesUp, first_refusal};
+ghost use Rattle.csp_sets.specs.Pass.{AreSetsSoFar, HasNext, HasNextDatatype, TakesUp, first_refusal};
 ghost use Rattle.csp_sets.specs.Sets.{AreSetsOf};
 
 use crate::channels::Channels;
@@ -17,7 +16,7 @@ use crate::fit::Fit;
 use crate::looking::Above;
 use crate::sets::{RefusedSet, Sets};
 use crate::table::Table;
-use csp_names::{Names, declared_count};
+use csp_names::Names;
 use csp_parse::{Clause, Declaration, Domain, Name};
 use csp_value::Memory;
 use std::alloc::Allocator;
@@ -40,25 +39,6 @@ pub(crate) struct SetsSoFar<A: Allocator> {
     pub(crate) channels: Channels<A>,
     /// The first declaration of sets that is refused.
     pub(crate) refused: Option<RefusedSet>,
-}
-
-impl<'s, 't, A: Allocator> Position<'s, 't, A> {
-    /// Where the next declaration stands.
-    pub(crate) fn behind(
-        self,
-        declaration: &Declaration<'t, A>,
-    ) -> Result<Position<'s, 't, A>, Memory>
-        ensures { IfOk result (Goes self.entry (declaration_of declaration.now)) }
-    {
-        let passed = self.passed.checked_add(1).ok_or(Memory)?;
-        let names = declared_count(declaration);
-        let visible = self.visible.checked_add(names).ok_or(Memory)?;
-        Ok(Position {
-            names: self.names,
-            passed,
-            visible,
-        })
-    }
 }
 
 impl<A: Allocator + Copy> SetsSoFar<A> {
@@ -114,13 +94,12 @@ impl<A: Allocator + Copy> SetsSoFar<A> {
         requires { HasNextDatatype at.now self.old (map clause_of clauses.now) }
         ensures { OnOk result ((name : RawName) → TakesUp at.now (RawDatatype name (map clause_of clauses.now)) self.old self.new) }
     {
-        let first = self.table.types.constructors.len();
         let above = Above {
             names: at.names,
             visible: at.visible,
             table: &self.table,
         };
-        let looked = look_at_clauses(alloc, &above, &mut self.fit, first, clauses)?;
+        let looked = look_at_clauses(alloc, &above, &mut self.fit, clauses)?;
         self.refused = first_refusal(self.refused, at.passed, looked.fault);
         self.table.push_constructors(alloc, looked.sets)
     }

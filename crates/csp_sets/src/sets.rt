@@ -13,7 +13,7 @@ use crate::table::Table;
 use csp_expression::TypeTable;
 use csp_fitting::KnownKinds;
 use csp_lex::Place;
-use csp_names::{KindFault, Names};
+use csp_names::{KindFault, Names, declared_count};
 use csp_parse::Raw;
 use csp_value::{FieldSet, Memory};
 use std::alloc::Allocator;
@@ -73,14 +73,15 @@ pub fn sets_of<'t, A: Allocator + Copy>(
         },
         refused: None,
     };
-    let mut at = Position {
-        names,
-        passed: 0,
-        visible: 0,
-    };
-    for declaration in &raw.declarations {
+    let mut below = names.len();
+    for (passed, declaration) in raw.declarations.iter().enumerate() {
+        let at = Position {
+            names,
+            passed,
+            visible: names.len() - below,
+        };
         sets.add(alloc, &at, declaration)?;
-        at = at.behind(declaration)?;
+        below -= declared_count(declaration);
     }
     Ok(sets.into_sets())
 }

@@ -1,10 +1,10 @@
 -- The clauses are looked at, and the constructors are added with their sets.
-use Rattle.std.proofs.Common.{◌∙◌, ◌∷◌, ◌++◌, [], map, sym, subst}
+use Rattle.std.proofs.Common.{◌∷◌, ◌++◌, [], map, sym, subst}
 use Rattle.csp_text.specs.Raw.{RawDatatype}
 use Rattle.csp_checking.specs.Sets.{datatypes_of, members_above}
 use Rattle.csp_parse.specs.Declarations.{clause_of}
 use Rattle.csp_sets.specs.Pass.{AreSetsSoFar}
-use Rattle.csp_sets.proofs.DatatypeTaken.{constructors_numbered, datatype_taken}
+use Rattle.csp_sets.proofs.DatatypeTaken.{datatype_taken}
 use Rattle.csp_sets.proofs.FieldsInTurn.{on_ok}
 use Rattle.csp_sets.proofs.pass.SetsSoFar.add_datatype.Goals as goal
 
@@ -18,7 +18,6 @@ look_at_clauses-requires g c =
       stands = c.requires.1.stands;
       over = record { names = c.requires.1.position.names; visible = c.requires.1.position.visible; table = c.requires.1.so_far.table };
       known = c.requires.1.so_far.fit;
-      number = constructors_numbered c.requires.1.raw c.requires.1.above c.args.self.now c.requires.1.so_far c.len-first.result (c.len-first.ensures ∙ c.args.self.now.table.types.constructors.ok.0);
     }
 
 pub returns : goal.returns
@@ -33,7 +32,6 @@ returns g c =
       stands = stands;
       over = record { names = position.names; visible = position.visible; table = so_far.table };
       known = so_far.fit;
-      number = constructors_numbered raw above c.args.self.now so_far c.len-first.result (c.len-first.ensures ∙ c.args.self.now.table.types.constructors.ok.0);
     }) in
     subst (λ r. AreSetsSoFar raw (above ++ RawDatatype name (map clause_of c.args.clauses.now) ∷ [])
     (record { table = c.push_constructors.new.self; fit = c.look_at_clauses.new.fit; channels = c.args.self.now.channels; refused = r }))
