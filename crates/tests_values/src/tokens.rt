@@ -1,8 +1,10 @@
-//! Tables of texts with their tokens, and with their refusals.
+//! Tables of texts with their tokens, and with their refusals. They are read with ample memory, and then with each
+//! request for memory refused in turn.
 
-use csp_lex::{Refused, Token, TokenKind, TokenList, tokens};
+use csp_lex::{Token, TokenKind, TokenList, tokens};
 use linked_list_allocator::LocalHeap;
-use std::alloc::{AllocError, Global};
+use refusing_memory::RefusesOnce;
+use std::alloc::{AllocError, Allocator, Global};
 use std::fmt::Write;
 use std::process::Abort;
 use std::test::Fail;
@@ -17,7 +19,7 @@ fn write_token(shown: &mut String, kind: TokenKind, text: &str) -> Result<(), Al
     }
 }
 
-fn listed(alloc: Global, list: &TokenList<'_, Global>) -> Result<String, AllocError> {
+fn listed<A: Allocator>(alloc: Global, list: &TokenList<'_, A>) -> Result<String, AllocError> {
     let mut shown = String::new(alloc);
     for token in &list.tokens {
         write_token(&mut shown, token.kind, token.text)?;
@@ -25,9 +27,9 @@ fn listed(alloc: Global, list: &TokenList<'_, Global>) -> Result<String, AllocEr
     Ok(shown)
 }
 
-/// The tokens of a text, or its refusal.
-fn read(alloc: Global, bytes: &[u8]) -> Result<String, AllocError> {
-    match tokens(alloc, bytes) {
+/// The tokens of a text, which are listed in the memory, or its refusal.
+fn read<A: Allocator>(alloc: Global, memory: A, bytes: &[u8]) -> Result<String, AllocError> {
+    match tokens(memory, bytes) {
         Ok(list) => listed(alloc, &list),
         Err(refused) => format!(in alloc; "{refused}"),
     }
@@ -60,7 +62,7 @@ fn placed(alloc: Global, bytes: &[u8]) -> Result<String, AllocError> {
 
 /// Whether the text has these tokens, or this refusal.
 fn reads(alloc: Global, bytes: &[u8], expected: &str) -> Result<bool, AllocError> {
-    Ok(read(alloc, bytes)?.as_str() == expected)
+    Ok(read(alloc, alloc, bytes)?.as_str() == expected)
 }
 
 /// Whether the tokens of the text have these places, or the text has this refusal.
@@ -108,6 +110,10 @@ const TOKENS: &[(&str, &str)] = &[
     ("{-} a -} b", "nb "),
     ("a --", "na "),
     ("a -- b\nc", "na nc "),
+    (
+        "P = c?x -> c!x -> P assert P [T= P assert P [F= STOP",
+        "nP s= nc s? nx s-> nc s! nx s-> nP kassert nP s[T= nP kassert nP s[F= kSTOP ",
+    ),
 ];
 
 fn have_tokens(rt: &impl Abort, alloc: Global) -> Result<(), Fail> {
@@ -192,31 +198,51 @@ fn texts_have_their_tokens_or_refusals(rt: HostRuntime) -> Result<(), Fail> {
     have_lengths(&rt, rt.alloc())
 }
 
-/// How many tokens the text has.
-fn number_of_tokens(heap: &LocalHeap, bytes: &[u8]) -> Result<usize, Refused> {
-    Ok(tokens(heap, bytes)?.tokens.len())
+/// Whether the text is read with each request granted. Where one is refused, that is told, or the tokens are those that
+/// are expected. Then nothing is held, and the text is as it was.
+fn is_granted(
+    rt: &impl Abort,
+    alloc: Global,
+    bytes: &[u8],
+    expected: &str,
+    request: u64,
+) -> Result<bool, Fail> {
+    let heap = LocalHeap::new(alloc, 16_384)?;
+    let memory = RefusesOnce::new(&heap, request);
+    let text = Vec::from_slice(alloc, bytes)?;
+    let answer = read(alloc, &memory, &text)?;
+    let is_refused = memory.has_refused() && answer.as_str() == "out of memory";
+    assert!(rt;
+        is_refused || answer.as_str() == expected,
+        "request {request}: {answer}"
+    );
+    assert!(rt;
+        heap.used() == 0 && text.as_slice() == bytes,
+        "request {request}"
+    );
+    Ok(!memory.has_refused())
 }
 
-/// In heaps of more and more bytes, each request for memory is refused in turn, and then none.
-#[test]
-fn refused_memory_is_told(rt: HostRuntime) -> Result<(), Fail> {
-    let text =
-        b"channel c : {0..1} P = c?x -> c!x -> P assert P [T= P assert P [F= P assert P [T= STOP";
-    let mut refusals = 0u32;
-    let mut successes = 0u32;
-    for size in 1..64 {
-        let heap = LocalHeap::new(rt.alloc(), 256 * size)?;
-        match number_of_tokens(&heap, text) {
-            Ok(number) => {
-                assert_eq!(rt; number, 31);
-                successes = successes.saturating_add(1);
-            }
-            Err(refused) => {
-                assert_eq!(rt; refused, Refused::Memory);
-                refusals = refusals.saturating_add(1);
-            }
+/// How many requests the reading of a text makes, of which each was refused in turn.
+fn requests_of(rt: &impl Abort, alloc: Global, bytes: &[u8], expected: &str) -> Result<u64, Fail> {
+    for request in 0..64 {
+        if is_granted(rt, alloc, bytes, expected, request)? {
+            return Ok(request);
         }
     }
-    assert!(rt; refusals > 3 && successes > 3, "{refusals} and {successes}");
+    Err(Fail::new("requests without end"))
+}
+
+#[test]
+fn refused_memory_is_told(rt: HostRuntime) -> Result<(), Fail> {
+    let mut most = 0;
+    for (text, expected) in TOKENS {
+        let requests = requests_of(&rt, rt.alloc(), text.as_bytes(), *expected)?;
+        most = most.max(requests);
+    }
+    for (bytes, expected) in REFUSALS {
+        requests_of(&rt, rt.alloc(), *bytes, *expected)?;
+    }
+    assert!(rt; most > 2, "{most}");
     Ok(())
 }

@@ -9,7 +9,7 @@ ghost use Rattle.csp_value.specs.Value.{IsRisingSet};
 
 use csp_value::laws::{
     compare_actions, compare_events, compare_sets, compare_values, equal_actions, equal_events,
-    equal_sets, equal_values,
+    equal_sets, equal_values, hash_of_actions, hash_of_events, hash_of_values,
 };
 use csp_value::{Action, ChannelId, ConId, Event, FieldSet, Memory, SetOf, TryCopy, Value};
 use linked_list_allocator::LocalHeap;
@@ -143,14 +143,17 @@ fn are_ordered(left: &Value<Global>, right: &Value<Global>, order: Ordering) -> 
     compare_values(left, right) == order && equal_values(left, right) == (order == Ordering::Equal)
 }
 
-fn hash_of<A: Allocator>(value: &Value<A>) -> u64 {
-    let mut hasher = DefaultHasher::new();
-    value.hash(&mut hasher);
-    hasher.finish()
+/// Whether the two are hashed alike.
+fn are_hashed_alike<T: Hash>(one: &T, other: &T) -> bool {
+    let (mut of_one, mut of_other) = (DefaultHasher::new(), DefaultHasher::new());
+    one.hash(&mut of_one);
+    other.hash(&mut of_other);
+    of_one.finish() == of_other.finish()
 }
 
 fn is_equal<A: Allocator>(copy: &Value<A>, value: &Value<A>) -> bool {
-    copy == value && copy.cmp(value) == Ordering::Equal && hash_of(copy) == hash_of(value)
+    hash_of_values(copy, value);
+    copy == value && copy.cmp(value) == Ordering::Equal && are_hashed_alike(copy, value)
 }
 
 /// Whether a copy of the value is equal, with the same hash.
@@ -225,17 +228,19 @@ fn are_ordered_actions(left: &Action<Global>, right: &Action<Global>, order: Ord
 
 fn is_event_copied(alloc: Global, event: &Event<Global>) -> Result<bool, Memory> {
     let copy = event.try_copy(alloc)?;
-    Ok(equal_events(&copy, event))
+    hash_of_events(&copy, event);
+    Ok(equal_events(&copy, event) && are_hashed_alike(&copy, event))
 }
 
-/// Whether copies of the action, and of the event that it is, are equal.
+/// Whether copies of the action, and of the event that it is, are equal, with the same hash.
 fn is_action_copied(alloc: Global, action: &Action<Global>) -> Result<bool, Memory> {
     let is_event_so = match action {
         Action::Event(event) => is_event_copied(alloc, event)?,
         _ => true,
     };
     let copy = action.try_copy(alloc)?;
-    Ok(is_event_so && equal_actions(&copy, action))
+    hash_of_actions(&copy, action);
+    Ok(is_event_so && equal_actions(&copy, action) && are_hashed_alike(&copy, action))
 }
 
 fn actions_rise(rt: &impl Abort, alloc: Global) -> Result<(), Fail> {
