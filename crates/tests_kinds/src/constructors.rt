@@ -136,8 +136,8 @@ nametype N = {(A.2)}
 datatype D = A.{x}
 P(x)=STOP
 -- K01 at 1:17
-datatype D = A.D2
-nametype D2 = {1}
+datatype D = A.E
+nametype E = {1}
 -- K01 at 1:16
 datatype D = D.{1}
 -- K02 at 1:14
