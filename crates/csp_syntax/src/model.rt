@@ -1,7 +1,7 @@
 //! What an assertion compares.
 
 /// What a refinement compares (FDR manual).
-#[derive(Clone, Copy, PartialEq, Eq)]
+#[derive(Clone, Copy, PartialEq, Eq, PartialOrd, Ord, Hash)]
 pub enum Model {
     /// `[T=`: the traces.
     Traces,

@@ -12,7 +12,7 @@ use std::alloc::Allocator;
 
 /// The values that a field of a channel or of a constructor may have. That they rise is a fact of the type, so one is looked up by halving.
 #[derive(Drop)]
-#[derive_where(PartialEq, Eq)]
+#[derive_where(PartialEq, Eq, PartialOrd, Ord, Hash)]
 pub struct FieldSet<A: Allocator> {
     values: SetOf<A>,
     ghost rising: { IsRisingSet values } by { rising_prop values },
