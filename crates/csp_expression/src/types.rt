@@ -6,7 +6,7 @@ use csp_value::{ConId, FieldSet, Memory, SetOf, TryCopy, copy_all};
 use std::alloc::Allocator;
 
 /// The constructors of a datatype, which are numbered one after the other: the first one, and how many follow it.
-#[derive(Clone, Copy, PartialEq, Eq)]
+#[derive(Clone, Copy, PartialEq, Eq, PartialOrd, Ord, Hash)]
 pub struct Constructors {
     /// The first constructor.
     pub first: ConId,
@@ -16,7 +16,7 @@ pub struct Constructors {
 
 /// The fields of a constructor.
 #[derive(Drop)]
-#[derive_where(PartialEq, Eq)]
+#[derive_where(PartialEq, Eq, PartialOrd, Ord, Hash)]
 pub struct ConstructorFields<A: Allocator> {
     /// The set of each field, in order.
     pub sets: Vec<FieldSet<A>, A>,
@@ -24,7 +24,7 @@ pub struct ConstructorFields<A: Allocator> {
 
 /// The datatypes, the nametypes and the constructors of a script, each in the order of the text.
 #[derive(Drop)]
-#[derive_where(PartialEq, Eq)]
+#[derive_where(PartialEq, Eq, PartialOrd, Ord, Hash)]
 pub struct TypeTable<A: Allocator> {
     /// The constructors of each datatype.
     pub datatypes: Vec<Constructors, A>,
