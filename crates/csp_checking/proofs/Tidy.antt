@@ -106,11 +106,11 @@ tail_tidy (v ∷ vs) h = all_tidy vs h.1
 apply_tidy : (op : Unary) (v : Value) → IsTidy v → IfOk (apply op v) IsTidy
 apply_tidy Negate (Integer z) h = integer_tidy (neg_ℤ z)
 apply_tidy Not (Truth b) h = tt
-apply_tidy Length (Sequence vs) h = tt
+apply_tidy Length (Sequence vs) h = integer_tidy (pos (length (values_list vs)))
 apply_tidy Head (Sequence vs) h = head_tidy (values_list vs) (each_tidy vs h)
 apply_tidy Tail (Sequence vs) h = tail_tidy (values_list vs) (each_tidy vs h)
 apply_tidy IsNull (Sequence vs) h = tt
-apply_tidy Card (Set vs) h = tt
+apply_tidy Card (Set vs) h = integer_tidy (pos (length (values_list vs)))
 apply_tidy _ _ h = tt
 
 combine_tidy : (op : Binary) (v w : Value) → IsTidy v → IsTidy w → IfOk (combine op v w) IsTidy

@@ -6,7 +6,7 @@ use Rattle.std.specs.List.{remove}
 use Rattle.std.specs.declared.vec.Vec.{Vec}
 use Rattle.csp_syntax.specs.Value as pure
 use Rattle.csp_syntax.specs.Expression as operator
-use Rattle.csp_semantics.specs.Meaning.Evaluation.{Overflow, apply, combine, is_empty, max_members, sequence, set_of, tail_of}
+use Rattle.csp_semantics.specs.Meaning.Evaluation.{Overflow, apply, combine, integer, is_empty, max_members, sequence, set_of, tail_of}
 use Rattle.csp_value.specs.declared.value.Value.{Value}
 use Rattle.csp_value.specs.declared.value.Value.TheVariants as views
 use Rattle.csp_value.specs.declared.set.SetOf.{SetOf}
@@ -34,9 +34,9 @@ set_many vs many = rw many refl
 
 -- ---- sequences
 
-pub length_is : {A : Type 0} (v : Value A) (items : Vec (Value A) A) (n : ℕ) → v ≡ views.Seq items → n ≡ length items.items → Ok (pure.Integer (pos n)) ≡ apply operator.Length (value_of v)
+pub length_is : {A : Type 0} (v : Value A) (items : Vec (Value A) A) (n : ℕ) → v ≡ views.Seq items → n ≡ length items.items → integer (pos n) ≡ apply operator.Length (value_of v)
 length_is v items n is counted =
-    ap (λ m. Ok (pure.Integer (pos m))) (counted ∙ sym (as_many items.items (values_of items.items) refl) ∙ ap length (sym (listed (values_of items.items)))) ∙ sym (ap (apply operator.Length) (seq_is v items is))
+    ap (λ m. integer (pos m)) (counted ∙ sym (as_many items.items (values_of items.items) refl) ∙ ap length (sym (listed (values_of items.items)))) ∙ sym (ap (apply operator.Length) (seq_is v items is))
 
 zero_below : (n : ℕ) → suc n ≡ 0 → ⊥
 zero_below n e = omega arith
@@ -72,6 +72,9 @@ concat_is l r xs ys both left right joined =
 
 pub sets_are : {A : Type 0} (op : operator.Binary) (l r : Value A) (s t : SetOf A) → l ≡ views.Set s → r ≡ views.Set t → combine op (value_of l) (value_of r) ≡ combine op (pure.Set (members_of s)) (pure.Set (members_of t))
 sets_are op l r s t left right = ap₂ (combine op) (set_is l s left) (set_is r t right)
+
+pub card_is : {A : Type 0} (v : Value A) (s : SetOf A) (n : ℕ) → v ≡ views.Set s → n ≡ length (pure.values_list (members_of s)) → integer (pos n) ≡ apply operator.Card (value_of v)
+card_is v s n is counted = ap (λ m. integer (pos m)) counted ∙ sym (ap (apply operator.Card) (set_is v s is))
 
 -- the set of what a list has
 pub set_listed : (ms : pure.Values) (vs : List pure.Value) → ms ≡ pure.to_values vs → set_of (pure.values_list ms) ≡ set_of vs

@@ -241,15 +241,15 @@ fn tail<'e, A: Allocator + Copy>(alloc: A, operand: Seen<'e, A>) -> Result<Seen<
 fn read_operand<A: Allocator + Copy>(
     operator: UnaryOperator,
     operand: &Value<A>,
-) -> Result<Value<A>, NoValue>
+) -> Result<Value<A>, Cause>
     requires { only_reads_operand (unary_of operator) ≡ true }
-    ensures { Gives result (apply (unary_of operator) (value_of operand.now)) }
+    ensures { IsAnswer result (apply (unary_of operator) (value_of operand.now)) }
 {
     match operator {
-        UnaryOperator::Negate => Ok(arithmetic::negate(operand)?),
-        UnaryOperator::Not => Ok(connectives::negation(operand)?),
+        UnaryOperator::Negate => arithmetic::negate(operand),
+        UnaryOperator::Not => connectives::negation(operand),
         UnaryOperator::Length => sequences::length(operand),
-        UnaryOperator::IsNull => Ok(sequences::is_null(operand)?),
+        UnaryOperator::IsNull => sequences::is_null(operand),
         UnaryOperator::Card => sets::card(operand),
         _ => unreachable!(),
     }

@@ -1,9 +1,8 @@
 //! Sequences.
 
-ghost use Rattle.std.specs.Prelude.{◌≡◌, ◌++◌, pos, Ok, IfOk};
+ghost use Rattle.std.specs.Prelude.{◌≡◌, ◌++◌, pos, IfOk};
 ghost use Rattle.csp_syntax.specs.Expression as pure;
-ghost use Rattle.csp_syntax.specs.Value.{Integer};
-ghost use Rattle.csp_semantics.specs.Meaning.Evaluation.{apply, combine, sequence};
+ghost use Rattle.csp_semantics.specs.Meaning.Evaluation.{apply, combine, integer, sequence};
 ghost use Rattle.csp_value.specs.Value.{value_of, values_of};
 ghost use Rattle.csp_expression.specs.Evaluation.{Gives, IsAnswer, IsSeen, seen_value};
 
@@ -26,23 +25,23 @@ pub(crate) fn sequence<A: Allocator>(items: Vec<Value<A>, A>) -> Result<Value<A>
     Ok(Value::Seq(items))
 }
 
-/// The number of things. More than a number of 32 bits says are more than any evaluation makes, and count as `Memory`.
-pub(crate) fn count<A: Allocator>(things: usize) -> Result<Value<A>, NoValue>
-    ensures { Gives result (Ok (Integer (pos things))) }
+/// The number of things, or `Overflow` where 32 bits do not hold it.
+pub(crate) fn count<A: Allocator>(things: usize) -> Result<Value<A>, Cause>
+    ensures { IsAnswer result (integer (pos things)) }
 {
     match i32::try_from(things) {
         Ok(number) => Ok(Value::Int(number)),
-        Err(_) => Err(NoValue::Memory),
+        Err(_) => Err(Cause::Overflow),
     }
 }
 
-/// `#e`
-pub(crate) fn length<A: Allocator>(operand: &Value<A>) -> Result<Value<A>, NoValue>
-    ensures { Gives result (apply pure.Length (value_of operand.now)) }
+/// `#e`, or `Overflow`.
+pub(crate) fn length<A: Allocator>(operand: &Value<A>) -> Result<Value<A>, Cause>
+    ensures { IsAnswer result (apply pure.Length (value_of operand.now)) }
 {
     match operand {
         Value::Seq(items) => count(items.len()),
-        _ => Err(NoValue::Cause(Cause::Kind)),
+        _ => Err(Cause::Kind),
     }
 }
 

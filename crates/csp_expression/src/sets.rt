@@ -29,13 +29,13 @@ pub(crate) fn set_of_values<A: Allocator>(values: Vec<Value<A>, A>) -> Result<Va
     set(SetOf::from_values(values))
 }
 
-/// `card(e)`
-pub(crate) fn card<A: Allocator>(operand: &Value<A>) -> Result<Value<A>, NoValue>
-    ensures { Gives result (apply pure.Card (value_of operand.now)) }
+/// `card(e)`, or `Overflow`.
+pub(crate) fn card<A: Allocator>(operand: &Value<A>) -> Result<Value<A>, Cause>
+    ensures { IsAnswer result (apply pure.Card (value_of operand.now)) }
 {
     match operand {
         Value::Set(set) => count(set.members().len()),
-        _ => Err(NoValue::Cause(Cause::Kind)),
+        _ => Err(Cause::Kind),
     }
 }
 

@@ -84,7 +84,7 @@ module _ (types : Types) (kinds : Kinds) where
   apply_kind op m k negate _ h = absurd h
   apply_kind op m k negation (Truth b) h = tt
   apply_kind op m k negation _ h = absurd h
-  apply_kind op m k count (Sequence vs) h = tt
+  apply_kind op m k count (Sequence vs) h = integer_kind (pos (length (values_list vs)))
   apply_kind op m k count _ h = absurd h
   apply_kind op m k head (Sequence vs) h = head_kind k (values_list vs) (listed vs k h)
   apply_kind op m k head _ h = absurd h
@@ -92,7 +92,7 @@ module _ (types : Types) (kinds : Kinds) where
   apply_kind op m k tail _ h = absurd h
   apply_kind op m k is_null (Sequence vs) h = tt
   apply_kind op m k is_null _ h = absurd h
-  apply_kind op m k card (Set vs) h = tt
+  apply_kind op m k card (Set vs) h = integer_kind (pos (length (values_list vs)))
   apply_kind op m k card _ h = absurd h
 
   pub combine_kind : (op : Binary) (m n k : Kind) → BinaryKinds op m n k → (v w : Value) → IsValueOf types kinds v m → IsValueOf types kinds w n → GivesKind k (combine op v w)
