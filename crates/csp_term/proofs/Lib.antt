@@ -5,6 +5,7 @@ pub mod TermOrder
 pub mod TermPutting
 pub mod Channels
 pub mod Equality
+pub mod Ties
 pub mod FieldMeasures
 pub mod TermMeasures
 pub mod Fitting

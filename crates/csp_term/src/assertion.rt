@@ -9,7 +9,7 @@ use std::alloc::Allocator;
 
 /// That the implementation has the property, or with `not` that it does not.
 #[derive(Drop)]
-#[derive_where(PartialEq, Eq)]
+#[derive_where(PartialEq, Eq, PartialOrd, Ord, Hash)]
 pub struct Assertion<A: Allocator> {
     /// Whether `not` stands before it.
     pub negated: bool,

@@ -12,7 +12,7 @@ use std::alloc::Allocator;
 
 /// A property of processes.
 #[derive(Drop)]
-#[derive_where(PartialEq, Eq)]
+#[derive_where(PartialEq, Eq, PartialOrd, Ord, Hash)]
 pub enum Property<A: Allocator> {
     /// That it refines a specification.
     Refinement {

@@ -11,7 +11,7 @@ use std::alloc::Allocator;
 
 /// A channel with its spelling, and the set of the values of each of its fields.
 #[derive(Drop)]
-#[derive_where(PartialEq, Eq)]
+#[derive_where(PartialEq, Eq, PartialOrd, Ord, Hash)]
 pub struct Channel<A: Allocator> {
     /// The name as it is printed.
     pub spelling: String<A>,
@@ -21,7 +21,7 @@ pub struct Channel<A: Allocator> {
 
 /// A constructor of a datatype with its spelling.
 #[derive(Drop)]
-#[derive_where(PartialEq, Eq)]
+#[derive_where(PartialEq, Eq, PartialOrd, Ord, Hash)]
 pub struct Constructor<A: Allocator> {
     /// The name as it is printed.
     pub spelling: String<A>,
@@ -29,7 +29,7 @@ pub struct Constructor<A: Allocator> {
 
 /// `name(parameters) = body`
 #[derive(Drop)]
-#[derive_where(PartialEq, Eq)]
+#[derive_where(PartialEq, Eq, PartialOrd, Ord, Hash)]
 pub struct Equation<A: Allocator> {
     /// The bound names of its parameters, in order.
     pub parameters: Vec<Name, A>,
@@ -39,7 +39,7 @@ pub struct Equation<A: Allocator> {
 
 /// The parts of a script, each in the order of the text. Nothing is said of their kinds.
 #[derive(Drop)]
-#[derive_where(PartialEq, Eq)]
+#[derive_where(PartialEq, Eq, PartialOrd, Ord, Hash)]
 pub struct ScriptParts<A: Allocator> {
     /// The datatypes and the nametypes, by their numbers.
     pub types: TypeTable<A>,
