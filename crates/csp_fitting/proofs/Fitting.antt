@@ -33,7 +33,7 @@ pub record FitsSoFar {A : Type 0} (raw : RawScript) (script : Script) (start now
   pub is : IsScriptOf raw script
   pub numbering : now.numbering ≡ start.numbering
   pub next : now.equations.next ≡ behind_items script start.equations.next xs
-  pub solved : IsSolved nothing_known (known.met ++ of_items script (numbering_of start.numbering) start.equations.next xs) (state_in now.state)
+  pub solved : IsSolved nothing_known (known.met ++ of_items script (numbering_of start.numbering) start.equations.next xs) (state_in now.equations.state)
 
 pub fits_at_first : {A : Type 0} (raw : RawScript) (script : Script) (start : KnownKinds A) → KnowsKinds raw raw start → IsScriptOf raw script → FitsSoFar raw script start start []
 fits_at_first raw script start known is = record {
@@ -41,7 +41,7 @@ fits_at_first raw script start known is = record {
   is = is;
   numbering = refl;
   next = refl;
-  solved = subst (λ es. IsSolved nothing_known es (state_in start.state)) (sym (append-nil known.met)) known.solved;
+  solved = subst (λ es. IsSolved nothing_known es (state_in start.equations.state)) (sym (append-nil known.met)) known.solved;
 }
 
 module _ {A : Type 0} (raw : RawScript) (script : Script) (start now : KnownKinds A) (xs : List pure.Item) (h : FitsSoFar raw script start now xs) where
@@ -59,19 +59,19 @@ module _ {A : Type 0} (raw : RawScript) (script : Script) (start now : KnownKind
     numbering = more.numbering ∙ h.numbering;
     next = more.next ∙ ap (λ n. behind_item script n x) h.next ∙ sym (behind_and_one script start.equations.next xs x);
     solved =
-        solved_and_one raw script (numbering_of start.numbering) (next_number raw) start.equations.next h.known.met owners h.known.numbers (known_of_all raw (numbering_of start.numbering) start.equations.next (state_in start.state) h.known) xs x (state_in now.state) (state_in new.state) h.solved
-        (subst (λ es. IsSolved (state_in now.state) es (state_in new.state)) (same_item x) more.solved);
+        solved_and_one raw script (numbering_of start.numbering) (next_number raw) start.equations.next h.known.met owners h.known.numbers (known_of_all raw (numbering_of start.numbering) start.equations.next (state_in start.equations.state) h.known) xs x (state_in now.equations.state) (state_in new.equations.state) h.solved
+        (subst (λ es. IsSolved (state_in now.equations.state) es (state_in new.equations.state)) (same_item x) more.solved);
   }
 
   pub fits_all : xs ≡ items raw → (kinds : Kinds) × FitKinds raw script kinds (items raw)
   fits_all all =
-      let fit = all_fit raw script (numbering_of start.numbering) (next_number raw) start.equations.next h.known.met owners h.known.numbers (known_of_all raw (numbering_of start.numbering) start.equations.next (state_in start.state) h.known) xs (state_in now.state) h.solved in
+      let fit = all_fit raw script (numbering_of start.numbering) (next_number raw) start.equations.next h.known.met owners h.known.numbers (known_of_all raw (numbering_of start.numbering) start.equations.next (state_in start.equations.state) h.known) xs (state_in now.equations.state) h.solved in
       (fit.0, subst (FitKinds raw script fit.0) all fit.1)
 
-  pub fits_not : (x : pure.Item) (after : List pure.Item) → items raw ≡ xs ++ x ∷ after → HasNoSolution (state_in now.state) (of_item script (numbering_of now.numbering) now.equations.next x) → IsFirstRefused (IsMisfit raw script) (items raw) x WrongKind
+  pub fits_not : (x : pure.Item) (after : List pure.Item) → items raw ≡ xs ++ x ∷ after → HasNoSolution (state_in now.equations.state) (of_item script (numbering_of now.numbering) now.equations.next x) → IsFirstRefused (IsMisfit raw script) (items raw) x WrongKind
   fits_not x after stands none =
-      first_misfit raw script (numbering_of start.numbering) (next_number raw) start.equations.next h.known.met owners h.known.numbers (known_of_all raw (numbering_of start.numbering) start.equations.next (state_in start.state) h.known) xs after x (state_in now.state) stands h.solved
-      (subst (HasNoSolution (state_in now.state)) (same_item x) none)
+      first_misfit raw script (numbering_of start.numbering) (next_number raw) start.equations.next h.known.met owners h.known.numbers (known_of_all raw (numbering_of start.numbering) start.equations.next (state_in start.equations.state) h.known) xs after x (state_in now.equations.state) stands h.solved
+      (subst (HasNoSolution (state_in now.equations.state)) (same_item x) none)
 
 -- ---- over the items in turn
 

@@ -1,12 +1,15 @@
 -- Numbers in a row, and rows of them.
 use Rattle.std.specs.Prelude.{replicate}
 use Rattle.std.specs.declared.vec.Vec.{Vec}
-use Rattle.std.proofs.Common.{◌≡◌, ℕ, suc, ◌+◌, ◌<◌, ◌≤◌, List, [], ◌∷◌, ◌++◌, append-nil, append_assoc, length, map, drop, get_or, refl, sym, ◌∙◌, ap, ap₂, arith}
+use Rattle.std.proofs.Common.{◌≡◌, ℕ, suc, ◌+◌, ◌<◌, ◌≤◌, List, [], ◌∷◌, ◌++◌, append-nil, append_assoc, length, map, drop, get_or, refl, sym, subst, ◌∙◌, ap, ap₂, arith}
 use Rattle.std.proofs.lemmas.List.{drop_all, drop_more, map-append}
 use Rattle.csp_checking.specs.Inference.Equations.{Numbering}
 use Rattle.csp_checking.specs.Inference.Items.{behind_all, numbers_from, owners_from, rows_from}
 use Rattle.csp_expression.specs.declared.name.DatatypeId.{DatatypeId}
 use Rattle.csp_inference.specs.declared.chain.KindNumber.{KindNumber}
+use Rattle.csp_inference.specs.declared.equations.Equations.{Equations}
+use Rattle.csp_inference.specs.Equations.{Adds, equations_of}
+use Rattle.csp_inference.proofs.Adding.{adds_same, adds_then, knows_itself}
 use Rattle.csp_fitting.specs.Numbering.{number_rows, owner_numbers, row_numbers}
 use Rattle.csp_fitting.proofs.Counting.{map_replicate}
 
@@ -49,6 +52,40 @@ pub numbers_all : (numbers : List KindNumber) (next left first count : ℕ) → 
 numbers_all numbers next left first count none h =
     (sym (ap (λ l. row_numbers numbers ++ numbers_from next l) none ∙ append-nil (row_numbers numbers)) ∙ h.all, let e : next + left ≡ first + count = h.end in omega arith)
 
+-- Behind the equations at the start stand no more, and so many numbers are still to be given out.
+pub record RowSoFar {A : Type 0} (start now : Equations A) (numbers : List KindNumber) (left count : ℕ) : Type 0 where
+  pub given : NumbersLeft numbers now.next left start.next count
+  pub adds : Adds start now [] now.next
+
+pub adds_nothing : {A : Type 0} (s : Equations A) → Adds s s [] s.next
+adds_nothing s = record { met = sym (append-nil (equations_of s)); next = refl; known = knows_itself s }
+
+-- no equations are added by one thing and the next
+pub adds_none_then : {A : Type 0} (s t u : Equations A) (m : ℕ) → Adds s t [] t.next → Adds t u [] m → Adds s u [] u.next
+adds_none_then s t u m first second = adds_same s u [] [] m u.next refl (sym second.next) (adds_then s t u [] t.next (λ n. []) (λ n. m) first second)
+
+pub row_at_first : {A : Type 0} (s : Equations A) (numbers : List KindNumber) (left count : ℕ) → numbers ≡ [] → left ≡ count → RowSoFar s s numbers left count
+row_at_first s numbers left count none whole = record {
+  given = record { all = ap₂ (λ xs l. row_numbers xs ++ numbers_from s.next l) none whole; end = ap (λ l. s.next + l) whole };
+  adds = adds_nothing s;
+}
+
+pub row_more : {A : Type 0} (start now behind : Equations A) (numbers new : List KindNumber) (left rest count : ℕ) (x : KindNumber) → x.0 ≡ now.next → Adds now behind [] (suc now.next) → left ≡ suc rest → new ≡ numbers ++ x ∷ [] →
+    RowSoFar start now numbers left count → RowSoFar start behind new rest count
+row_more start now behind numbers new left rest count x is adds more pushed h =
+    let one : suc now.next ≡ now.next + 1 = omega arith in
+    record {
+      given = numbers_more numbers new now.next behind.next left rest start.next count x is (adds.next ∙ one) more pushed h.given;
+      adds = adds_none_then start now behind (suc now.next) h.adds adds;
+    }
+
+module _ {A : Type 0} (start now : Equations A) (numbers : List KindNumber) (left count : ℕ) (none : left ≡ 0) (h : RowSoFar start now numbers left count) where
+  pub row_numbers_all : row_numbers numbers ≡ numbers_from start.next count
+  row_numbers_all = (numbers_all numbers now.next left start.next count none h.given).0
+
+  pub row_adds_all : Adds start now [] (start.next + count)
+  row_adds_all = adds_same start now [] [] now.next (start.next + count) refl (numbers_all numbers now.next left start.next count none h.given).1 h.adds
+
 -- ---- rows
 
 -- The rows so far, and those of the counts that are left, are all.
@@ -76,6 +113,28 @@ rows_more {A} rows new row next behind first ks i k within numbers further pushe
 pub rows_all : {A : Type 0} (rows : List (Vec KindNumber A)) (next first : ℕ) (ks : List ℕ) (i : ℕ) → length ks ≤ i → RowsLeft rows next first ks i → (number_rows rows ≡ rows_from first ks) × (next ≡ behind_all first ks)
 rows_all {A} rows next first ks i over left =
     (sym (ap (λ ys. number_rows rows ++ rows_from next ys) (drop_all i ks over) ∙ append-nil (number_rows rows)) ∙ left.all, sym (ap (behind_all next) (drop_all i ks over)) ∙ left.end)
+
+-- Behind the equations at the start stand no more, and rows of the counts that are left are still to be made.
+pub record RowsSoFar {A : Type 0} (start now : Equations A) (rows : List (Vec KindNumber A)) (ks : List ℕ) (i : ℕ) : Type 0 where
+  pub made : RowsLeft rows now.next start.next ks i
+  pub adds : Adds start now [] now.next
+
+pub no_rows_yet : {A : Type 0} (s : Equations A) (rows : List (Vec KindNumber A)) (ks : List ℕ) → rows ≡ [] → RowsSoFar s s rows ks 0
+no_rows_yet s rows ks none = record { made = subst (λ xs. RowsLeft xs s.next s.next ks 0) (sym none) (rows_at_first s.next ks); adds = adds_nothing s }
+
+pub row_is_made : {A : Type 0} (start now behind : Equations A) (rows new : List (Vec KindNumber A)) (row : Vec KindNumber A) (ks : List ℕ) (i k : ℕ) → i < length ks → row_numbers row.items ≡ numbers_from now.next (get_or ks i k) →
+    Adds now behind [] (now.next + get_or ks i k) → new ≡ rows ++ row ∷ [] → RowsSoFar start now rows ks i → RowsSoFar start behind new ks (i + 1)
+row_is_made start now behind rows new row ks i k within numbers adds pushed h = record {
+  made = rows_more rows new row now.next behind.next start.next ks i k within numbers adds.next pushed h.made;
+  adds = adds_none_then start now behind (now.next + get_or ks i k) h.adds adds;
+}
+
+module _ {A : Type 0} (start now : Equations A) (rows : List (Vec KindNumber A)) (ks : List ℕ) (i : ℕ) (over : length ks ≤ i) (h : RowsSoFar start now rows ks i) where
+  pub rows_made : number_rows rows ≡ rows_from start.next ks
+  rows_made = (rows_all rows now.next start.next ks i over h.made).0
+
+  pub rows_add_all : Adds start now [] (behind_all start.next ks)
+  rows_add_all = adds_same start now [] [] now.next (behind_all start.next ks) refl (rows_all rows now.next start.next ks i over h.made).1 h.adds
 
 -- ---- all numbers of a tree
 

@@ -17,11 +17,11 @@ use Rattle.csp_fitting.specs.Known.{AreKnown}
 
 -- The kinds of the sets so far are known, over the numbers of the whole tree.
 abbrev pub KnowsKinds : {A : Type 0} → RawScript → RawScript → KnownKinds A → Type 0
-KnowsKinds raw so_far known = AreKnown raw so_far (numbering_of known.numbering) known.equations.next (state_in known.state)
+KnowsKinds raw so_far known = AreKnown raw so_far (numbering_of known.numbering) known.equations.next (state_in known.equations.state)
 
 -- No bound number stands at the end of a bound kind. So it is wherever kinds are known over a tree.
 abbrev pub HasResolvedKinds : {A : Type 0} → KnownKinds A → Type 0
-HasResolvedKinds known = IsResolved (state_in known.state)
+HasResolvedKinds known = IsResolved (state_in known.equations.state)
 
 -- Some kinds fit the sets so far, and they are known; or none do. Refused memory says nothing.
 abbrev pub Fits : {A : Type 0} → RawScript → RawScript → KnownKinds A → Result (Unit {0}) Misfit → Type 0

@@ -24,12 +24,12 @@ lent_expression None = None
 pub record SolvesMore {A : Type 0} (old : KnownKinds A) (es : List KindEquation) (m : ℕ) (new : KnownKinds A) : Type 0 where
   pub numbering : new.numbering ≡ old.numbering
   pub next : new.equations.next ≡ m
-  pub solved : IsSolved (state_in old.state) es (state_in new.state)
+  pub solved : IsSolved (state_in old.equations.state) es (state_in new.equations.state)
 
 -- They are solved, or have no solution. Refused memory says nothing.
 abbrev pub SolvedFor : {A : Type 0} → KnownKinds A → List KindEquation → ℕ → KnownKinds A → Result (Unit {0}) Misfit → Type 0
 SolvedFor old es m new (Ok _) = SolvesMore old es m new
-SolvedFor old es m new (Err misfit.NoKinds) = HasNoSolution (state_in old.state) es
+SolvedFor old es m new (Err misfit.NoKinds) = HasNoSolution (state_in old.equations.state) es
 SolvedFor old es m new (Err misfit.Memory) = ⊤
 
 -- Those for the set, whose members have the kind of the number, are solved, or have no solution.

@@ -56,7 +56,7 @@ impl<A: Allocator + Copy> KnownKinds<A> {
     {
         self.equations.forget();
         ask_item(&mut self.equations, alloc, script, &self.numbering, item)?;
-        self.state.solve(alloc, self.equations.met())
+        self.equations.solve(alloc)
     }
 }
 

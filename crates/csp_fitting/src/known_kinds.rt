@@ -7,7 +7,7 @@ ghost use Rattle.csp_parse.specs.Declarations.{script_of};
 ghost use Rattle.csp_fitting.specs.KnownKinds.{KnowsKinds};
 
 use crate::numbering::number;
-use csp_inference::{Equations, Numbering, State};
+use csp_inference::{Equations, Numbering};
 use csp_parse::Raw;
 use csp_value::Memory;
 use std::alloc::Allocator;
@@ -17,7 +17,6 @@ use std::alloc::Allocator;
 pub struct KnownKinds<A: Allocator> {
     pub(crate) numbering: Numbering<A>,
     pub(crate) equations: Equations<A>,
-    pub(crate) state: State<A>,
 }
 
 impl<A: Allocator + Copy> KnownKinds<A> {
@@ -26,13 +25,10 @@ impl<A: Allocator + Copy> KnownKinds<A> {
     pub fn new(alloc: A, raw: &Raw<'_, A>) -> Result<KnownKinds<A>, Memory>
         ensures { IfOk result (λ known. NoneRefused IsRedeclared (all_declared (script_of raw.now)) → KnowsKinds (script_of raw.now) [] known) }
     {
-        let (numbering, next) = number(alloc, raw)?;
-        let equations = Equations::new(alloc, next);
-        let state = State::new(alloc);
+        let (numbering, equations) = number(alloc, raw)?;
         Ok(KnownKinds {
             numbering,
             equations,
-            state,
         })
     }
 }

@@ -60,7 +60,7 @@ impl<A: Allocator + Copy> KnownKinds<A> {
         self.equations.forget();
         self.equations
             .ask_set(types, &self.numbering, set, members)?;
-        self.state.solve(alloc, self.equations.met())
+        self.equations.solve(alloc)
     }
 
     /// Takes up the field at this place of the constructor of this number with its set, if no name in the set is
@@ -124,7 +124,7 @@ impl<A: Allocator + Copy> KnownKinds<A> {
         self.equations.forget();
         self.equations
             .ask_copies(types, &self.numbering, set, members)?;
-        self.state.solve(alloc, self.equations.met())
+        self.equations.solve(alloc)
     }
 }
 

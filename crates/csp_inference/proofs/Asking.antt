@@ -13,8 +13,8 @@ use Rattle.csp_checking.specs.Inference.Equations.{never, when}
 use Rattle.csp_checking.specs.Inference.Expressions.{behind_expression, of_expression, of_all, of_first}
 use Rattle.csp_checking.proofs.Unifying.{solves_back, solves_front}
 use Rattle.csp_inference.specs.declared.equations.Equations.{Equations}
-use Rattle.csp_inference.specs.Equations.{Adds, AreHopeless, Asks, exactly, hopelessly, equations_of}
-use Rattle.csp_inference.proofs.Adding.{adds_then, adds_same}
+use Rattle.csp_inference.specs.Equations.{Adds, AreHopeless, Asks, KnowsTheSame, exactly, hopelessly, equations_of}
+use Rattle.csp_inference.proofs.Adding.{adds_then, adds_same, knows_then}
 
 -- ---- equations with no solution
 
@@ -36,52 +36,61 @@ never_hopeless = λ a solves. absurd (cc solves.0)
 pub never_asks : {A : Type 0} (s t : Equations A) (es : List pure.KindEquation) (n m : ℕ) → AreHopeless es → Adds s t never n → Asks s t es m
 never_asks s t es n m none adds =
     hopelessly (hopeless_back (equations_of s) es none)
-    (hopeless_same (equations_of s ++ never) (equations_of t) (sym adds.met) (hopeless_back (equations_of s) never never_hopeless))
+    (hopeless_same (equations_of s ++ never) (equations_of t) (sym adds.met) (hopeless_back (equations_of s) never never_hopeless)) adds.known
 
 pub asks_then : {A : Type 0} (s t u : Equations A) (es : List pure.KindEquation) (n : ℕ) (F : ℕ → List pure.KindEquation) (M : ℕ → ℕ) →
     Asks s t es n → Asks t u (F t.next) (M t.next) → Asks s u (es ++ F n) (M n)
 asks_then s t u es n F M (exactly first) (exactly second) = exactly (adds_then s t u es n F M first second)
-asks_then s t u es n F M (exactly first) (hopelessly second now) =
+asks_then s t u es n F M (exactly first) (hopelessly second now alike) =
     hopelessly (hopeless_same (equations_of t ++ F t.next) (equations_of s ++ (es ++ F n)) (ap₂ (λ xs m. xs ++ F m) first.met first.next ∙ append_assoc (equations_of s) es (F n)) second) now
-asks_then s t u es n F M (hopelessly first now) (exactly second) =
+    (knows_then s t u first.known alike)
+asks_then s t u es n F M (hopelessly first now same) (exactly second) =
     hopelessly (hopeless_same ((equations_of s ++ es) ++ F n) (equations_of s ++ (es ++ F n)) (append_assoc (equations_of s) es (F n)) (hopeless_front (equations_of s ++ es) (F n) first))
-    (hopeless_same (equations_of t ++ F t.next) (equations_of u) (sym second.met) (hopeless_front (equations_of t) (F t.next) now))
-asks_then s t u es n F M (hopelessly first now) (hopelessly second then) =
+    (hopeless_same (equations_of t ++ F t.next) (equations_of u) (sym second.met) (hopeless_front (equations_of t) (F t.next) now)) (knows_then s t u same second.known)
+asks_then s t u es n F M (hopelessly first now same) (hopelessly second then alike) =
     hopelessly (hopeless_same ((equations_of s ++ es) ++ F n) (equations_of s ++ (es ++ F n)) (append_assoc (equations_of s) es (F n)) (hopeless_front (equations_of s ++ es) (F n) first)) then
+    (knows_then s t u same alike)
 
 pub asks_same : {A : Type 0} (s t : Equations A) (es fs : List pure.KindEquation) (n m : ℕ) → es ≡ fs → n ≡ m → Asks s t es n → Asks s t fs m
 asks_same s t es fs n m same next (exactly h) = exactly (adds_same s t es fs n m same next h)
-asks_same s t es fs n m same next (hopelessly h now) = hopelessly (hopeless_same (equations_of s ++ es) (equations_of s ++ fs) (ap (λ xs. equations_of s ++ xs) same) h) now
+asks_same s t es fs n m same next (hopelessly h now known) = hopelessly (hopeless_same (equations_of s ++ es) (equations_of s ++ fs) (ap (λ xs. equations_of s ++ xs) same) h) now known
+
+pub asks_knows : {A : Type 0} (s t : Equations A) (es : List pure.KindEquation) (n : ℕ) → Asks s t es n → KnowsTheSame s t
+asks_knows s t es n (exactly adds) = adds.known
+asks_knows s t es n (hopelessly whole now known) = known
 
 -- ---- what is left to ask for
 
--- What is left gives, behind the equations so far, all that is asked for; or there is no solution anyway.
+-- What is left gives, behind the equations so far, all that is asked for; or there is no solution anyway. The same is
+-- known in either case.
 pub data Remains {A : Type 0} (start now : Equations A) (whole rest : List pure.KindEquation) (last after : ℕ) : Type 0 where
-  exact : equations_of now ++ rest ≡ equations_of start ++ whole → after ≡ last → Remains start now whole rest last after
-  hopeless : AreHopeless (equations_of start ++ whole) → AreHopeless (equations_of now) → Remains start now whole rest last after
+  exact : equations_of now ++ rest ≡ equations_of start ++ whole → after ≡ last → KnowsTheSame start now → Remains start now whole rest last after
+  hopeless : AreHopeless (equations_of start ++ whole) → AreHopeless (equations_of now) → KnowsTheSame start now → Remains start now whole rest last after
 
 module _ {A : Type 0} (start now : Equations A) (whole : List pure.KindEquation) (last : ℕ) where
   pub remains_same : (rest more : List pure.KindEquation) (after behind : ℕ) → rest ≡ more → after ≡ behind → Remains start now whole rest last after → Remains start now whole more last behind
-  remains_same rest more after behind same next (exact met end) = exact (ap (λ es. equations_of now ++ es) (sym same) ∙ met) (sym next ∙ end)
-  remains_same rest more after behind same next (hopeless all none) = hopeless all none
+  remains_same rest more after behind same next (exact met end known) = exact (ap (λ es. equations_of now ++ es) (sym same) ∙ met) (sym next ∙ end) known
+  remains_same rest more after behind same next (hopeless all none known) = hopeless all none known
 
   -- one part more
   pub remains_more : (new : Equations A) (part : List pure.KindEquation) (n : ℕ) (F : ℕ → List pure.KindEquation) (M : ℕ → ℕ) →
       Remains start now whole (part ++ F n) last (M n) → Asks now new part n → Remains start new whole (F new.next) last (M new.next)
-  remains_more new part n F M (exact met end) (exactly adds) =
+  remains_more new part n F M (exact met end known) (exactly adds) =
       exact (ap₂ (λ es m. es ++ F m) adds.met adds.next ∙ append_assoc (equations_of now) part (F n) ∙ met) (ap M adds.next ∙ end)
-  remains_more new part n F M (exact met end) (hopelessly one then) =
+      (knows_then start now new known adds.known)
+  remains_more new part n F M (exact met end known) (hopelessly one then same) =
       hopeless (hopeless_same ((equations_of now ++ part) ++ F n) (equations_of start ++ whole) (append_assoc (equations_of now) part (F n) ∙ met)
-      (hopeless_front (equations_of now ++ part) (F n) one)) then
-  remains_more new part n F M (hopeless all none) (exactly adds) =
+      (hopeless_front (equations_of now ++ part) (F n) one)) then (knows_then start now new known same)
+  remains_more new part n F M (hopeless all none known) (exactly adds) =
       hopeless all (hopeless_same (equations_of now ++ part) (equations_of new) (sym adds.met) (hopeless_front (equations_of now) part none))
-  remains_more new part n F M (hopeless all none) (hopelessly one then) = hopeless all then
+      (knows_then start now new known adds.known)
+  remains_more new part n F M (hopeless all none known) (hopelessly one then same) = hopeless all then (knows_then start now new known same)
 
   -- nothing is left
   pub remains_none : (rest : List pure.KindEquation) (after : ℕ) → rest ≡ [] → after ≡ now.next → Remains start now whole rest last after → Asks start now whole last
-  remains_none rest after none still (exact met end) =
-      exactly (record { met = sym (ap (λ es. equations_of now ++ es) none ∙ append-nil (equations_of now)) ∙ met; next = sym still ∙ end })
-  remains_none rest after none still (hopeless all now_none) = hopelessly all now_none
+  remains_none rest after none still (exact met end known) =
+      exactly (record { met = sym (ap (λ es. equations_of now ++ es) none ∙ append-nil (equations_of now)) ∙ met; next = sym still ∙ end; known = known })
+  remains_none rest after none still (hopeless all now_none known) = hopelessly all now_none known
 
 -- what is left of a list of parts
 abbrev pub Left : {A X : Type 0} → (ℕ → List X → List pure.KindEquation) → (ℕ → List X → ℕ) → Equations A → Equations A → List X → ℕ → Type 0

@@ -20,6 +20,7 @@ use Rattle.csp_expression.specs.Expression.{expressions_of}
 use Rattle.std.specs.declared.vec.Vec.{Vec}
 use Rattle.std.specs.Prelude.{slice_get, option_map, Some, None}
 use Rattle.std.proofs.lemmas.Option.{slice_get-map}
+use Rattle.csp_inference.proofs.Adding.{knows_itself}
 use Rattle.csp_inference.proofs.Asking.{Remains, asks_same, found_asks, hopeless_back, hopeless_same, never_hopeless, remains_more, remains_none, remains_same}
 
 module _ (types : Types) (o : numbers.Numbering) where
@@ -124,7 +125,7 @@ module _ {A : Type 0} (types : Types) (o : numbers.Numbering) (s t : Equations A
 pub input_asked : {A : Type 0} (types : Types) (o : numbers.Numbering) (s : Equations A) (names : numbers.Numbered) (f : Field) (m x : ℕ) → f ≡ Input x →
     FieldAsks types o s s names names f m refl
 input_asked types o s names f m x is =
-    whole_field types o s s names names f m refl (Input x) is (exactly (record { met = sym (append-nil (equations_of s)); next = refl }))
+    whole_field types o s s names names f m refl (Input x) is (exactly (record { met = sym (append-nil (equations_of s)); next = refl; known = knows_itself s }))
 
 -- the next part, as it is read, and those behind it
 pub cut_map : {X Y : Type 0} (f : X → Y) (xs : List X) (i : ℕ) (x : X) → i < length xs → x ≡ get_or xs i x → f x ∷ drop (i + 1) (map f xs) ≡ drop i (map f xs)

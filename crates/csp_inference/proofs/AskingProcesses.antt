@@ -16,23 +16,24 @@ use Rattle.csp_syntax.specs.declared.process_operator.ReplicatedOperator.TheVari
 use Rattle.csp_syntax.specs.Operators.{binary_process, replicated_process}
 use Rattle.csp_inference.specs.declared.equations.Equations.{Equations}
 use Rattle.csp_inference.specs.Equations.{Adds, AreHopeless, Asks, HasNames, equations_of, exactly, hopelessly, names_behind_prefix}
-use Rattle.csp_inference.proofs.Asking.{asks_same, asks_then, hopeless_back, hopeless_front, hopeless_same, never_hopeless}
+use Rattle.csp_inference.proofs.Adding.{knows_then}
+use Rattle.csp_inference.proofs.Asking.{asks_knows, asks_same, asks_then, hopeless_back, hopeless_front, hopeless_same, never_hopeless}
 
 -- what has no solution has none with others in its place
 pub asks_hopeless : {A : Type 0} (s t : Equations A) (es fs : List KindEquation) (n m : ℕ) → AreHopeless es → AreHopeless fs → Asks s t es n → Asks s t fs m
 asks_hopeless s t es fs n m none less (exactly h) =
     hopelessly (hopeless_back (equations_of s) fs less)
-    (hopeless_same (equations_of s ++ es) (equations_of t) (sym h.met) (hopeless_back (equations_of s) es none))
-asks_hopeless s t es fs n m none less (hopelessly whole now) = hopelessly (hopeless_back (equations_of s) fs less) now
+    (hopeless_same (equations_of s ++ es) (equations_of t) (sym h.met) (hopeless_back (equations_of s) es none)) h.known
+asks_hopeless s t es fs n m none less (hopelessly whole now known) = hopelessly (hopeless_back (equations_of s) fs less) now known
 
 -- what has no solution yet has none with more
 still_hopeless : {A : Type 0} (s t : Equations A) (es : List KindEquation) (n : ℕ) → AreHopeless (equations_of s) → Asks s t es n → AreHopeless (equations_of t)
 still_hopeless s t es n none (exactly h) = hopeless_same (equations_of s ++ es) (equations_of t) (sym h.met) (hopeless_front (equations_of s) es none)
-still_hopeless s t es n none (hopelessly whole now) = now
+still_hopeless s t es n none (hopelessly whole now known) = now
 
 so_far : {A : Type 0} (s t : Equations A) (es : List KindEquation) (n : ℕ) → AreHopeless (equations_of t) → Asks s t es n → AreHopeless (equations_of s ++ es)
 so_far s t es n none (exactly h) = hopeless_same (equations_of t) (equations_of s ++ es) h.met none
-so_far s t es n none (hopelessly whole now) = whole
+so_far s t es n none (hopelessly whole now known) = whole
 
 module _ {A : Type 0} (script : Script) (o : numbers.Numbering) (names : numbers.Numbered) (s : Equations A) (p : Process) where
   -- What the process asks, when the equations are those of t.
@@ -191,4 +192,6 @@ module _ {A : Type 0} (script : Script) (o : numbers.Numbering) (names : numbers
           (hopeless_front (equations_of s ++ when (slice_get o.channels c) (of_fields script.types o s.next names fs))
           (of_process script o (behind_fields s.next fs) (names_behind_prefix o names c fs) q)
           (so_far s t (when (slice_get o.channels c) (of_fields script.types o s.next names fs)) (behind_fields s.next fs) none first)))
-          (still_hopeless t u (of_process script o t.next inner q) (behind_process t.next q) none second))
+          (still_hopeless t u (of_process script o t.next inner q) (behind_process t.next q) none second)
+          (knows_then s t u (asks_knows s t (when (slice_get o.channels c) (of_fields script.types o s.next names fs)) (behind_fields s.next fs) first)
+          (asks_knows t u (of_process script o t.next inner q) (behind_process t.next q) second)))

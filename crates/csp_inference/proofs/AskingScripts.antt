@@ -13,6 +13,7 @@ use Rattle.csp_inference.specs.declared.numbering.NumberedName.{NumberedName}
 use Rattle.csp_inference.specs.declared.equations.Equations.{Equations}
 use Rattle.csp_inference.specs.Equations.{Adds, Asks, exactly, equations_of}
 use Rattle.csp_inference.specs.Numbering.{names_of}
+use Rattle.csp_inference.proofs.Adding.{knows_itself}
 use Rattle.csp_inference.proofs.Asking.{asks_same, asks_then, hopeless_same, never_asks, never_hopeless}
 
 -- what is left of the parameters gives, behind the names so far, those of all
@@ -61,7 +62,7 @@ module _ {A : Type 0} (script : Script) (o : numbers.Numbering) (s : Equations A
   pub no_specification : (x : Option Process) → x ≡ None → Asks s s (of_specification script o s.next x) (behind_specification s.next x)
   no_specification x is =
       subst (λ y. Asks s s (of_specification script o s.next y) (behind_specification s.next y)) (sym is)
-      (exactly (record { met = sym (append-nil (equations_of s)); next = refl }))
+      (exactly (record { met = sym (append-nil (equations_of s)); next = refl; known = knows_itself s }))
 
   pub asked_assertion : (t u : Equations A) (a : Assertion) (x : Option Process) (others : numbers.Numbered) →
       x ≡ specification_of a.property → others ≡ [] → Asks s t (of_specification script o s.next x) (behind_specification s.next x) →

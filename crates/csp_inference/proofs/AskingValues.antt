@@ -20,7 +20,7 @@ use Rattle.csp_value.proofs.Forms.{listed, unlisted, value_of_con, value_of_seq,
 use Rattle.csp_inference.specs.declared.chain.KindNumber.{KindNumber}
 use Rattle.csp_inference.specs.declared.equations.Equations.{Equations}
 use Rattle.csp_inference.specs.Equations.{Adds, AreHopeless, Asks, equations_of, exactly}
-use Rattle.csp_inference.proofs.Adding.{adds_same}
+use Rattle.csp_inference.proofs.Adding.{adds_same, knows_itself}
 use Rattle.csp_inference.proofs.Asking.{LeftBoth, asks_same, asks_then, both_more, hopeless_back, never_hopeless, remains_none}
 
 -- the equations of values of the code, and the next number behind them
@@ -89,7 +89,7 @@ module _ {A : Type 0} (o : numbers.Numbering) (s : Equations A) (k : chain.Chain
 pub rising_adds_none : {A : Type 0} (s : Equations A) (vs : List pure.Value) → rises vs ≡ true → Adds s s (of_rising (to_values vs)) s.next
 rising_adds_none s vs is =
     let e : of_rising (to_values vs) ≡ [] = ap (λ b. cond b [] never) (ap rises (listed vs) ∙ is) in
-    record { met = sym (ap (λ es. equations_of s ++ es) e ∙ append-nil (equations_of s)); next = refl }
+    record { met = sym (ap (λ es. equations_of s ++ es) e ∙ append-nil (equations_of s)); next = refl; known = knows_itself s }
 
 pub falling_adds_never : {A : Type 0} (s t : Equations A) (vs : List pure.Value) → rises vs ≡ false → Adds s t never s.next → Adds s t (of_rising (to_values vs)) s.next
 falling_adds_never s t vs is h = adds_same s t never (of_rising (to_values vs)) s.next s.next (sym (ap (λ b. cond b [] never) (ap rises (listed vs) ∙ is))) refl h

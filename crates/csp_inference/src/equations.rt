@@ -1,13 +1,17 @@
-//! Equations between kinds, as terms ask for them.
+//! Equations between kinds, as terms ask for them, over what is known of kinds.
 
 ghost use Rattle.std.specs.Prelude.{◌≡◌, ◌∷◌, [], suc, IfOk};
 ghost use Rattle.csp_checking.specs.Inference.Equations.{never};
+ghost use Rattle.csp_checking.specs.Inference.State.{IsResolved, nothing_known};
 ghost use Rattle.csp_inference.specs.Chain.{demand_of};
 ghost use Rattle.csp_inference.specs.Equations.{Adds, equations_of};
 ghost use Rattle.csp_inference.specs.Question.{AddsQuestion};
 ghost use Rattle.csp_inference.specs.Questions.Operators.{sequence_kind_question, set_kind_question};
+ghost use Rattle.csp_inference.specs.State.{SaysTheSame, Solved, state_in};
 
 use crate::chain::{Demand, End, KindNumber};
+use crate::misfit::Misfit;
+use crate::state::State;
 use csp_value::Memory;
 use std::alloc::Allocator;
 
@@ -20,38 +24,46 @@ pub struct KindEquation {
     pub right: Demand,
 }
 
-/// Equations in the order in which they were met, and the next number for a kind of which nothing is known.
+/// Equations in the order in which they were met, what is known of kinds before they are solved, and the next number
+/// for a kind of which nothing is known. Each number that was given out has its place in what is known.
 #[derive(Drop)]
 pub struct Equations<A: Allocator> {
     met: Vec<KindEquation, A>,
+    state: State<A>,
     next: usize,
 }
 
 impl<A: Allocator + Copy> Equations<A> {
-    /// No equations yet. The numbers below the next one are in use.
-    pub fn new(alloc: A, next: usize) -> Equations<A>
+    /// No equations yet, and nothing is known of kinds. No number is in use.
+    pub fn new(alloc: A) -> Equations<A>
         ensures met { equations_of result ≡ [] }
-        ensures next { result.next ≡ next }
+        ensures state { SaysTheSame nothing_known (state_in result.state) }
+        ensures next { result.next ≡ 0 }
     {
         Equations {
             met: Vec::new(alloc),
-            next,
+            state: State::new(alloc),
+            next: 0,
         }
     }
 
-    /// The equations so far.
-    pub fn met(&self) -> &[KindEquation]
-        ensures { result.now ≡ self.now.met.items }
-    {
-        self.met.as_slice()
-    }
-
-    /// Forgets the equations. The next number stays.
+    /// Forgets the equations. What is known stays, and the next number does.
     pub fn forget(&mut self)
         ensures met { equations_of self.new ≡ [] }
+        ensures state { self.new.state ≡ self.old.state }
         ensures next { self.new.next ≡ self.old.next }
     {
         self.met.clear();
+    }
+
+    /// Solves the equations in turn, over what is known. `NoKinds` where they have no solution, and `Memory` where
+    /// there is no room; then what is known is of no more use.
+    pub fn solve(&mut self, alloc: A) -> Result<(), Misfit>
+        requires { IsResolved (state_in self.old.state) }
+        ensures solved { Solved (state_in self.old.state) (equations_of self.old) (state_in self.new.state) result }
+        ensures next { self.new.next ≡ self.old.next }
+    {
+        self.state.solve(alloc, self.met.as_slice())
     }
 
     /// One equation more, or `Memory` where there is no room for it.
@@ -76,13 +88,14 @@ impl<A: Allocator + Copy> Equations<A> {
         KindNumber(self.next)
     }
 
-    /// The number of one more kind, or `Memory` where there is no further one.
-    pub(crate) fn fresh(&mut self) -> Result<KindNumber, Memory>
+    /// The number of one more kind, or `Memory` where there is no room for what will be known of it.
+    pub fn fresh(&mut self) -> Result<KindNumber, Memory>
         ensures number { IfOk result (λ n. n.0 ≡ self.old.next) }
         ensures behind { IfOk result (λ _. Adds self.old self.new [] (suc self.old.next)) }
     {
         let number = KindNumber(self.next);
-        self.next = self.next.checked_add(1).ok_or(Memory)?;
+        self.state.make_room(number)?;
+        self.next += 1;
         Ok(number)
     }
 

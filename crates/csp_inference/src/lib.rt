@@ -2,8 +2,8 @@
 //!
 //! The kind of each nametype, field, parameter and bound name has a number. Terms ask for equations between kinds with
 //! open ends, which are solved one by one as they are met. By the contract of `Equations` those are the equations of
-//! the definitions, no more and no less; and by that of `State::solve` what is then known is what was known and they
-//! say, or they have no solution.
+//! the definitions, no more and no less; and by that of `Equations::solve` what is then known is what was known and
+//! they say, or they have no solution.
 #![tactic(auto)]
 
 mod arguments;
@@ -27,4 +27,3 @@ pub use chain::{Demand, End, KindNumber};
 pub use equations::{Equations, KindEquation};
 pub use misfit::Misfit;
 pub use numbering::{NumberedName, Numbering};
-pub use state::State;

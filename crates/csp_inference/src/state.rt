@@ -1,6 +1,6 @@
 //! What is known of the kinds so far.
 
-ghost use Rattle.std.specs.Prelude.{◌≡◌, ◌<◌, ◌∷◌, [], map, option_map, IfOk, length};
+ghost use Rattle.std.specs.Prelude.{◌≡◌, ◌<◌, ◌^◌, ◌∷◌, [], suc, map, option_map, IfOk, length};
 ghost use Rattle.csp_checking.specs.Inference.State.{IsResolved, bind_open, bound_to, nothing_known, state_of, unify_resolved};
 ghost use Rattle.csp_inference.specs.Chain.{chain_of, chain_over, demand_of, going_on_at};
 ghost use Rattle.csp_inference.specs.Equations.{equation_of};
@@ -15,14 +15,14 @@ use std::alloc::Allocator;
 /// For each number of a kind nothing, or the kind that it is bound to. No bound number stands at the end of a bound
 /// kind.
 #[derive(Drop)]
-pub struct State<A: Allocator> {
+pub(crate) struct State<A: Allocator> {
     /// Numbers behind the end of the list are not bound.
     chains: Vec<Option<Chain<A>>, A>,
 }
 
 impl<A: Allocator + Copy> State<A> {
     /// Nothing is known.
-    pub fn new(alloc: A) -> State<A>
+    pub(crate) fn new(alloc: A) -> State<A>
         ensures { SaysTheSame nothing_known (state_in result) }
     {
         State {
@@ -32,7 +32,7 @@ impl<A: Allocator + Copy> State<A> {
 
     /// Solves the equations in turn. `NoKinds` where they have no solution, and `Memory` where there is no room; then
     /// the state is of no more use.
-    pub fn solve(&mut self, alloc: A, equations: &[KindEquation]) -> Result<(), Misfit>
+    pub(crate) fn solve(&mut self, alloc: A, equations: &[KindEquation]) -> Result<(), Misfit>
         requires { IsResolved (state_in self.old) }
         ensures { Solved (state_in self.old) (map equation_of equations.now) (state_in self.new) result }
     {
@@ -75,9 +75,10 @@ impl<A: Allocator + Copy> State<A> {
         Ok(chain)
     }
 
-    /// Lengthens the list so far that it has a place for the number.
-    fn make_room(&mut self, number: KindNumber) -> Result<(), Memory>
+    /// Lengthens the list so far that it has a place for the number, which is then none of the greatest.
+    pub(crate) fn make_room(&mut self, number: KindNumber) -> Result<(), Memory>
         ensures place { IfOk result (λ _. number.0 < length self.new.chains.items) }
+        ensures further { IfOk result (λ _. suc number.0 < 2 ^ 64) }
         ensures known { SaysTheSame (state_in self.new) (state_in self.old) }
     {
         while self.chains.len() <= number.0 {
@@ -153,7 +154,7 @@ impl<A: Allocator + Copy> State<A> {
 
     /// Makes two kinds one. `NoKinds` where they cannot be, and `Memory` where there is no room; then the state is of
     /// no more use.
-    pub fn unify(&mut self, alloc: A, left: Demand, right: Demand) -> Result<(), Misfit>
+    fn unify(&mut self, alloc: A, left: Demand, right: Demand) -> Result<(), Misfit>
         requires { IsResolved (state_in self.old) }
         ensures { Solved (state_in self.old) ((demand_of left, demand_of right) ∷ []) (state_in self.new) result }
     {

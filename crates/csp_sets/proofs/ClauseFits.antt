@@ -74,7 +74,7 @@ clause_begins raw above below name before more c fit stands h = go fit.some refl
     go : (b : Bool) → fit.some ≡ b → IsFitOf raw (with_clause above name before c.name []) fit
     go true e =
         is_fit raw (with_clause above name before c.name []) fit e
-        (known_clause raw above below name before more c.name c.fields (numbering_of fit.known.numbering) fit.known.equations.next (state_in fit.known.state)
+        (known_clause raw above below name before more c.name c.fields (numbering_of fit.known.numbering) fit.known.equations.next (state_in fit.known.equations.state)
         stands (fit_known raw (above ++ RawDatatype name before ∷ []) fit h e))
     go false e =
         is_misfit raw (with_clause above name before c.name []) fit e
@@ -87,5 +87,5 @@ datatype_begins raw above name fit h = go fit.some refl
     go : (b : Bool) → fit.some ≡ b → IsFitOf raw (above ++ RawDatatype name [] ∷ []) fit
     go true e =
         is_fit raw (above ++ RawDatatype name [] ∷ []) fit e
-        (known_others raw above (numbering_of fit.known.numbering) fit.known.equations.next (state_in fit.known.state) (RawDatatype name []) refl refl refl (fit_known raw above fit h e))
+        (known_others raw above (numbering_of fit.known.numbering) fit.known.equations.next (state_in fit.known.equations.state) (RawDatatype name []) refl refl refl (fit_known raw above fit h e))
     go false e = is_misfit raw (above ++ RawDatatype name [] ∷ []) fit e (λ fits. fit_none raw above fit h e (fit_above (types_of raw) above (RawDatatype name [] ∷ []) fits))

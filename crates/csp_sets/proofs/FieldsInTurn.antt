@@ -35,7 +35,7 @@ module _ {A : Type 0} (s : Above A) (start : Fit A) (first channels : ℕ) (ds :
       go : (b : Bool) → start.some ≡ b → IsFitOf next.raw (next.above ++ RawChannels next.names [] ∷ []) start
       go true e =
           is_fit next.raw (next.above ++ RawChannels next.names [] ∷ []) start e
-          (known_heads next.raw next.above next.below next.names (map domain_of ds) (numbering_of start.known.numbering) start.known.equations.next (state_in start.known.state) next.stands (fit_known next.raw next.above start next.known e))
+          (known_heads next.raw next.above next.below next.names (map domain_of ds) (numbering_of start.known.numbering) start.known.equations.next (state_in start.known.equations.state) next.stands (fit_known next.raw next.above start next.known e))
       go false e = is_misfit next.raw (next.above ++ RawChannels next.names [] ∷ []) start e (λ fits. fit_none next.raw next.above start next.known e (fit_above (types_of next.raw) next.above (RawChannels next.names [] ∷ []) fits))
 
   pub no_fields : (fields : Fields A) → fields.sets.items ≡ [] → fields.complete ≡ true → fields.fault ≡ None → AreFieldsOf next.raw next.above next.names [] start.some fields start

@@ -45,7 +45,7 @@ module _ {A : Type 0} (raw so_far : RawScript) (fit : Fit A) where
   is_misfit e n = match_false fit.some (KnowsKinds raw so_far fit.known) (¬ (SomeFit (types_of raw) so_far)) e n
 
   pub known_some : KnowsKinds raw so_far fit.known → SomeFit (types_of raw) so_far
-  known_some k = some_known raw so_far (numbering_of fit.known.numbering) fit.known.equations.next (state_in fit.known.state) k
+  known_some k = some_known raw so_far (numbering_of fit.known.numbering) fit.known.equations.next (state_in fit.known.equations.state) k
 
   pub fit_some : IsFitOf raw so_far fit → fit.some ≡ true → SomeFit (types_of raw) so_far
   fit_some h e = known_some (fit_known h e)

@@ -86,7 +86,7 @@ module _ {A : Type 0} (raw above below : RawScript) (d : RawDeclaration) (stands
         where
           go : (b : Bool) → s.fit.some ≡ b → IsFitOf raw (above ++ d ∷ []) s.fit
           go true e =
-              is_fit raw (above ++ d ∷ []) s.fit e (known_others raw above (numbering_of s.fit.known.numbering) s.fit.known.equations.next (state_in s.fit.known.state) d ns ks cs (fit_known raw above s.fit h.fit e))
+              is_fit raw (above ++ d ∷ []) s.fit e (known_others raw above (numbering_of s.fit.known.numbering) s.fit.known.equations.next (state_in s.fit.known.equations.state) d ns ks cs (fit_known raw above s.fit h.fit e))
           go false e = is_misfit raw (above ++ d ∷ []) s.fit e (λ fits. fit_none raw above s.fit h.fit e (fit_above (types_of raw) above (d ∷ []) fits))
 
 pub other_up : {A : Type 0} (at : Position A) (s : SetsSoFar A) (d : RawDeclaration) → declares_sets d ≡ false → TakesUp at d s s

@@ -14,7 +14,7 @@ use Rattle.csp_sets.specs.declared.fit.Fit.{Fit}
 
 -- One more set can be taken up.
 abbrev pub IsOpen : {A : Type 0} → Fit A → Type 0
-IsOpen fit = fit.some ≡ true → IsResolved (state_in fit.known.state)
+IsOpen fit = fit.some ≡ true → IsResolved (state_in fit.known.equations.state)
 
 -- Some kinds fit the sets so far, and they are known; or none do.
 abbrev pub IsFitOf : {A : Type 0} → RawScript → RawScript → Fit A → Type 0
