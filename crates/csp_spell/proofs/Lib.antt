@@ -1,6 +1,6 @@
 pub mod Pushing
 pub mod Repeating
-pub mod Rising
+pub mod ReadingValues
 pub mod ReadingExpressions
 pub mod ReadingTerms
 pub mod PushingValues

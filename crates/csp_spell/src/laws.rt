@@ -7,7 +7,7 @@ ghost use Rattle.csp_spell.specs.Gives.{Gives};
 ghost use Rattle.csp_spell.specs.WithinLimits.{IsTermWithinLimits};
 
 use crate::fault::UnpackFault;
-use crate::terms::pack;
+use crate::packing::pack;
 use crate::unpacking::unpack;
 use csp_term::{Memory, Term};
 use std::alloc::Allocator;

@@ -12,6 +12,7 @@ mod fault;
 mod fields;
 pub mod laws;
 mod numbers;
+mod packing;
 mod read_events;
 mod read_expressions;
 mod read_fields;
@@ -24,5 +25,5 @@ mod unpacking;
 mod values;
 
 pub use fault::UnpackFault;
-pub use terms::{pack, push_term};
+pub use packing::{pack, push_term};
 pub use unpacking::unpack;

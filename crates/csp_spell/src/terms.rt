@@ -1,6 +1,6 @@
 //! Terms at the end of bytes.
 
-ghost use Rattle.std.specs.Prelude.{◌≡◌, ◌++◌, IfOk, OnOk};
+ghost use Rattle.std.specs.Prelude.{◌≡◌, ◌++◌, OnOk};
 ghost use Rattle.csp_spelling.specs.Spelling.{spelling};
 ghost use Rattle.csp_spelling.specs.Packable.{IsPackable};
 ghost use Rattle.csp_spelling.specs.Ranges.{IsInRange};
@@ -14,22 +14,12 @@ use crate::numbers::push_number;
 use csp_term::{Memory, ProcessOperator, ReplicatedOperator, Term, TermForm};
 use std::alloc::Allocator;
 
-/// The spelling of the term in the given allocator, or `Memory` where that has no room. No list of the term has 2^32
-/// items or more. Its numbers are in range, since they were read.
-pub fn pack<A: Allocator>(alloc: A, term: &Term<A>) -> Result<Vec<u8, A>, Memory>
-    requires { IsPackable (process_of term.now) }
-    ensures spelled { IfOk result (λ bytes. bytes.items ≡ spelling (process_of term.now)) }
-    ensures range { IfOk result (λ _. IsInRange (process_of term.now)) }
-{
-    let mut bytes = Vec::new(alloc);
-    push_term(term, &mut bytes)?;
-    Ok(bytes)
-}
-
-/// Puts the spelling of the term at the end. After `Memory` a beginning of the spelling may stand there. No list of the
-/// term has 2^32 items or more.
-#[cycle(push_term)]
-pub fn push_term<A: Allocator>(term: &Term<A>, bytes: &mut Vec<u8, A>) -> Result<(), Memory>
+/// Puts the spelling of the term at the end. After `Memory` a beginning of it may stand there.
+#[cycle(push_spelling)]
+pub(crate) fn push_spelling<A: Allocator>(
+    term: &Term<A>,
+    bytes: &mut Vec<u8, A>,
+) -> Result<(), Memory>
     requires { IsPackable (process_of term.now) }
     ensures spelled { OnOk result (bytes.new.items ≡ bytes.old.items ++ spelling (process_of term.now)) }
     ensures range { OnOk result (IsInRange (process_of term.now)) }
@@ -38,7 +28,7 @@ pub fn push_term<A: Allocator>(term: &Term<A>, bytes: &mut Vec<u8, A>) -> Result
 }
 
 /// Puts the spelling of the form at the end.
-#[cycle(push_term)]
+#[cycle(push_spelling)]
 fn push_form<A: Allocator>(form: &TermForm<A>, bytes: &mut Vec<u8, A>) -> Result<(), Memory>
     requires { IsPackable (process_of_form form.now) }
     ensures spelled { OnOk result (bytes.new.items ≡ bytes.old.items ++ spelling (process_of_form form.now)) }
@@ -57,57 +47,57 @@ fn push_form<A: Allocator>(form: &TermForm<A>, bytes: &mut Vec<u8, A>) -> Result
             bytes.push(0x05)?;
             push_number(channel.0, bytes)?;
             push_fields(fields, bytes)?;
-            push_term(body, bytes)
+            push_spelling(body, bytes)
         }
         TermForm::Guard(condition, body) => {
             bytes.push(0x06)?;
             push_expression(condition, bytes)?;
-            push_term(body, bytes)
+            push_spelling(body, bytes)
         }
         TermForm::If(condition, first, second) => {
             bytes.push(0x07)?;
             push_expression(condition, bytes)?;
-            push_term(first, bytes)?;
-            push_term(second, bytes)
+            push_spelling(first, bytes)?;
+            push_spelling(second, bytes)
         }
         TermForm::Binary(operator, left, right) => {
             bytes.push(process_tag(*operator))?;
-            push_term(left, bytes)?;
-            push_term(right, bytes)
+            push_spelling(left, bytes)?;
+            push_spelling(right, bytes)
         }
         TermForm::GeneralisedParallel(left, shared, right) => {
             bytes.push(0x0d)?;
-            push_term(left, bytes)?;
+            push_spelling(left, bytes)?;
             push_event_set(shared, bytes)?;
-            push_term(right, bytes)
+            push_spelling(right, bytes)
         }
         TermForm::AlphabetisedParallel(left, own, other, right) => {
             bytes.push(0x0e)?;
-            push_term(left, bytes)?;
+            push_spelling(left, bytes)?;
             push_event_set(own, bytes)?;
             push_event_set(other, bytes)?;
-            push_term(right, bytes)
+            push_spelling(right, bytes)
         }
         TermForm::Hiding(body, hidden) => {
             bytes.push(0x0f)?;
-            push_term(body, bytes)?;
+            push_spelling(body, bytes)?;
             push_event_set(hidden, bytes)
         }
         TermForm::Renaming(body, pairs) => {
             bytes.push(0x10)?;
-            push_term(body, bytes)?;
+            push_spelling(body, bytes)?;
             push_pairs(pairs, bytes)
         }
         TermForm::Replicated(operator, name, set, body) => {
             bytes.push(replicated_tag(*operator))?;
             push_number(name.0, bytes)?;
             push_expression(set, bytes)?;
-            push_term(body, bytes)
+            push_spelling(body, bytes)
         }
         TermForm::SlidingChoice(left, right) => {
             bytes.push(0x14)?;
-            push_term(left, bytes)?;
-            push_term(right, bytes)
+            push_spelling(left, bytes)?;
+            push_spelling(right, bytes)
         }
     }
 }

@@ -1,15 +1,15 @@
 -- The spelling of each form of expression, and of one more expression of a list.
 use Rattle.std.proofs.Common.{rules, subst, ℕ, [], ◌≡◌, ◌∷◌, ◌++◌, sym, ap, ◌∙◌, arith}
-use Rattle.csp_syntax.specs.Expression.{Apply, Combine, Range, SequenceOf, SetOf, to_expressions}
+use Rattle.csp_syntax.specs.Expression.{Apply, Combine, ConstructorOf, Range, SequenceOf, SetOf, to_expressions}
 use Rattle.csp_semantics.specs.Meaning.Limits.{expression_size}
 use Rattle.csp_spelling.specs.Spelling.{expression_spelling, list_spelling, number_spelling, value_spelling}
 use Rattle.csp_spelling.specs.Packable.{IsPackableExpression}
 use Rattle.csp_value.specs.Value.{value_of}
 use Rattle.csp_syntax.specs.Operators.{binary_of, unary_of}
 use Rattle.csp_expression.specs.Expression.{expression_of, expressions_of}
-use Rattle.csp_expression.proofs.ExpressionForms.{of_literal, of_name, of_apply, of_combine, of_sequence, of_set, of_range, of_datatype, of_nametype}
+use Rattle.csp_expression.proofs.ExpressionForms.{of_literal, of_name, of_apply, of_combine, of_sequence, of_set, of_range, of_datatype, of_nametype, of_constructor}
 use Rattle.csp_spell.proofs.Pushing.{behind_tag, behind_part, two_parts, put_none, put_one, put_all, item_of, gone_one, gone_all, where_ok, also_ok}
-use Rattle.csp_spell.proofs.PushingExpressions.{packable_sequence, packable_set, spelled_sequence, spelled_set, sequence_smaller, set_smaller, item_no_greater, ranged_sequence, ranged_set}
+use Rattle.csp_spell.proofs.PushingExpressions.{packable_fields, fields_smaller, spelled_constructor, ranged_constructor, packable_sequence, packable_set, spelled_sequence, spelled_set, sequence_smaller, set_smaller, item_no_greater, ranged_sequence, ranged_set}
 use Rattle.csp_spelling.specs.Ranges.{IsInRangeExpression}
 use Rattle.csp_spell.proofs.expressions.+push_expression.Goals as goal
 
@@ -169,3 +169,21 @@ push_expression-push_expression-requires-in-Range-2 g t c κs within =
     let same = ap (λ e. expression_size (expression_of e)) c.deref-in-Range-2.ensures in
     let told : IsPackableExpression (Range (expression_of c.in-Range.from.value) (expression_of c.in-Range.to.value)) = subst IsPackableExpression is c.requires in
     (omega arith, (within, subst (λ e. IsPackableExpression (expression_of e)) (sym c.deref-in-Range-2.ensures) told.1))
+
+pub push_expression-push_expressions-requires-in-Constructor : goal.push_expression-push_expressions-requires-in-Constructor
+push_expression-push_expressions-requires-in-Constructor g t c κs within =
+    let is = ap expression_of c.in-Constructor.is ∙ of_constructor g.row.A.Denot c.in-Constructor.constructor c.in-Constructor.fields ∙ ap (λ es. ConstructorOf c.in-Constructor.constructor.0 (to_expressions (expressions_of es))) (sym c.deref-in-Constructor.ensures.value) in
+    let smaller = fields_smaller (expression_of c.args.expression.now) c.in-Constructor.constructor.0 (expressions_of c.deref-in-Constructor.result.now) is in
+    (omega arith, (within, packable_fields (expression_of c.args.expression.now) c.in-Constructor.constructor.0 (expressions_of c.deref-in-Constructor.result.now) is c.requires))
+
+pub push_expression-returns-in_ok-push_number-in-Constructor : goal.push_expression-returns-in_ok-push_number-in-Constructor
+push_expression-returns-in_ok-push_number-in-Constructor g t c =
+    let is = ap expression_of c.in-Constructor.is ∙ of_constructor g.row.A.Denot c.in-Constructor.constructor c.in-Constructor.fields ∙ ap (λ es. ConstructorOf c.in-Constructor.constructor.0 (to_expressions (expressions_of es))) (sym c.deref-in-Constructor.ensures.value) in
+    let k = c.in-Constructor.constructor.0 in
+    let fields = expressions_of c.deref-in-Constructor.result.now in
+    let first = two_parts c.args.bytes.now.items c.push-in-Constructor.new.self.items c.push_number-in-Constructor.new.bytes.items (0x51 ∷ []) (number_spelling k) c.in_ok-push-in-Constructor.ensures.items c.in_ok-push_number-in-Constructor.ensures in
+    record {
+      spelled = behind_part c.push_expressions-in-Constructor.result c.args.bytes.now.items c.push_number-in-Constructor.new.bytes.items c.push_expressions-in-Constructor.new.bytes.items (0x51 ∷ number_spelling k) (list_spelling expression_spelling fields) (expression_spelling (expression_of c.args.expression.now)) first
+          (spelled_constructor (expression_of c.args.expression.now) k fields is) c.push_expressions-in-Constructor.ensures.spelled;
+      range = also_ok c.push_expressions-in-Constructor.result c.push_expressions-in-Constructor.ensures.range (ranged_constructor (expression_of c.args.expression.now) k fields is (search rules));
+    }

@@ -2,9 +2,9 @@ use Rattle.std.proofs.Common.{◌≡◌, ◌++◌, ◌∷◌, []}
 use Rattle.std.proofs.lemmas.Result.{err_from_is_err_and}
 use Rattle.std.proofs.lemmas.List.{map_push}
 use Rattle.csp_expression.specs.Expression.{expression_of, expressions_of}
-use Rattle.csp_expression.proofs.ExpressionForms.{of_sequence, of_set}
+use Rattle.csp_expression.proofs.ExpressionForms.{of_constructor, of_sequence, of_set}
 use Rattle.csp_spelling.specs.Reading.{items_at, expression_at, value_at}
-use Rattle.csp_spell.proofs.ReadingExpressions.{sequence_behind, set_behind}
+use Rattle.csp_spell.proofs.ReadingExpressions.{constructor_behind, sequence_behind, set_behind}
 use Rattle.csp_spell.proofs.Repeating.{goes_on, ends, is_done}
 use Rattle.csp_spell.proofs.read_expressions.+read_expression.Goals as goal
 
@@ -35,3 +35,8 @@ pub read_tagged-returns-in_ok-members-in-76 : goal.read_tagged-returns-in_ok-mem
 read_tagged-returns-in_ok-members-in-76 g t c =
     let members = c.in_ok-members-in-76.members in
     set_behind (value_at c.args.depth) (expression_at c.args.depth) c.args.tag c.args.bytes.now (expressions_of members.items) c.in_ok-members-in-76.rest.now _ c.in-76.is c.in_ok-members-in-76.ensures (of_set g.row.A.Denot members)
+
+pub read_tagged-returns-in_ok-fields-in-81 : goal.read_tagged-returns-in_ok-fields-in-81
+read_tagged-returns-in_ok-fields-in-81 g t c =
+    let fields = c.in_ok-fields-in-81.fields in
+    constructor_behind (value_at c.args.depth) (expression_at c.args.depth) c.args.tag c.args.bytes.now c.in_ok-constructor-in-81.constructor c.in_ok-constructor-in-81.rest.now (expressions_of fields.items) c.in_ok-fields-in-81.rest.now _ c.in-81.is c.in_ok-constructor-in-81.ensures c.in_ok-fields-in-81.ensures (of_constructor g.row.A.Denot _ fields)

@@ -33,3 +33,6 @@ decreases-read_renaming g l = 3 * l.depth + 1
 
 abbrev pub decreases-read_replicated : goal.decreases-read_replicated
 decreases-read_replicated g l = 3 * l.depth + 1
+
+abbrev pub decreases-read_sliding : goal.decreases-read_sliding
+decreases-read_sliding g l = 3 * l.depth + 1

@@ -2,9 +2,11 @@ use Rattle.std.proofs.Common.{◌≡◌, ◌++◌, ◌∷◌, [], sym, ap, ◌�
 use Rattle.std.proofs.lemmas.Result.{err_from_is_err_and}
 use Rattle.std.proofs.lemmas.List.{map_push}
 use Rattle.csp_value.specs.Value.{members_of, value_of, values_of}
-use Rattle.csp_spelling.specs.Reading.{items_at, rises, value_at}
-use Rattle.csp_value.proofs.Forms.{value_of_set}
-use Rattle.csp_spell.proofs.Rising.{fails_as_list, no_set_found, set_found}
+use Rattle.std.specs.Prelude.{◌==◌}
+use Rattle.csp_semantics.specs.Meaning.Offers.{rises}
+use Rattle.csp_spelling.specs.Reading.{items_at, value_at}
+use Rattle.csp_value.proofs.Forms.{value_of_con, value_of_set}
+use Rattle.csp_spell.proofs.ReadingValues.{constructor_found, fails_as_fields, fails_as_number, no_constructor_found, fails_as_list, no_set_found, set_found}
 use Rattle.csp_spell.proofs.Repeating.{goes_on, ends, is_done}
 use Rattle.csp_spell.proofs.read_values.+read_value.Goals as goal
 
@@ -40,3 +42,21 @@ pub read_set-returns : goal.read_set-returns
 read_set-returns g t c =
     let rise = sym c.if-is_rising.false ∙ c.is_rising.ensures ∙ ap (λ vs. rises (values_of vs)) c.deref.ensures.value in
     no_set_found (value_at c.args.depth) c.args.bytes.now (values_of c.in_ok-members.members.items) c.in_ok-members.rest.now c.in_ok-members.ensures rise
+
+pub read_constructor-returns-in_err-constructor : goal.read_constructor-returns-in_err-constructor
+read_constructor-returns-in_err-constructor g t c =
+    let e = err_from_is_err_and c.from_residual.result c.from_residual.ensures.1 in
+    rw (e.1, e.2) (fails_as_number c.in_err-constructor.field-0.0 (value_at c.args.depth) c.args.bytes.now c.in_err-constructor.ensures)
+
+pub read_constructor-returns-in_err-fields : goal.read_constructor-returns-in_err-fields
+read_constructor-returns-in_err-fields g t c =
+    let e = err_from_is_err_and c.from_residual-in_err-fields.result c.from_residual-in_err-fields.ensures.1 in
+    rw (e.1, e.2) (fails_as_fields c.in_err-fields.field-0.0 (value_at c.args.depth) c.args.bytes.now c.in_ok-constructor.constructor c.in_ok-constructor.rest.now c.in_ok-constructor.ensures c.in_err-fields.ensures)
+
+pub read_constructor-returns-then-is_empty : goal.read_constructor-returns-then-is_empty
+read_constructor-returns-then-is_empty g t c =
+    no_constructor_found value_of (value_at c.args.depth) c.args.bytes.now c.in_ok-constructor.constructor c.in_ok-constructor.rest.now c.in_ok-fields.fields.items c.in_ok-fields.rest.now c.in_ok-constructor.ensures c.in_ok-fields.ensures (sym c.if-is_empty.true ∙ c.is_empty.ensures ∙ ap (λ n. n == 0) c.in_ok-fields.fields.ok.0)
+
+pub read_constructor-returns : goal.read_constructor-returns
+read_constructor-returns g t c =
+    constructor_found value_of (value_at c.args.depth) c.args.bytes.now c.in_ok-constructor.constructor c.in_ok-constructor.rest.now c.in_ok-fields.fields.items c.in_ok-fields.rest.now _ c.in_ok-constructor.ensures c.in_ok-fields.ensures (sym c.if-is_empty.false ∙ c.is_empty.ensures ∙ ap (λ n. n == 0) c.in_ok-fields.fields.ok.0) (value_of_con g.row.A.Denot _ c.in_ok-fields.fields)

@@ -21,3 +21,6 @@ decreases-read_set g l = 5 * l.depth + 3
 
 abbrev pub invariant-read_each_value-loop : goal.invariant-read_each_value-loop
 invariant-read_each_value-loop g l = with_front (values_of l.values.items) (items_at (value_at l.depth) (l.count - l.counter) l.rest) ≡ items_at (value_at l.depth) l.count l.fn.bytes
+
+abbrev pub decreases-read_constructor : goal.decreases-read_constructor
+decreases-read_constructor g l = 5 * l.depth + 3
