@@ -1,8 +1,10 @@
 //! Terms that are packed and unpacked while requests for memory are refused in turn: the first of them, then the second,
 //! until none is refused.
 
-use crate::samples::TERMS;
-use csp_spell::{UnpackFault, pack, unpack};
+ghost use Rattle.std.specs.Prelude.{◌<◌, length};
+
+use crate::there_and_back::terms;
+use csp_spell::{UnpackFault, pack, push_term, unpack};
 use linked_list_allocator::LocalHeap;
 use refusing_memory::RefusesOnce;
 use std::alloc::Global;
@@ -35,7 +37,7 @@ fn is_unpacked(rt: &impl Abort, alloc: Global, bytes: &[u8], request: u64) -> Re
 
 /// Whether packing was granted all that it asked for of the narrow heap. Else it says that memory was refused, and that
 /// heap is empty again.
-#[tactic(auto, using(csp_spell::proofs::Packed::packable))]
+#[tactic(auto, using(csp_spelling::proofs::OfSpellable::packable))]
 fn is_packed<'m, 'h>(
     rt: &impl Abort,
     ample: Memory<'m, 'h>,
@@ -56,13 +58,40 @@ fn is_packed<'m, 'h>(
     Ok(true)
 }
 
-/// The same in heaps of its own, where that request is refused.
+/// The same of a spelling that is put behind another byte, which stands alone again where memory was refused.
+#[tactic(auto, using(csp_spelling::proofs::OfSpellable::packable))]
+fn is_put_behind<'m, 'h>(
+    rt: &impl Abort,
+    ample: Memory<'m, 'h>,
+    sparse: Memory<'m, 'h>,
+    bytes: &[u8],
+) -> Result<bool, Fail> {
+    let Ok(term) = unpack(ample, bytes) else {
+        return Err(Fail::new("there is room"));
+    };
+    let mut behind = Vec::new(sparse);
+    if behind.push(7).is_err() {
+        return Ok(false);
+    }
+    let answer = push_term(&term, &mut behind);
+    if sparse.has_refused() {
+        assert!(rt; answer.is_err(), "refused in vain");
+        assert!(rt; behind.as_slice() == [7].as_slice(), "other bytes");
+        return Ok(false);
+    }
+    assert!(rt; answer.is_ok(), "a fault with room");
+    Ok(true)
+}
+
+/// Both in heaps of their own, where that request is refused.
 fn is_packed_in(rt: &impl Abort, alloc: Global, bytes: &[u8], request: u64) -> Result<bool, Fail> {
     let wide = LocalHeap::new(alloc, 65_536)?;
     let narrow = LocalHeap::new(alloc, 65_536)?;
     let ample = RefusesOnce::new(&wide, u64::MAX);
     let sparse = RefusesOnce::new(&narrow, request);
-    is_packed(rt, &ample, &sparse, &narrow, bytes)
+    let is_packed = is_packed(rt, &ample, &sparse, &narrow, bytes)?;
+    let sparse = RefusesOnce::new(&narrow, request);
+    Ok(is_put_behind(rt, &ample, &sparse, bytes)? && is_packed)
 }
 
 /// How many requests unpacking makes, of which each was refused in turn.
@@ -87,18 +116,39 @@ fn requests_of_packing(rt: &impl Abort, alloc: Global, bytes: &[u8]) -> Result<u
 
 #[test]
 fn unpacking_that_is_refused_memory_says_so(rt: HostRuntime) -> Result<(), Fail> {
-    for bytes in &TERMS {
-        let requests = requests_of_unpacking(&rt, rt.alloc(), bytes)?;
-        assert!(rt; requests > 0, "{requests}");
+    for row in &terms(rt.alloc())? {
+        let requests = requests_of_unpacking(&rt, rt.alloc(), &row.bytes)?;
+        assert!(rt; requests > 0, "{}", row.text);
     }
     Ok(())
 }
 
 #[test]
 fn packing_that_is_refused_memory_says_so(rt: HostRuntime) -> Result<(), Fail> {
-    for bytes in &TERMS {
-        let requests = requests_of_packing(&rt, rt.alloc(), bytes)?;
-        assert!(rt; requests > 0, "{requests}");
+    for row in &terms(rt.alloc())? {
+        let requests = requests_of_packing(&rt, rt.alloc(), &row.bytes)?;
+        assert!(rt; requests > 0, "{}", row.text);
+    }
+    Ok(())
+}
+
+/// Whether there is room for the term in memory that grows with its bytes.
+fn has_room(alloc: Global, bytes: &[u8]) -> Result<bool, Fail>
+    requires { length bytes.now < 65_536 }
+{
+    let heap = LocalHeap::new(alloc, 1_024 + 512 * bytes.len())?;
+    Ok(unpack(&heap, bytes).is_ok())
+}
+
+#[test]
+fn a_term_takes_room_in_proportion_to_its_bytes(rt: HostRuntime) -> Result<(), Fail> {
+    for row in &terms(rt.alloc())? {
+        let is_small = row.bytes.len() < 65_536;
+        assert!(rt;
+            is_small && has_room(rt.alloc(), &row.bytes)?,
+            "{}",
+            row.text
+        );
     }
     Ok(())
 }
