@@ -7,7 +7,7 @@ ghost use Rattle.csp_spelling.specs.Ranges.{IsInRangeExpression};
 ghost use Rattle.std.specs.List.{AllByRecursion};
 ghost use Rattle.csp_expression.specs.Expression.{expression_of, expressions_of};
 
-use crate::numbers::{push_length, push_number};
+use crate::numbers::{push_length, push_number, push_tagged};
 use crate::tags::{binary_tag, unary_tag};
 use crate::values::push_value;
 use csp_expression::Expr;
@@ -29,10 +29,7 @@ pub(crate) fn push_expression<A: Allocator>(
             bytes.push(0x30)?;
             push_value(value, bytes)
         }
-        Expr::Name(name) => {
-            bytes.push(0x31)?;
-            push_number(name.0, bytes)
-        }
+        Expr::Name(name) => push_tagged(0x31, name.0, bytes),
         Expr::Apply(operator, operand) => {
             bytes.push(unary_tag(*operator))?;
             push_expression(operand, bytes)
@@ -56,14 +53,8 @@ pub(crate) fn push_expression<A: Allocator>(
             push_expression(to, bytes)
         }
         Expr::Booleans => Ok(bytes.push(0x4e)?),
-        Expr::Datatype(datatype) => {
-            bytes.push(0x4f)?;
-            push_number(datatype.0, bytes)
-        }
-        Expr::Nametype(nametype) => {
-            bytes.push(0x50)?;
-            push_number(nametype.0, bytes)
-        }
+        Expr::Datatype(datatype) => push_tagged(0x4f, datatype.0, bytes),
+        Expr::Nametype(nametype) => push_tagged(0x50, nametype.0, bytes),
         Expr::Constructor(constructor, fields) => {
             bytes.push(0x51)?;
             push_number(constructor.0, bytes)?;

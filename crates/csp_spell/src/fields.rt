@@ -8,7 +8,7 @@ ghost use Rattle.std.specs.List.{AllByRecursion};
 ghost use Rattle.csp_term.specs.Field.{field_of, fields_of};
 
 use crate::expressions::push_expression;
-use crate::numbers::{push_length, push_number};
+use crate::numbers::{push_length, push_number, push_tagged};
 use csp_term::{Field, Memory};
 use std::alloc::Allocator;
 
@@ -26,10 +26,7 @@ pub(crate) fn push_field<A: Allocator>(
             bytes.push(0x20)?;
             push_expression(value, bytes)
         }
-        Field::Input(name) => {
-            bytes.push(0x21)?;
-            push_number(name.0, bytes)
-        }
+        Field::Input(name) => push_tagged(0x21, name.0, bytes),
         Field::InputFrom(name, set) => {
             bytes.push(0x22)?;
             push_number(name.0, bytes)?;

@@ -1,6 +1,6 @@
 //! Numbers at the end of bytes.
 
-ghost use Rattle.std.specs.Prelude.{◌≡◌, ◌++◌, ◌<◌, ◌^◌, OnOk};
+ghost use Rattle.std.specs.Prelude.{◌≡◌, ◌∷◌, ◌++◌, ◌<◌, ◌^◌, OnOk};
 ghost use Rattle.csp_spelling.specs.Spelling.{number_spelling, truth_spelling, whole_spelling};
 
 use csp_value::Memory;
@@ -13,6 +13,18 @@ pub(crate) fn push_number<A: Allocator>(number: u32, bytes: &mut Vec<u8, A>) -> 
 {
     bytes.extend_from_slice(&number.to_le_bytes())?;
     Ok(())
+}
+
+/// Puts the tag and the number behind it at the end.
+pub(crate) fn push_tagged<A: Allocator>(
+    tag: u8,
+    number: u32,
+    bytes: &mut Vec<u8, A>,
+) -> Result<(), Memory>
+    ensures { OnOk result (bytes.new.items ≡ bytes.old.items ++ tag ∷ number_spelling number) }
+{
+    bytes.push(tag)?;
+    push_number(number, bytes)
 }
 
 /// Puts the length of a list at the end.

@@ -5,8 +5,10 @@ ghost use Rattle.std.specs.Option.{option_map};
 ghost use Rattle.csp_spelling.specs.Spelling.{binary_tag, unary_tag};
 ghost use Rattle.csp_spelling.specs.Reading.{binary_tagged, unary_tagged};
 ghost use Rattle.csp_syntax.specs.Operators.{binary_of, unary_of};
+ghost use Rattle.csp_spell.specs.Tags.{process_tag, replicated_tag};
 
 use csp_expression::{BinaryOperator, UnaryOperator};
+use csp_term::{ProcessOperator, ReplicatedOperator};
 
 /// The tag of an operator of one operand.
 pub(crate) fn unary_tag(operator: UnaryOperator) -> u8
@@ -91,5 +93,29 @@ pub(crate) fn binary_tagged(tag: u8) -> Option<BinaryOperator>
         0x49 => Some(BinaryOperator::Intersection),
         0x4a => Some(BinaryOperator::Difference),
         _ => None,
+    }
+}
+
+/// The tag of an operator of two processes.
+pub(crate) fn process_tag(operator: ProcessOperator) -> u8
+    ensures { result ≡ process_tag operator }
+{
+    match operator {
+        ProcessOperator::ExternalChoice => 0x08,
+        ProcessOperator::InternalChoice => 0x09,
+        ProcessOperator::Sequential => 0x0a,
+        ProcessOperator::Interleaving => 0x0b,
+        ProcessOperator::Interrupt => 0x0c,
+    }
+}
+
+/// The tag of an operator of a process for each value of a set.
+pub(crate) fn replicated_tag(operator: ReplicatedOperator) -> u8
+    ensures { result ≡ replicated_tag operator }
+{
+    match operator {
+        ReplicatedOperator::ExternalChoice => 0x11,
+        ReplicatedOperator::InternalChoice => 0x12,
+        ReplicatedOperator::Interleaving => 0x13,
     }
 }

@@ -8,7 +8,7 @@ ghost use Rattle.csp_spelling.specs.Ranges.{IsInRangeValue};
 ghost use Rattle.std.specs.List.{AllByRecursion};
 ghost use Rattle.csp_value.specs.Value.{value_of, values_of};
 
-use crate::numbers::{push_length, push_number, push_truth, push_whole};
+use crate::numbers::{push_length, push_number, push_tagged, push_truth, push_whole};
 use csp_value::{ConId, Memory, Value};
 use std::alloc::Allocator;
 
@@ -56,8 +56,7 @@ fn push_constructor<A: Allocator>(
     ensures range { OnOk result (IsInRangeValue (Constructor constructor.0 (to_values (values_of fields.now)))) }
 {
     if fields.is_empty() {
-        bytes.push(0x62)?;
-        return push_number(constructor.0, bytes);
+        return push_tagged(0x62, constructor.0, bytes);
     }
     bytes.push(0x65)?;
     push_number(constructor.0, bytes)?;

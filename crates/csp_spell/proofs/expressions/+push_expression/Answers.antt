@@ -1,5 +1,5 @@
 -- The spelling of each form of expression, and of one more expression of a list.
-use Rattle.std.proofs.Common.{rules, subst, ℕ, [], ◌≡◌, ◌∷◌, ◌++◌, sym, ap, ◌∙◌, arith}
+use Rattle.std.proofs.Common.{rules, subst, OnOk, ℕ, [], ◌≡◌, ◌∷◌, ◌++◌, sym, ap, ◌∙◌, arith}
 use Rattle.csp_syntax.specs.Expression.{Apply, Combine, ConstructorOf, Range, SequenceOf, SetOf, to_expressions}
 use Rattle.csp_semantics.specs.Meaning.Limits.{expression_size}
 use Rattle.csp_spelling.specs.Spelling.{expression_spelling, list_spelling, number_spelling, value_spelling}
@@ -51,28 +51,28 @@ push_expression-returns-in_ok-push-in-Literal g t c =
       range = also_ok c.push_value.result c.push_value.ensures.range (λ h. subst IsInRangeExpression (sym is) h);
     }
 
-pub push_expression-returns-in_ok-push-in-Name : goal.push_expression-returns-in_ok-push-in-Name
-push_expression-returns-in_ok-push-in-Name g t c =
+pub push_expression-returns-in-Name : goal.push_expression-returns-in-Name
+push_expression-returns-in-Name g t c =
     let is = ap expression_of c.in-Name.is ∙ of_name g.row.A.Denot c.in-Name.name in
     record {
-      spelled = behind_tag c.push_number.result c.args.bytes.now.items c.push-in-Name.new.self.items c.push_number.new.bytes.items (number_spelling c.in-Name.name.0) (expression_spelling (expression_of c.args.expression.now)) 0x31 c.in_ok-push-in-Name.ensures.items (ap expression_spelling is) c.push_number.ensures;
-      range = where_ok c.push_number.result (subst IsInRangeExpression (sym is) (search rules));
+      spelled = subst (λ e. OnOk c.push_tagged.result (c.push_tagged.new.bytes.items ≡ c.args.bytes.now.items ++ expression_spelling e)) (sym is) c.push_tagged.ensures;
+      range = where_ok c.push_tagged.result (subst IsInRangeExpression (sym is) (search rules));
     }
 
-pub push_expression-returns-in_ok-push-in-Datatype : goal.push_expression-returns-in_ok-push-in-Datatype
-push_expression-returns-in_ok-push-in-Datatype g t c =
+pub push_expression-returns-in-Datatype : goal.push_expression-returns-in-Datatype
+push_expression-returns-in-Datatype g t c =
     let is = ap expression_of c.in-Datatype.is ∙ of_datatype g.row.A.Denot c.in-Datatype.datatype in
     record {
-      spelled = behind_tag c.push_number-in-Datatype.result c.args.bytes.now.items c.push-in-Datatype.new.self.items c.push_number-in-Datatype.new.bytes.items (number_spelling c.in-Datatype.datatype.0) (expression_spelling (expression_of c.args.expression.now)) 0x4f c.in_ok-push-in-Datatype.ensures.items (ap expression_spelling is) c.push_number-in-Datatype.ensures;
-      range = where_ok c.push_number-in-Datatype.result (subst IsInRangeExpression (sym is) (search rules));
+      spelled = subst (λ e. OnOk c.push_tagged-in-Datatype.result (c.push_tagged-in-Datatype.new.bytes.items ≡ c.args.bytes.now.items ++ expression_spelling e)) (sym is) c.push_tagged-in-Datatype.ensures;
+      range = where_ok c.push_tagged-in-Datatype.result (subst IsInRangeExpression (sym is) (search rules));
     }
 
-pub push_expression-returns-in_ok-push-in-Nametype : goal.push_expression-returns-in_ok-push-in-Nametype
-push_expression-returns-in_ok-push-in-Nametype g t c =
+pub push_expression-returns-in-Nametype : goal.push_expression-returns-in-Nametype
+push_expression-returns-in-Nametype g t c =
     let is = ap expression_of c.in-Nametype.is ∙ of_nametype g.row.A.Denot c.in-Nametype.nametype in
     record {
-      spelled = behind_tag c.push_number-in-Nametype.result c.args.bytes.now.items c.push-in-Nametype.new.self.items c.push_number-in-Nametype.new.bytes.items (number_spelling c.in-Nametype.nametype.0) (expression_spelling (expression_of c.args.expression.now)) 0x50 c.in_ok-push-in-Nametype.ensures.items (ap expression_spelling is) c.push_number-in-Nametype.ensures;
-      range = where_ok c.push_number-in-Nametype.result (subst IsInRangeExpression (sym is) (search rules));
+      spelled = subst (λ e. OnOk c.push_tagged-in-Nametype.result (c.push_tagged-in-Nametype.new.bytes.items ≡ c.args.bytes.now.items ++ expression_spelling e)) (sym is) c.push_tagged-in-Nametype.ensures;
+      range = where_ok c.push_tagged-in-Nametype.result (subst IsInRangeExpression (sym is) (search rules));
     }
 
 pub push_expression-returns-in_ok-push-in-Apply : goal.push_expression-returns-in_ok-push-in-Apply
@@ -181,9 +181,9 @@ push_expression-returns-in_ok-push_number-in-Constructor g t c =
     let is = ap expression_of c.in-Constructor.is ∙ of_constructor g.row.A.Denot c.in-Constructor.constructor c.in-Constructor.fields ∙ ap (λ es. ConstructorOf c.in-Constructor.constructor.0 (to_expressions (expressions_of es))) (sym c.deref-in-Constructor.ensures.value) in
     let k = c.in-Constructor.constructor.0 in
     let fields = expressions_of c.deref-in-Constructor.result.now in
-    let first = two_parts c.args.bytes.now.items c.push-in-Constructor.new.self.items c.push_number-in-Constructor.new.bytes.items (0x51 ∷ []) (number_spelling k) c.in_ok-push-in-Constructor.ensures.items c.in_ok-push_number-in-Constructor.ensures in
+    let first = two_parts c.args.bytes.now.items c.push-in-Constructor.new.self.items c.push_number.new.bytes.items (0x51 ∷ []) (number_spelling k) c.in_ok-push-in-Constructor.ensures.items c.in_ok-push_number-in-Constructor.ensures in
     record {
-      spelled = behind_part c.push_expressions-in-Constructor.result c.args.bytes.now.items c.push_number-in-Constructor.new.bytes.items c.push_expressions-in-Constructor.new.bytes.items (0x51 ∷ number_spelling k) (list_spelling expression_spelling fields) (expression_spelling (expression_of c.args.expression.now)) first
+      spelled = behind_part c.push_expressions-in-Constructor.result c.args.bytes.now.items c.push_number.new.bytes.items c.push_expressions-in-Constructor.new.bytes.items (0x51 ∷ number_spelling k) (list_spelling expression_spelling fields) (expression_spelling (expression_of c.args.expression.now)) first
           (spelled_constructor (expression_of c.args.expression.now) k fields is) c.push_expressions-in-Constructor.ensures.spelled;
       range = also_ok c.push_expressions-in-Constructor.result c.push_expressions-in-Constructor.ensures.range (ranged_constructor (expression_of c.args.expression.now) k fields is (search rules));
     }

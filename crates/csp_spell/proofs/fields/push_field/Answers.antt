@@ -1,5 +1,5 @@
 -- The spelling of each form of field.
-use Rattle.std.proofs.Common.{rules, [], ◌∷◌, sym, ap, subst}
+use Rattle.std.proofs.Common.{rules, OnOk, [], ◌≡◌, ◌∷◌, ◌++◌, sym, ap, subst}
 use Rattle.csp_spelling.specs.Spelling.{expression_spelling, field_spelling, number_spelling}
 use Rattle.csp_spelling.specs.Ranges.{IsInRangeField}
 use Rattle.csp_expression.specs.Expression.{expression_of}
@@ -14,18 +14,18 @@ returns-in_ok-push-in-Given g c =
       range = also_ok c.push_expression.result c.push_expression.ensures.range (λ h. subst (λ f. IsInRangeField (field_of f)) (sym c.in-Given.is) h);
     }
 
-pub returns-in_ok-push-in-Input : goal.returns-in_ok-push-in-Input
-returns-in_ok-push-in-Input g c =
+pub returns-in-Input : goal.returns-in-Input
+returns-in-Input g c =
     record {
-      spelled = behind_tag c.push_number.result c.args.bytes.now.items c.push-in-Input.new.self.items c.push_number.new.bytes.items (number_spelling c.in-Input.name.0) (field_spelling (field_of c.args.field.now)) 0x21 c.in_ok-push-in-Input.ensures.items (ap (λ f. field_spelling (field_of f)) c.in-Input.is) c.push_number.ensures;
-      range = where_ok c.push_number.result (subst (λ f. IsInRangeField (field_of f)) (sym c.in-Input.is) (search rules));
+      spelled = subst (λ f. OnOk c.push_tagged.result (c.push_tagged.new.bytes.items ≡ c.args.bytes.now.items ++ field_spelling (field_of f))) (sym c.in-Input.is) c.push_tagged.ensures;
+      range = where_ok c.push_tagged.result (subst (λ f. IsInRangeField (field_of f)) (sym c.in-Input.is) (search rules));
     }
 
 pub returns-in_ok-push_number-in-InputFrom : goal.returns-in_ok-push_number-in-InputFrom
 returns-in_ok-push_number-in-InputFrom g c =
     let n = number_spelling c.in-InputFrom.name.0 in
-    let first = two_parts c.args.bytes.now.items c.push-in-InputFrom.new.self.items c.push_number-in-InputFrom.new.bytes.items (0x22 ∷ []) n c.in_ok-push-in-InputFrom.ensures.items c.in_ok-push_number-in-InputFrom.ensures in
+    let first = two_parts c.args.bytes.now.items c.push-in-InputFrom.new.self.items c.push_number.new.bytes.items (0x22 ∷ []) n c.in_ok-push-in-InputFrom.ensures.items c.in_ok-push_number-in-InputFrom.ensures in
     record {
-      spelled = behind_part c.push_expression-in-InputFrom.result c.args.bytes.now.items c.push_number-in-InputFrom.new.bytes.items c.push_expression-in-InputFrom.new.bytes.items (0x22 ∷ n) (expression_spelling (expression_of c.in-InputFrom.set)) (field_spelling (field_of c.args.field.now)) first (ap (λ f. field_spelling (field_of f)) c.in-InputFrom.is) c.push_expression-in-InputFrom.ensures.spelled;
+      spelled = behind_part c.push_expression-in-InputFrom.result c.args.bytes.now.items c.push_number.new.bytes.items c.push_expression-in-InputFrom.new.bytes.items (0x22 ∷ n) (expression_spelling (expression_of c.in-InputFrom.set)) (field_spelling (field_of c.args.field.now)) first (ap (λ f. field_spelling (field_of f)) c.in-InputFrom.is) c.push_expression-in-InputFrom.ensures.spelled;
       range = also_ok c.push_expression-in-InputFrom.result c.push_expression-in-InputFrom.ensures.range (λ h. subst (λ f. IsInRangeField (field_of f)) (sym c.in-InputFrom.is) ((search rules), h));
     }

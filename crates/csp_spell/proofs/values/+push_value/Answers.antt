@@ -33,9 +33,9 @@ pub push_constructor-returns : goal.push_constructor-returns
 push_constructor-returns g t c =
     let k = c.args.constructor.0 in
     let fields = values_of c.args.fields.now in
-    let first = two_parts c.args.bytes.now.items c.push-2.new.self.items c.push_number-2.new.bytes.items (0x65 ∷ []) (number_spelling k) c.in_ok-push-2.ensures.items c.in_ok-push_number.ensures in
+    let first = two_parts c.args.bytes.now.items c.push.new.self.items c.push_number.new.bytes.items (0x65 ∷ []) (number_spelling k) c.in_ok-push.ensures.items c.in_ok-push_number.ensures in
     record {
-      spelled = behind_part c.push_values.result c.args.bytes.now.items c.push_number-2.new.bytes.items c.push_values.new.bytes.items (0x65 ∷ number_spelling k) (list_spelling value_spelling fields) (value_spelling (Constructor k (to_values fields))) first
+      spelled = behind_part c.push_values.result c.args.bytes.now.items c.push_number.new.bytes.items c.push_values.new.bytes.items (0x65 ∷ number_spelling k) (list_spelling value_spelling fields) (value_spelling (Constructor k (to_values fields))) first
           (spelled_constructor value_of k c.args.fields.now (sym c.if-is_empty.false ∙ c.is_empty.ensures)) c.push_values.ensures.spelled;
       range = also_ok c.push_values.result c.push_values.ensures.range (λ h. ((search rules), ranged_fields fields h));
     }
