@@ -1,10 +1,10 @@
 -- The spelling of each form of term.
-use Rattle.std.proofs.Common.{rules, List, [], ℕ, ◌≡◌, ◌∷◌, ◌++◌, OnOk, refl, sym, ap, ◌∙◌, subst, arith}
+use Rattle.std.proofs.Common.{rules, [], ◌≡◌, ◌∷◌, ◌++◌, OnOk, refl, sym, ap, ◌∙◌, subst, arith}
 use Rattle.csp_syntax.specs.Expression.{to_expressions}
 use Rattle.csp_syntax.specs.Process.{AlphabetisedParallel, Call, GeneralisedParallel, Guard, Hiding, If, Prefix, Renaming, SlidingChoice}
 use Rattle.csp_syntax.specs.Operators.{binary_process, replicated_process}
 use Rattle.csp_semantics.specs.Meaning.Limits.{size}
-use Rattle.csp_spelling.specs.Spelling.{spelling, expression_spelling, number_spelling, event_set_spelling, list_spelling, field_spelling, pair_spelling}
+use Rattle.csp_spelling.specs.Spelling.{spelling, number_spelling, list_spelling, field_spelling}
 use Rattle.csp_spelling.specs.Packable.{IsPackable}
 use Rattle.csp_spelling.specs.Ranges.{IsInRange}
 use Rattle.csp_expression.specs.Expression.{expression_of, expressions_of}
@@ -13,7 +13,7 @@ use Rattle.csp_term.specs.Field.{fields_of}
 use Rattle.csp_term.specs.Term.{process_of, process_of_form}
 use Rattle.csp_term.proofs.Forms.{of_call, of_prefix, of_guard, of_conditional, of_binary, of_generalised, of_alphabetised, of_hiding, of_renaming, of_replicated, of_sliding}
 use Rattle.csp_spell.proofs.Pushing.{behind_part, two_parts, also_ok}
-use Rattle.csp_spell.proofs.PushingTerms.{spelled_binary, size_binary, packable_binary, spelled_replicated, size_replicated, packable_replicated, ranged_binary, ranged_replicated}
+use Rattle.csp_spell.proofs.PushingTerms.{size_binary, packable_binary, size_replicated, packable_replicated}
 use Rattle.csp_spell.proofs.terms.+push_spelling.Goals as goal
 
 pub push_spelling-push_form-requires : goal.push_spelling-push_form-requires
@@ -180,8 +180,8 @@ push_form-returns-in-SlidingChoice g t c =
       range = subst (λ p. OnOk c.push_sliding.result (IsInRange p)) (sym is) c.push_sliding.ensures.range;
     }
 
-pub push_prefix-returns-in_ok-push_fields : goal.push_prefix-returns-in_ok-push_fields
-push_prefix-returns-in_ok-push_fields g t c =
+pub push_prefix-returns : goal.push_prefix-returns
+push_prefix-returns g t c =
     let part0 = two_parts c.args.bytes.now.items c.push.new.self.items c.push_number.new.bytes.items (0x05 ∷ []) (number_spelling c.args.channel.0) c.in_ok-push.ensures.items c.in_ok-push_number.ensures in
     let part1 = two_parts c.args.bytes.now.items c.push_number.new.bytes.items c.push_fields.new.bytes.items (0x05 ∷ (number_spelling c.args.channel.0)) (list_spelling field_spelling (fields_of c.args.fields.now)) part0 c.in_ok-push_fields.ensures.spelled in
     record {
@@ -196,29 +196,12 @@ pub push_prefix-push_spelling-requires : goal.push_prefix-push_spelling-requires
 push_prefix-push_spelling-requires g t c κs within =
     (omega arith, (within, c.requires.1))
 
-pub push_guard-returns-in_ok-push_expression : goal.push_guard-returns-in_ok-push_expression
-push_guard-returns-in_ok-push_expression g t c =
-    let part0 = two_parts c.args.bytes.now.items c.push.new.self.items c.push_expression.new.bytes.items (0x06 ∷ []) (expression_spelling (expression_of c.args.condition.now)) c.in_ok-push.ensures.items c.in_ok-push_expression.ensures.spelled in
-    record {
-      spelled = behind_part c.push_spelling.result c.args.bytes.now.items c.push_expression.new.bytes.items c.push_spelling.new.bytes.items (0x06 ∷ (expression_spelling (expression_of c.args.condition.now))) (spelling (process_of c.args.body.now)) (spelling (Guard (expression_of c.args.condition.now) (process_of c.args.body.now))) part0 refl c.push_spelling.ensures.spelled;
-      range = also_ok c.push_spelling.result c.push_spelling.ensures.range (λ h. (c.in_ok-push_expression.ensures.range, h));
-    }
-
 pub push_guard-push_expression-requires : goal.push_guard-push_expression-requires
 push_guard-push_expression-requires g t c = c.requires.0
 
 pub push_guard-push_spelling-requires : goal.push_guard-push_spelling-requires
 push_guard-push_spelling-requires g t c κs within =
     (omega arith, (within, c.requires.1))
-
-pub push_if-returns-in_ok-push_spelling : goal.push_if-returns-in_ok-push_spelling
-push_if-returns-in_ok-push_spelling g t c =
-    let part0 = two_parts c.args.bytes.now.items c.push.new.self.items c.push_expression.new.bytes.items (0x07 ∷ []) (expression_spelling (expression_of c.args.condition.now)) c.in_ok-push.ensures.items c.in_ok-push_expression.ensures.spelled in
-    let part1 = two_parts c.args.bytes.now.items c.push_expression.new.bytes.items c.push_spelling.new.bytes.items (0x07 ∷ (expression_spelling (expression_of c.args.condition.now))) (spelling (process_of c.args.first.now)) part0 c.in_ok-push_spelling.ensures.spelled in
-    record {
-      spelled = behind_part c.push_spelling-2.result c.args.bytes.now.items c.push_spelling.new.bytes.items c.push_spelling-2.new.bytes.items (0x07 ∷ (expression_spelling (expression_of c.args.condition.now) ++ spelling (process_of c.args.first.now))) (spelling (process_of c.args.second.now)) (spelling (If (expression_of c.args.condition.now) (process_of c.args.first.now) (process_of c.args.second.now))) part1 refl c.push_spelling-2.ensures.spelled;
-      range = also_ok c.push_spelling-2.result c.push_spelling-2.ensures.range (λ h. (c.in_ok-push_expression.ensures.range, c.in_ok-push_spelling.ensures.range, h));
-    }
 
 pub push_if-push_expression-requires : goal.push_if-push_expression-requires
 push_if-push_expression-requires g t c = c.requires.0
@@ -230,14 +213,6 @@ push_if-push_spelling-requires g t c κs within =
 pub push_if-push_spelling-requires-2 : goal.push_if-push_spelling-requires-2
 push_if-push_spelling-requires-2 g t c κs within =
     (omega arith, (within, c.requires.2))
-
-pub push_binary-returns-in_ok-push_spelling : goal.push_binary-returns-in_ok-push_spelling
-push_binary-returns-in_ok-push_spelling g t c =
-    let part0 = two_parts c.args.bytes.now.items c.push.new.self.items c.push_spelling.new.bytes.items (c.process_tag.result ∷ []) (spelling (process_of c.args.left.now)) c.in_ok-push.ensures.items c.in_ok-push_spelling.ensures.spelled in
-    record {
-      spelled = behind_part c.push_spelling-2.result c.args.bytes.now.items c.push_spelling.new.bytes.items c.push_spelling-2.new.bytes.items (c.process_tag.result ∷ (spelling (process_of c.args.left.now))) (spelling (process_of c.args.right.now)) (spelling (binary_process c.args.operator (process_of c.args.left.now) (process_of c.args.right.now))) part0 (spelled_binary c.args.operator (process_of c.args.left.now) (process_of c.args.right.now) ∙ ap (λ (k : ℕ). k ∷ (spelling (process_of c.args.left.now) ++ spelling (process_of c.args.right.now))) (sym c.process_tag.ensures)) c.push_spelling-2.ensures.spelled;
-      range = also_ok c.push_spelling-2.result c.push_spelling-2.ensures.range (λ h. ranged_binary c.args.operator (process_of c.args.left.now) (process_of c.args.right.now) c.in_ok-push_spelling.ensures.range h);
-    }
 
 pub push_binary-push_spelling-requires : goal.push_binary-push_spelling-requires
 push_binary-push_spelling-requires g t c κs within =
@@ -251,15 +226,6 @@ push_binary-push_spelling-requires-2 g t c κs within =
     let same = size_binary c.args.operator (process_of c.args.left.now) (process_of c.args.right.now) in
     (omega arith, (within, told.1))
 
-pub push_generalised-returns-in_ok-push_event_set : goal.push_generalised-returns-in_ok-push_event_set
-push_generalised-returns-in_ok-push_event_set g t c =
-    let part0 = two_parts c.args.bytes.now.items c.push.new.self.items c.push_spelling.new.bytes.items (0x0d ∷ []) (spelling (process_of c.args.left.now)) c.in_ok-push.ensures.items c.in_ok-push_spelling.ensures.spelled in
-    let part1 = two_parts c.args.bytes.now.items c.push_spelling.new.bytes.items c.push_event_set.new.bytes.items (0x0d ∷ (spelling (process_of c.args.left.now))) (event_set_spelling (event_set_of c.args.shared.now)) part0 c.in_ok-push_event_set.ensures.spelled in
-    record {
-      spelled = behind_part c.push_spelling-2.result c.args.bytes.now.items c.push_event_set.new.bytes.items c.push_spelling-2.new.bytes.items (0x0d ∷ (spelling (process_of c.args.left.now) ++ event_set_spelling (event_set_of c.args.shared.now))) (spelling (process_of c.args.right.now)) (spelling (GeneralisedParallel (process_of c.args.left.now) (event_set_of c.args.shared.now) (process_of c.args.right.now))) part1 refl c.push_spelling-2.ensures.spelled;
-      range = also_ok c.push_spelling-2.result c.push_spelling-2.ensures.range (λ h. (c.in_ok-push_spelling.ensures.range, c.in_ok-push_event_set.ensures.range, h));
-    }
-
 pub push_generalised-push_spelling-requires : goal.push_generalised-push_spelling-requires
 push_generalised-push_spelling-requires g t c κs within =
     (omega arith, (within, c.requires.0))
@@ -270,16 +236,6 @@ push_generalised-push_event_set-requires g t c = c.requires.1
 pub push_generalised-push_spelling-requires-2 : goal.push_generalised-push_spelling-requires-2
 push_generalised-push_spelling-requires-2 g t c κs within =
     (omega arith, (within, c.requires.2))
-
-pub push_alphabetised-returns-in_ok-push_event_set-2 : goal.push_alphabetised-returns-in_ok-push_event_set-2
-push_alphabetised-returns-in_ok-push_event_set-2 g t c =
-    let part0 = two_parts c.args.bytes.now.items c.push.new.self.items c.push_spelling.new.bytes.items (0x0e ∷ []) (spelling (process_of c.args.left.now)) c.in_ok-push.ensures.items c.in_ok-push_spelling.ensures.spelled in
-    let part1 = two_parts c.args.bytes.now.items c.push_spelling.new.bytes.items c.push_event_set.new.bytes.items (0x0e ∷ (spelling (process_of c.args.left.now))) (event_set_spelling (event_set_of c.args.own.now)) part0 c.in_ok-push_event_set.ensures.spelled in
-    let part2 = two_parts c.args.bytes.now.items c.push_event_set.new.bytes.items c.push_event_set-2.new.bytes.items (0x0e ∷ (spelling (process_of c.args.left.now) ++ event_set_spelling (event_set_of c.args.own.now))) (event_set_spelling (event_set_of c.args.other.now)) part1 c.in_ok-push_event_set-2.ensures.spelled in
-    record {
-      spelled = behind_part c.push_spelling-2.result c.args.bytes.now.items c.push_event_set-2.new.bytes.items c.push_spelling-2.new.bytes.items (0x0e ∷ (spelling (process_of c.args.left.now) ++ event_set_spelling (event_set_of c.args.own.now) ++ event_set_spelling (event_set_of c.args.other.now))) (spelling (process_of c.args.right.now)) (spelling (AlphabetisedParallel (process_of c.args.left.now) (event_set_of c.args.own.now) (event_set_of c.args.other.now) (process_of c.args.right.now))) part2 refl c.push_spelling-2.ensures.spelled;
-      range = also_ok c.push_spelling-2.result c.push_spelling-2.ensures.range (λ h. (c.in_ok-push_spelling.ensures.range, c.in_ok-push_event_set.ensures.range, c.in_ok-push_event_set-2.ensures.range, h));
-    }
 
 pub push_alphabetised-push_spelling-requires : goal.push_alphabetised-push_spelling-requires
 push_alphabetised-push_spelling-requires g t c κs within =
@@ -295,14 +251,6 @@ pub push_alphabetised-push_spelling-requires-2 : goal.push_alphabetised-push_spe
 push_alphabetised-push_spelling-requires-2 g t c κs within =
     (omega arith, (within, c.requires.3))
 
-pub push_hiding-returns-in_ok-push_spelling : goal.push_hiding-returns-in_ok-push_spelling
-push_hiding-returns-in_ok-push_spelling g t c =
-    let part0 = two_parts c.args.bytes.now.items c.push.new.self.items c.push_spelling.new.bytes.items (0x0f ∷ []) (spelling (process_of c.args.body.now)) c.in_ok-push.ensures.items c.in_ok-push_spelling.ensures.spelled in
-    record {
-      spelled = behind_part c.push_event_set.result c.args.bytes.now.items c.push_spelling.new.bytes.items c.push_event_set.new.bytes.items (0x0f ∷ (spelling (process_of c.args.body.now))) (event_set_spelling (event_set_of c.args.hidden.now)) (spelling (Hiding (process_of c.args.body.now) (event_set_of c.args.hidden.now))) part0 refl c.push_event_set.ensures.spelled;
-      range = also_ok c.push_event_set.result c.push_event_set.ensures.range (λ h. (c.in_ok-push_spelling.ensures.range, h));
-    }
-
 pub push_hiding-push_spelling-requires : goal.push_hiding-push_spelling-requires
 push_hiding-push_spelling-requires g t c κs within =
     (omega arith, (within, c.requires.0))
@@ -310,29 +258,12 @@ push_hiding-push_spelling-requires g t c κs within =
 pub push_hiding-push_event_set-requires : goal.push_hiding-push_event_set-requires
 push_hiding-push_event_set-requires g t c = c.requires.1
 
-pub push_renaming-returns-in_ok-push_spelling : goal.push_renaming-returns-in_ok-push_spelling
-push_renaming-returns-in_ok-push_spelling g t c =
-    let part0 = two_parts c.args.bytes.now.items c.push.new.self.items c.push_spelling.new.bytes.items (0x10 ∷ []) (spelling (process_of c.args.body.now)) c.in_ok-push.ensures.items c.in_ok-push_spelling.ensures.spelled in
-    record {
-      spelled = behind_part c.push_pairs.result c.args.bytes.now.items c.push_spelling.new.bytes.items c.push_pairs.new.bytes.items (0x10 ∷ (spelling (process_of c.args.body.now))) (list_spelling pair_spelling (renaming_pairs_of c.args.pairs.now)) (spelling (Renaming (process_of c.args.body.now) (renaming_pairs_of c.args.pairs.now))) part0 refl c.push_pairs.ensures.spelled;
-      range = also_ok c.push_pairs.result c.push_pairs.ensures.range (λ h. (c.in_ok-push_spelling.ensures.range, h));
-    }
-
 pub push_renaming-push_spelling-requires : goal.push_renaming-push_spelling-requires
 push_renaming-push_spelling-requires g t c κs within =
     (omega arith, (within, c.requires.0))
 
 pub push_renaming-push_pairs-requires : goal.push_renaming-push_pairs-requires
 push_renaming-push_pairs-requires g t c = c.requires.1
-
-pub push_replicated-returns-in_ok-push_expression : goal.push_replicated-returns-in_ok-push_expression
-push_replicated-returns-in_ok-push_expression g t c =
-    let part0 = two_parts c.args.bytes.now.items c.push.new.self.items c.push_number.new.bytes.items (c.replicated_tag.result ∷ []) (number_spelling c.args.name.0) c.in_ok-push.ensures.items c.in_ok-push_number.ensures in
-    let part1 = two_parts c.args.bytes.now.items c.push_number.new.bytes.items c.push_expression.new.bytes.items (c.replicated_tag.result ∷ (number_spelling c.args.name.0)) (expression_spelling (expression_of c.args.set.now)) part0 c.in_ok-push_expression.ensures.spelled in
-    record {
-      spelled = behind_part c.push_spelling.result c.args.bytes.now.items c.push_expression.new.bytes.items c.push_spelling.new.bytes.items (c.replicated_tag.result ∷ (number_spelling c.args.name.0 ++ expression_spelling (expression_of c.args.set.now))) (spelling (process_of c.args.body.now)) (spelling (replicated_process c.args.operator c.args.name.0 (expression_of c.args.set.now) (process_of c.args.body.now))) part1 (spelled_replicated c.args.operator c.args.name.0 (expression_of c.args.set.now) (process_of c.args.body.now) ∙ ap (λ (k : ℕ). k ∷ (number_spelling c.args.name.0 ++ expression_spelling (expression_of c.args.set.now) ++ spelling (process_of c.args.body.now))) (sym c.replicated_tag.ensures)) c.push_spelling.ensures.spelled;
-      range = also_ok c.push_spelling.result c.push_spelling.ensures.range (λ h. ranged_replicated c.args.operator c.args.name.0 (expression_of c.args.set.now) (process_of c.args.body.now) (search rules) c.in_ok-push_expression.ensures.range h);
-    }
 
 pub push_replicated-push_expression-requires : goal.push_replicated-push_expression-requires
 push_replicated-push_expression-requires g t c = (packable_replicated c.args.operator c.args.name.0 (expression_of c.args.set.now) (process_of c.args.body.now) c.requires).0
@@ -342,14 +273,6 @@ push_replicated-push_spelling-requires g t c κs within =
     let told = packable_replicated c.args.operator c.args.name.0 (expression_of c.args.set.now) (process_of c.args.body.now) c.requires in
     let same = size_replicated c.args.operator c.args.name.0 (expression_of c.args.set.now) (process_of c.args.body.now) in
     (omega arith, (within, told.1))
-
-pub push_sliding-returns-in_ok-push_spelling : goal.push_sliding-returns-in_ok-push_spelling
-push_sliding-returns-in_ok-push_spelling g t c =
-    let part0 = two_parts c.args.bytes.now.items c.push.new.self.items c.push_spelling.new.bytes.items (0x14 ∷ []) (spelling (process_of c.args.left.now)) c.in_ok-push.ensures.items c.in_ok-push_spelling.ensures.spelled in
-    record {
-      spelled = behind_part c.push_spelling-2.result c.args.bytes.now.items c.push_spelling.new.bytes.items c.push_spelling-2.new.bytes.items (0x14 ∷ (spelling (process_of c.args.left.now))) (spelling (process_of c.args.right.now)) (spelling (SlidingChoice (process_of c.args.left.now) (process_of c.args.right.now))) part0 refl c.push_spelling-2.ensures.spelled;
-      range = also_ok c.push_spelling-2.result c.push_spelling-2.ensures.range (λ h. (c.in_ok-push_spelling.ensures.range, h));
-    }
 
 pub push_sliding-push_spelling-requires : goal.push_sliding-push_spelling-requires
 push_sliding-push_spelling-requires g t c κs within =

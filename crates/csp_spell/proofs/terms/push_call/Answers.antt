@@ -9,8 +9,8 @@ use Rattle.csp_spell.proofs.Pushing.{behind_part, two_parts, also_ok}
 use Rattle.csp_spell.proofs.PushingExpressions.{packable_arguments, ranged_each}
 use Rattle.csp_spell.proofs.terms.push_call.Goals as goal
 
-pub returns-in_ok-push_number : goal.returns-in_ok-push_number
-returns-in_ok-push_number g c =
+pub returns : goal.returns
+returns g c =
     let part0 = two_parts c.args.bytes.now.items c.push.new.self.items c.push_number.new.bytes.items (0x04 ∷ []) (number_spelling c.args.equation.0) c.in_ok-push.ensures.items c.in_ok-push_number.ensures in
     record {
       spelled = behind_part c.push_expressions.result c.args.bytes.now.items c.push_number.new.bytes.items c.push_expressions.new.bytes.items (0x04 ∷ (number_spelling c.args.equation.0)) (list_spelling expression_spelling (expressions_of c.args.arguments.now)) (spelling (Call c.args.equation.0 (to_expressions (expressions_of c.args.arguments.now)))) part0 (ap (λ (bytes : List ℕ). 0x04 ∷ (number_spelling c.args.equation.0 ++ bytes)) (arguments (expressions_of c.args.arguments.now))) c.push_expressions.ensures.spelled;
