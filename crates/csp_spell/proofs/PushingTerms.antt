@@ -1,24 +1,14 @@
--- The spelling of processes under an operator, their parts and sizes.
-use Rattle.std.proofs.Common.{◌≡◌, ℕ, ◌<◌, ◌^◌, ◌+◌, ◌∷◌, ◌++◌, refl}
+-- The parts and sizes of processes under an operator.
+use Rattle.std.proofs.Common.{◌≡◌, ℕ, ◌+◌, refl}
 use Rattle.csp_syntax.specs.Expression.{Expression}
 use Rattle.csp_syntax.specs.Process.{Process}
 use Rattle.csp_semantics.specs.Meaning.Limits.{size, expression_size}
-use Rattle.csp_spelling.specs.Spelling.{number_spelling, expression_spelling, spelling}
 use Rattle.csp_spelling.specs.Packable.{IsPackable, IsPackableExpression}
-use Rattle.csp_spelling.specs.Ranges.{IsInRange, IsInRangeExpression}
 use Rattle.csp_syntax.specs.declared.process_operator.ProcessOperator.{ProcessOperator}
 use Rattle.csp_syntax.specs.declared.process_operator.ProcessOperator.TheVariants as binary
 use Rattle.csp_syntax.specs.declared.process_operator.ReplicatedOperator.{ReplicatedOperator}
 use Rattle.csp_syntax.specs.declared.process_operator.ReplicatedOperator.TheVariants as replicated
 use Rattle.csp_syntax.specs.Operators.{binary_process, replicated_process}
-use Rattle.csp_spell.specs.Tags.{process_tag, replicated_tag}
-
-pub spelled_binary : (op : ProcessOperator) (p q : Process) → spelling (binary_process op p q) ≡ process_tag op ∷ (spelling p ++ spelling q)
-spelled_binary binary.ExternalChoice p q = refl
-spelled_binary binary.InternalChoice p q = refl
-spelled_binary binary.Sequential p q = refl
-spelled_binary binary.Interleaving p q = refl
-spelled_binary binary.Interrupt p q = refl
 
 pub size_binary : (op : ProcessOperator) (p q : Process) → size (binary_process op p q) ≡ 1 + (size p + size q)
 size_binary binary.ExternalChoice p q = refl
@@ -34,11 +24,6 @@ packable_binary binary.Sequential p q fits = fits
 packable_binary binary.Interleaving p q fits = fits
 packable_binary binary.Interrupt p q fits = fits
 
-pub spelled_replicated : (op : ReplicatedOperator) (n : ℕ) (e : Expression) (p : Process) → spelling (replicated_process op n e p) ≡ replicated_tag op ∷ (number_spelling n ++ expression_spelling e ++ spelling p)
-spelled_replicated replicated.ExternalChoice n e p = refl
-spelled_replicated replicated.InternalChoice n e p = refl
-spelled_replicated replicated.Interleaving n e p = refl
-
 pub size_replicated : (op : ReplicatedOperator) (n : ℕ) (e : Expression) (p : Process) → size (replicated_process op n e p) ≡ 1 + (expression_size e + size p)
 size_replicated replicated.ExternalChoice n e p = refl
 size_replicated replicated.InternalChoice n e p = refl
@@ -48,17 +33,3 @@ pub packable_replicated : (op : ReplicatedOperator) (n : ℕ) (e : Expression) (
 packable_replicated replicated.ExternalChoice n e p fits = fits
 packable_replicated replicated.InternalChoice n e p fits = fits
 packable_replicated replicated.Interleaving n e p fits = fits
-
--- ---- numbers in range
-
-pub ranged_binary : (op : ProcessOperator) (p q : Process) → IsInRange p → IsInRange q → IsInRange (binary_process op p q)
-ranged_binary binary.ExternalChoice p q h k = (h, k)
-ranged_binary binary.InternalChoice p q h k = (h, k)
-ranged_binary binary.Sequential p q h k = (h, k)
-ranged_binary binary.Interleaving p q h k = (h, k)
-ranged_binary binary.Interrupt p q h k = (h, k)
-
-pub ranged_replicated : (op : ReplicatedOperator) (n : ℕ) (e : Expression) (p : Process) → n < 2 ^ 32 → IsInRangeExpression e → IsInRange p → IsInRange (replicated_process op n e p)
-ranged_replicated replicated.ExternalChoice n e p small h k = (small, h, k)
-ranged_replicated replicated.InternalChoice n e p small h k = (small, h, k)
-ranged_replicated replicated.Interleaving n e p small h k = (small, h, k)
