@@ -56,9 +56,11 @@ fn terms_with_changed(
 #[test]
 fn a_change_of_a_byte_of_a_small_term_is_seen(rt: HostRuntime) -> Result<(), Fail> {
     let bytes = bytes_of(rt.alloc(), "05 00000000 01000000 20 30 60 01000000 01")?;
-    for (place, expected) in TERMS_WITH_A_BYTE_CHANGED.iter().enumerate() {
+    assert!(rt; bytes.len() == TERMS_WITH_A_BYTE_CHANGED.len());
+    for place in 0..bytes.len() {
         let terms = terms_with_changed(&rt, rt.alloc(), &bytes, place)?;
-        assert!(rt; terms == *expected, "{terms} terms at {place}");
+        let expected = TERMS_WITH_A_BYTE_CHANGED.get(place).copied();
+        assert!(rt; expected == Some(terms), "{terms} terms at {place}");
     }
     Ok(())
 }

@@ -32,15 +32,22 @@ impl Random {
         self.next() % end
     }
 
+    /// One of so many bytes, from the first one on.
+    fn byte_from(&mut self, first: u8, count: u64) -> u8
+        requires { 0 < count }
+    {
+        self.below(count).to_le_bytes()[0].wrapping_add(first)
+    }
+
     /// A byte that is often a tag or a small number.
     fn byte(&mut self) -> u8 {
         match self.below(8) {
-            0 => self.below(256).to_le_bytes()[0],
-            1 => 0x20 + self.below(16).to_le_bytes()[0],
-            2 => 0x30 + self.below(40).to_le_bytes()[0],
-            3 => 0x60 + self.below(6).to_le_bytes()[0],
-            4 => self.below(22).to_le_bytes()[0],
-            5 => self.below(4).to_le_bytes()[0],
+            0 => self.byte_from(0, 256),
+            1 => self.byte_from(0x20, 16),
+            2 => self.byte_from(0x30, 40),
+            3 => self.byte_from(0x60, 6),
+            4 => self.byte_from(0, 22),
+            5 => self.byte_from(0, 4),
             _ => 0,
         }
     }

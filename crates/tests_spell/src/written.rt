@@ -36,17 +36,30 @@ fn is_spelled_so(alloc: Global, term: &Term<Global>, bytes: &[u8]) -> Result<boo
     Ok(packed.as_slice() == bytes && is_behind && unpack(alloc, bytes)? == *term)
 }
 
+/// Whether the specification of the assertion of that number has the bytes of its row.
+fn is_row_so(
+    alloc: Global,
+    script: &Script<Global>,
+    row: &Row<'_>,
+    number: usize,
+) -> Result<bool, Fail> {
+    let Some(assertion) = script.assertions().get(number) else {
+        return Ok(false);
+    };
+    match assertion.property.specification() {
+        Some(term) => is_spelled_so(alloc, term, &row.bytes),
+        None => Ok(false),
+    }
+}
+
 #[test]
 fn what_is_written_has_its_bytes(rt: HostRuntime) -> Result<(), Fail> {
     let rows = rows(rt.alloc(), WRITTEN)?;
     let script = script(rt.alloc(), &rows)?;
-    assert!(rt; script.assertions().len() == rows.len());
-    for (row, assertion) in rows.iter().zip(script.assertions()) {
-        let Some(term) = assertion.property.specification() else {
-            return Err(Fail::new("no specification"));
-        };
+    for number in 0..rows.len() {
+        let row = &rows[number];
         assert!(rt;
-            is_spelled_so(rt.alloc(), term, &row.bytes)?,
+            is_row_so(rt.alloc(), &script, row, number)?,
             "{}",
             row.text
         );
