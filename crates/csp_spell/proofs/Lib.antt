@@ -1,0 +1,10 @@
+pub mod Pushing
+pub mod Repeating
+pub mod ReadingValues
+pub mod ReadingExpressions
+pub mod ReadingTerms
+pub mod PushingValues
+pub mod PushingExpressions
+pub mod PushingEvents
+pub mod PushingTerms
+pub mod WholeTerms
