@@ -148,7 +148,7 @@ pub(crate) fn report(
     outcomes: &[Outcome<Global>],
 ) -> Result<String, Fail> {
     let mut sink = Buffer::new(alloc);
-    write(alloc, script, outcomes, &mut sink)?;
+    write(script, outcomes, &mut sink)?;
     Ok(String::from_str(alloc, str::from_utf8(&sink.bytes)?)?)
 }
 
@@ -253,7 +253,7 @@ fn give(
     requires { sink.old.stuck ≡ false }
 {
     match given {
-        Given::Report => answer(alloc, write(alloc, script, &[Outcome::Holds], sink)),
+        Given::Report => answer(alloc, write(script, &[Outcome::Holds], sink)),
         Given::Text(text) => answer(alloc, push_all(text.as_bytes(), sink)),
         Given::Texts(texts) => answer(alloc, push_each(texts, sink)),
     }
