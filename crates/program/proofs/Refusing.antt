@@ -1,8 +1,7 @@
 -- The refusal of the text of a file.
-use Rattle.std.proofs.Common.{◌≡◌, Result, IfErr, ℕ, List, [], ◌∷◌, length, get_or, refl, arith}
+use Rattle.std.proofs.Common.{◌≡◌, Result, IfErr, ℕ, List}
 use Rattle.std.specs.Result.{IsErr, IsErrAnd}
 use Rattle.std.proofs.lemmas.Result.{err_from_is_err_and}
-use Rattle.std.specs.Borrow.{Bor}
 use Rattle.csp_text.specs.Place.{Place}
 use Rattle.csp_text.specs.Raw.{RawScript}
 use Rattle.csp_text.specs.Reading.{IsRead, of_grammar}
@@ -14,7 +13,6 @@ use Rattle.csp_kinds.specs.Refusals as checking
 use Rattle.csp_names.specs.declared.refusals.Refused as checker
 use Rattle.csp_names.specs.declared.refusals.Refused.TheVariants as checker_fault
 use Rattle.program.specs.declared.refusal.Refusal.{Refusal}
-use Rattle.program.specs.declared.refusal.Refusal.TheVariants as refusal
 use Rattle.program.specs.Reading.{IsRefusalOf}
 use Rattle.program.specs.Refusal.{of_kinds, of_parser}
 

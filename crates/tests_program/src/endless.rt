@@ -49,28 +49,30 @@ fn what_does_not_end_is_too_long(rt: HostRuntime) -> Result<(), Fail> {
 
 #[test]
 fn what_ends_is_read_whole(rt: HostRuntime) -> Result<(), Fail> {
-    let text: &[u8] = b"channel a";
-    let bytes = read_beginning(rt.alloc(), &mut &*text)?;
-    assert_eq!(rt; bytes.as_slice(), text);
+    let mut reader: &[u8] = b"channel a";
+    let bytes = read_beginning(rt.alloc(), &mut reader)?;
+    assert_eq!(rt; bytes.as_slice(), b"channel a");
     let memory = RefusesOnce::new(rt.alloc(), 0);
-    let refused = read_beginning(&memory, &mut &*text).err();
+    let refused = read_beginning(&memory, &mut reader).err();
     assert_eq!(rt; refused, Some(Unread::Memory));
     Ok(())
 }
 
+const FAULTS: [(ErrorKind, Unread); 2] = [
+    (ErrorKind::PermissionDenied, Unread::File),
+    (ErrorKind::OutOfMemory, Unread::Memory),
+];
+
 #[test]
 fn what_fails_is_not_read(rt: HostRuntime) -> Result<(), Fail> {
-    for (fault, unread) in [
-        (ErrorKind::PermissionDenied, Unread::File),
-        (ErrorKind::OutOfMemory, Unread::Memory),
-    ] {
+    for (fault, unread) in &FAULTS {
         let mut reader = Broken {
             bytes: b"channel a",
             interrupted: false,
-            fault,
+            fault: *fault,
         };
         let answer = read_beginning(rt.alloc(), &mut reader).err();
-        assert_eq!(rt; answer, Some(unread));
+        assert_eq!(rt; answer, Some(*unread));
     }
     Ok(())
 }

@@ -42,14 +42,14 @@ returns-in_err-script-clause-cause g c =
     rw (p.1, p.2)
     (cause_of_text (g.F.Files.may_hold c.args.files.now) (g.F.Files.may_lack c.args.files.now) c.args.settings.now.file.now c.in_ok-text.text.items c.in_err-script.field-0.0 c.in_ok-text.ensures.holds is)
 
-pub returns-in-Err-clause-cause : goal.returns-in-Err-clause-cause
-returns-in-Err-clause-cause g c =
+pub returns-clause-cause : goal.returns-clause-cause
+returns-clause-cause g c =
     let script = script_of c.in_ok-script.script in
     let checked = subst (λ bytes. IsCheckedText bytes script) c.deref.ensures.value c.in_ok-script.ensures.script in
     (script, of_file (g.F.Files.may_hold c.args.files.now) c.args.settings.now.file.now c.in_ok-text.text.items script c.in_ok-text.ensures.holds checked)
 
-pub returns-in-Err-clause-refused : goal.returns-in-Err-clause-refused
-returns-in-Err-clause-refused g c =
+pub returns-clause-refused : goal.returns-clause-refused
+returns-clause-refused g c =
     let script = script_of c.in_ok-script.script in
     let bounds = limits_of c.args.settings.now in
     let P : List (Outcome g.row.A.Denot) → Type 0 = λ os. AreRight script bounds script.assertions (map outcome_of os) in
