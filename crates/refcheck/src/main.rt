@@ -1,48 +1,53 @@
 //! `refcheck FILE` checks the assertions of a script and prints a line for each, within limits that options choose.
 //!
-//! `run` is the whole program over words, files and streams that are handed in. Its contract says that either the
-//! report of right outcomes went out, one for each assertion of a script, and the status is that of the outcomes, or
-//! the status is 3 and the line of a refusal went to the error stream. `holds` means that what the assertion asks is so,
-//! and `fails` shows a violation, or stands alone where there is none and `not` asks for one. Words that ask for the
-//! help or the version are answered with it.
+//! `program::run` is the whole program over words, files and streams that are handed in. Here it is given those of the
+//! machine, and a thread of its own with a large stack, since values nest as deep as a text is long.
 #![tactic(auto)]
 
-mod files;
-mod reader;
-mod refusal;
-mod run;
-#[cfg(test)]
-mod tests;
-
 use files::MachineFiles;
-use refusal::Refusal;
+use program::{Refusal, refuse, run};
 use report::Out;
-use run::{refuse, run};
 use std::alloc::{AllocError, Global};
-use std::env;
 use std::io::ErrorKind;
 use std::process::ExitCode;
+use std::thread::Builder;
+use std::{env, thread};
+
+// The bytes of stack of the program's thread. What goes deepest there is the copy of a value, which takes some 420 bytes
+// a level. A script nests a value fewer than 32,768 levels deep, two characters each of a text of 65,536 bytes, so that
+// it takes less than 14 MB. Pages that are not touched cost nothing.
+const STACK: usize = 256 * 1024 * 1024;
 
 fn main(rt: HostRuntime) -> ExitCode {
-    let mut err = Out::new(rt.stderr());
-    let status = match arguments(&rt) {
-        Ok(arguments) => match words(rt.alloc(), &arguments) {
-            Ok(words) => {
-                let mut out = Out::new(rt.stdout());
-                run(
-                    rt.alloc(),
-                    rt.alloc(),
-                    &rt,
-                    &words,
-                    &mut MachineFiles::new(&rt),
-                    &mut out,
-                    &mut err,
-                )
-            }
-            Err(_) => refuse(Refusal::Memory, &mut err),
-        },
-        Err(why) => refuse(why, &mut err),
-    };
+    let status = thread::scope(thread::scope_env(), &rt, |scope| {
+        let program = || -> u8 {
+            let (mut out, mut err) = (Out::new(rt.stdout()), Out::new(rt.stderr()));
+            let arguments = match arguments(&rt) {
+                Ok(arguments) => arguments,
+                Err(why) => return refuse(why, &mut err),
+            };
+            let Ok(words) = words(rt.alloc(), &arguments) else {
+                return refuse(Refusal::Memory, &mut err);
+            };
+            let mut files = MachineFiles::new(&rt);
+            run(
+                rt.alloc(),
+                rt.alloc(),
+                &rt,
+                &words,
+                &mut files,
+                &mut out,
+                &mut err,
+            )
+        };
+        match Builder::new()
+            .stack_size(STACK)
+            .spawn_scoped(scope, program)
+        {
+            Ok(thread) => thread.join(&rt),
+            Err(_) => refuse(Refusal::Memory, &mut Out::new(rt.stderr())),
+        }
+    });
     ExitCode::from(status)
 }
 

@@ -1,6 +1,6 @@
 -- A text that goes out in pieces.
 use Rattle.std.proofs.Common.{◌≡◌, ℕ, Bool, false, List, [], ◌∷◌, ◌++◌, refl, sym, ◌∙◌, ap, subst, append_assoc, append-nil, arith, take-append-drop}
-use Rattle.std.specs.Prelude.{zero, suc, ◌<◌, ◌||◌, Option, None, Some, Ok, take, drop}
+use Rattle.std.specs.Prelude.{zero, suc, ◌<◌, ◌||◌, Option, None, Some, Result, Ok, Err, OnErr, take, drop}
 use Rattle.std.specs.Io.KnownBytes.{Appends}
 use Rattle.report.specs.Sending.{Sends, Breaks, breaks_down}
 
@@ -60,3 +60,31 @@ pub pushes : {a b c : Option (List ℕ)} {f g : Bool} {text : List ℕ} (rest le
 pushes {a} {b} {c} {f} {g} {text} rest left n way some bytes failure is =
     let way' : IsUnderWay a b f text (take n rest ++ left) = rw (is, take-append-drop n rest) way in
     goes_on way' (record { bytes = bytes; works = failure ∙ ap (λ h. h || breaks_down {E = Unit {0}} (Ok n) rest) way.works ∙ took_some n rest some })
+
+-- One text and then another: both went out.
+pub both : {a b c : Option (List ℕ)} {f g : Bool} {s t : List ℕ} → Sends a b f s → Sends b c g t → Sends a c g (s ++ t)
+both {a} {b} {c} {f} {g} {s} {t} first second = record { bytes = appends_more a b c s t first.bytes second.bytes; works = second.works }
+
+-- The first one went out, and the other one broke off; or the first one did.
+pub later : {a b c : Option (List ℕ)} {f g : Bool} {s t : List ℕ} → Sends a b f s → Breaks b c g t → Breaks a c g (s ++ t)
+later {a} {b} {c} {f} {g} {s} {t} first second = record {
+  sent = s ++ second.sent;
+  lost = second.lost;
+  beginning = ap (λ xs. s ++ xs) second.beginning ∙ sym (append_assoc s second.sent second.lost);
+  bytes = appends_more a b c s second.sent first.bytes second.bytes;
+  broken = second.broken;
+}
+
+pub sooner : {a b : Option (List ℕ)} {f : Bool} {s : List ℕ} (t : List ℕ) → Breaks a b f s → Breaks a b f (s ++ t)
+sooner {a} {b} {f} {s} t first = record {
+  sent = first.sent;
+  lost = first.lost ++ t;
+  beginning = ap (λ xs. xs ++ t) first.beginning ∙ append_assoc first.sent first.lost t;
+  bytes = first.bytes;
+  broken = first.broken;
+}
+
+-- what is said of an error that is handed on
+pub on_error : {X E B : Type 0} (r : Result X E) → B → OnErr r B
+on_error (Ok x) b = tt
+on_error (Err e) b = b

@@ -45,11 +45,3 @@ member_size (w ∷ ws) (suc i) v within read =
     let h : suc i < suc (length ws) = within in
     let rest = member_size ws i v (omega (arith, h)) read in
     omega (arith, rest)
-
--- a text between two marks, which was put behind what was there
-pub between : (r s t u a b c : List ℕ) → s ≡ r ++ a → t ≡ s ++ b → u ≡ t ++ c → u ≡ r ++ (a ++ (b ++ c))
-between r s t u a b c first second third = rw (third, second, first) (simp append_assoc)
-
--- two texts between two marks
-pub between_both : (r s t u v a b c d : List ℕ) → s ≡ r ++ a → t ≡ s ++ b → u ≡ t ++ c → v ≡ u ++ d → v ≡ r ++ (a ++ (b ++ (c ++ d)))
-between_both r s t u v a b c d first second third fourth = rw (fourth, third, second, first) (simp append_assoc)

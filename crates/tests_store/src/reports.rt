@@ -7,7 +7,7 @@ use crate::scripts::script;
 use crate::texts::outcome;
 use csp_term::{Action, ChannelId, Event, Memory, Script};
 use csp_value::{ConId, SetOf, Value};
-use report::{Buffer, Failed, Sink, push_all, push_each, write};
+use report::{Buffer, Failed, Sink, WriteFault, push_all, push_each, write};
 use smallvec::SmallVec;
 use std::alloc::{AllocError, Allocator, Global};
 use std::process::Abort;
@@ -99,11 +99,12 @@ static CUTS: &[(Given, usize, &str, &str)] = &[
     (Given::Texts(&["ab", "", "cde"]), 5, "abcde", "ok"),
 ];
 
-// Takes one byte a call, and nothing once it has none left to take.
+// Takes one byte a call. Once it has none left to take it takes nothing, or fails.
 #[derive(Drop)]
 struct Narrow<A: Allocator> {
     bytes: Vec<u8, A>,
     left: usize,
+    fails: bool,
     stuck: bool,
 }
 
@@ -118,7 +119,7 @@ impl<A: Allocator> Sink for Narrow<A> {
         };
         if self.left == 0 {
             self.stuck = true;
-            return Ok(0);
+            return if self.fails { Err(Failed) } else { Ok(0) };
         }
         match self.bytes.push(*first) {
             Ok(()) => {
@@ -148,7 +149,7 @@ pub(crate) fn report(
     outcomes: &[Outcome<Global>],
 ) -> Result<String, Fail> {
     let mut sink = Buffer::new(alloc);
-    write(alloc, script, outcomes, &mut sink)?;
+    write(script, outcomes, &mut sink)?;
     Ok(String::from_str(alloc, str::from_utf8(&sink.bytes)?)?)
 }
 
@@ -221,13 +222,14 @@ fn has_values(rt: &impl Abort, alloc: Global, script: &Script<Global>) -> Result
     Ok(())
 }
 
-// A sink that takes so many bytes.
-fn sink_for(alloc: Global, left: usize) -> Narrow<Global>
+// A sink that takes so many bytes, and then fails or takes nothing.
+fn sink_for(alloc: Global, left: usize, fails: bool) -> Narrow<Global>
     ensures { result.stuck ≡ false }
 {
     Narrow {
         bytes: Vec::new(alloc),
         left,
+        fails,
         stuck: false,
     }
 }
@@ -253,7 +255,7 @@ fn give(
     requires { sink.old.stuck ≡ false }
 {
     match given {
-        Given::Report => answer(alloc, write(alloc, script, &[Outcome::Holds], sink)),
+        Given::Report => answer(alloc, write(script, &[Outcome::Holds], sink)),
         Given::Text(text) => answer(alloc, push_all(text.as_bytes(), sink)),
         Given::Texts(texts) => answer(alloc, push_each(texts, sink)),
     }
@@ -261,7 +263,7 @@ fn give(
 
 fn are_cut(rt: &impl Abort, alloc: Global, script: &Script<Global>) -> Result<(), Fail> {
     for (given, left, beginning, expected) in CUTS {
-        let mut sink = sink_for(alloc, *left);
+        let mut sink = sink_for(alloc, *left, false);
         let answer = give(alloc, script, *given, &mut sink)?;
         let is_so = answer.as_str() == *expected && sink.bytes.as_slice() == beginning.as_bytes();
         assert!(rt; is_so, "{left} of {beginning}: {answer}");
@@ -269,10 +271,46 @@ fn are_cut(rt: &impl Abort, alloc: Global, script: &Script<Global>) -> Result<()
     Ok(())
 }
 
+// Whether the report, which has 25 bytes, breaks off behind so many of them in a sink that takes no more.
+fn breaks_off_at(
+    alloc: Global,
+    script: &Script<Global>,
+    left: usize,
+    fails: bool,
+) -> Result<bool, Fail> {
+    let outcomes = [outcome(alloc, "fails <> event a")?];
+    let mut sink = sink_for(alloc, left, fails);
+    let answer = write(script, &outcomes, &mut sink);
+    let expected = if left < 25 {
+        Err(WriteFault::Device)
+    } else {
+        Ok(())
+    };
+    let beginning = b"1 fails trace <> event a\n"
+        .get(..left)
+        .ok_or("a beginning")?;
+    Ok(answer == expected && sink.bytes.as_slice() == beginning)
+}
+
+fn breaks_off_anywhere(
+    rt: &impl Abort,
+    alloc: Global,
+    script: &Script<Global>,
+) -> Result<(), Fail> {
+    for left in 0..26 {
+        for fails in [false, true] {
+            let is_so = breaks_off_at(alloc, script, left, fails)?;
+            assert!(rt; is_so, "behind {left}");
+        }
+    }
+    Ok(())
+}
+
 fn are_so(rt: &impl Abort, alloc: Global, script: &Script<Global>) -> Result<(), Fail> {
     are_reported(rt, alloc, script)?;
     has_values(rt, alloc, script)?;
-    are_cut(rt, alloc, script)
+    are_cut(rt, alloc, script)?;
+    breaks_off_anywhere(rt, alloc, script)
 }
 
 #[test]

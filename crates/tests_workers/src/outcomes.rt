@@ -78,7 +78,7 @@ fn line_by<R: Threads + Wait + Sync, G: Gate>(
     };
     let outcomes = [outcome(alloc, rt, &script, assertion, workers, gate)];
     let mut line = Buffer::new(alloc);
-    write(alloc, &script, &outcomes, &mut line)?;
+    write(&script, &outcomes, &mut line)?;
     Ok(line.bytes)
 }
 

@@ -1,7 +1,6 @@
 use Rattle.std.proofs.Common.{◌≡◌, ◌++◌, ◌+◌, ◌<◌, List, [], ℕ, length, get_or, map, drop, drop-cons, add-one, ap, ◌∙◌, sym, subst}
 use Rattle.std.specs.List.{concat}
-use Rattle.std.specs.Prelude.{Result, Ok, Err, OnErr}
-use Rattle.report.proofs.Sending.{IsUnderWay, goes_on, stops}
+use Rattle.report.proofs.Sending.{IsUnderWay, goes_on, on_error, stops}
 use Rattle.report.proofs.pushing.push_each.Goals as goal
 
 -- the next text stands in front of those behind it
@@ -9,10 +8,6 @@ next_text : {T : Type 0} (f : T → List ℕ) (texts : List T) (i : ℕ) (other 
     concat (map f (drop i texts)) ≡ text ++ concat (map f (drop (i + 1) texts))
 next_text f texts i other text within is =
     rw add-one (ap (λ ts. concat (map f ts)) (drop-cons texts i other within)) ∙ ap (λ t. t ++ concat (map f (drop (i + 1) texts))) (sym is)
-
-on_error : {X E B : Type 0} (r : Result X E) → B → OnErr r B
-on_error (Ok x) b = tt
-on_error (Err e) b = b
 
 pub loop-text-preserved : goal.loop-text-preserved
 loop-text-preserved g c =

@@ -1,12 +1,13 @@
-use Rattle.std.proofs.Common.{◌≡◌, map, ◌++◌}
-use Rattle.std.specs.String.{string_bytes}
+use Rattle.std.proofs.Common.{map, drop}
 use Rattle.csp_answers.specs.Printing.{action_text}
+use Rattle.csp_value.specs.Action.{action_of}
 use Rattle.csp_term.specs.Script.{script_of}
 use Rattle.verdict.specs.Outcome.{trace_left}
 use Rattle.report.proofs.Joining.{following}
+use Rattle.report.proofs.Sending.{IsUnderWay}
 use Rattle.report.proofs.report.push_trace.Given as goal
 
 abbrev pub invariant-loop-action : goal.invariant-loop-action
 invariant-loop-action g l =
-    string_bytes l.text ++ following (map (action_text (script_of l.script)) (trace_left l.action-iterator))
-    ≡ string_bytes l.initial.text ++ following (map (action_text (script_of l.script)) (trace_left l.initial.action-iterator))
+    IsUnderWay (g.S.Sink.taken l.initial.sink) (g.S.Sink.taken l.sink) (g.S.Sink.has_failed l.sink)
+    (following (map (action_text (script_of l.script)) (trace_left l.initial.action-iterator))) (following (map (action_text (script_of l.script)) (trace_left l.action-iterator)))

@@ -1,22 +1,35 @@
-use Rattle.std.proofs.Common.{◌≡◌, ℕ, List, ◌++◌, append_assoc}
-use Rattle.std.proofs.lemmas.Result.{on_ok_weaker}
-use Rattle.std.specs.Prelude.{codes}
-use Rattle.std.specs.String.{string_bytes}
+-- The words, the trace and what is shown go out one after the other.
+use Rattle.std.specs.Prelude.{codes, ◌++◌}
 use Rattle.csp_semantics.specs.Meaning.Runs.{trace}
 use Rattle.csp_answers.specs.Printing.{actions_text, evidence_text}
 use Rattle.csp_term.specs.Script.{script_of}
 use Rattle.verdict.specs.Outcome.{violation_of}
+use Rattle.std.proofs.lemmas.Result.{on_ok_weaker, on_err_weaker}
+use Rattle.report.proofs.Sending.{both, later, sooner, on_error}
 use Rattle.report.proofs.report.push_violation.Goals as goal
 
-in_turn : (r s t u v a b c d : List ℕ) → s ≡ r ++ a → t ≡ s ++ b → u ≡ t ++ c → v ≡ u ++ d → v ≡ r ++ (a ++ (b ++ (c ++ d)))
-in_turn r s t u v a b c d first second third fourth = rw (fourth, third, second, first) (simp append_assoc)
+pub returns-clause-whole : goal.returns-clause-whole
+returns-clause-whole g c =
+    on_ok_weaker c.push_evidence.result (λ last. both c.in_ok-push_all.ensures.whole (both c.in_ok-push_trace.ensures.whole (both c.in_ok-push_all-2.ensures.whole last))) c.push_evidence.ensures.whole
 
-pub returns : goal.returns
-returns g c =
-    let script = script_of c.args.script.now in
+pub returns-clause-beginning : goal.returns-clause-beginning
+returns-clause-beginning g c =
+    on_err_weaker c.push_evidence.result (λ last. later c.in_ok-push_all.ensures.whole (later c.in_ok-push_trace.ensures.whole (later c.in_ok-push_all-2.ensures.whole last))) c.push_evidence.ensures.beginning
+
+pub returns-in_err-push_all-clause-beginning : goal.returns-in_err-push_all-clause-beginning
+returns-in_err-push_all-clause-beginning g c =
     let violation = violation_of c.args.shown.now in
-    on_ok_weaker c.push_evidence.result
-    (in_turn (string_bytes c.args.text.now) (string_bytes c.push_str.new.self) (string_bytes c.push_trace.new.text) (string_bytes c.push_str-2.new.self) (string_bytes c.push_evidence.new.text)
-    (codes "fails trace <") (actions_text script (trace violation.path)) (codes "> ") (evidence_text script violation.evidence)
-    c.in_ok-push_str.ensures.bytes c.in_ok-push_trace.ensures c.in_ok-push_str-2.ensures.bytes)
-    c.push_evidence.ensures
+    let script = script_of c.args.script.now in
+    on_error c.from_residual.result (sooner (actions_text script (trace violation.path) ++ (codes "> " ++ evidence_text script violation.evidence)) c.in_err-push_all.ensures.beginning)
+
+pub returns-in_err-push_trace-clause-beginning : goal.returns-in_err-push_trace-clause-beginning
+returns-in_err-push_trace-clause-beginning g c =
+    let violation = violation_of c.args.shown.now in
+    let script = script_of c.args.script.now in
+    on_error c.from_residual-in_err-push_trace.result (later c.in_ok-push_all.ensures.whole (sooner (codes "> " ++ evidence_text script violation.evidence) c.in_err-push_trace.ensures.beginning))
+
+pub returns-in_err-push_all-2-clause-beginning : goal.returns-in_err-push_all-2-clause-beginning
+returns-in_err-push_all-2-clause-beginning g c =
+    let violation = violation_of c.args.shown.now in
+    let script = script_of c.args.script.now in
+    on_error c.from_residual-in_err-push_all-2.result (later c.in_ok-push_all.ensures.whole (later c.in_ok-push_trace.ensures.whole (sooner (evidence_text script violation.evidence) c.in_err-push_all-2.ensures.beginning)))

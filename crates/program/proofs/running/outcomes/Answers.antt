@@ -1,0 +1,61 @@
+use denote.Param.Send.{sendable}
+use Rattle.std.proofs.Common.{List, map, subst, inl, inr, lit<}
+use Rattle.std.proofs.lemmas.List.{take_all}
+use Rattle.csp_syntax.specs.Process as pure
+use Rattle.csp_term.specs.declared.assertion.Assertion.{Assertion}
+use Rattle.csp_term.specs.Script.{HasSidesOf, assertion_of, script_of}
+use Rattle.pair_store.specs.Bounds.{bounds_of}
+use Rattle.verdict.specs.Outcome.{outcome_of}
+use Rattle.program.specs.Answering.{AreRight}
+use Rattle.program.proofs.Answering.{is_right, one_more_right, sides_at}
+use Rattle.program.proofs.running.outcomes.Goals as goal
+
+pub explore-requires : goal.explore-requires
+explore-requires g c =
+    let script = script_of c.args.script.now in
+    let sides = sides_at assertion_of (HasSidesOf script) script c.assertions-assertion-items.result.now c.loop-assertion.assertion-index c.assertion-item.result c.assertions-assertion-items.ensures.sides c.loop-assertion-test.true c.assertion-item.is
+    (λ b sides. record { specification = sides.0; implementation = sides.1 }) in
+    let sa = c.type_bounds.send-A in
+    let ya = c.type_bounds.sync-A in
+    let sr = c.type_bounds.sync-R in
+    let small = (g.met.A.AllocHandle g.world.𝓛 g.world.𝓜 g.world.𝓡 ((λ s x. x), (λ x. x), (λ x. x), λ x. x)).small in (
+      search sendable depth 20,
+      (
+        search sendable depth 20,
+        (
+          search sendable depth 20,
+          (
+            search sendable depth 20,
+            (
+              c.type_bounds.frees-A-Allocator,
+              (
+                elim small [
+                  | inl e ↦ rw (e.0, e.1) (lit< tt)
+                  | inr e ↦ rw (e.0, e.1) (lit< tt)
+                ],
+                (sides, c.requires),
+              ),
+            ),
+          ),
+        ),
+      ),
+    )
+
+pub loop-assertion-preserved : goal.loop-assertion-preserved
+loop-assertion-preserved g c =
+    let script = script_of c.args.script.now in
+    let a = assertion_of c.assertion-item.result in
+    let bounds = bounds_of c.args.limits in
+    let says = c.explore.ensures in
+    let right = is_right script a bounds (outcome_of c.explore.result) says.answer says.soundly says.denied says.fails says.pairs says.nodes says.term says.fault in
+    one_more_right assertion_of outcome_of script bounds c.assertions-assertion-items.result.now c.loop-assertion.outcomes.items c.push.new.self.items c.loop-assertion.assertion-index
+    c.assertion-item.result c.explore.result c.loop-assertion.invariant c.loop-assertion-test.true c.assertion-item.is c.in_ok-push.ensures.items right
+
+pub returns : goal.returns
+returns g c =
+    let script = script_of c.args.script.now in
+    let items = c.assertions-assertion-items.result.now in
+    let says = map outcome_of c.loop-assertion.outcomes.items in
+    let P : List (Assertion g.row.A.Denot) → Type 0 = λ xs. AreRight script (bounds_of c.args.limits) (map assertion_of xs) says in
+    let Q : List pure.Assertion → Type 0 = λ xs. AreRight script (bounds_of c.args.limits) xs says in
+    subst Q c.assertions-assertion-items.ensures.value (subst P (take_all c.loop-assertion.assertion-index items c.loop-assertion-test.false) c.loop-assertion.invariant)

@@ -1,0 +1,125 @@
+//! Why nothing was answered.
+
+ghost use Rattle.std.specs.Prelude.{◌≡◌, false};
+ghost use Rattle.program.specs.Refusal.{refusal_line, place_line};
+ghost use Rattle.program.specs.Running.{IsGiven};
+
+use csp_kinds::KindFault;
+use csp_lex::{Place, TextFault};
+use csp_parse::GrammarFault;
+use files::Unread;
+use itoa::Buffer;
+use report::{Failed, Sink, push_all, push_each};
+use std::alloc::AllocError;
+
+/// What was refused.
+#[derive(Clone, Copy, Debug, PartialEq, Eq)]
+pub enum Refusal {
+    /// The file cannot be read.
+    File,
+    /// The text has no tokens, by this fault at this place.
+    Text { fault: TextFault, place: Place },
+    /// The tokens are no script, by this fault at this place.
+    Grammar { fault: GrammarFault, place: Place },
+    /// The script has no kinds, or a name of it is wrong, by this fault at this place.
+    Kinds { fault: KindFault, place: Place },
+    /// Memory was refused for the words, the file, the script or the list of outcomes.
+    Memory,
+    /// The report, or the help or the version, could not be written.
+    Output,
+}
+
+/// Gives the line of a refusal to the sink. No memory is taken for it.
+pub(crate) fn push_line<E: Sink>(why: Refusal, sink: &mut E)
+    requires { E.has_failed sink.old ≡ false }
+    ensures { IsGiven (E.taken sink.old) (E.taken sink.new) (E.has_failed sink.new) (refusal_line why) }
+{
+    let _ = match why {
+        Refusal::File => push_all(b"refused file\n", sink),
+        Refusal::Text { fault, place } => push_place(fault.number(), place, sink),
+        Refusal::Grammar { fault, place } => push_place(fault.number(), place, sink),
+        Refusal::Kinds { fault, place } => push_place(fault.number(), place, sink),
+        Refusal::Memory => push_all(b"refused memory\n", sink),
+        Refusal::Output => push_all(b"refused output\n", sink),
+    };
+}
+
+// Gives the line of a refusal that has a place.
+fn push_place<E: Sink>(number: &str, place: Place, sink: &mut E) -> Result<(), Failed>
+    requires { E.has_failed sink.old ≡ false }
+    ensures { IsGiven (E.taken sink.old) (E.taken sink.new) (E.has_failed sink.new) (place_line number.now place) }
+{
+    let (mut line, mut column) = (Buffer::new(), Buffer::new());
+    let texts = [
+        "refused ",
+        number,
+        " at ",
+        line.format(place.line),
+        ":",
+        column.format(place.column),
+        "\n",
+    ];
+    push_each(&texts, sink)
+}
+
+impl From<Unread> for Refusal {
+    ghost use Rattle.program.specs.Refusal.{of_file};
+
+    ghost from_gives = { λ fault why. why ≡ of_file fault };
+
+    fn from(fault: Unread) -> Refusal {
+        match fault {
+            Unread::File => Refusal::File,
+            Unread::Memory => Refusal::Memory,
+        }
+    }
+}
+
+impl From<csp_lex::Refused> for Refusal {
+    ghost use Rattle.program.specs.Refusal.{of_lexer};
+
+    ghost from_gives = { λ refused why. why ≡ of_lexer refused };
+
+    fn from(refused: csp_lex::Refused) -> Refusal {
+        match refused {
+            csp_lex::Refused::Text { fault, place } => Refusal::Text { fault, place },
+            csp_lex::Refused::Memory => Refusal::Memory,
+        }
+    }
+}
+
+impl From<csp_parse::Refused> for Refusal {
+    ghost use Rattle.program.specs.Refusal.{of_parser};
+
+    ghost from_gives = { λ refused why. why ≡ of_parser refused };
+
+    fn from(refused: csp_parse::Refused) -> Refusal {
+        match refused {
+            csp_parse::Refused::Grammar { fault, place } => Refusal::Grammar { fault, place },
+            csp_parse::Refused::Memory => Refusal::Memory,
+        }
+    }
+}
+
+impl From<csp_kinds::Refused> for Refusal {
+    ghost use Rattle.program.specs.Refusal.{of_kinds};
+
+    ghost from_gives = { λ refused why. why ≡ of_kinds refused };
+
+    fn from(refused: csp_kinds::Refused) -> Refusal {
+        match refused {
+            csp_kinds::Refused::Fault { fault, place } => Refusal::Kinds { fault, place },
+            csp_kinds::Refused::Memory => Refusal::Memory,
+        }
+    }
+}
+
+impl From<AllocError> for Refusal {
+    ghost use Rattle.program.specs.declared.refusal.Refusal.TheVariants.{Memory as no_memory};
+
+    ghost from_gives = { λ _ why. why ≡ no_memory };
+
+    fn from(_refused: AllocError) -> Refusal {
+        Refusal::Memory
+    }
+}

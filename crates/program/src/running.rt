@@ -1,0 +1,192 @@
+//! The program, over its words, files and streams.
+
+ghost use Rattle.std.specs.Prelude.{◌≡◌, ◌≤◌, ◌<◌, map, false, IfOk, IfErr, ◌⊎◌};
+ghost use Rattle.csp_term.specs.Script.{script_of};
+ghost use Rattle.pair_store.specs.Bounds.{bounds_of};
+ghost use Rattle.report.specs.Sending.{Sends, Breaks};
+ghost use Rattle.settings.specs.Faults.{AreWrong};
+ghost use Rattle.verdict.specs.Outcome.{outcome_of};
+ghost use Rattle.program.specs.Refusal.{refusal_line};
+ghost use Rattle.program.specs.declared.refusal.Refusal.TheVariants as refusal;
+ghost use Rattle.program.specs.Answering.{AreRight};
+ghost use Rattle.program.specs.Running.{IsCause, IsCheckRefused, IsGiven, IsRefused, IsReported, IsServed, Leaves, limits_of, outcome_status, status_of, texts_of};
+
+use crate::reader;
+use crate::refusal::{Refusal, push_line};
+use csp_term::{AllocHandle, Script};
+use explore::{Open, explore};
+use files::Files;
+use pair_store::Limits;
+use report::{Sink, push_all, write};
+use settings::{CommandLineFault, Settings};
+use std::alloc::{AllocError, Global};
+use std::sync::Wait;
+use std::thread::Threads;
+use verdict::Outcome;
+
+/// The whole program: checks the assertions of the script in the file that the words name, within the limits that they
+/// choose, and gives the report to `out`, or the line of a refusal to `err`. Where the words ask for the help or the
+/// version, this text goes to `out`.
+///
+/// Answers the status: 3 where anything was refused, else 2 where an assertion has no answer within the limits, else 1
+/// where one fails, else 0. The words are looked at first, then the file, the script and the output. A failure of `err`
+/// changes nothing. The words are read with the memory of `command_line`, and all else with that of `alloc`. Workers
+/// are started by `rt`.
+pub fn run<
+    'w,
+    A: AllocHandle + Send + Sync,
+    R: Threads + Wait + Sync,
+    F: Files<A>,
+    O: Sink,
+    E: Sink,
+>(
+    command_line: Global,
+    alloc: A,
+    rt: &R,
+    words: &'w [&'w str],
+    files: &mut F,
+    out: &mut O,
+    err: &mut E,
+) -> u8
+    requires out { O.has_failed out.old ≡ false }
+    requires err { E.has_failed err.old ≡ false }
+    ensures status { result ≤ 3 }
+    ensures served { result < 3 → IsServed (F.may_hold files.old) (texts_of words.entry.now) (O.taken out.old) (O.taken out.new) (O.has_failed out.new) result }
+    ensures silent { result < 3 → err.new ≡ err.old }
+    ensures refused { result ≡ 3 → IsRefused (F.may_hold files.old) (F.may_lack files.old) (texts_of words.entry.now) O.taken O.has_failed out.old out.new (E.taken err.old) (E.taken err.new) (E.has_failed err.new) }
+{
+    match settings::read(command_line, words) {
+        Ok(settings) => check(alloc, rt, &settings, files, out, err),
+        Err(CommandLineFault::Help(text)) => show(text.as_str(), out, err),
+        Err(CommandLineFault::Version(text)) => show(text.as_str(), out, err),
+        Err(CommandLineFault::Refused(text)) => refuse_words(text.as_str(), err),
+        Err(CommandLineFault::Memory) => refuse(Refusal::Memory, err),
+    }
+}
+
+/// Gives the line of a refusal to `err`, and answers its status.
+pub fn refuse<E: Sink>(why: Refusal, err: &mut E) -> u8
+    requires { E.has_failed err.old ≡ false }
+    ensures status { result ≡ 3 }
+    ensures line { IsGiven (E.taken err.old) (E.taken err.new) (E.has_failed err.new) (refusal_line why) }
+{
+    push_line(why, err);
+    3
+}
+
+// Gives what the command line says of wrong words to `err`, and answers the status of a refusal.
+fn refuse_words<E: Sink>(text: &str, err: &mut E) -> u8
+    requires { E.has_failed err.old ≡ false }
+    ensures status { result ≡ 3 }
+    ensures text { IsGiven (E.taken err.old) (E.taken err.new) (E.has_failed err.new) text.now }
+{
+    let _ = push_all(text.as_bytes(), err);
+    3
+}
+
+// Gives a text that the words ask for to `out`.
+fn show<O: Sink, E: Sink>(text: &str, out: &mut O, err: &mut E) -> u8
+    requires out { O.has_failed out.old ≡ false }
+    requires err { E.has_failed err.old ≡ false }
+    ensures status { (result ≡ 0) ⊎ (result ≡ 3) }
+    ensures shown { result ≡ 0 → Sends (O.taken out.old) (O.taken out.new) (O.has_failed out.new) text.now }
+    ensures silent { result ≡ 0 → err.new ≡ err.old }
+    ensures cut { result ≡ 3 → Breaks (O.taken out.old) (O.taken out.new) (O.has_failed out.new) text.now }
+    ensures refused { result ≡ 3 → IsGiven (E.taken err.old) (E.taken err.new) (E.has_failed err.new) (refusal_line refusal.Output) }
+{
+    match push_all(text.as_bytes(), out) {
+        Ok(()) => 0,
+        Err(_) => refuse(Refusal::Output, err),
+    }
+}
+
+// Checks what the settings ask for.
+fn check<A: AllocHandle + Send + Sync, R: Threads + Wait + Sync, F: Files<A>, O: Sink, E: Sink>(
+    alloc: A,
+    rt: &R,
+    settings: &Settings<'_>,
+    files: &mut F,
+    out: &mut O,
+    err: &mut E,
+) -> u8
+    requires out { O.has_failed out.old ≡ false }
+    requires err { E.has_failed err.old ≡ false }
+    ensures status { result ≤ 3 }
+    ensures reported { result < 3 → IsReported (F.may_hold files.old) settings.now.file.now (limits_of settings.now) (O.taken out.old) (O.taken out.new) (O.has_failed out.new) result }
+    ensures silent { result < 3 → err.new ≡ err.old }
+    ensures refused { result ≡ 3 → IsCheckRefused (F.may_hold files.old) (F.may_lack files.old) settings.now.file.now (limits_of settings.now) O.taken O.has_failed out.old out.new (E.taken err.old) (E.taken err.new) (E.has_failed err.new) }
+{
+    match answer(alloc, rt, settings, files, out) {
+        Ok(status) => status,
+        Err(why) => refuse(why, err),
+    }
+}
+
+// Reads, checks and reports. The status is at most 2.
+fn answer<A: AllocHandle + Send + Sync, R: Threads + Wait + Sync, F: Files<A>, O: Sink>(
+    alloc: A,
+    rt: &R,
+    settings: &Settings<'_>,
+    files: &mut F,
+    out: &mut O,
+) -> Result<u8, Refusal>
+    requires { O.has_failed out.old ≡ false }
+    ensures reported { IfOk result (λ status. (status ≤ 2) × IsReported (F.may_hold files.old) settings.now.file.now (limits_of settings.now) (O.taken out.old) (O.taken out.new) (O.has_failed out.new) status) }
+    ensures cause { IfErr result (IsCause (F.may_hold files.old) (F.may_lack files.old) settings.now.file.now) }
+    ensures refused { IfErr result (λ why. Leaves (F.may_hold files.old) settings.now.file.now (limits_of settings.now) why O.taken O.has_failed out.old out.new) }
+{
+    let text = files.read(settings.file)?;
+    let script = reader::read(alloc, &text)?;
+    let limits = limits(settings);
+    let outcomes = outcomes(alloc, rt, &script, limits, settings.workers)?;
+    match write(&script, &outcomes, out) {
+        Ok(()) => Ok(status(&outcomes)),
+        Err(_) => Err(Refusal::Output),
+    }
+}
+
+// The limits of each search. The settings keep them in range.
+fn limits(settings: &Settings<'_>) -> Limits
+    ensures { bounds_of result ≡ limits_of settings.now }
+{
+    Limits::new(settings.max_pairs, settings.max_nodes)
+}
+
+// A right outcome for each assertion, in order, each by so many workers.
+fn outcomes<A: AllocHandle + Send + Sync, R: Threads + Wait + Sync>(
+    alloc: A,
+    rt: &R,
+    script: &Script<A>,
+    limits: Limits,
+    workers: usize,
+) -> Result<Vec<Outcome<A>, A>, AllocError>
+    requires { (1 ≤ workers) × (workers ≤ 64) }
+    ensures { IfOk result (λ outcomes. AreRight (script_of script.now) (bounds_of limits) (script_of script.now).assertions (map outcome_of outcomes.items)) }
+{
+    let mut outcomes = Vec::new(alloc);
+    for assertion in script.assertions() {
+        outcomes.push(explore(alloc, rt, script, assertion, limits, workers, &Open))?;
+    }
+    Ok(outcomes)
+}
+
+// The greatest status of an outcome.
+fn status<A: AllocHandle>(outcomes: &[Outcome<A>]) -> u8
+    ensures { result ≡ status_of (map outcome_of outcomes.now) }
+{
+    let mut status = 0;
+    for outcome in outcomes {
+        status = status.max(status_of_one(outcome));
+    }
+    status
+}
+
+fn status_of_one<A: AllocHandle>(outcome: &Outcome<A>) -> u8
+    ensures { result ≡ outcome_status (outcome_of outcome.now) }
+{
+    match outcome {
+        Outcome::Holds => 0,
+        Outcome::Fails(_) | Outcome::Denied => 1,
+        Outcome::Unknown(_) => 2,
+    }
+}

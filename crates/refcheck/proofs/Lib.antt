@@ -1,5 +1,0 @@
-pub mod Answering
-pub mod Reporting
-pub mod Giving
-pub mod Refusing
-pub mod Serving

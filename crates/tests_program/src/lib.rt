@@ -1,0 +1,34 @@
+//! What runs of the program are seen to print and answer, over texts in memory. What is expected comes from the rules of
+//! the language and of the lines.
+//!
+//! The tests stand in a crate above the libraries, since a crate is proved anew for the tests that it has of its own.
+#![tactic(auto)]
+
+#[cfg(test)]
+mod answers;
+#[cfg(test)]
+mod beginnings;
+#[cfg(test)]
+mod command_lines;
+#[cfg(test)]
+mod endless;
+#[cfg(test)]
+mod examples;
+#[cfg(test)]
+mod full;
+#[cfg(test)]
+mod limits;
+#[cfg(test)]
+mod memory;
+#[cfg(test)]
+mod outcomes;
+#[cfg(test)]
+mod outputs;
+#[cfg(test)]
+mod refusals;
+#[cfg(test)]
+mod rows;
+#[cfg(test)]
+mod runs;
+#[cfg(test)]
+mod tour;
