@@ -6,10 +6,10 @@ use std::process::Abort;
 use std::test::Fail;
 
 /// A part of a text, and how often it stands. In it `$` is replaced by its number, from 0, and `~` by the next number.
-type Piece = (&'static str, u32);
+pub(crate) type Piece = (&'static str, u32);
 
 /// The pieces of a text, and its answer.
-type Long = (&'static [Piece], &'static str);
+pub(crate) type Long = (&'static [Piece], &'static str);
 
 /// What stands before a text that is repeated, how often, and what stands behind it.
 type Level = (&'static str, u32, &'static str);
@@ -271,10 +271,16 @@ fn nested(alloc: Global, inside: &str, levels: &[Level]) -> Result<String, Alloc
     Ok(text)
 }
 
-fn are_answered_so(rt: &impl Abort, alloc: Global, texts: &[Long]) -> Result<(), Fail> {
+/// The answer to the text that is put together of the pieces.
+pub(crate) fn answer_to(alloc: Global, pieces: &[Piece]) -> Result<String, AllocError> {
+    let text = put_together(alloc, pieces)?;
+    answer(alloc, &text)
+}
+
+/// Each of the texts has its answer.
+pub(crate) fn are_answered_so(rt: &impl Abort, alloc: Global, texts: &[Long]) -> Result<(), Fail> {
     for (pieces, expected) in texts {
-        let text = put_together(alloc, pieces)?;
-        let answer = answer(alloc, &text)?;
+        let answer = answer_to(alloc, pieces)?;
         assert!(rt;
             answer.as_str() == *expected,
             "{pieces:?}: {answer} and not {expected}"
