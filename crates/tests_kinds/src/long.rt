@@ -1,12 +1,13 @@
 //! Long texts, which are put together of pieces.
 
 use crate::answers::answer;
+use crate::deep;
 use std::alloc::{AllocError, Global};
 use std::process::Abort;
 use std::test::Fail;
 
 /// A part of a text, and how often it stands. In it `$` is replaced by its number, from 0, and `~` by the next number.
-pub(crate) type Piece = (&'static str, u32);
+type Piece = (&'static str, u32);
 
 /// The pieces of a text, and its answer.
 pub(crate) type Long = (&'static [Piece], &'static str);
@@ -271,16 +272,10 @@ fn nested(alloc: Global, inside: &str, levels: &[Level]) -> Result<String, Alloc
     Ok(text)
 }
 
-/// The answer to the text that is put together of the pieces.
-pub(crate) fn answer_to(alloc: Global, pieces: &[Piece]) -> Result<String, AllocError> {
-    let text = put_together(alloc, pieces)?;
-    answer(alloc, &text)
-}
-
-/// Each of the texts has its answer.
-pub(crate) fn are_answered_so(rt: &impl Abort, alloc: Global, texts: &[Long]) -> Result<(), Fail> {
+fn are_answered_so(rt: &impl Abort, alloc: Global, texts: &[Long]) -> Result<(), Fail> {
     for (pieces, expected) in texts {
-        let answer = answer_to(alloc, pieces)?;
+        let text = put_together(alloc, pieces)?;
+        let answer = answer(alloc, &text)?;
         assert!(rt;
             answer.as_str() == *expected,
             "{pieces:?}: {answer} and not {expected}"
@@ -290,8 +285,8 @@ pub(crate) fn are_answered_so(rt: &impl Abort, alloc: Global, texts: &[Long]) ->
 }
 
 #[test]
-fn long_texts_are_answered_so(rt: HostRuntime) -> Result<(), Fail> {
-    for texts in [&CALLS[..], &ITEMS[..], &SETS[..], &NAMES[..]] {
+fn long_and_deep_texts_are_answered_so(rt: HostRuntime) -> Result<(), Fail> {
+    for texts in [&CALLS[..], &ITEMS[..], &SETS[..], &NAMES[..], deep::texts()] {
         are_answered_so(&rt, rt.alloc(), texts)?;
     }
     for (inside, levels, expected) in &NESTED {

@@ -13,12 +13,16 @@ use csp_value::laws::{
 };
 use csp_value::{Action, ChannelId, ConId, Event, FieldSet, Memory, SetOf, TryCopy, Value};
 use linked_list_allocator::LocalHeap;
+use refusing_memory::RefusesOnce;
 use smallvec::SmallVec;
 use std::alloc::{Allocator, Global};
 use std::cmp::Ordering;
 use std::hash::{DefaultHasher, Hash, Hasher};
 use std::process::Abort;
 use std::test::Fail;
+
+/// A heap of which one request is refused, or none.
+type Sparse<'m, 'h> = &'m RefusesOnce<&'h LocalHeap>;
 
 /// Values of each form, in rising order.
 const VALUES: &[&str] = &[
@@ -419,42 +423,43 @@ fn has_size_and_depth(value: &Value<Global>) -> bool {
         && !value.is_within_depth(2)
 }
 
-/// Whether the copy in the heap is equal.
-fn copies<'h>(heap: &'h LocalHeap, value: &Value<&'h LocalHeap>) -> Result<bool, Memory> {
-    Ok(value.try_copy(heap)? == *value)
+/// Whether the copy in the memory is equal.
+fn copies<'m, 'h>(sparse: Sparse<'m, 'h>, value: &Value<Sparse<'m, 'h>>) -> Result<bool, Memory> {
+    Ok(value.try_copy(sparse)? == *value)
 }
 
-/// Whether a heap of so many bytes has room for a copy, which is then equal.
-fn is_copied_within(rt: &impl Abort, alloc: Global, bytes: usize) -> Result<bool, Fail> {
+/// Whether the copy is granted all that it asks for, and is then equal. Where a request is refused, nothing is held, and
+/// the value is as it was.
+fn is_granted(rt: &impl Abort, alloc: Global, request: u64) -> Result<bool, Fail> {
     let here = LocalHeap::new(alloc, 4096)?;
-    let there = LocalHeap::new(alloc, bytes)?;
-    let value = nested(&here)?;
-    let Ok(is_equal) = copies(&there, &value) else {
-        assert!(rt; there.used() == 0);
+    let there = LocalHeap::new(alloc, 4096)?;
+    let ample = RefusesOnce::new(&here, u64::MAX);
+    let sparse = RefusesOnce::new(&there, request);
+    let value = nested(&ample)?;
+    let Ok(is_equal) = copies(&sparse, &value) else {
+        assert!(rt; sparse.has_refused() && there.used() == 0, "{request}");
+        assert!(rt; value == nested(&ample)?, "{request}");
         return Ok(false);
     };
-    assert!(rt; is_equal);
+    assert!(rt; is_equal && !sparse.has_refused(), "{request}");
     Ok(true)
 }
 
-fn find_room_or_say_so(rt: &impl Abort, alloc: Global) -> Result<(), Fail> {
-    let mut copied = false;
-    let mut refused = false;
-    // Each heap has 16 bytes more than the one before it, and hands out no fewer.
-    for units in 1..128 {
-        if is_copied_within(rt, alloc, 16 * units)? {
-            copied = true;
-        } else {
-            refused = true;
+/// How many requests the copy makes, of which each was refused in turn.
+fn requests_of(rt: &impl Abort, alloc: Global) -> Result<u64, Fail> {
+    for request in 0..128 {
+        if is_granted(rt, alloc, request)? {
+            return Ok(request);
         }
     }
-    assert!(rt; copied && refused);
-    Ok(())
+    Err(Fail::new("requests without end"))
 }
 
 #[test]
 fn values_have_sizes_and_equal_copies(rt: HostRuntime) -> Result<(), Fail> {
     assert!(rt; has_size_and_depth(&nested(rt.alloc())?));
     are_copied_across(&rt, rt.alloc())?;
-    find_room_or_say_so(&rt, rt.alloc())
+    let requests = requests_of(&rt, rt.alloc())?;
+    assert!(rt; requests > 3, "{requests}");
+    Ok(())
 }
