@@ -99,7 +99,8 @@ fn is_granted<'m, 'h>(
 ) -> Result<bool, Fail> {
     let (_, nodes, expected) = *row;
     let sparse = RefusesOnce::new(heap, request);
-    let answer = answer(alloc, &sparse, script, specification(script)?, nodes)?;
+    let specification = specification(script)?;
+    let answer = answer(alloc, &sparse, script, specification, nodes)?;
     let is_told = sparse.has_refused() && answer.as_str() == "N04 out of memory";
     if heap.used() > 0 || (!is_told && answer.as_str() != expected) {
         return Err(Fail::new(format_args!("request {request}: {answer}")));
