@@ -29,11 +29,18 @@ type Sparse<'m, 'h> = &'m RefusesOnce<&'h LocalHeap>;
 /// More requests than any of the lines takes.
 const MANY: u64 = 100_000;
 
-/// The heap of what is tried, and ample memory.
-#[derive(Clone, Copy)]
-struct Room<'m, 'h> {
-    heap: &'h LocalHeap,
-    ample: Sparse<'m, 'h>,
+/// Two heaps, one for what is given and one for what is tried.
+#[derive(Drop)]
+struct Heaps {
+    wide: LocalHeap,
+    narrow: LocalHeap,
+}
+
+/// The wide heap, which grants all requests, and the narrow one, which refuses one.
+#[derive(Drop)]
+struct Memories<'h> {
+    ample: RefusesOnce<&'h LocalHeap>,
+    sparse: RefusesOnce<&'h LocalHeap>,
 }
 
 /// Whether two forms are the same.
@@ -150,7 +157,7 @@ fn is_so<'m, 'h>(
 
 /// Whether the line is so with each request granted. Where one is refused, that is told, or it is so.
 fn is_granted<'m, 'h>(
-    room: Room<'m, 'h>,
+    memories: &'m Memories<'h>,
     script: &Script<Sparse<'m, 'h>>,
     line: Line<'_>,
     number: usize,
@@ -159,30 +166,28 @@ fn is_granted<'m, 'h>(
     let Some(assertion) = assertion_at(script, number) else {
         return Err(Fail::new("no assertion of the line"));
     };
-    let sparse = RefusesOnce::new(room.heap, request);
-    let is_granted = match is_so(&sparse, room.ample, script, line, assertion)? {
-        Some(true) => !sparse.has_refused(),
-        None if sparse.has_refused() => false,
-        _ => return Err(Fail::new(format_args!("request {request}: another answer"))),
-    };
-    if room.heap.used() > 0 {
-        return Err(Fail::new(format_args!("request {request}: bytes are held")));
+    memories.sparse.refuse(request);
+    let is_so = is_so(&memories.sparse, &memories.ample, script, line, assertion)?;
+    let is_refused = memories.sparse.has_refused();
+    if is_so != Some(true) && !(is_refused && is_so.is_none()) {
+        return Err(Fail::new(format_args!("request {request}: another answer")));
     }
-    Ok(is_granted)
+    Ok(!is_refused)
 }
 
 /// How many requests the line makes, of which each was refused in turn.
 fn requests_of<'m, 'h>(
-    room: Room<'m, 'h>,
+    heaps: &'h Heaps,
+    memories: &'m Memories<'h>,
     script: &Script<Sparse<'m, 'h>>,
     before: &Script<Sparse<'m, 'h>>,
     line: Line<'_>,
     number: usize,
 ) -> Result<u64, Fail> {
     for request in 0..MANY {
-        let is_granted = is_granted(room, script, line, number, request)?;
-        if !equal_scripts(script, before) {
-            return Err(Fail::new("another script"));
+        let is_granted = is_granted(memories, script, line, number, request)?;
+        if heaps.narrow.used() > 0 || !equal_scripts(script, before) {
+            return Err(Fail::new(format_args!("request {request}: something is held")));
         }
         if is_granted {
             return Ok(request);
@@ -192,30 +197,39 @@ fn requests_of<'m, 'h>(
 }
 
 /// Each line makes requests, and each is refused in turn.
-fn try_all(
+fn try_all<'m, 'h>(
     rt: &impl Abort,
     alloc: Global,
-    room: Room<'_, '_>,
+    heaps: &'h Heaps,
+    memories: &'m Memories<'h>,
     lines: &[Line<'_>],
 ) -> Result<(), Fail> {
-    let script = script(alloc, room.ample, lines)?;
-    let before = script.try_copy(room.ample)?;
+    let script = script(alloc, &memories.ample, lines)?;
+    let before = script.try_copy(&memories.ample)?;
     for (number, line) in lines.iter().enumerate() {
-        let requests = requests_of(room, &script, &before, *line, number)?;
+        let requests = requests_of(heaps, memories, &script, &before, *line, number)?;
         assert!(rt; requests > 0, "{} = {}", line.word, line.said);
     }
     Ok(())
 }
 
+fn try_in<'h>(
+    rt: &impl Abort,
+    alloc: Global,
+    heaps: &'h Heaps,
+    lines: &[Line<'_>],
+) -> Result<(), Fail> {
+    let memories = Memories {
+        ample: RefusesOnce::new(&heaps.wide, u64::MAX),
+        sparse: RefusesOnce::new(&heaps.narrow, 0),
+    };
+    try_all(rt, alloc, heaps, &memories, lines)
+}
+
 #[test]
 fn refused_memory_is_told(rt: HostRuntime) -> Result<(), Fail> {
     let wide = LocalHeap::new(rt.alloc(), 4_194_304)?;
-    let heap = LocalHeap::new(rt.alloc(), 65_536)?;
-    let ample = RefusesOnce::new(&wide, u64::MAX);
-    let room = Room {
-        heap: &heap,
-        ample: &ample,
-    };
+    let narrow = LocalHeap::new(rt.alloc(), 65_536)?;
     let lines = lines(rt.alloc(), samples::TEXT)?;
-    try_all(&rt, rt.alloc(), room, &lines)
+    try_in(&rt, rt.alloc(), &Heaps { wide, narrow }, &lines)
 }

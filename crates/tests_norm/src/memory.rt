@@ -63,6 +63,13 @@ struct Heaps {
     narrow: LocalHeap,
 }
 
+/// The wide heap, which grants all requests, and the narrow one, which refuses one.
+#[derive(Drop)]
+struct Memories<'h> {
+    ample: RefusesOnce<&'h LocalHeap>,
+    sparse: RefusesOnce<&'h LocalHeap>,
+}
+
 /// The script of the tokens, in the heap.
 fn script<'m, 'h>(
     ample: Sparse<'m, 'h>,
@@ -92,42 +99,55 @@ fn answer<'m, 'h>(
 /// the answer is the same.
 fn is_granted<'m, 'h>(
     alloc: Global,
-    heap: &'h LocalHeap,
+    sparse: Sparse<'m, 'h>,
     script: &Script<Sparse<'m, 'h>>,
     row: &Row,
     request: u64,
 ) -> Result<bool, Fail> {
     let (_, nodes, expected) = *row;
-    let sparse = RefusesOnce::new(heap, request);
     let specification = specification(script)?;
-    let answer = answer(alloc, &sparse, script, specification, nodes)?;
+    sparse.refuse(request);
+    let answer = answer(alloc, sparse, script, specification, nodes)?;
     let is_told = sparse.has_refused() && answer.as_str() == "N04 out of memory";
-    if heap.used() > 0 || (!is_told && answer.as_str() != expected) {
+    if !is_told && answer.as_str() != expected {
         return Err(Fail::new(format_args!("request {request}: {answer}")));
     }
     Ok(!sparse.has_refused())
 }
 
 /// How many requests the normal form makes, of which each was refused in turn.
-fn requests_in<'h>(
+fn requests_with<'m, 'h>(
     alloc: Global,
     heaps: &'h Heaps,
+    memories: &'m Memories<'h>,
     list: &TokenList<'_, Global>,
     row: &Row,
 ) -> Result<u64, Fail> {
-    let ample = RefusesOnce::new(&heaps.wide, u64::MAX);
-    let script = script(&ample, list)?;
-    let before = script.try_copy(&ample)?;
+    let script = script(&memories.ample, list)?;
+    let before = script.try_copy(&memories.ample)?;
     for request in 0..MANY {
-        let is_granted = is_granted(alloc, &heaps.narrow, &script, row, request)?;
-        if !equal_scripts(&script, &before) {
-            return Err(Fail::new("another script"));
+        let is_granted = is_granted(alloc, &memories.sparse, &script, row, request)?;
+        if heaps.narrow.used() > 0 || !equal_scripts(&script, &before) {
+            return Err(Fail::new(format_args!("request {request}: something is held")));
         }
         if is_granted {
             return Ok(request);
         }
     }
     Err(Fail::new("requests without end"))
+}
+
+fn requests_in<'h>(
+    alloc: Global,
+    heaps: &'h Heaps,
+    list: &TokenList<'_, Global>,
+    row: &Row,
+) -> Result<u64, Fail> {
+    let memories = Memories {
+        ample: RefusesOnce::new(&heaps.wide, u64::MAX),
+        sparse: RefusesOnce::new(&heaps.narrow, 0),
+    };
+    requests_with(alloc, heaps, &memories, list, row)
 }
 
 fn requests_of(alloc: Global, row: &Row) -> Result<u64, Fail> {

@@ -428,31 +428,56 @@ fn copies<'m, 'h>(sparse: Sparse<'m, 'h>, value: &Value<Sparse<'m, 'h>>) -> Resu
     Ok(value.try_copy(sparse)? == *value)
 }
 
-/// Whether the copy is granted all that it asks for, and is then equal. Where a request is refused, nothing is held, and
-/// the value is as it was.
-fn is_granted(rt: &impl Abort, alloc: Global, request: u64) -> Result<bool, Fail> {
-    let here = LocalHeap::new(alloc, 4096)?;
-    let there = LocalHeap::new(alloc, 4096)?;
-    let ample = RefusesOnce::new(&here, u64::MAX);
-    let sparse = RefusesOnce::new(&there, request);
-    let value = nested(&ample)?;
-    let Ok(is_equal) = copies(&sparse, &value) else {
-        assert!(rt; sparse.has_refused() && there.used() == 0, "{request}");
-        assert!(rt; value == nested(&ample)?, "{request}");
-        return Ok(false);
-    };
-    assert!(rt; is_equal && !sparse.has_refused(), "{request}");
-    Ok(true)
+/// Memory that grants all, and memory of which a request is refused.
+#[derive(Drop)]
+struct Memories<'h> {
+    ample: RefusesOnce<&'h LocalHeap>,
+    sparse: RefusesOnce<&'h LocalHeap>,
 }
 
-/// How many requests the copy makes, of which each was refused in turn.
-fn requests_of(rt: &impl Abort, alloc: Global) -> Result<u64, Fail> {
+/// Whether the copy of the value is granted all that it asks for, and is then equal.
+fn is_granted<'m, 'h>(
+    rt: &impl Abort,
+    sparse: Sparse<'m, 'h>,
+    value: &Value<Sparse<'m, 'h>>,
+    request: u64,
+) -> bool {
+    sparse.refuse(request);
+    let Ok(is_equal) = copies(sparse, value) else {
+        assert!(rt; sparse.has_refused(), "{request}");
+        return false;
+    };
+    assert!(rt; is_equal && !sparse.has_refused(), "{request}");
+    true
+}
+
+/// How many requests the copy makes, of which each was refused in turn. Then nothing is held, and the value is as it
+/// was.
+fn requests_in<'m, 'h>(
+    rt: &impl Abort,
+    heap: &'h LocalHeap,
+    memories: &'m Memories<'h>,
+) -> Result<u64, Fail> {
+    let value = nested(&memories.ample)?;
+    let before = nested(&memories.ample)?;
     for request in 0..128 {
-        if is_granted(rt, alloc, request)? {
+        let is_granted = is_granted(rt, &memories.sparse, &value, request);
+        assert!(rt; heap.used() == 0 && value == before, "{request}");
+        if is_granted {
             return Ok(request);
         }
     }
     Err(Fail::new("requests without end"))
+}
+
+fn requests_of(rt: &impl Abort, alloc: Global) -> Result<u64, Fail> {
+    let here = LocalHeap::new(alloc, 4096)?;
+    let there = LocalHeap::new(alloc, 4096)?;
+    let memories = Memories {
+        ample: RefusesOnce::new(&here, u64::MAX),
+        sparse: RefusesOnce::new(&there, 0),
+    };
+    requests_in(rt, &there, &memories)
 }
 
 #[test]
