@@ -19,8 +19,6 @@ mod constructors;
 #[cfg(test)]
 mod copies;
 #[cfg(test)]
-mod counts;
-#[cfg(test)]
 mod decisions;
 #[cfg(test)]
 mod events_changed;
@@ -29,9 +27,9 @@ mod faults;
 #[cfg(test)]
 mod limits;
 mod literals;
-#[cfg(test)]
-mod little_room;
 mod lookups;
+#[cfg(test)]
+mod memory;
 #[cfg(test)]
 mod numbers;
 mod opened;

@@ -7,8 +7,6 @@
 #[cfg(test)]
 mod answers;
 #[cfg(test)]
-mod arena;
-#[cfg(test)]
 mod chains;
 #[cfg(test)]
 mod divergence;

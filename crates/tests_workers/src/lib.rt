@@ -1,7 +1,9 @@
 //! What searches by several workers are seen to do: that each worker goes on while another is held, that the answer is
-//! the same in whichever order they put, and what one worker posts.
+//! the same in whichever order they put, what one worker posts, and how workers and boards end that are refused memory.
 #![tactic(auto)]
 
+#[cfg(test)]
+mod boards;
 #[cfg(test)]
 mod gates;
 mod held;

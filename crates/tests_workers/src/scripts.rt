@@ -4,7 +4,7 @@ use csp_kinds::check;
 use csp_lex::tokens;
 use csp_parse::parse;
 use csp_term::Script;
-use std::alloc::Global;
+use std::alloc::Allocator;
 use std::test::Fail;
 
 /// Two copiers in a chain are a buffer with two places.
@@ -43,14 +43,14 @@ R = c?x -> R
 assert R [T= c?x -> d!x -> STOP
 ";
 
-/// The second level has seventy rows.
+/// The second level has seventy rows, and so has the third.
 pub(crate) const SEVENTY_ROWS: &str = "channel c, d : {0..69}
 R = (c?x -> R) [] (d?x -> R)
-assert R [T= c?x -> d!x -> STOP
+assert R [T= c?x -> d!x -> c!x -> STOP
 ";
 
 /// The script of the text.
-pub(crate) fn script(alloc: Global, text: &str) -> Result<Script<Global>, Fail> {
+pub(crate) fn script<A: Allocator + Copy>(alloc: A, text: &str) -> Result<Script<A>, Fail> {
     let list = tokens(alloc, text.as_bytes())?;
     let raw = parse(alloc, &list)?;
     Ok(check(alloc, &raw)?)
