@@ -15,10 +15,10 @@ use Rattle.program.specs.declared.refusal.Refusal.TheVariants as refusal
 
 -- a beginning that is short enough for a script is the whole text
 pub whole : {held : List ℕ → Type 0} (bytes : List ℕ) → IsBeginning held bytes → length bytes ≤ 65536 → held bytes
-whole {held} bytes read short =
-    let size : length bytes ≡ min 65537 (length read.text) = ap length read.is ∙ length-take 65537 read.text in
-    let few : length read.text ≤ 65537 = omega (arith, size, short) in
-    subst held (sym (read.is ∙ take_all 65537 read.text few)) read.held
+whole {held} bytes begins short =
+    let size : length bytes ≡ min 65537 (length begins.text) = ap length begins.is ∙ length-take 65537 begins.text in
+    let few : length begins.text ≤ 65537 = omega (arith, size, short) in
+    subst held (sym (begins.is ∙ take_all 65537 begins.text few)) begins.held
 
 -- the tokens of a text are those of a short one
 short_of_read : (bytes : List ℕ) (raw : RawScript) → IsRead bytes raw → length bytes ≤ 65536
@@ -38,7 +38,7 @@ text_refused bytes f p begins (long_text long) =
     let size : length bytes ≡ min 65537 (length begins.text) = ap length begins.is ∙ length-take 65537 begins.text in
     (begins.text, begins.held, long_text (omega (arith, size, long)))
 text_refused bytes f p begins (not_utf8 n short valid) = (bytes, whole bytes begins short, not_utf8 n short valid)
-text_refused bytes f p begins (here before left tokens f short are divided refused) = (bytes, whole bytes begins short, here before left tokens f short are divided refused)
+text_refused bytes f p begins (here before left tokens fault short are divided refused) = (bytes, whole bytes begins short, here before left tokens fault short are divided refused)
 
 -- a refusal of the grammar, or of names and kinds, is one of a short text
 grammar_refused : {held : List ℕ → Type 0} (bytes : List ℕ) (f : ReadingFault) (p : Place) → IsBeginning held bytes → IsReadingRefusal bytes f p → (text : List ℕ) × held text × IsReadingRefusal text f p
