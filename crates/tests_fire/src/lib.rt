@@ -10,6 +10,7 @@
 mod assertion_at;
 #[cfg(test)]
 mod calls;
+mod chained;
 #[cfg(test)]
 mod choices;
 #[cfg(test)]
@@ -20,6 +21,8 @@ mod constructors;
 mod copies;
 #[cfg(test)]
 mod decisions;
+#[cfg(test)]
+mod deep_calls;
 #[cfg(test)]
 mod events_changed;
 #[cfg(test)]

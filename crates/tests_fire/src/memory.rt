@@ -230,6 +230,7 @@ fn try_in<'h>(
 fn refused_memory_is_told(rt: HostRuntime) -> Result<(), Fail> {
     let wide = LocalHeap::new(rt.alloc(), 4_194_304)?;
     let narrow = LocalHeap::new(rt.alloc(), 65_536)?;
+    let heaps = Heaps { wide, narrow };
     let lines = lines(rt.alloc(), samples::TEXT)?;
-    try_in(&rt, rt.alloc(), &Heaps { wide, narrow }, &lines)
+    try_in(&rt, rt.alloc(), &heaps, &lines)
 }
