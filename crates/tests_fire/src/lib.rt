@@ -10,7 +10,6 @@
 mod assertion_at;
 #[cfg(test)]
 mod calls;
-mod chained;
 #[cfg(test)]
 mod choices;
 #[cfg(test)]
@@ -20,9 +19,9 @@ mod constructors;
 #[cfg(test)]
 mod copies;
 #[cfg(test)]
-mod decisions;
+mod counts;
 #[cfg(test)]
-mod deep_calls;
+mod decisions;
 #[cfg(test)]
 mod events_changed;
 #[cfg(test)]
@@ -30,9 +29,9 @@ mod faults;
 #[cfg(test)]
 mod limits;
 mod literals;
-mod lookups;
 #[cfg(test)]
-mod memory;
+mod little_room;
+mod lookups;
 #[cfg(test)]
 mod numbers;
 mod opened;
@@ -46,6 +45,8 @@ mod prefixes;
 mod puts;
 #[cfg(test)]
 mod replicated;
+#[cfg(test)]
+mod requests;
 #[cfg(test)]
 mod rows;
 #[cfg(test)]
