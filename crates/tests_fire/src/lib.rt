@@ -19,6 +19,8 @@ mod constructors;
 #[cfg(test)]
 mod copies;
 #[cfg(test)]
+mod counts;
+#[cfg(test)]
 mod decisions;
 #[cfg(test)]
 mod events_changed;
@@ -27,9 +29,9 @@ mod faults;
 #[cfg(test)]
 mod limits;
 mod literals;
-mod lookups;
 #[cfg(test)]
-mod memory;
+mod little_room;
+mod lookups;
 #[cfg(test)]
 mod numbers;
 mod opened;
@@ -43,6 +45,8 @@ mod prefixes;
 mod puts;
 #[cfg(test)]
 mod replicated;
+#[cfg(test)]
+mod requests;
 #[cfg(test)]
 mod rows;
 #[cfg(test)]

@@ -1,168 +1,80 @@
-//! Normal forms that are made with each request for memory refused in turn: at the first of them, then at the second,
-//! until none is refused. That is told, or the answer is the one with ample memory. Then nothing is held, and the script
-//! with its specification is as it was.
-
-ghost use Rattle.csp_semantics.specs.Kinds.Scripts.{IsTermOf};
-ghost use Rattle.csp_term.specs.Script.{script_of};
-ghost use Rattle.csp_term.specs.Term.{process_of};
+//! Normal forms in heaps of more and more bytes, in steps of 32: memory is refused ever later, and then not at all.
 
 use crate::specifications::specification;
 use csp_kinds::check;
 use csp_lex::{TokenList, tokens};
-use csp_norm::normalise;
+use csp_norm::{NormFault, normalise};
 use csp_parse::parse;
-use csp_term::laws::equal_scripts;
-use csp_term::{Script, Term, TryCopy};
+use csp_term::Script;
 use linked_list_allocator::LocalHeap;
-use refusing_memory::RefusesOnce;
-use std::alloc::{AllocError, Global};
+use std::alloc::Global;
 use std::test::Fail;
 
-/// A heap of which one request is refused, or none.
-type Sparse<'m, 'h> = &'m RefusesOnce<&'h LocalHeap>;
+/// A specification with three nodes, of which one has two states.
+const TEXT: &str = "channel a, b, c\nassert (a -> b -> STOP) [] (a -> c -> STOP) [T= STOP\n";
 
-/// A text, how many nodes its specification may have, and how many it has, or why it has no normal form.
-type Row = (&'static str, usize, &'static str);
-
-static ROWS: [Row; 6] = [
-    (
-        "channel a, b, c\nassert (a -> b -> STOP) [] (a -> c -> STOP) [T= STOP",
-        10,
-        "3 nodes",
-    ),
-    (
-        "channel a, b\nP = a -> P |~| b -> SKIP\nassert P \\ {b} [F= STOP",
-        10,
-        "2 nodes",
-    ),
-    ("assert SKIP [F= STOP", 10, "2 nodes"),
-    (
-        "channel a, b, c\nassert (a -> b -> STOP) [] (a -> c -> STOP) [T= STOP",
-        2,
-        "N01 nodes",
-    ),
-    (
-        "channel a\nchannel d : {0..1}\nassert a -> d!2 -> STOP [T= STOP",
-        10,
-        "N02 fault range",
-    ),
-    (
-        "channel a\nassert a -> (|~| x:{0..257} @ STOP) [T= STOP",
-        10,
-        "N03 a term too large",
-    ),
-];
-
-/// More requests than any of these normal forms takes.
-const MANY: u64 = 100_000;
-
-/// Two heaps, one for what is given and one for the normal form.
+/// Two heaps, of which one has room for all.
 #[derive(Drop)]
 struct Heaps {
     wide: LocalHeap,
     narrow: LocalHeap,
 }
 
-/// The wide heap, which grants all requests, and the narrow one, which refuses one.
-#[derive(Drop)]
-struct Memories<'h> {
-    ample: RefusesOnce<&'h LocalHeap>,
-    sparse: RefusesOnce<&'h LocalHeap>,
-}
-
 /// The script of the tokens, in the heap.
-fn script<'m, 'h>(
-    ample: Sparse<'m, 'h>,
+fn script<'h>(
+    heap: &'h LocalHeap,
     list: &TokenList<'_, Global>,
-) -> Result<Script<Sparse<'m, 'h>>, Fail> {
-    let raw = parse(ample, list)?;
-    Ok(check(ample, &raw)?)
-}
-
-/// How many nodes the specification has, or why it has no normal form.
-fn answer<'m, 'h>(
-    alloc: Global,
-    memory: Sparse<'m, 'h>,
-    script: &Script<Sparse<'m, 'h>>,
-    specification: &Term<Sparse<'m, 'h>>,
-    nodes: usize,
-) -> Result<String, AllocError>
-    requires { IsTermOf (script_of script.now) (process_of specification.now) }
-{
-    match normalise(memory, script, specification, nodes) {
-        Ok(normal) => format!(in alloc; "{} nodes", normal.nodes()),
-        Err(fault) => format!(in alloc; "{fault}"),
-    }
-}
-
-/// Whether the specification is answered as expected with each request granted. Where one is refused, that is told, or
-/// the answer is the same.
-fn is_granted<'m, 'h>(
-    alloc: Global,
-    sparse: Sparse<'m, 'h>,
-    script: &Script<Sparse<'m, 'h>>,
-    row: &Row,
-    request: u64,
-) -> Result<bool, Fail> {
-    let (_, nodes, expected) = *row;
-    let specification = specification(script)?;
-    sparse.refuse(request);
-    let answer = answer(alloc, sparse, script, specification, nodes)?;
-    let is_told = sparse.has_refused() && answer.as_str() == "N04 out of memory";
-    if !is_told && answer.as_str() != expected {
-        return Err(Fail::new(format_args!("request {request}: {answer}")));
-    }
-    Ok(!sparse.has_refused())
-}
-
-/// How many requests the normal form makes, of which each was refused in turn.
-fn requests_with<'m, 'h>(
-    alloc: Global,
-    heaps: &'h Heaps,
-    memories: &'m Memories<'h>,
-    list: &TokenList<'_, Global>,
-    row: &Row,
-) -> Result<u64, Fail> {
-    let script = script(&memories.ample, list)?;
-    let before = script.try_copy(&memories.ample)?;
-    for request in 0..MANY {
-        let is_granted = is_granted(alloc, &memories.sparse, &script, row, request)?;
-        if heaps.narrow.used() > 0 || !equal_scripts(&script, &before) {
-            return Err(Fail::new(format_args!("request {request}: something is held")));
-        }
-        if is_granted {
-            return Ok(request);
-        }
-    }
-    Err(Fail::new("requests without end"))
-}
-
-fn requests_in<'h>(
-    alloc: Global,
-    heaps: &'h Heaps,
-    list: &TokenList<'_, Global>,
-    row: &Row,
-) -> Result<u64, Fail> {
-    let memories = Memories {
-        ample: RefusesOnce::new(&heaps.wide, u64::MAX),
-        sparse: RefusesOnce::new(&heaps.narrow, 0),
+) -> Result<Script<&'h LocalHeap>, Fail> {
+    let Ok(raw) = parse(heap, list) else {
+        return Err(Fail::new("no tree"));
     };
-    requests_with(alloc, heaps, &memories, list, row)
+    match check(heap, &raw) {
+        Ok(script) => Ok(script),
+        Err(_) => Err(Fail::new("no script")),
+    }
 }
 
-fn requests_of(alloc: Global, row: &Row) -> Result<u64, Fail> {
-    let list = tokens(alloc, row.0.as_bytes())?;
-    let wide = LocalHeap::new(alloc, 262_144)?;
-    let narrow = LocalHeap::new(alloc, 1_048_576)?;
+/// How many nodes the specification has, none where the heap has no room for its normal form, and is empty again.
+fn nodes_of<'h>(
+    heap: &'h LocalHeap,
+    script: &Script<&'h LocalHeap>,
+) -> Result<Option<usize>, Fail> {
+    let specification = specification(script)?;
+    match normalise(heap, script, specification, 10) {
+        Ok(normal) => Ok(Some(normal.nodes())),
+        Err(NormFault::Memory) if heap.used() == 0 => Ok(None),
+        Err(NormFault::Memory) => Err(Fail::new("bytes are held")),
+        Err(_) => Err(Fail::new("another fault")),
+    }
+}
+
+/// Whether the narrow heap has room for the normal form; there the nodes are three.
+fn has_room_in<'h>(heaps: &'h Heaps, list: &TokenList<'_, Global>) -> Result<bool, Fail> {
+    let script = script(&heaps.wide, list)?;
+    match nodes_of(&heaps.narrow, &script)? {
+        Some(3) => Ok(true),
+        Some(_) => Err(Fail::new("another number of nodes")),
+        None => Ok(false),
+    }
+}
+
+/// Whether there is room in so many bytes.
+fn has_room(alloc: Global, list: &TokenList<'_, Global>, bytes: usize) -> Result<bool, Fail> {
+    let wide = LocalHeap::new(alloc, 65_536)?;
+    let narrow = LocalHeap::new(alloc, bytes)?;
     let heaps = Heaps { wide, narrow };
-    requests_in(alloc, &heaps, &list, row)
+    has_room_in(&heaps, list)
 }
 
 #[test]
-fn refused_memory_is_told(rt: HostRuntime) -> Result<(), Fail> {
-    for row in &ROWS {
-        let requests = requests_of(rt.alloc(), row)?;
-        assert!(rt; requests > 5, "{}: {requests}", row.0);
+fn a_form_that_finds_no_room_says_so(rt: HostRuntime) -> Result<(), Fail> {
+    let list = tokens(rt.alloc(), TEXT.as_bytes())?;
+    let mut with_room: u32 = 0;
+    for size in 1..512 {
+        if has_room(rt.alloc(), &list, size * 32)? {
+            with_room = with_room.saturating_add(1);
+        }
     }
+    assert!(rt; with_room > 20 && with_room < 490, "{with_room}");
     Ok(())
 }
