@@ -1,6 +1,15 @@
 -- What is seen of a step, by its origin.
 use Rattle.csp_syntax.specs.Value.{Action, Tau, Tick, Ev}
-use Rattle.csp_origins.specs.Origin.{Origin, Does, Ends, Unfolds, Chooses, Slides, OnSide, InBody, InChain, Together, SideEnds, Hides, Renames}
+use Rattle.csp_origins.specs.Origin.{Passage, OnSide, InBody, InChain, SideEnds, Hides, Renames, Origin, Does, Ends, Unfolds, Chooses, Slides, Below, Together}
+
+-- the action that a part's action becomes on the way up
+abbrev pub action_above : Passage → Action → Action
+action_above (OnSide side) x = x
+action_above InBody x = x
+action_above InChain x = x
+action_above (SideEnds side) x = Tau
+action_above (Hides e) x = Tau
+action_above (Renames e f) x = Ev f
 
 -- the action of the steps from this origin
 abbrev pub action_of : Origin → Action
@@ -9,10 +18,5 @@ action_of Ends = Tick
 action_of (Unfolds n) = Tau
 action_of (Chooses side) = Tau
 action_of Slides = Tau
-action_of (OnSide side o) = action_of o
-action_of (InBody o) = action_of o
-action_of (InChain o) = action_of o
+action_of (Below passage o) = action_above passage (action_of o)
 action_of (Together left right) = action_of left
-action_of (SideEnds side o) = Tau
-action_of (Hides e o) = Tau
-action_of (Renames e f o) = Ev f

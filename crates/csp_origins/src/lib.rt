@@ -11,7 +11,7 @@ ghost use Rattle.csp_syntax.specs.Expression.{no_expressions};
 ghost use Rattle.csp_syntax.specs.Process.{Process, Stop, Skip, Omega, Call, Sequential, InternalChoice, SlidingChoice, Script};
 ghost use Rattle.csp_semantics.specs.Meaning.Transitions.{RuleStep};
 ghost use Rattle.csp_semantics.specs.Laws.Terms.{letters, digits, letter, a_stop, looping, choice_of_calls};
-ghost use Rattle.csp_origins.specs.Origin.{Left, Right, Origin, Does, Ends, Unfolds, Chooses, Slides, OnSide, InChain, Together, SideEnds, Hides, Renames, ComesFrom};
+ghost use Rattle.csp_origins.specs.Origin.{Left, Right, OnSide, InChain, SideEnds, Hides, Renames, Origin, Does, Ends, Unfolds, Chooses, Slides, Below, Together, ComesFrom};
 ghost use Rattle.csp_origins.specs.Action.{action_of};
 ghost use Rattle.csp_origins.specs.Worked.{event, without, b_for_a, a_together, may_slide, first_two, third};
 
@@ -39,18 +39,18 @@ pub fn ticks_lead_to_the_end()
 /// `|~| x:{0..2} @ P(x)`, which is `(P(0) |~| P(1)) |~| P(2)`.
 pub fn origins_of_taus()
     ensures unfolds { ComesFrom looping (Call 0 no_expressions) Tau (Call 0 no_expressions) (Unfolds 0) }
-    ensures ends { ComesFrom (letters []) (Sequential Skip Stop) Tau Stop (SideEnds Left Ends) }
+    ensures ends { ComesFrom (letters []) (Sequential Skip Stop) Tau Stop (Below (SideEnds Left) Ends) }
     ensures slides { ComesFrom (letters []) may_slide Tau a_stop Slides }
-    ensures stays { ComesFrom (letters []) may_slide Tau (SlidingChoice Stop a_stop) (OnSide Left (Chooses Right)) }
-    ensures first { ComesFrom digits choice_of_calls Tau first_two (InChain (Chooses Left)) }
-    ensures last { ComesFrom digits choice_of_calls Tau third (InChain (Chooses Right)) }
+    ensures stays { ComesFrom (letters []) may_slide Tau (SlidingChoice Stop a_stop) (Below (OnSide Left) (Chooses Right)) }
+    ensures first { ComesFrom digits choice_of_calls Tau first_two (Below InChain (Chooses Left)) }
+    ensures last { ComesFrom digits choice_of_calls Tau third (Below InChain (Chooses Right)) }
 {}
 
 /// The origins of the steps of `(a -> STOP) \ {a}`, of `((a -> STOP)[[a <- b]]) \ {b}`, and of
 /// `(a -> STOP) [| {a} |] (a -> STOP)`.
 pub fn origins_of_events()
-    ensures hidden { ComesFrom (letters []) (without 0 a_stop) Tau (without 0 Stop) (Hides (event 0) (Does (event 0))) }
-    ensures renamed { ComesFrom (letters []) (without 1 (b_for_a a_stop)) Tau (without 1 (b_for_a Stop)) (Hides (event 1) (Renames (event 0) (event 1) (Does (event 0)))) }
+    ensures hidden { ComesFrom (letters []) (without 0 a_stop) Tau (without 0 Stop) (Below (Hides (event 0)) (Does (event 0))) }
+    ensures renamed { ComesFrom (letters []) (without 1 (b_for_a a_stop)) Tau (without 1 (b_for_a Stop)) (Below (Hides (event 1)) (Below (Renames (event 0) (event 1)) (Does (event 0)))) }
     ensures together { ComesFrom (letters []) (a_together a_stop a_stop) (letter 0) (a_together Stop Stop) (Together (Does (event 0)) (Does (event 0))) }
 {}
 
