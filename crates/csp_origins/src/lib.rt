@@ -25,7 +25,7 @@ pub fn steps_have_origins()
     ensures { (script : Script) (p : Process) (x : Action) (t : Process) → RuleStep script p x t → (o : Origin) × ComesFrom script p x t o }
 {}
 
-/// An origin tells the action of its steps. So where it is a hidden event, that is what the part below does.
+/// An origin tells the action of its steps.
 pub fn origins_tell_actions()
     ensures { (script : Script) (p : Process) (x : Action) (t : Process) (o : Origin) → ComesFrom script p x t o → action_of o ≡ x }
 {}
