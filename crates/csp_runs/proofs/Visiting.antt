@@ -1,12 +1,12 @@
 -- The states on the way of a path.
-use Rattle.std.proofs.Common.{◌≡◌, ◌≢◌, ℕ, zero, suc, List, [], ◌∷◌, slice_get, Some, take, refl, sym, ◌∙◌, ap, subst, inl, inr}
+use Rattle.std.proofs.Common.{◌≡◌, ◌≢◌, zero, suc, List, [], ◌∷◌, slice_get, Some, take, refl, sym, ◌∙◌, ap, subst}
 use Rattle.csp_syntax.specs.Value.{Action}
-use Rattle.csp_syntax.specs.Process.{Process, Model, Traces, Failures, Property, RefinementOf, DeadlockFree, DivergenceFree, Assertion, Script}
+use Rattle.csp_syntax.specs.Process.{Process, Traces, Failures, Property, RefinementOf, DeadlockFree, DivergenceFree, Assertion, Script}
 use Rattle.csp_syntax.proofs.Places.{get_only}
 use Rattle.csp_semantics.specs.Meaning.Transitions.{Step}
 use Rattle.csp_semantics.specs.Meaning.Runs.{Run}
 use Rattle.csp_semantics.specs.Meaning.Violations.{Evidence, ByEvent, ByOffers, ByDeadlock, ByDivergence, Violation, IsViolation, IsEvidence}
-use Rattle.csp_runs.specs.States.{Visits, Shows, AreReached, AreStepByStep, HasStepAt, HasEnd, EndsAreMet}
+use Rattle.csp_runs.specs.States.{Visits, Shows, AreReached, AreStepByStep, HasEnd, EndsAreMet}
 
 pub first_state : (script : Script) (path : List Action) (t u : Process) (states : List Process) → Visits script t path states u → slice_get states 0 ≡ Some t
 first_state script [] t u states visits = ap (λ ss. slice_get ss 0) visits.0
@@ -46,7 +46,10 @@ shows_by script DeadlockFree path t ByDeadlock h = h
 shows_by script DivergenceFree path t (ByEvent x) h = absurd h
 shows_by script DivergenceFree path t (ByOffers xs) h = absurd h
 shows_by script DivergenceFree path t ByDeadlock h = absurd h
-shows_by script property path t ByDivergence h = tt
+shows_by script (RefinementOf Traces spec) path t ByDivergence h = absurd h
+shows_by script (RefinementOf Failures spec) path t ByDivergence h = absurd h
+shows_by script DeadlockFree path t ByDivergence h = absurd h
+shows_by script DivergenceFree path t ByDivergence h = let run = (h 1).1 in (run.0, run.1)
 
 meets_by : (script : Script) (property : Property) (path : List Action) (t u : Process) (e : Evidence) → IsEvidence script property path t e → Shows script u e → e ≢ ByDivergence → IsEvidence script property path u e
 meets_by script (RefinementOf Traces spec) path t u (ByEvent x) h shows other = (h.0, shows, h.2)

@@ -1,24 +1,24 @@
 -- Runs told state by state.
-use Rattle.std.specs.Prelude.{◌≡◌, ◌≢◌, ℕ, suc, List, [], ◌∷◌, slice_get, Some, take, ⊤}
-use Rattle.csp_syntax.specs.Value.{Action}
+use Rattle.std.specs.Prelude.{◌≡◌, ◌≢◌, ℕ, suc, List, [], ◌∷◌, slice_get, Some, take}
+use Rattle.csp_syntax.specs.Value.{Action, Tau}
 use Rattle.csp_syntax.specs.Process.{Process, Assertion, Script}
 use Rattle.csp_semantics.specs.Meaning.Transitions.{Step}
 use Rattle.csp_semantics.specs.Meaning.Runs.{Run}
 use Rattle.csp_semantics.specs.Meaning.Offers.{CanDo, IsAcceptance}
 use Rattle.csp_semantics.specs.Meaning.Divergence.{IsDeadlocked}
-use Rattle.csp_semantics.specs.Meaning.Violations.{Evidence, ByEvent, ByOffers, ByDeadlock, ByDivergence, Violation, IsViolation, IsEvidence}
+use Rattle.csp_semantics.specs.Meaning.Violations.{Evidence, ByEvent, ByOffers, ByDeadlock, ByDivergence, Violation, IsEvidence}
 
 -- the path leads from t to u, and these are the states on its way, from t on to u
 abbrev pub Visits : Script → Process → List Action → List Process → Process → Type 0
 Visits script t [] states u = (states ≡ t ∷ []) × (t ≡ u)
 Visits script t (x ∷ path) states u = (mid : Process) × (rest : List Process) × (states ≡ t ∷ rest) × Step script t x mid × Visits script mid path rest u
 
--- The end of a path does what the evidence says. Whether taus go on from it for ever is not asked.
+-- The end of a path does what the evidence says. Of a divergence one tau is asked, and not that they go on for ever.
 abbrev pub Shows : Script → Process → Evidence → Type 0
 Shows script t (ByEvent x) = CanDo script t x
 Shows script t (ByOffers xs) = IsAcceptance script t xs
 Shows script t ByDeadlock = IsDeadlocked script t
-Shows script t ByDivergence = ⊤
+Shows script t ByDivergence = CanDo script t Tau
 
 -- the path leads from t to a state that shows the evidence, and these are the states on its way
 pub record IsReplay (script : Script) (t : Process) (v : Violation) (states : List Process) : Type 0 where
