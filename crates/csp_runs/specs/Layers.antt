@@ -3,6 +3,7 @@ use Rattle.std.specs.Prelude.{◌≡◌, ℕ, ◌<◌, ◌⊎◌, ◌↔◌, Lis
 use Rattle.csp_syntax.specs.Value.{Action}
 use Rattle.csp_syntax.specs.Process.{Process, Script}
 use Rattle.csp_semantics.specs.Meaning.Transitions.{Step}
+use Rattle.csp_answers.specs.Growth.{StaysIn}
 use Rattle.csp_runs.specs.States.{Visits}
 
 -- terms, and for each the place of one in the layer before from which a step leads to it
@@ -45,6 +46,7 @@ StaysOrComes steps x parent layer after k u =
 -- what the steps by x lead to is added
 pub record AddsSteps (steps : List (Action × Process)) (x : Action) (parent : ℕ) (layer after : Layer) : Type 0 where
   pub even : IsEven after
+  pub front : StaysIn layer.0 after.0
   pub each : (k : ℕ) (u : Process) → slice_get after.0 k ≡ Some u → StaysOrComes steps x parent layer after k u
   pub stays : (u : Process) → Contains layer.0 u → Contains after.0 u
   pub all : (u : Process) → Contains steps (x, u) → Contains after.0 u

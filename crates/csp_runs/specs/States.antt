@@ -1,9 +1,9 @@
 -- Runs told state by state.
-use Rattle.std.specs.Prelude.{◌≡◌, ◌≢◌, ℕ, suc, List, [], ◌∷◌, slice_get, Some, take}
+use Rattle.std.specs.Prelude.{◌≡◌, ◌≢◌, ◌↔◌, ℕ, suc, List, [], ◌∷◌, length, slice_get, Some, take, Contains}
 use Rattle.csp_syntax.specs.Value.{Action, Tau}
 use Rattle.csp_syntax.specs.Process.{Process, Assertion, Script}
 use Rattle.csp_semantics.specs.Meaning.Transitions.{Step}
-use Rattle.csp_semantics.specs.Meaning.Runs.{Run}
+use Rattle.csp_semantics.specs.Meaning.Runs.{Run, trace, IsAfter}
 use Rattle.csp_semantics.specs.Meaning.Offers.{CanDo, IsAcceptance}
 use Rattle.csp_semantics.specs.Meaning.Divergence.{IsDeadlocked}
 use Rattle.csp_semantics.specs.Meaning.Violations.{Evidence, ByEvent, ByOffers, ByDeadlock, ByDivergence, Violation, IsEvidence}
@@ -51,3 +51,14 @@ HasEnd script t v = (u : Process) × Run script t v.path u × Shows script u v.e
 -- Each end of the path of a violation that shows its evidence is one where it is met, but for divergence.
 abbrev pub EndsAreMet : Script → Assertion → Violation → Type 0
 EndsAreMet script a v = (u : Process) → Shows script u v.evidence → v.evidence ≢ ByDivergence → IsEvidence script a.property v.path u v.evidence
+
+-- ---- the states after a trace
+
+-- the terms are exactly the states of t after the trace
+abbrev pub AreAfter : Script → Process → List Action → List Process → Type 0
+AreAfter script t s states = (u : Process) → Contains states u ↔ IsAfter script t s u
+
+-- for the beginning of the path with i actions, and for none, the states after its trace
+pub record AreStatesAlong (script : Script) (t : Process) (path : List Action) (all : List (List Process)) : Type 0 where
+  pub long : length all ≡ suc (length path)
+  pub each : (i : ℕ) (states : List Process) → slice_get all i ≡ Some states → AreAfter script t (trace (take i path)) states
