@@ -46,8 +46,6 @@ mod puts;
 #[cfg(test)]
 mod replicated;
 #[cfg(test)]
-mod requests;
-#[cfg(test)]
 mod rows;
 #[cfg(test)]
 mod rule_steps;

@@ -1,5 +1,5 @@
 //! What `csp_kinds` is seen to do: which texts are refused for their names, sets and kinds, by which number and where,
-//! the texts nearest to them that are not, long and deep texts, the scripts that are answered, and refused memory.
+//! the texts nearest to them that are not, long texts, the scripts that are answered, and refused memory.
 //!
 //! The expected answers are taken from the rules of the language. The tests stand in a crate above the check, since a
 //! crate is proved anew for the tests that it has of its own.
@@ -13,8 +13,6 @@ mod constructors;
 mod counts;
 #[cfg(test)]
 mod declared_twice;
-#[cfg(test)]
-mod deep;
 #[cfg(test)]
 mod inference;
 #[cfg(test)]

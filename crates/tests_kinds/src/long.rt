@@ -1,7 +1,6 @@
 //! Long texts, which are put together of pieces.
 
 use crate::answers::answer;
-use crate::deep;
 use std::alloc::{AllocError, Global};
 use std::process::Abort;
 use std::test::Fail;
@@ -10,7 +9,7 @@ use std::test::Fail;
 type Piece = (&'static str, u32);
 
 /// The pieces of a text, and its answer.
-pub(crate) type Long = (&'static [Piece], &'static str);
+type Long = (&'static [Piece], &'static str);
 
 /// What stands before a text that is repeated, how often, and what stands behind it.
 type Level = (&'static str, u32, &'static str);
@@ -285,8 +284,8 @@ fn are_answered_so(rt: &impl Abort, alloc: Global, texts: &[Long]) -> Result<(),
 }
 
 #[test]
-fn long_and_deep_texts_are_answered_so(rt: HostRuntime) -> Result<(), Fail> {
-    for texts in [&CALLS[..], &ITEMS[..], &SETS[..], &NAMES[..], deep::texts()] {
+fn long_texts_are_answered_so(rt: HostRuntime) -> Result<(), Fail> {
+    for texts in [&CALLS[..], &ITEMS[..], &SETS[..], &NAMES[..]] {
         are_answered_so(&rt, rt.alloc(), texts)?;
     }
     for (inside, levels, expected) in &NESTED {

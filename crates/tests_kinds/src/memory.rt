@@ -1,5 +1,5 @@
 //! Checks whose requests for memory are refused in turn: at the first of them, then at the second, until none is
-//! refused. The tree is as it was.
+//! refused.
 
 use crate::samples::{BUFFERS, PAINTING, SMALL};
 use csp_kinds::{Refused, check};
@@ -82,7 +82,7 @@ struct Memories<'h> {
 }
 
 /// Whether the check was granted all that it asked for. It says that memory was refused, and then the narrow heap is
-/// empty again, or it is answered as with ample memory. Either way the tree is checked with ample memory as before.
+/// empty again, or it is answered as with ample memory.
 fn is_checked<'m, 'h>(
     rt: &impl Abort,
     alloc: Global,
@@ -94,9 +94,6 @@ fn is_checked<'m, 'h>(
 ) -> Result<bool, Fail> {
     let answer = check(&memories.sparse, raw);
     let has_refused = memories.sparse.has_refused();
-    let again = check(&memories.ample, raw);
-    let is_as_before = is_so(alloc, &again, whole, expected)?;
-    assert!(rt; is_as_before, "another tree for {expected}");
     if has_refused && let Err(Refused::Memory) = answer {
         let held = heaps.narrow.used();
         assert!(rt; held == 0, "{expected}: {held} bytes are held");

@@ -7,6 +7,8 @@
 #[cfg(test)]
 mod answers;
 #[cfg(test)]
+mod arena;
+#[cfg(test)]
 mod chains;
 #[cfg(test)]
 mod divergence;

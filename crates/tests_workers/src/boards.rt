@@ -1,8 +1,7 @@
 //! Boards that are opened with each request for memory refused in turn: at the first of them, then at the second, until
-//! none is refused. That is told, and then nothing is held.
+//! none is refused. That is told.
 
 use claim_board::Board;
-use linked_list_allocator::LocalHeap;
 use refusing_memory::RefusesOnce;
 use std::alloc::Global;
 use std::test::Fail;
@@ -10,12 +9,11 @@ use std::test::Fail;
 // More requests than a board takes.
 const MANY: u64 = 1000;
 
-// Whether the board is opened with each request granted. Where one is refused, there is no board, and nothing is held.
+// Whether the board is opened with each request granted. Where one is refused, there is no board.
 fn is_granted(alloc: Global, request: u64) -> Result<bool, Fail> {
-    let heap = LocalHeap::new(alloc, 65_536)?;
-    let sparse = RefusesOnce::new(&heap, request);
+    let sparse = RefusesOnce::new(alloc, request);
     let is_opened = Board::open(&sparse, 70, 64).is_ok();
-    if is_opened == sparse.has_refused() || (!is_opened && heap.used() > 0) {
+    if is_opened == sparse.has_refused() {
         return Err(Fail::new(format_args!("request {request}: {is_opened}")));
     }
     Ok(is_opened)

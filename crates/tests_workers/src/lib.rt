@@ -1,5 +1,6 @@
 //! What searches by several workers are seen to do: that each worker goes on while another is held, that the answer is
-//! the same in whichever order they put, what one worker posts, and how workers and boards end that are refused memory.
+//! the same in whichever order they put, what one worker posts, how a round ends of which one worker does a part, and
+//! that boards say where they are refused memory.
 #![tactic(auto)]
 
 #[cfg(test)]

@@ -1,8 +1,8 @@
 //! Posts that look on.
 
-use csp_term::AllocHandle;
 use explore::Post;
 use pair_store::{Batch, PutFault, Task};
+use std::alloc::Global;
 use std::sync::atomic::AtomicU64;
 use std::sync::atomic::Ordering::SeqCst;
 
@@ -46,12 +46,12 @@ impl<'l> Recorder<'l> {
     }
 }
 
-impl<'b, 'l, A: AllocHandle> Post<Batch<'b, A>> for Recorder<'l> {
+impl<'b, 'l> Post<Batch<'b, Global>> for Recorder<'l> {
     fn take(&self) -> Option<Task> {
         None
     }
 
-    fn put(&self, batch: Batch<'b, A>) -> Result<(), PutFault> {
+    fn put(&self, batch: Batch<'b, Global>) -> Result<(), PutFault> {
         let put = self.puts.fetch_add(1, SeqCst);
         if let Some(length) = self.lengths.get(put as usize) {
             length.store(batch.pairs().len() as u64, SeqCst);
@@ -85,12 +85,12 @@ impl<'p, P> Refusing<'p, P> {
     }
 }
 
-impl<'b, 'p, A: AllocHandle, P: Post<Batch<'b, A>>> Post<Batch<'b, A>> for Refusing<'p, P> {
+impl<'b, 'p, P: Post<Batch<'b, Global>>> Post<Batch<'b, Global>> for Refusing<'p, P> {
     fn take(&self) -> Option<Task> {
         self.post.take()
     }
 
-    fn put(&self, batch: Batch<'b, A>) -> Result<(), PutFault> {
+    fn put(&self, batch: Batch<'b, Global>) -> Result<(), PutFault> {
         if self.puts.fetch_add(1, SeqCst) == self.refused {
             return Err(self.fault);
         }

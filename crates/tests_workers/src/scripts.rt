@@ -4,7 +4,7 @@ use csp_kinds::check;
 use csp_lex::tokens;
 use csp_parse::parse;
 use csp_term::Script;
-use std::alloc::Allocator;
+use std::alloc::Global;
 use std::test::Fail;
 
 /// Two copiers in a chain are a buffer with two places.
@@ -50,7 +50,7 @@ assert R [T= c?x -> d!x -> c!x -> STOP
 ";
 
 /// The script of the text.
-pub(crate) fn script<A: Allocator + Copy>(alloc: A, text: &str) -> Result<Script<A>, Fail> {
+pub(crate) fn script(alloc: Global, text: &str) -> Result<Script<Global>, Fail> {
     let list = tokens(alloc, text.as_bytes())?;
     let raw = parse(alloc, &list)?;
     Ok(check(alloc, &raw)?)
