@@ -1,5 +1,5 @@
 -- The text of an expression.
-use Rattle.std.specs.Prelude.{ℕ, nat_le, Bool, true, false, ◌&&◌, List, [], ◌++◌, codes}
+use Rattle.std.specs.Prelude.{ℕ, nat_le, Bool, true, false, not, ◌&&◌, List, [], ◌++◌, codes}
 use Rattle.csp_syntax.specs.Expression.{Unary, Negate, Not, Length, Head, Tail, IsNull, Card, Binary, Add, Subtract, Multiply, Modulus, Concatenate, Equals, Differs, LessThan, AtMost, GreaterThan, AtLeast, And, Or, IsElement, IsMember, Union, Intersection, Difference, Expression, Literal, Name, Apply, Combine, SequenceOf, SetOf, Range, Booleans, Datatype, Nametype, ConstructorOf, Expressions, no_expressions, expression_and}
 use Rattle.csp_answers.specs.Printing.{name_at}
 use Rattle.csp_notation.specs.Names.{Names}
@@ -126,15 +126,24 @@ text_between Or = codes " or "
 text_between op = codes ","
 
 abbrev pub text_behind : Binary → List ℕ
-text_behind op = elim (is_function op) [ true ↦ codes ")" | false ↦ [] ]
+text_behind IsElement = codes ")"
+text_behind IsMember = codes ")"
+text_behind Union = codes ")"
+text_behind Intersection = codes ")"
+text_behind Difference = codes ")"
+text_behind op = []
 
 -- ---- expressions
+
+abbrev pub is_negation : Unary → Bool
+is_negation Negate = true
+is_negation op = false
 
 -- The text begins with `-`; so does that of an operand, which stands bare with at least this rank.
 abbrev pub begins_with_minus : Expression → Bool
 begins_with_minus (Literal v) = value.begins_with_minus v
-begins_with_minus (Apply Negate e) = true
-begins_with_minus (Combine op e f) = elim (is_function op) [ true ↦ false | false ↦ nat_le (left_rank op) (rank e) && begins_with_minus e ]
+begins_with_minus (Apply op e) = is_negation op
+begins_with_minus (Combine op e f) = not (is_function op) && (nat_le (left_rank op) (rank e) && begins_with_minus e)
 begins_with_minus e = false
 
 abbrev pub operand_begins_with_minus : ℕ → Expression → Bool

@@ -21,9 +21,9 @@ pub data Shape : Type 0 where
   Hidden : Shape
   Composed : Shape
 
--- Where a process stands: as a whole, on the left of an operator, as another operand, in front of `[[`, or in front of `\`.
+-- Where a process stands that is no whole one: on the left of an operator, as another operand, in front of `[[`, or in
+-- front of `\`.
 pub data Position : Type 0 where
-  Whole : Position
   LeftOf : (operator : Infix) → Position
   Operand : Position
   BeforeRenaming : Position
@@ -58,7 +58,6 @@ is_same o q = false
 -- Whether it stands there without brackets. A chain goes on with its own operator, renamings stand behind renamings, and
 -- hidings behind both.
 abbrev pub stands_bare : Position → Shape → Bool
-stands_bare Whole s = true
 stands_bare (LeftOf o) Base = true
 stands_bare (LeftOf o) Prefixed = true
 stands_bare (LeftOf o) (Chain q) = is_same o q
