@@ -1,2 +1,5 @@
-pub mod Writing
+pub mod EventSetTexts
+pub mod ExpressionTexts
+pub mod ProcessTexts
 pub mod ValueTexts
+pub mod Writing
