@@ -6,6 +6,8 @@ use Rattle.std.specs.Prelude.{cond, is_some, option_map}
 use Rattle.std.specs.Borrow.{Bor}
 use Rattle.std.specs.Str.{bytes_eq, chars, encode_utf8_all, IsUtf8}
 use Rattle.csp_checking.specs.Names.{has_spelling, number_in}
+use Rattle.csp_notation.specs.Names.{in_bytes}
+use Rattle.csp_print.specs.Names.{spellings_of}
 use Rattle.csp_naming.specs.Binding.{AreTexts, characters_of}
 
 both_ways : (b c : Bool) → (b ≡ true → c ≡ true) → (c ≡ true → b ≡ true) → b ≡ c
@@ -38,3 +40,8 @@ text_at (s ∷ ts) zero t within read texts = let P : Bor (List ℕ) → Type 0 
 text_at (s ∷ ts) (suc i) t within read texts =
     let h : suc i < suc (length ts) = within in
     text_at ts i t (omega (arith, h)) read texts.1
+
+-- the bytes of texts are those of their characters
+pub texts_in_bytes : (ts : List (Bor (List ℕ))) → AreTexts ts → spellings_of ts ≡ in_bytes (characters_of ts)
+texts_in_bytes [] texts = refl
+texts_in_bytes (t ∷ ts) texts = ap (λ (b : List ℕ). b ∷ spellings_of ts) (sym (encodes-chars t.now texts.0)) ∙ ap (λ bs. encode_utf8_all (chars t.now) ∷ bs) (texts_in_bytes ts texts.1)

@@ -14,7 +14,7 @@ use csp_parse::{Declaration, Field, Name, Process, Property, Raw};
 use std::alloc::{AllocError, Allocator};
 
 /// The spellings of the bound names, each where it is first bound.
-pub(crate) fn bound_names<'t, A: Allocator + Copy>(
+pub(crate) fn all_bound_names<'t, A: Allocator + Copy>(
     alloc: A,
     raw: &Raw<'t, A>,
 ) -> Result<Vec<&'t str, A>, AllocError>

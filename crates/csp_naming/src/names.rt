@@ -5,7 +5,7 @@ ghost use Rattle.csp_notation.specs.Names.{names_in};
 ghost use Rattle.csp_parse.specs.Declarations.{script_of};
 ghost use Rattle.csp_print.specs.Names as print;
 
-use crate::bound_names::bound_names;
+use crate::bound_names::all_bound_names;
 use crate::classes::{Class, names_of_class};
 use csp_parse::Raw;
 use csp_print::Names;
@@ -23,7 +23,7 @@ pub fn names_of<'t, A: Allocator + Copy>(
     let datatypes = names_of_class(alloc, raw, Class::Datatype)?;
     let nametypes = names_of_class(alloc, raw, Class::Nametype)?;
     let equations = names_of_class(alloc, raw, Class::Equation)?;
-    let bound = bound_names(alloc, raw)?;
+    let bound = all_bound_names(alloc, raw)?;
     Ok(Names {
         channels,
         constructors,

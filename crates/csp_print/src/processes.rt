@@ -20,7 +20,7 @@ use crate::fields::push_fields;
 use crate::marks::push_mark;
 use crate::names::Names;
 use crate::ranks::{ATOM, DISJUNCTION};
-use crate::shapes::{Infix, Position, infix_text, shape, stands_bare};
+use crate::shapes::{Infix, Position, head_shape, infix_text, stands_bare};
 use csp_event_sets::{EventSet, RenamingPair};
 use csp_expression::{Expr, Name};
 use csp_term::{ChannelId, EquationId, Field, ReplicatedOperator, Term, TermForm};
@@ -77,7 +77,7 @@ fn push_at<A: Allocator>(
 ) -> Result<(), AllocError>
     ensures { Writes result text.old text.new (text_at (position_of position) (names_of names.now) (process_of term.now)) }
 {
-    if stands_bare(position, shape(term)) {
+    if stands_bare(position, head_shape(term)) {
         return push_term(names, term, text);
     }
     push_mark("(", text)?;

@@ -48,7 +48,7 @@ pub(crate) enum Position {
 }
 
 /// The shape of the term.
-pub(crate) fn shape<A: Allocator>(term: &Term<A>) -> Shape
+pub(crate) fn head_shape<A: Allocator>(term: &Term<A>) -> Shape
     ensures { shape_of result ≡ notation.shape (process_of term.now) }
 {
     match term.form() {

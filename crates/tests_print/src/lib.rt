@@ -5,10 +5,12 @@
 #![tactic(auto)]
 
 #[cfg(test)]
-mod reached;
+mod reaching;
 #[cfg(test)]
 mod read_back;
+#[cfg(test)]
 mod rows;
 #[cfg(test)]
 mod scripts;
+#[cfg(test)]
 mod texts;

@@ -1,8 +1,13 @@
 //! States that are printed and read again.
 
-use crate::reached::reached;
+use crate::reaching::reached;
 use crate::scripts::{OF_VALUES, PLAIN};
-use crate::texts::{last_body, printed, script, with_equation};
+use crate::texts::{last_body, printed, script_with};
+use csp_kinds::check;
+use csp_lex::tokens;
+use csp_naming::names_of;
+use csp_parse::parse;
+use csp_print::Names;
 use csp_term::{Script, Term};
 use std::alloc::Global;
 use std::test::Fail;
@@ -20,19 +25,23 @@ enum ReadBack {
     Other,
 }
 
-/// What the text of the state reads back as, in the script of the text.
-fn read_back(alloc: Global, text: &str, state: &Term<Global>) -> Result<ReadBack, Fail> {
-    let body = printed(alloc, text, state)?;
+/// What the text of the state reads back as, in the script of the text, which has these names.
+fn read_again(
+    alloc: Global,
+    text: &str,
+    names: &Names<'_, Global>,
+    state: &Term<Global>,
+) -> Result<ReadBack, Fail> {
+    let body = printed(alloc, names, state)?;
     if body.as_str().contains("_OMEGA") {
         return Ok(ReadBack::Ended);
     }
-    let whole = with_equation(alloc, text, body.as_str())?;
-    let again = script(alloc, whole.as_str())?;
+    let again = script_with(alloc, text, body.as_str())?;
     let read = last_body(&again)?;
     if read == state {
         return Ok(ReadBack::Same);
     }
-    let text = printed(alloc, whole.as_str(), read)?;
+    let text = printed(alloc, names, read)?;
     if text.as_str() == body.as_str() {
         Ok(ReadBack::Alike)
     } else {
@@ -48,14 +57,17 @@ fn states(alloc: Global, script: &Script<Global>) -> Result<Vec<Term<Global>>, F
     }
 }
 
-/// How many of the states are the same as they are read, where the others are alike, or have ended.
-fn same_states(alloc: Global, text: &str) -> Result<(u32, u32), Fail> {
-    let script = script(alloc, text)?;
+/// How many of the states are the same as they are read, and how many are alike. The others have ended.
+fn same_and_alike(alloc: Global, text: &str) -> Result<(u32, u32), Fail> {
+    let list = tokens(alloc, text.as_bytes())?;
+    let raw = parse(alloc, &list)?;
+    let names = names_of(alloc, &raw)?;
+    let script = check(alloc, &raw)?;
     let states = states(alloc, &script)?;
     let mut same: u32 = 0;
     let mut alike: u32 = 0;
     for state in &states {
-        match read_back(alloc, text, state)? {
+        match read_again(alloc, text, &names, state)? {
             ReadBack::Ended => {}
             ReadBack::Same => same = same.saturating_add(1),
             ReadBack::Alike => alike = alike.saturating_add(1),
@@ -68,11 +80,11 @@ fn same_states(alloc: Global, text: &str) -> Result<(u32, u32), Fail> {
 #[test]
 fn states_read_back(rt: HostRuntime) -> Result<(), Fail> {
     for text in PLAIN {
-        let (same, alike) = same_states(rt.alloc(), text)?;
+        let (same, alike) = same_and_alike(rt.alloc(), text)?;
         assert!(rt; same > 10 && alike == 0, "{same} same, {alike} alike");
     }
     for text in OF_VALUES {
-        let (same, alike) = same_states(rt.alloc(), text)?;
+        let (same, alike) = same_and_alike(rt.alloc(), text)?;
         assert!(rt; same > 0 && alike > 10, "{same} same, {alike} alike");
     }
     Ok(())

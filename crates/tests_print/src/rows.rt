@@ -1,12 +1,9 @@
 //! Processes as they are written, each with the text that it has.
 
-#[cfg(test)]
-use crate::texts::{last_body, printed, script, with_equation};
-#[cfg(test)]
+use crate::texts::body_as_printed;
 use std::test::Fail;
 
-/// `x`, `y` and `z` are numbers, `s` and `t` sequences, `u` and `v` sets, and `p` and `q` truth values.
-#[cfg(test)]
+/// What the rows stand behind.
 const DECLARATIONS: &str = r"
 datatype D = A | B.{ -1..1}
 nametype N = {0..3}
@@ -19,12 +16,7 @@ P = STOP
 Q(i, j) = STOP
 ";
 
-/// The process within a prefix that binds the names.
-#[cfg(test)]
-const BEFORE: &str = "c?x -> c?y -> c?z -> e?s -> e?t -> f?p -> f?q -> ";
-
 /// Brackets that the grammar does not need are left out, and all others stand. A row without a second text has its own.
-#[cfg(test)]
 const ROWS: &[(&str, &str)] = &[
     // operators of expressions
     ("(x + y) - z == 0 & P", "x + y - z == 0 & P"),
@@ -57,10 +49,10 @@ const ROWS: &[(&str, &str)] = &[
     ("card(diff(union({x}, {}), inter({ -x}, N))) == 0 & P", "card(diff(union({x},{}),inter({ -x},N))) == 0 & P"),
     ("< -x + y, -1> == <> & P", "< -x + y,-1> == <> & P"),
     ("<(-x) * y> == < -(x)> & P", "< -x * y> == < -x> & P"),
-    ("<(x < y), p> == <p or q> & P", "<(x < y),p> == <(p or q)> & P"),
+    ("<(x < y), (p)> == <(p or q)> & P", "<(x < y),p> == <(p or q)> & P"),
     ("{ -x..y + 1} == {(x)..(y)} & P", "{ -x..y + 1} == {x..y} & P"),
     ("{p or q} == Bool & P", ""),
-    ("d!x!A -> d!y!(B.x - 1) -> P", "d!x!A -> d!y!(B.(x - 1)) -> P"),
+    ("d!(x)!A -> d!y!(B.(x - 1)) -> P", "d!x!A -> d!y!(B.(x - 1)) -> P"),
     ("d!0!(B.-1) -> P", ""),
     // fields
     ("c!(x + 1) -> c!(-1) -> P", "c!(x + 1) -> c!-1 -> P"),
@@ -102,7 +94,6 @@ const ROWS: &[(&str, &str)] = &[
 ];
 
 /// The row's text, or its own where it has none.
-#[cfg(test)]
 fn expected<'t>(written: &'t str, text: &'t str) -> &'t str {
     if text.is_empty() { written } else { text }
 }
@@ -111,12 +102,10 @@ fn expected<'t>(written: &'t str, text: &'t str) -> &'t str {
 fn texts_have_the_brackets_that_they_need(rt: HostRuntime) -> Result<(), Fail> {
     let alloc = rt.alloc();
     for (written, text) in ROWS {
-        let body = format!(in alloc; "{BEFORE}({written})")?;
-        let whole = with_equation(alloc, DECLARATIONS, body.as_str())?;
-        let script = script(alloc, whole.as_str())?;
-        let found = printed(alloc, whole.as_str(), last_body(&script)?)?;
+        let whole = format!(in alloc; "{DECLARATIONS}ROW(x, y, z, s, t, p, q) = {written}\n")?;
+        let found = body_as_printed(alloc, whole.as_str())?;
         let wanted = expected(written, text);
-        assert!(rt; found.as_str().ends_with(wanted), "{wanted}: {found}");
+        assert!(rt; found.as_str() == wanted, "{wanted}: {found}");
     }
     Ok(())
 }

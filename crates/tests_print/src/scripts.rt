@@ -120,7 +120,7 @@ const VALUES: &str = r"datatype Tree = Leaf | Node.{ -1..1}.{<>, < -1,2>}
 channel step
 channel put : { -2..1}
 channel tree : Tree
-DOWN(i, s, u) = #s < 2 & step -> DOWN(-2147483647 - i, <i> ^ s, union(u, {i}))
+DOWN(i, s, u) = #s < 2 & step -> DOWN(-1 - i, <i> ^ s, union(u, {i}))
 GROW(t) = tree?x -> tree!t -> GROW(x)
 BOTH(u) = (put?x:u -> BOTH(diff(u, {x}))) [] (card(u) < 2 & step -> BOTH({ -2..1}))
 assert DOWN(1, <>, {}) ||| BOTH({ -2, 1}) ||| GROW(Leaf) :[deadlock free]

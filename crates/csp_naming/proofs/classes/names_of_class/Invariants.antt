@@ -10,5 +10,5 @@ use Rattle.csp_naming.proofs.classes.names_of_class.Given as goal
 
 abbrev pub invariant-loop-declaration : goal.invariant-loop-declaration
 invariant-loop-declaration g l =
-    spellings_of l.names.items ++ in_bytes (names_of (class_of l.class) (map declaration_of (drop l.declaration-index l.raw.declarations.items)))
-    ≡ in_bytes (names_of (class_of l.class) (map declaration_of l.raw.declarations.items))
+    spellings_of l.names.items ++ in_bytes (names_of (class_of l.class) (map declaration_of (drop l.declaration-index l.declaration-items)))
+    ≡ in_bytes (names_of (class_of l.class) (map declaration_of l.declaration-items))

@@ -7,7 +7,7 @@ use std::alloc::Global;
 use std::test::Fail;
 
 /// The most terms that are looked at.
-const MOST: usize = 200;
+const MOST: usize = 40;
 
 /// The term and those that it leads to, each once, of which the first ones.
 pub(crate) fn reached(
