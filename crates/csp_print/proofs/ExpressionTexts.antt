@@ -1,5 +1,6 @@
 -- The texts and the sizes of expressions.
 use Rattle.std.proofs.Common.{◌≡◌, ℕ, zero, suc, ◌<◌, ◌≤◌, List, [], ◌∷◌, ◌++◌, length, get_or, refl, ap, arith}
+use Rattle.std.proofs.lemmas.Bool.Decides.{Decides-eqb}
 use Rattle.std.specs.Prelude.{codes, ◌==◌, false, true}
 use Rattle.csp_syntax.specs.Expression as pure
 use Rattle.csp_syntax.specs.Expression.{to_expressions}
@@ -33,4 +34,6 @@ part_size (f ∷ es) (suc i) e within read =
 pub without_fields : {A : Type 0} (names : Names) (k : ℕ) (fields : List (Expr A)) → (length fields == 0) ≡ true →
     name_at names.constructors k ≡ expression_text names (pure.ConstructorOf k (to_expressions (expressions_of fields)))
 without_fields names k [] none = refl
-without_fields names k (e ∷ es) none = absurd (cc none)
+without_fields names k (e ∷ es) none =
+    let h : suc (length es) ≡ 0 = (Decides-eqb (suc (length es)) 0).0 none in
+    absurd (omega (arith, h))

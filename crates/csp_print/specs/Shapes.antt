@@ -7,7 +7,7 @@ use Rattle.csp_syntax.specs.declared.process_operator.ReplicatedOperator.{Replic
 use Rattle.csp_syntax.specs.declared.process_operator.ReplicatedOperator.TheVariants as replicated
 use Rattle.csp_notation.specs.Processes as pure
 use Rattle.csp_print.specs.declared.shapes.Infix.{Infix}
-use Rattle.csp_print.specs.declared.shapes.Infix.TheVariants as infix
+use Rattle.csp_print.specs.declared.shapes.Infix.TheVariants as joining
 use Rattle.csp_print.specs.declared.shapes.Shape.{Shape}
 use Rattle.csp_print.specs.declared.shapes.Shape.TheVariants as shape
 use Rattle.csp_print.specs.declared.shapes.Position.{Position}
@@ -21,8 +21,8 @@ operator_of operator.Interleaving = raw.InterleavingInfix
 operator_of operator.Interrupt = raw.InterruptInfix
 
 abbrev pub infix_of : Infix → raw.Infix
-infix_of (infix.Operator o) = operator_of o
-infix_of infix.Sliding = raw.SlidingInfix
+infix_of (joining.Operator o) = operator_of o
+infix_of joining.Sliding = raw.SlidingInfix
 
 abbrev pub shape_of : Shape → pure.Shape
 shape_of shape.Base = pure.Base

@@ -14,7 +14,7 @@ use Rattle.csp_term.specs.Field.{fields_of}
 use Rattle.csp_term.specs.Term.{process_of, process_of_form}
 use Rattle.csp_term.proofs.Forms.{of_binary, of_call, of_prefix, of_renaming}
 use Rattle.csp_notation.specs.Expressions.{operand_text}
-use Rattle.csp_notation.specs.Processes.{process_text}
+use Rattle.csp_notation.specs.Processes.{Operand, fields_text, process_text, text_at}
 use Rattle.csp_print.specs.Names.{names_of}
 use Rattle.csp_print.specs.Shapes.{replicator_text}
 use Rattle.csp_print.proofs.ProcessTexts.{chained, replicated_over}
@@ -61,3 +61,16 @@ push_replicated-returns g t c =
     (behind r (string_bytes c.push_bound.new.text) (string_bytes c.push_mark-2.new.text) all (codes ":") (set ++ (codes " @ " ++ body)) c.in_ok-push_mark-2.ensures
     (behind r (string_bytes c.push_mark-2.new.text) (string_bytes c.push_operand.new.text) all set (codes " @ " ++ body) c.in_ok-push_operand.ensures
     (behind r (string_bytes c.push_operand.new.text) (string_bytes c.push_mark-3.new.text) all (codes " @ ") body c.in_ok-push_mark-3.ensures c.push_term.ensures)))))
+
+pub push_prefix-returns : goal.push_prefix-returns
+push_prefix-returns g t c =
+    let names = names_of c.args.names.now in
+    let r = c.push_at.result in
+    let start = string_bytes c.args.text.now in
+    let all = string_bytes c.push_at.new.text in
+    let channel = name_at names.channels c.args.channel.0 in
+    let fields = fields_text names (fields_of c.args.fields.now) in
+    let body = text_at Operand names (process_of c.args.body.now) in
+    behind r start (string_bytes c.push_channel.new.text) all channel (fields ++ (codes " -> " ++ body)) c.in_ok-push_channel.ensures
+    (behind r (string_bytes c.push_channel.new.text) (string_bytes c.push_fields.new.text) all fields (codes " -> " ++ body) c.in_ok-push_fields.ensures
+    (behind r (string_bytes c.push_fields.new.text) (string_bytes c.push_mark.new.text) all (codes " -> ") body c.in_ok-push_mark.ensures c.push_at.ensures))
