@@ -7,10 +7,7 @@ ghost use Rattle.csp_print.specs.Writing.{Writes};
 use std::alloc::{AllocError, Allocator};
 
 /// The mark.
-pub(crate) fn push_mark<A: Allocator>(
-    mark: &str,
-    text: &mut String<A>,
-) -> Result<(), AllocError>
+pub(crate) fn push_mark<A: Allocator>(mark: &str, text: &mut String<A>) -> Result<(), AllocError>
     ensures { Writes result text.old text.new mark.now }
 {
     text.push_str(mark)

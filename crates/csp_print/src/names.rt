@@ -35,28 +35,44 @@ impl<A: Allocator> Names<'_, A> {
     }
 
     /// The spelling of the constructor, behind the string. One that there is none of has no text.
-    pub fn push_constructor(&self, constructor: ConId, text: &mut String<A>) -> Result<(), AllocError>
+    pub fn push_constructor(
+        &self,
+        constructor: ConId,
+        text: &mut String<A>,
+    ) -> Result<(), AllocError>
         ensures { Writes result text.old text.new (name_at (names_of self.now).constructors constructor.0) }
     {
         push_spelling(&self.constructors, constructor.0, text)
     }
 
     /// The spelling of the datatype, behind the string. One that there is none of has no text.
-    pub fn push_datatype(&self, datatype: DatatypeId, text: &mut String<A>) -> Result<(), AllocError>
+    pub fn push_datatype(
+        &self,
+        datatype: DatatypeId,
+        text: &mut String<A>,
+    ) -> Result<(), AllocError>
         ensures { Writes result text.old text.new (name_at (names_of self.now).datatypes datatype.0) }
     {
         push_spelling(&self.datatypes, datatype.0, text)
     }
 
     /// The spelling of the nametype, behind the string. One that there is none of has no text.
-    pub fn push_nametype(&self, nametype: NametypeId, text: &mut String<A>) -> Result<(), AllocError>
+    pub fn push_nametype(
+        &self,
+        nametype: NametypeId,
+        text: &mut String<A>,
+    ) -> Result<(), AllocError>
         ensures { Writes result text.old text.new (name_at (names_of self.now).nametypes nametype.0) }
     {
         push_spelling(&self.nametypes, nametype.0, text)
     }
 
     /// The spelling of the equation, behind the string. One that there is none of has no text.
-    pub fn push_equation(&self, equation: EquationId, text: &mut String<A>) -> Result<(), AllocError>
+    pub fn push_equation(
+        &self,
+        equation: EquationId,
+        text: &mut String<A>,
+    ) -> Result<(), AllocError>
         ensures { Writes result text.old text.new (name_at (names_of self.now).equations equation.0) }
     {
         push_spelling(&self.equations, equation.0, text)

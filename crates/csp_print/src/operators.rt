@@ -27,10 +27,8 @@ pub(crate) fn text_behind_operand(operator: UnaryOperator) -> &'static str
 {
     match operator {
         UnaryOperator::Negate | UnaryOperator::Not | UnaryOperator::Length => "",
-        UnaryOperator::Head
-        | UnaryOperator::Tail
-        | UnaryOperator::IsNull
-        | UnaryOperator::Card => ")",
+        UnaryOperator::Head | UnaryOperator::Tail | UnaryOperator::IsNull | UnaryOperator::Card =>
+            ")",
     }
 }
 

@@ -92,10 +92,8 @@ pub(crate) fn operand_rank(operator: UnaryOperator) -> u32
     match operator {
         UnaryOperator::Negate | UnaryOperator::Length => ATOM,
         UnaryOperator::Not => NEGATION,
-        UnaryOperator::Head
-        | UnaryOperator::Tail
-        | UnaryOperator::IsNull
-        | UnaryOperator::Card => DISJUNCTION,
+        UnaryOperator::Head | UnaryOperator::Tail | UnaryOperator::IsNull | UnaryOperator::Card =>
+            DISJUNCTION,
     }
 }
 

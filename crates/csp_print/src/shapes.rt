@@ -73,9 +73,7 @@ pub(crate) fn stands_bare(position: Position, shape: Shape) -> bool
         Position::LeftOf(operator) => goes_on_with(operator, shape),
         Position::Operand => matches!(shape, Shape::Base | Shape::Prefixed),
         Position::BeforeRenaming => matches!(shape, Shape::Base | Shape::Renamed),
-        Position::BeforeHiding => {
-            matches!(shape, Shape::Base | Shape::Renamed | Shape::Hidden)
-        }
+        Position::BeforeHiding => { matches!(shape, Shape::Base | Shape::Renamed | Shape::Hidden) }
     }
 }
 

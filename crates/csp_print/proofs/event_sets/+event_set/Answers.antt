@@ -1,5 +1,5 @@
 -- Each part is put one after the other.
-use Rattle.std.proofs.Common.{List, ◌++◌, ap, ◌∙◌, sym, ◌≡◌, ℕ, refl}
+use Rattle.std.proofs.Common.{List, ◌++◌, ap, ◌∙◌, sym}
 use Rattle.std.specs.Prelude.{codes}
 use Rattle.std.specs.String.{string_bytes}
 use Rattle.csp_syntax.specs.Process.{Enumeration, Productions}

@@ -1,5 +1,5 @@
 -- Each part is put one after the other, and is smaller than what it is a part of.
-use Rattle.std.proofs.Common.{List, ◌++◌, drop, ap, ◌∙◌, sym, ◌≡◌, ℕ, ◌+◌, ◌*◌, ◌<◌, ◌∷◌, suc, refl, arith, rules, add-one, drop-cons}
+use Rattle.std.proofs.Common.{List, ◌++◌, drop, ap, ◌∙◌, sym, ◌≡◌, ◌+◌, ◌*◌, ◌<◌, ◌∷◌, suc, arith, rules, add-one, drop-cons}
 use Rattle.std.proofs.lemmas.List.{drop_all}
 use Rattle.std.specs.Prelude.{codes}
 use Rattle.std.specs.String.{string_bytes}
@@ -9,7 +9,7 @@ use Rattle.csp_semantics.specs.Meaning.Limits.{expression_size, expressions_size
 use Rattle.csp_expression.specs.declared.expr.Expr.{Expr}
 use Rattle.csp_expression.specs.Expression.{expression_of, expressions_of}
 use Rattle.csp_expression.proofs.ExpressionForms.{of_constructor, of_sequence, of_set}
-use Rattle.csp_notation.specs.Expressions.{expression_text, expressions_behind, items_text, operand_text}
+use Rattle.csp_notation.specs.Expressions.{expression_text, expressions_behind, operand_text}
 use Rattle.csp_print.specs.Names.{names_of}
 use Rattle.csp_print.proofs.Writing.{alike, behind, comes_to_end, goes_on}
 use Rattle.csp_print.proofs.ExpressionTexts.{part_size, with_fields, without_fields}
@@ -55,7 +55,7 @@ push_expressions_behind-loop-expression-preserved g t c =
     let least = c.args.least in
     let texts = λ (es : List (Expr g.row.A.Denot)). expressions_behind names mark least (to_expressions (expressions_of es)) in
     let first : drop i expressions ≡ c.expression-item.result ∷ drop (i + 1) expressions =
-        rw add-one (drop-cons expressions i c.expression-item.result c.loop-expression-test.true ∙ ap (λ e. e ∷ drop (suc i) expressions) (sym c.expression-item.is)) in
+    rw add-one (drop-cons expressions i c.expression-item.result c.loop-expression-test.true ∙ ap (λ e. e ∷ drop (suc i) expressions) (sym c.expression-item.is)) in
     goes_on (string_bytes c.loop-expression.text) (string_bytes c.push_mark.new.text) (string_bytes c.push_operand.new.text) mark (operand_text names least (expression_of c.expression-item.result))
     (texts (drop i expressions)) (texts (drop (i + 1) expressions)) (string_bytes c.args.text.now ++ texts expressions) c.loop-expression.invariant (ap texts first) c.in_ok-push_mark.ensures c.in_ok-push_operand.ensures
 

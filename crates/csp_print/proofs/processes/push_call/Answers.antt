@@ -1,5 +1,5 @@
 -- The arguments stand in brackets, one behind the other.
-use Rattle.std.proofs.Common.{List, ◌++◌, ap, sym, ◌≡◌, ℕ}
+use Rattle.std.proofs.Common.{List, ◌++◌, ap, sym}
 use Rattle.std.specs.Prelude.{codes}
 use Rattle.std.specs.String.{string_bytes}
 use Rattle.csp_answers.specs.Printing.{name_at}

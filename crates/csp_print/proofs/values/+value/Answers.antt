@@ -1,10 +1,9 @@
 -- The values are put one after the other, each smaller than what it is a member of.
-use Rattle.std.proofs.Common.{List, ◌++◌, drop, ap, ◌∙◌, sym, ◌≡◌, ℕ, ◌+◌, ◌*◌, ◌<◌, ◌∷◌, suc, refl, arith, rules, add-one, drop-cons}
+use Rattle.std.proofs.Common.{List, ◌++◌, drop, ap, ◌∙◌, sym, ◌≡◌, ◌+◌, ◌*◌, ◌<◌, ◌∷◌, suc, arith, rules, add-one, drop-cons}
 use Rattle.std.proofs.lemmas.List.{drop_all}
 use Rattle.std.specs.Prelude.{codes}
 use Rattle.std.specs.String.{string_bytes}
 use Rattle.csp_answers.specs.Printing.{name_at}
-use Rattle.csp_syntax.specs.Value as pure
 use Rattle.csp_syntax.specs.Value.{to_values}
 use Rattle.csp_semantics.specs.Meaning.Limits.{value_size, values_size}
 use Rattle.csp_value.specs.declared.value.Value.{Value}
@@ -87,7 +86,7 @@ push_values_behind-loop-value-preserved g t c =
     let mark = c.args.mark.now in
     let texts = λ (vs : List (Value g.row.A.Denot)). values_behind names mark (to_values (values_of vs)) in
     let first : drop i values ≡ c.value-item.result ∷ drop (i + 1) values =
-        rw add-one (drop-cons values i c.value-item.result c.loop-value-test.true ∙ ap (λ v. v ∷ drop (suc i) values) (sym c.value-item.is)) in
+    rw add-one (drop-cons values i c.value-item.result c.loop-value-test.true ∙ ap (λ v. v ∷ drop (suc i) values) (sym c.value-item.is)) in
     goes_on (string_bytes c.loop-value.text) (string_bytes c.push_mark.new.text) (string_bytes c.push_value.new.text) mark (value_text names (value_of c.value-item.result))
     (texts (drop i values)) (texts (drop (i + 1) values)) (string_bytes c.args.text.now ++ texts values) c.loop-value.invariant (ap texts first) c.in_ok-push_mark.ensures c.in_ok-push_value.ensures
 
