@@ -1,5 +1,5 @@
 -- Whether a text is among others: by their bytes, and so by their characters.
-use Rattle.std.proofs.Common.{◌≡◌, ◌<◌, ℕ, zero, suc, Bool, true, false, List, [], ◌∷◌, length, get_or, Option, Some, None, refl, sym, ap, ◌∙◌, subst, arith}
+use Rattle.std.proofs.Common.{◌≡◌, ◌<◌, ◌+◌, ℕ, zero, suc, Bool, true, false, List, [], ◌∷◌, length, get_or, drop, Option, Some, None, refl, sym, ap, ◌∙◌, arith, add-one, drop-cons}
 use Rattle.std.proofs.lemmas.Slice.Eq.{bytes_eq-Decides}
 use Rattle.std.proofs.lemmas.Str.{encodes-chars}
 use Rattle.std.specs.Prelude.{cond, is_some, option_map}
@@ -34,12 +34,29 @@ is_behind t s rest e = rw e (go (number_in rest s))
     go (Some k) = refl
 
 -- a text among others
-pub text_at : (ts : List (Bor (List ℕ))) (i : ℕ) (t : Bor (List ℕ)) → i < length ts → t ≡ get_or ts i t → AreTexts ts → IsUtf8 t.now
-text_at [] i t within read texts = absurd (omega (arith, within))
-text_at (s ∷ ts) zero t within read texts = let P : Bor (List ℕ) → Type 0 = λ x. IsUtf8 x.now in subst P (sym read) texts.0
-text_at (s ∷ ts) (suc i) t within read texts =
+text_in : (ts : List (Bor (List ℕ))) (i : ℕ) (d : Bor (List ℕ)) → i < length ts → AreTexts ts → IsUtf8 (get_or ts i d).now
+text_in [] i d within texts = absurd (omega (arith, within))
+text_in (t ∷ ts) zero d within texts = texts.0
+text_in (t ∷ ts) (suc i) d within texts =
     let h : suc i < suc (length ts) = within in
-    text_at ts i t (omega (arith, h)) read texts.1
+    text_in ts i d (omega (arith, h)) texts.1
+
+-- The text is not the one at this place, or it is.
+pub goes_past : (ts : List (Bor (List ℕ))) (i : ℕ) (d : Bor (List ℕ)) (s : List ℕ) → IsUtf8 s → AreTexts ts → i < length ts → bytes_eq (get_or ts i d).now s ≡ false →
+    has_spelling (characters_of (drop (i + 1) ts)) (chars s) ≡ has_spelling (characters_of (drop i ts)) (chars s)
+goes_past ts i d s u texts within other =
+    let t = (get_or ts i d).now in
+    let first : drop i ts ≡ get_or ts i d ∷ drop (i + 1) ts = rw add-one (drop-cons ts i d within) in
+    sym (ap (λ (xs : List (Bor (List ℕ))). has_spelling (characters_of xs) (chars s)) first
+    ∙ is_behind (chars t) (chars s) (characters_of (drop (i + 1) ts)) (same_spelling t s (text_in ts i d within texts) u ∙ other))
+
+pub comes_upon : (ts : List (Bor (List ℕ))) (i : ℕ) (d : Bor (List ℕ)) (s : List ℕ) → IsUtf8 s → AreTexts ts → i < length ts → bytes_eq (get_or ts i d).now s ≡ true →
+    has_spelling (characters_of (drop i ts)) (chars s) ≡ true
+comes_upon ts i d s u texts within same =
+    let t = (get_or ts i d).now in
+    let first : drop i ts ≡ get_or ts i d ∷ drop (i + 1) ts = rw add-one (drop-cons ts i d within) in
+    ap (λ (xs : List (Bor (List ℕ))). has_spelling (characters_of xs) (chars s)) first
+    ∙ is_here (chars t) (chars s) (characters_of (drop (i + 1) ts)) (same_spelling t s (text_in ts i d within texts) u ∙ same)
 
 -- the bytes of texts are those of their characters
 pub texts_in_bytes : (ts : List (Bor (List ℕ))) → AreTexts ts → spellings_of ts ≡ in_bytes (characters_of ts)

@@ -1,11 +1,13 @@
 -- Bound names that are met, part by part.
-use Rattle.std.proofs.Common.{◌≡◌, ℕ, List, [], ◌∷◌, ◌++◌, Result, Ok, Err, OnOk, refl, sym, ap, ◌∙◌, subst}
+use Rattle.std.proofs.Common.{◌≡◌, ◌<◌, ◌+◌, suc, ℕ, List, [], ◌∷◌, ◌++◌, length, get_or, drop, map, Result, Ok, Err, OnOk, true, false, refl, sym, ap, ◌∙◌, subst, add-one, drop-cons}
 use Rattle.std.proofs.lemmas.List.{map-append}
 use Rattle.std.specs.Borrow.{Bor}
 use Rattle.std.specs.Str.{chars, IsUtf8}
 use Rattle.csp_text.specs.Raw.{RawName, RawField, RawGiven, RawInput, RawInputFrom}
 use Rattle.csp_checking.specs.Names.{bound_by_fields, has_spelling, spellings, with_spellings}
 use Rattle.csp_checking.proofs.Spellings.{with_more}
+use Rattle.csp_parse.specs.declared.names.Name.{Name}
+use Rattle.csp_parse.specs.Names.{name_of}
 use Rattle.csp_naming.specs.Binding.{AreTexts, characters_of, MeetsAll}
 
 -- A name that is there, and one that is put behind the others.
@@ -70,3 +72,17 @@ pub fields_in_front : (f : RawField) (fs : List RawField) → bound_by_fields (f
 fields_in_front (RawGiven e) fs = refl
 fields_in_front (RawInput n) fs = refl
 fields_in_front (RawInputFrom n e) fs = refl
+
+-- one more name
+pub next_name : (names : List Name) (i : ℕ) (d : Name) (old now new : List (Bor (List ℕ))) (all : List RawName) → i < length names → IsUnderWay old now (map name_of (drop i names)) all →
+    (AreTexts now → MeetsAll now new (chars (get_or names i d).text.now ∷ [])) → IsUnderWay old new (map name_of (drop (i + 1) names)) all
+next_name names i d old now new all within way meets =
+    let first : drop i names ≡ get_or names i d ∷ drop (i + 1) names = rw add-one (drop-cons names i d within) in
+    goes_on old now new (name_of (get_or names i d) ∷ []) (map name_of (drop i names)) (map name_of (drop (i + 1) names)) all way (ap (map name_of) first) meets
+
+-- names that are others
+pub meets_alike : {T E : Type 0} (r : Result T E) (old new : List (Bor (List ℕ))) (ms ns : List RawName) → ms ≡ ns →
+    OnOk r (AreTexts old → MeetsAll old new (spellings ms)) → OnOk r (AreTexts old → MeetsAll old new (spellings ns))
+meets_alike r old new ms ns same meets =
+    let P : List RawName → Type 0 = λ xs. OnOk r (AreTexts old → MeetsAll old new (spellings xs)) in
+    subst P same meets

@@ -35,7 +35,9 @@ fn bind_declaration<'t, A: Allocator>(
 {
     match declaration {
         Declaration::Equation {
-            parameters, body, ..
+            parameters,
+            body,
+            ..
         } => {
             bind_names(bound, parameters.as_slice())?;
             bind_process(bound, body)
@@ -78,13 +80,22 @@ fn bind_process<'t, A: Allocator>(
             bind_fields(bound, fields.as_slice())?;
             bind_process(bound, body)
         }
-        Process::Guard(_, body) | Process::Hiding(body, _) | Process::Renaming(body, _) => {
-            bind_process(bound, body)
+        Process::Guard(_, body) => bind_process(bound, body),
+        Process::Hiding(body, _) => bind_process(bound, body),
+        Process::Renaming(body, _) => bind_process(bound, body),
+        Process::If(_, left, right) => {
+            bind_process(bound, left)?;
+            bind_process(bound, right)
         }
-        Process::If(_, left, right)
-        | Process::Infix(_, left, right)
-        | Process::GeneralisedParallel(left, _, right)
-        | Process::AlphabetisedParallel(left, _, _, right) => {
+        Process::Infix(_, left, right) => {
+            bind_process(bound, left)?;
+            bind_process(bound, right)
+        }
+        Process::GeneralisedParallel(left, _, right) => {
+            bind_process(bound, left)?;
+            bind_process(bound, right)
+        }
+        Process::AlphabetisedParallel(left, _, _, right) => {
             bind_process(bound, left)?;
             bind_process(bound, right)
         }
@@ -132,10 +143,7 @@ fn bind_names<'t, A: Allocator>(
 }
 
 // Adds the name, unless it is there.
-fn bind<'t, A: Allocator>(
-    bound: &mut Vec<&'t str, A>,
-    name: &'t str,
-) -> Result<(), AllocError>
+fn bind<'t, A: Allocator>(bound: &mut Vec<&'t str, A>, name: &'t str) -> Result<(), AllocError>
     ensures { Meets result bound.old bound.new (chars name.entry.now ∷ []) }
 {
     if is_among(bound.as_slice(), name) {

@@ -58,9 +58,13 @@ fn push_declared<'t, A: Allocator>(
         (Class::Constructor, Declaration::Datatype { clauses, .. }) => {
             push_clauses(names, clauses.as_slice())
         }
-        (Class::Channel, Declaration::Channels { names: channels, .. }) => {
-            push_names(names, channels.as_slice())
-        }
+        (
+            Class::Channel,
+            Declaration::Channels {
+                names: channels,
+                ..
+            },
+        ) => { push_names(names, channels.as_slice()) }
         _ => Ok(()),
     }
 }

@@ -24,7 +24,7 @@ loop-declaration-preserved g c =
     let d = c.declaration-item.result in
     let left = λ (ds : List (Declaration g.row.A.Denot)). flat_map bound_in_declaration (map declaration_of ds) in
     let first : drop i declarations ≡ d ∷ drop (i + 1) declarations =
-        rw add-one (drop-cons declarations i d c.loop-declaration-test.true ∙ ap (λ x. x ∷ drop (suc i) declarations) (sym c.declaration-item.is)) in
+    rw add-one (drop-cons declarations i d c.loop-declaration-test.true ∙ ap (λ x. x ∷ drop (suc i) declarations) (sym c.declaration-item.is)) in
     goes_on [] c.loop-declaration.bound.items c.bind_declaration.new.bound.items (bound_in_declaration (declaration_of d)) (left (drop i declarations)) (left (drop (i + 1) declarations)) (left declarations)
     c.loop-declaration.invariant (ap left first) c.in_ok-bind_declaration.ensures
 
@@ -33,6 +33,6 @@ returns g c =
     let declarations = c.deref-declaration-items.result.now in
     let left = λ (ds : List (Declaration g.row.A.Denot)). flat_map bound_in_declaration (map declaration_of ds) in
     let meets = comes_to_end [] c.loop-declaration.bound.items (left (drop c.loop-declaration.declaration-index declarations)) (left declarations) c.loop-declaration.invariant
-        (ap left (drop_all c.loop-declaration.declaration-index declarations c.loop-declaration-test.false)) in
+    (ap left (drop_all c.loop-declaration.declaration-index declarations c.loop-declaration-test.false)) in
     texts_in_bytes c.loop-declaration.bound.items meets.texts ∙ ap in_bytes meets.spellings
     ∙ ap (λ ds. in_bytes (with_spellings [] (spellings (left ds)))) c.deref-declaration-items.ensures.value

@@ -17,7 +17,7 @@ loop-field-preserved g c texts =
     let i = c.loop-field.field-index in
     let left = λ (xs : List (Field g.row.A.Denot)). bound_by_fields (map field_of xs) in
     let first : drop i fields ≡ c.field-item.result ∷ drop (i + 1) fields =
-        rw add-one (drop-cons fields i c.field-item.result c.loop-field-test.true ∙ ap (λ x. x ∷ drop (suc i) fields) (sym c.field-item.is)) in
+    rw add-one (drop-cons fields i c.field-item.result c.loop-field-test.true ∙ ap (λ x. x ∷ drop (suc i) fields) (sym c.field-item.is)) in
     goes_on c.args.bound.now.items c.loop-field.bound.items c.bind_field.new.bound.items (bound_by_fields (field_of c.field-item.result ∷ [])) (left (drop i fields)) (left (drop (i + 1) fields)) (left fields)
     (c.loop-field.invariant texts) (ap left first ∙ fields_in_front (field_of c.field-item.result) (map field_of (drop (i + 1) fields))) c.in_ok-bind_field.ensures
 

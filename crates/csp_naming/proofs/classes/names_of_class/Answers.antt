@@ -19,7 +19,7 @@ loop-declaration-preserved g c =
     let d = c.declaration-item.result in
     let left = λ (ds : List (Declaration g.row.A.Denot)). in_bytes (names_of class (map declaration_of ds)) in
     let first : drop i declarations ≡ d ∷ drop (i + 1) declarations =
-        rw add-one (drop-cons declarations i d c.loop-declaration-test.true ∙ ap (λ x. x ∷ drop (suc i) declarations) (sym c.declaration-item.is)) in
+    rw add-one (drop-cons declarations i d c.loop-declaration-test.true ∙ ap (λ x. x ∷ drop (suc i) declarations) (sym c.declaration-item.is)) in
     goes_on [] (spellings_of c.loop-declaration.names.items) (spellings_of c.push_declared.new.names.items) (in_bytes (spellings (declared_as class (declaration_of d))))
     (left (drop i declarations)) (left (drop (i + 1) declarations)) (left declarations) c.loop-declaration.invariant
     (ap left first ∙ names_in_front class (declaration_of d) (map declaration_of (drop (i + 1) declarations))) c.in_ok-push_declared.ensures

@@ -17,7 +17,7 @@ loop-clause-preserved g c =
     let i = c.loop-clause.clause-index in
     let left = λ (xs : List (Clause g.row.A.Denot)). in_bytes (spellings (clause_names (map clause_of xs))) in
     let first : drop i clauses ≡ c.clause-item.result ∷ drop (i + 1) clauses =
-        rw add-one (drop-cons clauses i c.clause-item.result c.loop-clause-test.true ∙ ap (λ x. x ∷ drop (suc i) clauses) (sym c.clause-item.is)) in
+    rw add-one (drop-cons clauses i c.clause-item.result c.loop-clause-test.true ∙ ap (λ x. x ∷ drop (suc i) clauses) (sym c.clause-item.is)) in
     goes_on (spellings_of c.args.list.now.items) (spellings_of c.loop-clause.list.items) (spellings_of c.push_spelling.new.list.items) (in_bytes (chars c.clause-item.result.name.text.now ∷ [])) (left (drop i clauses)) (left (drop (i + 1) clauses)) (left clauses)
     c.loop-clause.invariant (ap left first) c.in_ok-push_spelling.ensures
 

@@ -8,18 +8,13 @@ use Rattle.csp_parse.specs.Names.{name_of}
 use Rattle.std.specs.Str.{chars}
 use Rattle.csp_notation.specs.Names.{in_bytes}
 use Rattle.csp_print.specs.Names.{spellings_of}
-use Rattle.csp_naming.proofs.Listing.{comes_to_end, goes_on}
+use Rattle.csp_naming.proofs.Listing.{comes_to_end, next_name}
 use Rattle.csp_naming.proofs.spellings.push_names.Goals as goal
 
 pub loop-name-preserved : goal.loop-name-preserved
 loop-name-preserved g c =
-    let names = c.args.names.now in
-    let i = c.loop-name.name-index in
-    let left = λ (xs : List Name). in_bytes (spellings (map name_of xs)) in
-    let first : drop i names ≡ c.name-item.result ∷ drop (i + 1) names =
-        rw add-one (drop-cons names i c.name-item.result c.loop-name-test.true ∙ ap (λ x. x ∷ drop (suc i) names) (sym c.name-item.is)) in
-    goes_on (spellings_of c.args.list.now.items) (spellings_of c.loop-name.list.items) (spellings_of c.push_spelling.new.list.items) (in_bytes (chars c.name-item.result.text.now ∷ [])) (left (drop i names)) (left (drop (i + 1) names)) (left names)
-    c.loop-name.invariant (ap left first) c.in_ok-push_spelling.ensures
+    next_name c.args.names.now c.loop-name.name-index _ (spellings_of c.args.list.now.items) (spellings_of c.loop-name.list.items) (spellings_of c.push_spelling.new.list.items)
+    c.loop-name-test.true c.loop-name.invariant c.in_ok-push_spelling.ensures
 
 pub returns : goal.returns
 returns g c =
