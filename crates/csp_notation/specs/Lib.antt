@@ -1,0 +1,7 @@
+pub mod Names
+pub mod Marks
+pub mod Values
+pub mod Expressions
+pub mod EventSets
+pub mod Processes
+pub mod Samples

@@ -1,0 +1,39 @@
+-- The texts and the sizes of values.
+use Rattle.std.proofs.Common.{◌≡◌, ℕ, zero, suc, ◌<◌, ◌≤◌, List, [], ◌∷◌, ◌++◌, length, get_or, refl, sym, ◌∙◌, ap, arith}
+use Rattle.std.specs.Prelude.{codes, ◌==◌, false}
+use Rattle.std.specs.declared.vec.Vec.{Vec}
+use Rattle.csp_syntax.specs.Value as pure
+use Rattle.csp_semantics.specs.Meaning.Limits.{value_size, values_size}
+use Rattle.csp_answers.specs.Printing.{name_at}
+use Rattle.csp_value.specs.declared.value.Value.{Value}
+use Rattle.csp_value.specs.declared.value.Value.TheVariants as views
+use Rattle.csp_value.specs.declared.set.SetOf.{SetOf}
+use Rattle.csp_value.specs.Value.{value_of, values_of, members_of}
+use Rattle.csp_value.proofs.Forms.{value_of_seq, value_of_set, unlisted}
+use Rattle.csp_notation.specs.Names.{Names}
+use Rattle.csp_notation.specs.Values.{value_text, values_behind}
+
+-- a constructor that has fields
+pub with_fields : {A : Type 0} (names : Names) (k : ℕ) (fields : List (Value A)) → (length fields == 0) ≡ false →
+    codes "(" ++ (name_at names.constructors k ++ (values_behind names (codes ".") (pure.to_values (values_of fields)) ++ codes ")")) ≡
+    value_text names (pure.Constructor k (pure.to_values (values_of fields)))
+with_fields names k [] some = absurd (cc some)
+with_fields names k (v ∷ vs) some = refl
+
+-- the members of a sequence or a set, as they are read
+pub of_sequence : {A : Type 0} (v : Value A) (vs : Vec (Value A) A) (read : List (Value A)) → v ≡ views.Seq vs → read ≡ vs.items → value_of v ≡ pure.Sequence (pure.to_values (values_of read))
+of_sequence {A} v vs read is same = ap value_of is ∙ value_of_seq A vs ∙ ap (λ ws. pure.Sequence (pure.to_values (values_of ws))) (sym same)
+
+pub of_set : {A : Type 0} (v : Value A) (s : SetOf A) (read : List (Value A)) → v ≡ views.Set s → values_of read ≡ pure.values_list (members_of s) → value_of v ≡ pure.Set (pure.to_values (values_of read))
+of_set {A} v s read is same = ap value_of is ∙ value_of_set A s ∙ ap pure.Set (sym (ap pure.to_values same ∙ unlisted (members_of s)))
+
+-- a member is no larger than all of them
+pub member_size : {A : Type 0} (values : List (Value A)) (i : ℕ) (v : Value A) → i < length values → v ≡ get_or values i v → value_size (value_of v) ≤ values_size (pure.to_values (values_of values))
+member_size [] i v within read = absurd (omega (arith, within))
+member_size (w ∷ ws) zero v within read =
+    let e : value_size (value_of v) ≡ value_size (value_of w) = ap (λ u. value_size (value_of u)) read in
+    omega (arith, e)
+member_size (w ∷ ws) (suc i) v within read =
+    let h : suc i < suc (length ws) = within in
+    let rest = member_size ws i v (omega (arith, h)) read in
+    omega (arith, rest)

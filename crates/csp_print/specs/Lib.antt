@@ -1,0 +1,4 @@
+pub mod EventSets
+pub mod Names
+pub mod Shapes
+pub mod Writing
