@@ -12,8 +12,6 @@ mod nodes;
 #[cfg(test)]
 mod refusals;
 #[cfg(test)]
-mod requests;
-#[cfg(test)]
 mod row;
 #[cfg(test)]
 mod sequential_rows;
