@@ -1,10 +1,7 @@
 //! What searches by several workers are seen to do: that each worker goes on while another is held, that the answer is
-//! the same in whichever order they put, what one worker posts, how a round ends of which one worker does a part, and
-//! that boards say where they are refused memory.
+//! the same in whichever order they put, and what one worker posts.
 #![tactic(auto)]
 
-#[cfg(test)]
-mod boards;
 #[cfg(test)]
 mod gates;
 mod held;

@@ -43,10 +43,10 @@ R = c?x -> R
 assert R [T= c?x -> d!x -> STOP
 ";
 
-/// The second level has seventy rows, and so has the third.
+/// The second level has seventy rows.
 pub(crate) const SEVENTY_ROWS: &str = "channel c, d : {0..69}
 R = (c?x -> R) [] (d?x -> R)
-assert R [T= c?x -> d!x -> c!x -> STOP
+assert R [T= c?x -> d!x -> STOP
 ";
 
 /// The script of the text.

@@ -3,9 +3,9 @@ use denote.Param.Send.{sendable}
 use Rattle.std.proofs.Common.{refl}
 use Rattle.std.proofs.Crossing as here
 use Rattle.explore.proofs.Crossing.Stores.{store_send}
-use Rattle.tests_workers.proofs.worker.seen_until.Goals as goal
+use Rattle.tests_workers.proofs.worker.put_until.Goals as goal
 
-pub seen-requires-sync-P : goal.seen-requires-sync-P
-seen-requires-sync-P g c κs within =
+pub seen_alone-requires-sync-P : goal.seen_alone-requires-sync-P
+seen_alone-requires-sync-P g c κs within =
     let sr = c.type_bounds.sync-R in
     (search (here.crosses, store_send, sendable) depth 60 fits 20000, ((refl, tt), c.requires))
