@@ -10,14 +10,13 @@ use std::sync::atomic::Ordering::SeqCst;
 #[derive(Drop)]
 pub struct RefusesOnce<A> {
     inner: A,
-    refused: AtomicU64,
+    refused: u64,
     asked: AtomicU64,
 }
 
 impl<A> RefusesOnce<A> {
     /// Refuses the request of that number, where the first one has 0.
     pub fn new(inner: A, refused: u64) -> RefusesOnce<A> {
-        let refused = AtomicU64::new(refused);
         let asked = AtomicU64::new(0);
         RefusesOnce {
             inner,
@@ -26,22 +25,16 @@ impl<A> RefusesOnce<A> {
         }
     }
 
-    /// Refuses another request: the one of that number, where the next one has 0.
-    pub fn refuse(&self, refused: u64) {
-        self.refused.store(refused, SeqCst);
-        self.asked.store(0, SeqCst);
-    }
-
     /// Whether the request was made that is refused.
     pub fn has_refused(&self) -> bool {
-        self.refused.load(SeqCst) < self.asked.load(SeqCst)
+        self.refused < self.asked.load(SeqCst)
     }
 
     // Counts a request, and answers the allocator where it is granted.
     fn granted(&self) -> Option<&A>
         ensures { IfSome result (λ inner. inner.now ≡ self.now.inner) }
     {
-        if self.asked.fetch_add(1, SeqCst) == self.refused.load(SeqCst) {
+        if self.asked.fetch_add(1, SeqCst) == self.refused {
             None
         } else {
             Some(&self.inner)

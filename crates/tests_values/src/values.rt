@@ -13,16 +13,12 @@ use csp_value::laws::{
 };
 use csp_value::{Action, ChannelId, ConId, Event, FieldSet, Memory, SetOf, TryCopy, Value};
 use linked_list_allocator::LocalHeap;
-use refusing_memory::RefusesOnce;
 use smallvec::SmallVec;
 use std::alloc::{Allocator, Global};
 use std::cmp::Ordering;
 use std::hash::{DefaultHasher, Hash, Hasher};
 use std::process::Abort;
 use std::test::Fail;
-
-/// A heap of which one request is refused, or none.
-type Sparse<'m, 'h> = &'m RefusesOnce<&'h LocalHeap>;
 
 /// Values of each form, in rising order.
 const VALUES: &[&str] = &[
@@ -423,68 +419,42 @@ fn has_size_and_depth(value: &Value<Global>) -> bool {
         && !value.is_within_depth(2)
 }
 
-/// Whether the copy in the memory is equal.
-fn copies<'m, 'h>(sparse: Sparse<'m, 'h>, value: &Value<Sparse<'m, 'h>>) -> Result<bool, Memory> {
-    Ok(value.try_copy(sparse)? == *value)
+/// Whether the copy in the heap is equal.
+fn copies<'h>(heap: &'h LocalHeap, value: &Value<&'h LocalHeap>) -> Result<bool, Memory> {
+    Ok(value.try_copy(heap)? == *value)
 }
 
-/// Memory that grants all, and memory of which a request is refused.
-#[derive(Drop)]
-struct Memories<'h> {
-    ample: RefusesOnce<&'h LocalHeap>,
-    sparse: RefusesOnce<&'h LocalHeap>,
-}
-
-/// Whether the copy of the value is granted all that it asks for, and is then equal.
-fn is_granted<'m, 'h>(
-    rt: &impl Abort,
-    sparse: Sparse<'m, 'h>,
-    value: &Value<Sparse<'m, 'h>>,
-    request: u64,
-) -> bool {
-    sparse.refuse(request);
-    let Ok(is_equal) = copies(sparse, value) else {
-        assert!(rt; sparse.has_refused(), "{request}");
-        return false;
+/// Whether a heap of so many bytes has room for a copy, which is then equal.
+fn is_copied_within(rt: &impl Abort, alloc: Global, bytes: usize) -> Result<bool, Fail> {
+    let here = LocalHeap::new(alloc, 4096)?;
+    let there = LocalHeap::new(alloc, bytes)?;
+    let value = nested(&here)?;
+    let Ok(is_equal) = copies(&there, &value) else {
+        assert!(rt; there.used() == 0);
+        return Ok(false);
     };
-    assert!(rt; is_equal && !sparse.has_refused(), "{request}");
-    true
+    assert!(rt; is_equal);
+    Ok(true)
 }
 
-/// How many requests the copy makes, of which each was refused in turn. Then nothing is held, and the value is as it
-/// was.
-fn requests_in<'m, 'h>(
-    rt: &impl Abort,
-    heap: &'h LocalHeap,
-    memories: &'m Memories<'h>,
-) -> Result<u64, Fail> {
-    let value = nested(&memories.ample)?;
-    let before = nested(&memories.ample)?;
-    for request in 0..128 {
-        let is_granted = is_granted(rt, &memories.sparse, &value, request);
-        assert!(rt; heap.used() == 0 && value == before, "{request}");
-        if is_granted {
-            return Ok(request);
+fn find_room_or_say_so(rt: &impl Abort, alloc: Global) -> Result<(), Fail> {
+    let mut copied = false;
+    let mut refused = false;
+    // Each heap has 16 bytes more than the one before it, and hands out no fewer.
+    for units in 1..128 {
+        if is_copied_within(rt, alloc, 16 * units)? {
+            copied = true;
+        } else {
+            refused = true;
         }
     }
-    Err(Fail::new("requests without end"))
-}
-
-fn requests_of(rt: &impl Abort, alloc: Global) -> Result<u64, Fail> {
-    let here = LocalHeap::new(alloc, 4096)?;
-    let there = LocalHeap::new(alloc, 4096)?;
-    let memories = Memories {
-        ample: RefusesOnce::new(&here, u64::MAX),
-        sparse: RefusesOnce::new(&there, 0),
-    };
-    requests_in(rt, &there, &memories)
+    assert!(rt; copied && refused);
+    Ok(())
 }
 
 #[test]
 fn values_have_sizes_and_equal_copies(rt: HostRuntime) -> Result<(), Fail> {
     assert!(rt; has_size_and_depth(&nested(rt.alloc())?));
     are_copied_across(&rt, rt.alloc())?;
-    let requests = requests_of(&rt, rt.alloc())?;
-    assert!(rt; requests > 3, "{requests}");
-    Ok(())
+    find_room_or_say_so(&rt, rt.alloc())
 }
