@@ -40,11 +40,7 @@ fn numbers<A: Allocator + Copy>(alloc: A, from: i32, to: i32) -> Result<Value<A>
     }
     let mut members = Vec::new(alloc);
     for offset in 0..count {
-        // A number between two of 32 bits has 32 bits, so the last arm is never taken.
-        match from.checked_add(offset as i32) {
-            Some(number) => members.push(Value::Int(number))?,
-            None => return Err(NoValue::Memory),
-        }
+        members.push(Value::Int(from + offset as i32))?;
     }
     Ok(Value::Set(SetOf::from_values(members)))
 }

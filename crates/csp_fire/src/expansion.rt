@@ -1,16 +1,18 @@
 //! Expansions: a term of a script with its form.
 
 ghost use Rattle.std.specs.Prelude.{◌≡◌};
+ghost use Rattle.csp_semantics.specs.Kinds.Scripts.{IsTermOf};
 ghost use Rattle.csp_semantics.specs.Meaning.Expansions.{IsExpansion};
 ghost use Rattle.csp_term.specs.Term.{process_of};
 ghost use Rattle.csp_term.specs.Script.{script_of};
 ghost use Rattle.csp_fire.specs.Form.{form_of};
 
 use crate::form::Form;
-use csp_term::{AllocHandle, Script, Term};
+use csp_term::{AllocHandle, Memory, Script, Term, TryCopy};
 use std::marker::Model;
 
-/// A term of a script with its form, which is exactly what the rules say of the term. It lends the script.
+/// A term of a script, closed and well-kinded, with its form, which is exactly what the rules say of the term. It lends
+/// the script.
 #[derive(Drop)]
 pub struct Expansion<'s, A: AllocHandle> {
     pub(crate) script: &'s Script<A>,
@@ -27,12 +29,11 @@ impl<'s, A: AllocHandle> Model for Expansion<'s, A> {
 
     ghost coded = { coded coding_expansion };
 
-    ghost use Rattle.csp_semantics.specs.Meaning.Expansions.{IsExpansion};
-    ghost use Rattle.csp_fire.specs.Expansion.{expansion_of};
+    ghost use Rattle.csp_fire.specs.Expansion.{expansion_of, IsKept};
 
     ghost view = { expansion_of };
 
-    ghost invariant = { λ e. IsExpansion (expansion_of e) };
+    ghost invariant = { IsKept };
 }
 
 impl<'s, A: AllocHandle> Expansion<'s, A> {
@@ -43,9 +44,10 @@ impl<'s, A: AllocHandle> Expansion<'s, A> {
         self.script
     }
 
-    /// The term that was fired.
+    /// The term that was fired, which is one of the script.
     pub fn term(&self) -> &Term<A>
-        ensures { process_of result.now ≡ self.now.term }
+        ensures value { process_of result.now ≡ self.now.term }
+        ensures closed { IsTermOf self.now.script self.now.term }
     {
         &self.term
     }
@@ -63,5 +65,19 @@ impl<'s, A: AllocHandle> Expansion<'s, A> {
         ensures { form_of result ≡ self.entry.form }
     {
         self.form
+    }
+}
+
+impl<'s, A: AllocHandle> TryCopy<A> for Expansion<'s, A> {
+    ghost is_copy = { λ expansion copy. copy ≡ expansion };
+
+    fn try_copy(&self, alloc: A) -> Result<Expansion<'s, A>, Memory> {
+        let term = self.term.try_copy(alloc)?;
+        let form = self.form.try_copy(alloc)?;
+        Ok(Expansion {
+            script: self.script,
+            term,
+            form,
+        })
     }
 }

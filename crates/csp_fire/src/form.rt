@@ -1,6 +1,9 @@
 //! The form of a term: what it can do and offer, or why it is stuck.
 
-use csp_term::{Action, AllocHandle, Fault, Term};
+ghost use Rattle.std.specs.Prelude.{◌≡◌};
+
+use crate::offers::copy_offers;
+use csp_term::{Action, AllocHandle, Fault, Memory, Term, TryCopy, copy_all};
 
 /// A step of a term: the action, and the term that it leads to. Steps are ordered by action, then by target.
 #[derive(Drop)]
@@ -22,4 +25,34 @@ pub enum Form<A: AllocHandle> {
     Faulty(Fault),
     /// The term is past the limits, or some step leads past them.
     Large,
+}
+
+impl<A: AllocHandle> TryCopy<A> for Step<A> {
+    ghost use Rattle.csp_fire.specs.Form.{step_of};
+
+    ghost is_copy = { λ step copy. step_of copy ≡ step_of step };
+
+    fn try_copy(&self, alloc: A) -> Result<Step<A>, Memory> {
+        let target = self.target.try_copy(alloc)?;
+        let action = self.action.try_copy(alloc)?;
+        Ok(Step { action, target })
+    }
+}
+
+impl<A: AllocHandle> TryCopy<A> for Form<A> {
+    ghost use Rattle.csp_fire.specs.Form.{form_of};
+
+    ghost is_copy = { λ form copy. form_of copy ≡ form_of form };
+
+    fn try_copy(&self, alloc: A) -> Result<Form<A>, Memory> {
+        match self {
+            Form::Steps(steps, offers) => {
+                let offers = copy_offers(alloc, offers)?;
+                let steps = copy_all(alloc, steps)?;
+                Ok(Form::Steps(steps, offers))
+            }
+            Form::Faulty(fault) => Ok(Form::Faulty(*fault)),
+            Form::Large => Ok(Form::Large),
+        }
+    }
 }

@@ -7,7 +7,7 @@ ghost use Rattle.csp_fire.specs.Form.{step_of};
 ghost use Rattle.csp_fire.specs.Offering.{actions_of, has_tau, has_tick, offers_of};
 
 use crate::form::Step;
-use csp_term::{Action, AllocHandle, Memory};
+use csp_term::{Action, AllocHandle, Memory, copy_all};
 
 /// The acceptances of the term whose steps these are, by action: tick alone, where it can tick, and all that it does,
 /// where it does no tau.
@@ -74,4 +74,18 @@ fn actions<A: AllocHandle>(alloc: A, steps: &[Step<A>]) -> Result<Vec<Action<A>,
         }
     }
     Ok(actions)
+}
+
+/// A copy of each acceptance, in order.
+pub(crate) fn copy_offers<A: AllocHandle>(
+    alloc: A,
+    offers: &[Vec<Action<A>, A>],
+) -> Result<Vec<Vec<Action<A>, A>, A>, Memory>
+    ensures { IfOk result (λ copies. map (λ xs. map action_of xs.items) copies.items ≡ map (λ xs. map action_of xs.items) offers.now) }
+{
+    let mut copies = Vec::new(alloc);
+    for offer in offers {
+        copies.push(copy_all(alloc, offer)?)?;
+    }
+    Ok(copies)
 }

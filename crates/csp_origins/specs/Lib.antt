@@ -1,3 +1,4 @@
 pub mod Origin
 pub mod Action
 pub mod Worked
+pub mod Telling

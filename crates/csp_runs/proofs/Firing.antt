@@ -12,10 +12,10 @@ use Rattle.csp_runs.specs.Layers.{AreSteps}
 pub fired_steps : (script : Script) (t : Process) (steps : List (Action × Process)) (offers : List (List Action)) → IsFired script t steps offers → AreSteps script t steps
 fired_steps script t steps offers fired x u = (λ step. (fired.each_step x u).0 step.1, λ c. (fired.not_stuck, (fired.each_step x u).1 c))
 
-not_both : (script : Script) (t : Process) (c : Cause) → IsFaulty script t c → IsNotStuck script t → ⊥
+pub not_both : (script : Script) (t : Process) (c : Cause) → IsFaulty script t c → IsNotStuck script t → ⊥
 not_both script t c faulty free = let e : None ≡ Some c = sym free.no_cause ∙ faulty.cause in cc e
 
-not_large : (script : Script) (t : Process) → IsLarge script t → IsNotStuck script t → ⊥
+pub not_large : (script : Script) (t : Process) → IsLarge script t → IsNotStuck script t → ⊥
 not_large script t (itself past) free = let e : false ≡ true = sym past ∙ free.within in cc e
 not_large script t (by_step none leads) free = let e : false ≡ true = sym leads.3 ∙ free.targets leads.0 leads.1 leads.2 in cc e
 

@@ -2,9 +2,13 @@
 use Rattle.std.specs.Prelude.{◌≡◌, ℕ, ◌<◌, ◌⊎◌, ◌↔◌, List, [], ◌∷◌, ◌++◌, length, reverse, slice_get, Some, Contains}
 use Rattle.csp_syntax.specs.Value.{Action}
 use Rattle.csp_syntax.specs.Process.{Process, Script}
+use Rattle.csp_semantics.specs.Kinds.Scripts.{IsTermOf}
 use Rattle.csp_semantics.specs.Meaning.Transitions.{Step}
-use Rattle.csp_answers.specs.Growth.{StaysIn}
+use Rattle.csp_answers.specs.Growth.{AreDistinct, StaysIn}
 use Rattle.csp_runs.specs.States.{Visits}
+
+abbrev pub AreTermsOf : Script → List Process → Type 0
+AreTermsOf script terms = (t : Process) → Contains terms t → IsTermOf script t
 
 -- terms, and for each the place of one in the layer before from which a step leads to it
 abbrev pub Layer : Type 0
@@ -31,9 +35,9 @@ pub data AreLayers (script : Script) (t : Process) : List Action → List Layer 
 abbrev pub AreSteps : Script → Process → List (Action × Process) → Type 0
 AreSteps script t steps = (x : Action) (u : Process) → Step script t x u ↔ Contains steps (x, u)
 
--- it is there already, or it is put at the end with its parent
+-- it is there already, or it is new and put at the end with its parent
 abbrev pub IsAddedTo : Process → ℕ → Layer → Layer → Type 0
-IsAddedTo u parent layer after = (Contains layer.0 u × (after ≡ layer)) ⊎ ((after.0 ≡ layer.0 ++ u ∷ []) × (after.1 ≡ layer.1 ++ parent ∷ []))
+IsAddedTo u parent layer after = (Contains layer.0 u × (after ≡ layer)) ⊎ ((Contains layer.0 u → ⊥) × (after.0 ≡ layer.0 ++ u ∷ []) × (after.1 ≡ layer.1 ++ parent ∷ []))
 
 abbrev pub IsEven : Layer → Type 0
 IsEven layer = length layer.1 ≡ length layer.0
@@ -46,6 +50,7 @@ StaysOrComes steps x parent layer after k u =
 -- what the steps by x lead to is added
 pub record AddsSteps (steps : List (Action × Process)) (x : Action) (parent : ℕ) (layer after : Layer) : Type 0 where
   pub even : IsEven after
+  pub distinct : AreDistinct layer.0 → AreDistinct after.0
   pub front : StaysIn layer.0 after.0
   pub each : (k : ℕ) (u : Process) → slice_get after.0 k ≡ Some u → StaysOrComes steps x parent layer after k u
   pub stays : (u : Process) → Contains layer.0 u → Contains after.0 u
@@ -54,6 +59,7 @@ pub record AddsSteps (steps : List (Action × Process)) (x : Action) (parent : �
 -- what steps by x lead to from the first n terms before
 pub record IsPartLayer (script : Script) (before : List Process) (x : Action) (n : ℕ) (layer : Layer) : Type 0 where
   pub even : IsEven layer
+  pub distinct : AreDistinct layer.0
   pub each : (k : ℕ) (u : Process) → slice_get layer.0 k ≡ Some u → HasParent script before x layer.1 k u
   pub all : (i : ℕ) (v u : Process) → i < n → slice_get before i ≡ Some v → Step script v x u → Contains layer.0 u
 

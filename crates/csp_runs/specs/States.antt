@@ -1,11 +1,13 @@
 -- Runs told state by state.
-use Rattle.std.specs.Prelude.{◌≡◌, ◌≢◌, ◌↔◌, ℕ, suc, List, [], ◌∷◌, length, slice_get, Some, take, Contains}
+use Rattle.std.specs.Prelude.{◌≡◌, ◌≢◌, ◌↔◌, ◌≤◌, ℕ, suc, List, [], ◌∷◌, length, slice_get, Some, take, Contains}
 use Rattle.csp_syntax.specs.Value.{Action, Tau}
 use Rattle.csp_syntax.specs.Process.{Process, Assertion, Script}
 use Rattle.csp_semantics.specs.Meaning.Transitions.{Step}
 use Rattle.csp_semantics.specs.Meaning.Runs.{Run, trace, IsAfter}
 use Rattle.csp_semantics.specs.Meaning.Offers.{CanDo, IsAcceptance}
 use Rattle.csp_semantics.specs.Meaning.Divergence.{IsDeadlocked}
+use Rattle.csp_answers.specs.Counting.{AreMoreThan}
+use Rattle.csp_answers.specs.Growth.{AreDistinct}
 use Rattle.csp_semantics.specs.Meaning.Violations.{Evidence, ByEvent, ByOffers, ByDeadlock, ByDivergence, Violation, IsEvidence}
 
 -- the path leads from t to u, and these are the states on its way, from t on to u
@@ -62,3 +64,11 @@ AreAfter script t s states = (u : Process) → Contains states u ↔ IsAfter scr
 pub record AreStatesAlong (script : Script) (t : Process) (path : List Action) (all : List (List Process)) : Type 0 where
   pub long : length all ≡ suc (length path)
   pub each : (i : ℕ) (states : List Process) → slice_get all i ≡ Some states → AreAfter script t (trace (take i path)) states
+
+-- each of the lists has at most n terms, each once
+abbrev pub AreSmall : ℕ → List (List Process) → Type 0
+AreSmall n all = (i : ℕ) (states : List Process) → slice_get all i ≡ Some states → AreDistinct states × (length states ≤ n)
+
+-- after the trace of some beginning of the path there are more than n states
+abbrev pub AreMoreAlong : ℕ → Script → Process → List Action → Type 0
+AreMoreAlong n script t path = (i : ℕ) × AreMoreThan ◌≡◌ n (IsAfter script t (trace (take i path)))

@@ -25,5 +25,5 @@ mod unpacking;
 mod values;
 
 pub use fault::UnpackFault;
-pub use packing::{pack, push_term};
+pub use packing::{pack, pack_by, push_term};
 pub use unpacking::unpack;

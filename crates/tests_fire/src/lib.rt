@@ -13,6 +13,8 @@ mod calls;
 #[cfg(test)]
 mod choices;
 #[cfg(test)]
+mod comparisons;
+#[cfg(test)]
 mod conditions;
 #[cfg(test)]
 mod constructors;
@@ -25,6 +27,8 @@ mod decisions;
 #[cfg(test)]
 mod events_changed;
 #[cfg(test)]
+mod expansion_copies;
+#[cfg(test)]
 mod faults;
 #[cfg(test)]
 mod limits;
@@ -32,6 +36,8 @@ mod literals;
 #[cfg(test)]
 mod little_room;
 mod lookups;
+#[cfg(test)]
+mod memory;
 #[cfg(test)]
 mod numbers;
 mod opened;

@@ -12,6 +12,8 @@ mod nodes;
 #[cfg(test)]
 mod refusals;
 #[cfg(test)]
+mod requests;
+#[cfg(test)]
 mod row;
 #[cfg(test)]
 mod sequential_rows;

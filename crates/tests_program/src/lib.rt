@@ -11,6 +11,8 @@ mod beginnings;
 #[cfg(test)]
 mod command_lines;
 #[cfg(test)]
+mod deep;
+#[cfg(test)]
 mod endless;
 #[cfg(test)]
 mod examples;
@@ -24,6 +26,8 @@ mod memory;
 mod outcomes;
 #[cfg(test)]
 mod outputs;
+#[cfg(test)]
+mod pieces;
 #[cfg(test)]
 mod refusals;
 #[cfg(test)]

@@ -1,14 +1,12 @@
 //! Texts at the limits and past them.
 
+use crate::pieces::{Pieces, put_together};
 use crate::runs::check;
-use std::alloc::{AllocError, Global};
+use std::alloc::Global;
 use std::process::Abort;
 use std::sync::Wait;
 use std::test::Fail;
 use std::thread::Threads;
-
-// A text in pieces, each with how often it is repeated.
-type Pieces = &'static [(&'static str, usize)];
 
 // Texts at the limits and past them: a status, the text and its lines.
 const LONG: &[(u8, Pieces, &str)] = &[
@@ -60,22 +58,6 @@ const LONG: &[(u8, Pieces, &str)] = &[
     ),
     (3, &[("channel c : {0..1024}", 1)], "refused K05 at 1:13\n"),
 ];
-
-// Adds a text as often as `times` says.
-fn repeat(whole: &mut String, text: &str, times: usize) -> Result<(), AllocError> {
-    for _ in 0..times {
-        whole.push_str(text)?;
-    }
-    Ok(())
-}
-
-fn put_together(alloc: Global, pieces: Pieces) -> Result<String, AllocError> {
-    let mut whole = String::new(alloc);
-    for (text, times) in pieces {
-        repeat(&mut whole, text, *times)?;
-    }
-    Ok(whole)
-}
 
 fn long_are_answered_so<R: Abort + Threads + Wait + Sync>(
     rt: &R,

@@ -68,6 +68,7 @@ fn push_fired<'s, A: AllocHandle>(
         return Ok(());
     }
     let row = &level.rows[position];
-    let expansion = fire(alloc, script, &row.term)?;
+    let term = row.term.unpack(alloc)?;
+    let expansion = fire(alloc, script, &term)?;
     batch.push(row.place, expansion)
 }

@@ -1,7 +1,7 @@
 -- The form is by the steps, or says why there are none.
 use Rattle.std.proofs.Common.{rules, ◌≡◌, [], Result, Ok, Err, Some, true, map, subst, sym, ◌∙◌, ap, inl, inr, lit<}
 use Rattle.std.specs.declared.vec.Vec.{Vec}
-use Rattle.csp_semantics.specs.Meaning.Evaluation.{Cause, IllKinded}
+use Rattle.csp_semantics.specs.Meaning.Evaluation.{IllKinded}
 use Rattle.csp_semantics.specs.Meaning.Expansions.{IsFormOf}
 use Rattle.csp_semantics.specs.Meaning.Faults.{cause_in}
 use Rattle.csp_semantics.specs.Meaning.Limits.{fits}
@@ -12,7 +12,6 @@ use Rattle.csp_semantics.proofs.Putting.{put_nothing}
 use Rattle.csp_term.specs.Term.{process_of}
 use Rattle.csp_term.specs.Script.{script_of_parts}
 use Rattle.csp_expression.specs.Cause.{cause_of}
-use Rattle.csp_expression.specs.Fault as fault
 use Rattle.csp_expression.proofs.Answering.{if_ok-map}
 use Rattle.csp_operators.specs.declared.rule_step.RuleStep.{RuleStep}
 use Rattle.csp_expression.specs.declared.no_value.NoValue.{NoValue}

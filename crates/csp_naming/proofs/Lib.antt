@@ -1,0 +1,4 @@
+mod Turns
+mod Inserted
+mod Meeting
+mod Declared

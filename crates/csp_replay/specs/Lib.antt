@@ -1,0 +1,4 @@
+pub mod Layer
+pub mod Layers
+pub mod Ends
+pub mod Ways

@@ -1,0 +1,359 @@
+//! Texts that nest deep: in the values of nametypes that stand on one another, in declarations of the greatest height,
+//! and in the terms that a search reaches. What is expected comes from the rules of the language and of the lines.
+
+ghost use denote.Param.Send.{IsSync};
+
+use crate::pieces::{Pieces, put_together, repeat};
+use crate::runs::{Told, check};
+use std::alloc::{AllocError, Global};
+use std::process::Abort;
+use std::sync::Wait;
+use std::test::Fail;
+use std::thread;
+use std::thread::{Builder, Threads};
+
+// The bytes of stack that the program's thread has.
+const STACK: usize = 256 * 1024 * 1024;
+
+// Nametypes that stand on one another: how many, and what each puts round the value of the one below it. The outer layer
+// is a set, and in it are so many of these signs.
+#[derive(Clone, Copy)]
+struct Layers {
+    nametypes: usize,
+    open: &'static str,
+    close: &'static str,
+    inner: usize,
+}
+
+// Each declaration is as high as it may be, and the text as long.
+const DEEPEST: Layers = Layers {
+    nametypes: 300,
+    open: "{",
+    close: "}",
+    inner: 98,
+};
+
+// Fewer, since the time goes with their square.
+const SETS: Layers = Layers {
+    nametypes: 150,
+    open: "{",
+    close: "}",
+    inner: 98,
+};
+
+// Of a sequence both signs count for the height.
+const SEQUENCES: Layers = Layers {
+    nametypes: 250,
+    open: "<",
+    close: ">",
+    inner: 49,
+};
+
+// What stands behind the nametypes, the status, and the lines. The member of `LAST` is the deep value.
+static BEHIND: [(&str, u8, &str); 8] = [
+    ("", 0, ""),
+    ("nametype TWICE = {LAST, LAST}", 0, ""),
+    (
+        "channel c : LAST\nR = c?x -> R\nassert R [F= R",
+        0,
+        "1 holds\n",
+    ),
+    (
+        "channel c : LAST\nR = c?x -> R\nassert R [T= R [| {| c |} |] R",
+        0,
+        "1 holds\n",
+    ),
+    (
+        "channel c : LAST\nR = c?x -> R\nassert R \\ {| c |} :[divergence free]",
+        1,
+        "1 fails trace <> diverges\n",
+    ),
+    (
+        "channel a\nassert STOP [T= LAST == LAST & a -> STOP",
+        1,
+        "1 fails trace <> event a\n",
+    ),
+    (
+        "channel a\nP(s) = a -> STOP\nassert STOP [T= P(LAST)",
+        1,
+        "1 fails trace <> event a\n",
+    ),
+    (
+        "channel a\nP(s) = a -> P(s)\nassert STOP [T= P(LAST)",
+        2,
+        "1 unknown term\n",
+    ),
+];
+
+// The value is put into an event that the specification lacks.
+const SHOWING: &str = "channel c : LAST\nassert STOP [T= c?x -> STOP";
+
+// A status, a text and its lines.
+static HIGH: [(u8, Pieces, Pieces); 13] = [
+    (
+        0,
+        &[
+            ("P = ", 1),
+            ("if true then ", 33),
+            ("STOP", 1),
+            (" else STOP", 33),
+        ],
+        &[],
+    ),
+    (
+        1,
+        &[
+            ("channel a\nassert STOP [T= ", 1),
+            ("not ", 98),
+            ("true & a -> STOP", 1),
+        ],
+        &[("1 fails trace <> event a\n", 1)],
+    ),
+    (
+        1,
+        &[
+            ("nametype E = {}\nnametype N = ", 1),
+            ("union(", 99),
+            ("{1}", 1),
+            (", E)", 99),
+            ("\nchannel c : N\nassert STOP [T= c?x -> STOP", 1),
+        ],
+        &[("1 fails trace <> event c.1\n", 1)],
+    ),
+    (
+        0,
+        &[
+            ("channel a\nassert STOP [T= (a -> STOP) \\ ", 1),
+            ("union(", 48),
+            ("{a}", 1),
+            (", {})", 48),
+        ],
+        &[("1 holds\n", 1)],
+    ),
+    (
+        1,
+        &[
+            ("channel a\nassert STOP [T= a -> STOP", 1),
+            (" [] STOP", 99),
+        ],
+        &[("1 fails trace <> event a\n", 1)],
+    ),
+    (
+        1,
+        &[
+            ("nametype N = {0}\nchannel a\nassert STOP [T= ", 1),
+            ("||| x:N @ ", 49),
+            ("a -> STOP", 1),
+        ],
+        &[("1 fails trace <> event a\n", 1)],
+    ),
+    (
+        1,
+        &[
+            ("nametype N = {0}\nchannel c : N", 1),
+            (".N", 1989),
+            ("\nassert STOP [T= c", 1),
+            ("?x", 1990),
+            (" -> STOP", 1),
+        ],
+        &[("1 fails trace <> event c", 1), (".0", 1990), ("\n", 1)],
+    ),
+    (
+        2,
+        &[
+            ("nametype N = {0}\nchannel c : N", 1),
+            (".N", 1999),
+            ("\nassert STOP [T= c", 1),
+            ("?x", 2000),
+            (" -> STOP", 1),
+        ],
+        &[("1 unknown term\n", 1)],
+    ),
+    (
+        2,
+        &[(
+            "channel a\nR = a -> R\nP = a -> (P ||| STOP)\nassert R [F= P",
+            1,
+        )],
+        &[("1 unknown term\n", 1)],
+    ),
+    (
+        2,
+        &[(
+            "channel a\nR = a -> R\nP = a -> (P ; STOP)\nassert R [F= P",
+            1,
+        )],
+        &[("1 unknown term\n", 1)],
+    ),
+    (
+        2,
+        &[(
+            "channel a\nR = a -> R\nP = a -> (P [[a <- a]])\nassert R [F= P",
+            1,
+        )],
+        &[("1 unknown term\n", 1)],
+    ),
+    (
+        2,
+        &[(
+            "channel a\nR = a -> R\nP = a -> (P \\ {})\nassert R [F= P",
+            1,
+        )],
+        &[("1 unknown term\n", 1)],
+    ),
+    (
+        2,
+        &[(
+            "channel a\nR = a -> R\nP = a -> (P /\\ STOP)\nassert R [F= P",
+            1,
+        )],
+        &[("1 unknown term\n", 1)],
+    ),
+];
+
+// Puts the layers of a nametype in front of what is written next, and behind it.
+fn open_layers(text: &mut String, layers: Layers) -> Result<(), AllocError> {
+    text.push_str("{")?;
+    repeat(text, layers.open, layers.inner)
+}
+
+fn close_layers(text: &mut String, layers: Layers) -> Result<(), AllocError> {
+    repeat(text, layers.close, layers.inner)?;
+    text.push_str("}")
+}
+
+// The nametype of this number, whose layers are round the one below it.
+fn add_nametype(
+    alloc: Global,
+    text: &mut String,
+    layers: Layers,
+    number: usize,
+) -> Result<(), AllocError> {
+    let head = format!(in alloc; "nametype N{number}=")?;
+    let below = format!(in alloc; "N{}", number.saturating_sub(1))?;
+    text.push_str(head.as_str())?;
+    open_layers(text, layers)?;
+    text.push_str(below.as_str())?;
+    close_layers(text, layers)?;
+    text.push_str("\n")
+}
+
+// The nametypes, one after the other, with what stands behind them.
+fn nametypes(alloc: Global, layers: Layers, behind: &str) -> Result<String, AllocError> {
+    let mut text = String::from_str(alloc, "nametype N0={0}\n")?;
+    for number in 1..=layers.nametypes {
+        add_nametype(alloc, &mut text, layers, number)?;
+    }
+    let last = format!(in alloc; "nametype LAST={{N{}}}\n", layers.nametypes)?;
+    text.push_str(last.as_str())?;
+    text.push_str(behind)?;
+    Ok(text)
+}
+
+// The line that shows the member of `LAST` in an event.
+fn line_with_value(alloc: Global, layers: Layers) -> Result<String, AllocError> {
+    let mut line = String::from_str(alloc, "1 fails trace <> event c.")?;
+    for _ in 0..layers.nametypes {
+        open_layers(&mut line, layers)?;
+    }
+    line.push_str("{0}")?;
+    for _ in 0..layers.nametypes {
+        close_layers(&mut line, layers)?;
+    }
+    line.push_str("\n")?;
+    Ok(line)
+}
+
+// A run in a thread with as large a stack as the program's; nothing where it cannot be started.
+fn check_in_thread<R: Threads + Wait + Sync>(alloc: Global, rt: &R, text: &[u8]) -> Option<Told> {
+    thread::scope(
+        thread::scope_env(),
+        rt,
+        |scope| -> Option<Told>
+            requires { IsSync R.row }
+        {
+            let checked = || -> Told
+                requires { IsSync R.row }
+            { check(alloc, rt, text) };
+            match Builder::new()
+                .stack_size(STACK)
+                .spawn_scoped(scope, checked)
+            {
+                Ok(thread) => Some(thread.join(rt)),
+                Err(_) => None,
+            }
+        },
+    )
+}
+
+fn is_answered_so<R: Threads + Wait + Sync>(
+    alloc: Global,
+    rt: &R,
+    text: &str,
+    status: u8,
+    lines: &str,
+) -> bool {
+    match check_in_thread(alloc, rt, text.as_bytes()) {
+        Some(told) => told.is_answered(status, lines),
+        None => false,
+    }
+}
+
+fn deep_values_are_answered_so<R: Abort + Threads + Wait + Sync>(
+    rt: &R,
+    alloc: Global,
+    layers: Layers,
+) -> Result<(), Fail> {
+    for (behind, status, lines) in &BEHIND {
+        let text = nametypes(alloc, layers, behind)?;
+        let is_so = is_answered_so(alloc, rt, text.as_str(), *status, lines);
+        assert!(rt; is_so, "at {behind}");
+    }
+    Ok(())
+}
+
+fn deep_value_is_shown<R: Abort + Threads + Wait + Sync>(
+    rt: &R,
+    alloc: Global,
+    layers: Layers,
+) -> Result<(), Fail> {
+    let text = nametypes(alloc, layers, SHOWING)?;
+    let line = line_with_value(alloc, layers)?;
+    let is_so = is_answered_so(alloc, rt, text.as_str(), 1, line.as_str());
+    assert!(rt; is_so, "in {} bytes", text.len());
+    Ok(())
+}
+
+fn high_are_answered_so<R: Abort + Threads + Wait + Sync>(
+    rt: &R,
+    alloc: Global,
+) -> Result<(), Fail> {
+    for (status, pieces, lines) in &HIGH {
+        let text = put_together(alloc, pieces)?;
+        let lines = put_together(alloc, lines)?;
+        let is_so = is_answered_so(alloc, rt, text.as_str(), *status, lines.as_str());
+        assert!(rt; is_so, "at {pieces:?}");
+    }
+    Ok(())
+}
+
+#[test]
+fn texts_with_deep_sets_are_answered_so(rt: HostRuntime) -> Result<(), Fail> {
+    deep_values_are_answered_so(&rt, rt.alloc(), SETS)
+}
+
+#[test]
+fn texts_with_deep_sequences_are_answered_so(rt: HostRuntime) -> Result<(), Fail> {
+    deep_values_are_answered_so(&rt, rt.alloc(), SEQUENCES)
+}
+
+#[test]
+fn deep_values_are_shown(rt: HostRuntime) -> Result<(), Fail> {
+    deep_value_is_shown(&rt, rt.alloc(), DEEPEST)?;
+    deep_value_is_shown(&rt, rt.alloc(), SEQUENCES)
+}
+
+#[test]
+fn high_texts_are_answered_so(rt: HostRuntime) -> Result<(), Fail> {
+    high_are_answered_so(&rt, rt.alloc())
+}

@@ -1,0 +1,11 @@
+-- A store under its lock may be shared.
+use denote.Param.Send.{sendable}
+use Rattle.std.proofs.Common.{refl}
+use Rattle.std.proofs.Crossing as here
+use Rattle.explore.proofs.Crossing.Stores.{store_send}
+use Rattle.tests_workers.proofs.early_end.put_until.Goals as goal
+
+pub seen_alone-requires-sync-P : goal.seen_alone-requires-sync-P
+seen_alone-requires-sync-P g c κs within =
+    let sr = c.type_bounds.sync-R in
+    (search (here.crosses, store_send, sendable) depth 60 fits 20000, ((refl, tt), c.requires))
