@@ -36,8 +36,8 @@ impl From<AllocError> for CommandLineFault {
 }
 
 impl CommandLineFault {
-    // What `clap` answers in place of matches, with its text.
-    pub(crate) fn of(alloc: Global, error: &clap::Error) -> CommandLineFault
+    /// What `clap` answers in place of matches, with its text.
+    pub fn of(alloc: Global, error: &clap::Error) -> CommandLineFault
         ensures { IsAnswerOf (kind_of error.now) result }
     {
         let Ok(text) = format!(in alloc; "{error}") else {

@@ -10,7 +10,7 @@ mod help;
 mod settings;
 
 pub use fault::CommandLineFault;
-pub use settings::{MAX_NODES, MAX_PAIRS, MAX_WORKERS, Settings, read};
+pub use settings::{MAX_NODES, MAX_PAIRS, MAX_WORKERS, Settings, number, read};
 
 #[cfg(test)]
 mod tests;

@@ -61,8 +61,8 @@ pub fn read<'a>(alloc: Global, words: &'a [&'a str]) -> Result<Settings<'a>, Com
     })
 }
 
-// The number of an option that has one.
-fn number(matches: &ArgMatches<'_>, name: &str) -> usize
+/// The number of an argument that has one.
+pub fn number(matches: &ArgMatches<'_>, name: &str) -> usize
     requires { IsNumeric (one_text (found_of matches.now) name.now) }
     ensures { HasNumber (one_text (found_of matches.now) name.now) result }
 {
