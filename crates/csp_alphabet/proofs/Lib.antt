@@ -1,0 +1,5 @@
+pub mod Results
+pub mod Doing
+pub mod Listing
+pub mod Rising
+pub mod Numbered
