@@ -1,0 +1,14 @@
+pub mod Pools
+pub mod Jointly
+pub mod Shares
+pub mod Composing
+pub mod Frames
+pub mod Kept
+pub mod HoleChanges
+pub mod Trees
+pub mod ShapeSides
+pub mod Answered
+pub mod Copying
+pub mod Targets
+pub mod Measuring
+pub mod Keeping

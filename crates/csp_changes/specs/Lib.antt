@@ -1,0 +1,10 @@
+pub mod Numbering
+pub mod Runs
+pub mod Adding
+pub mod Composed
+pub mod Framed
+pub mod Rows
+pub mod Holes
+pub mod Shapes
+pub mod Places
+pub mod Measures
