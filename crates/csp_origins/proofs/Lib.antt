@@ -1,8 +1,13 @@
 pub mod Reading
 pub mod Ending
 pub mod WorkedRows
+pub mod Ways
 pub mod Telling
 pub mod TellingTogether
 pub mod TellingBodies
 pub mod TellingInstances
 pub mod Weighing
+pub mod OperandWays
+pub mod ParallelWays
+pub mod LeafWays
+pub mod BodyWays

@@ -1,6 +1,6 @@
 -- What is told of a parallel composition's step by what is told of its sides' steps.
 use Rattle.std.proofs.Common.{◌≡◌, Bool, true, false, not, ◌&&◌, refl, sym, ◌∙◌, ap, ap₂, subst, arith, Option, Some, None, Result, Ok, Err, IsTrue}
-use Rattle.std.specs.Option.{option_map, option_or}
+use Rattle.std.specs.Option.{option_or}
 use Rattle.std.specs.Result.{result_err}
 use Rattle.csp_syntax.specs.Value.{Event, Action, Tau, Tick, Ev}
 use Rattle.csp_syntax.specs.Process.{EventSet, Process, Omega, Interleaving, GeneralisedParallel, AlphabetisedParallel, Script}
@@ -40,16 +40,22 @@ module _ (s : Script) (under : Process → Process → Process) (left_free right
   no_tau t h k m n clear other within (tick_left {u = u} step) = m clear u (ap (λ w. under w q) (sym (ends_by_tick s p u step))) (ended_within p u step) step
   no_tau t h k m n clear other within (tick_right {v = v} step) = n other v (ap (λ w. under p w) (sym (ends_by_tick s q v step))) (ended_within q v step) step
 
-  pub parallel_tau : (t : Process) (l r m n : Option Origin) → TellsUnder s (λ u. under u q) p Tau t l → TellsUnder s (λ v. under p v) q Tau t r → TellsUnder s (λ u. under u q) p Tick t m → TellsUnder s (λ v. under p v) q Tick t n →
-      Tells s (under p q) Tau t (option_or (option_or (option_map (Below (OnSide Left)) l) (option_map (Below (OnSide Right)) r)) (option_or (option_map (Below (SideEnds Left)) m) (option_map (Below (SideEnds Right)) n)))
-  parallel_tau t (Some o) r m n h k i j = to_target h.1 (through (Below (OnSide Left)) (origin h.2.0) o h.2.1 (rules.left p q h.0 Tau tt h.2.0))
-  parallel_tau t None (Some o) m n h k i j = to_target k.1 (through (Below (OnSide Right)) (origin k.2.0) o k.2.1 (rules.right p q k.0 Tau tt k.2.0))
-  parallel_tau t None None (Some o) n h k i j =
-      to_target (i.1 ∙ ap (λ w. under w q) (ends_by_tick s p i.0 i.2.0)) (through (Below (SideEnds Left)) (origin i.2.0) o i.2.1 (rules.left_ends p q i.0 i.2.0))
-  parallel_tau t None None None (Some o) h k i j =
-      to_target (j.1 ∙ ap (λ w. under p w) (ends_by_tick s q j.0 j.2.0)) (through (Below (SideEnds Right)) (origin j.2.0) o j.2.1 (rules.right_ends p q j.0 j.2.0))
-  parallel_tau t None None None None h k i j = λ clear within step.
+  pub parallel_no_tau : (t : Process) → TellsUnder s (λ u. under u q) p Tau t None → TellsUnder s (λ v. under p v) q Tau t None → TellsUnder s (λ u. under u q) p Tick t None → TellsUnder s (λ v. under p v) q Tick t None →
+      Tells s (under p q) Tau t None
+  parallel_no_tau t h k i j clear within step =
       let parts = rules.causes p q clear in no_tau t h k i j parts.0 parts.1 within (rules.taus p q t step)
+
+  pub left_comes : (x : Action) (t : Process) (o : Origin) → IsFree left_free x → TellsUnder s (λ u. under u q) p x t (Some o) → ComesFrom s (under p q) x t (Below (OnSide Left) o)
+  left_comes x t o free h = to_target h.1 (through (Below (OnSide Left)) (origin h.2.0) o h.2.1 (rules.left p q h.0 x free h.2.0))
+
+  pub right_comes : (x : Action) (t : Process) (o : Origin) → IsFree right_free x → TellsUnder s (λ v. under p v) q x t (Some o) → ComesFrom s (under p q) x t (Below (OnSide Right) o)
+  right_comes x t o free h = to_target h.1 (through (Below (OnSide Right)) (origin h.2.0) o h.2.1 (rules.right p q h.0 x free h.2.0))
+
+  pub left_ends : (t : Process) (o : Origin) → TellsUnder s (λ u. under u q) p Tick t (Some o) → ComesFrom s (under p q) Tau t (Below (SideEnds Left) o)
+  left_ends t o h = to_target (h.1 ∙ ap (λ w. under w q) (ends_by_tick s p h.0 h.2.0)) (through (Below (SideEnds Left)) (origin h.2.0) o h.2.1 (rules.left_ends p q h.0 h.2.0))
+
+  pub right_ends : (t : Process) (o : Origin) → TellsUnder s (λ v. under p v) q Tick t (Some o) → ComesFrom s (under p q) Tau t (Below (SideEnds Right) o)
+  right_ends t o h = to_target (h.1 ∙ ap (λ w. under p w) (ends_by_tick s q h.0 h.2.0)) (through (Below (SideEnds Right)) (origin h.2.0) o h.2.1 (rules.right_ends p q h.0 h.2.0))
 
   no_event : (e : Event) (t : Process) → TellsWhere (left_free e) (TellsUnder s (λ u. under u q) p (Ev e) t) None → TellsWhere (right_free e) (TellsUnder s (λ v. under p v) q (Ev e) t) None →
       TellsWhere (shared e) (TellsBoth s under p q (Ev e) t) None → cause_in s p ≡ None → cause_in s q ≡ None → IsTrue (fits t) → ¬ EventOf s under left_free right_free shared p q e t
@@ -58,22 +64,14 @@ module _ (s : Script) (under : Process → Process → Process) (left_free right
   no_event e t h k i clear other within (event_both {u = u} {v = v} is_shared step with) =
       let parts = rules.within u v within in where_none (shared e) (TellsBoth s under p q (Ev e) t) i is_shared clear other u v refl parts.0 parts.1 step with
 
-  both_of : (e : Event) (t : Process) (o : Origin) → IsTrue (shared e) → TellsBoth s under p q (Ev e) t (Some o) → ComesFrom s (under p q) (Ev e) t o
+  pub both_of : (e : Event) (t : Process) (o : Origin) → IsTrue (shared e) → TellsBoth s under p q (Ev e) t (Some o) → ComesFrom s (under p q) (Ev e) t o
   both_of e t o is_shared h =
       let c = rules.both p q h.0 h.1 e is_shared h.6.0 h.7.0 in
       to_target h.4 (c.0, c.1 ∙ (ap₂ Together h.6.1 h.7.1 ∙ sym h.5))
 
-  pub parallel_event : (e : Event) (t : Process) (l r b : Option Origin) → TellsWhere (left_free e) (TellsUnder s (λ u. under u q) p (Ev e) t) l → TellsWhere (right_free e) (TellsUnder s (λ v. under p v) q (Ev e) t) r →
-      TellsWhere (shared e) (TellsBoth s under p q (Ev e) t) b → Tells s (under p q) (Ev e) t (option_or (option_or (option_map (Below (OnSide Left)) l) (option_map (Below (OnSide Right)) r)) b)
-  parallel_event e t (Some o) r b h k i =
-      let w = where_true (left_free e) (TellsUnder s (λ u. under u q) p (Ev e) t) o h in
-      to_target w.1.1 (through (Below (OnSide Left)) (origin w.1.2.0) o w.1.2.1 (rules.left p q w.1.0 (Ev e) w.0 w.1.2.0))
-  parallel_event e t None (Some o) b h k i =
-      let w = where_true (right_free e) (TellsUnder s (λ v. under p v) q (Ev e) t) o k in
-      to_target w.1.1 (through (Below (OnSide Right)) (origin w.1.2.0) o w.1.2.1 (rules.right p q w.1.0 (Ev e) w.0 w.1.2.0))
-  parallel_event e t None None (Some o) h k i =
-      let w = where_true (shared e) (TellsBoth s under p q (Ev e) t) o i in both_of e t o w.0 w.1
-  parallel_event e t None None None h k i = λ clear within step.
+  pub parallel_no_event : (e : Event) (t : Process) → TellsWhere (left_free e) (TellsUnder s (λ u. under u q) p (Ev e) t) None → TellsWhere (right_free e) (TellsUnder s (λ v. under p v) q (Ev e) t) None →
+      TellsWhere (shared e) (TellsBoth s under p q (Ev e) t) None → Tells s (under p q) (Ev e) t None
+  parallel_no_event e t h k i clear within step =
       let parts = rules.causes p q clear in no_event e t h k i parts.0 parts.1 within (rules.events p q t e step)
 
   pub parallel_ends : (t : Process) → p ≡ Omega → q ≡ Omega → t ≡ Omega → ComesFrom s (under p q) Tick t Ends

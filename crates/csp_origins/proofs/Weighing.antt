@@ -1,8 +1,8 @@
--- How much there is of a term to go down: its forms, and those of the evaluated instances of its replicated forms.
+-- The weight of a term by those of its parts.
 use Rattle.std.proofs.Common.{◌≡◌, ℕ, zero, suc, ◌≤◌, ◌<◌, ◌+◌, max, List, [], ◌∷◌, refl, ap, ap₂, arith, Result, Ok, Err}
 use Rattle.csp_syntax.specs.Value.{Value}
 use Rattle.csp_syntax.specs.Expression.{Expression}
-use Rattle.csp_syntax.specs.Process.{EventSet, Process, Stop, Skip, Omega, Call, Prefix, Guard, If, ExternalChoice, InternalChoice, Sequential, Interleaving, Interrupt, GeneralisedParallel, AlphabetisedParallel, Hiding, Renaming, ReplicatedExternalChoice, ReplicatedInternalChoice, ReplicatedInterleaving, SlidingChoice, Script}
+use Rattle.csp_syntax.specs.Process.{EventSet, RenamingPair, Process, Stop, Skip, Omega, Call, Prefix, Guard, If, ExternalChoice, InternalChoice, Sequential, Interleaving, Interrupt, GeneralisedParallel, AlphabetisedParallel, Hiding, Renaming, ReplicatedExternalChoice, ReplicatedInternalChoice, ReplicatedInterleaving, SlidingChoice, Script}
 use Rattle.csp_syntax.specs.Operators.{binary_process, replicated_process}
 use Rattle.csp_syntax.specs.declared.process_operator.ProcessOperator.{ProcessOperator}
 use Rattle.csp_syntax.specs.declared.process_operator.ProcessOperator.TheVariants as binary
@@ -15,42 +15,7 @@ use Rattle.csp_semantics.specs.Meaning.Substitution.{put}
 use Rattle.csp_semantics.specs.Meaning.Transitions.{chain, left_grouped}
 use Rattle.csp_semantics.proofs.Causes.{height-pos, height-put}
 use Rattle.csp_origins.specs.Telling.{instance_chain}
-
--- each of the processes, and one more for the operator before it
-abbrev pub weights : (Process → ℕ) → List Process → ℕ
-weights weigh [] = 0
-weights weigh (p ∷ ps) = suc (weigh p) + weights weigh ps
-
-abbrev pub of_elements : Result (List Value) Cause → (List Value → ℕ) → ℕ
-of_elements (Ok vs) f = f vs
-of_elements (Err c) f = 0
-
--- the weight of a process whose forms stand at most n deep in one another
-abbrev pub weight_within : ℕ → Script → Process → ℕ
-weight_within zero s p = 1
-weight_within (suc n) s Stop = 1
-weight_within (suc n) s Skip = 1
-weight_within (suc n) s Omega = 1
-weight_within (suc n) s (Call c es) = 1
-weight_within (suc n) s (Prefix c fs p) = 1
-weight_within (suc n) s (Guard e p) = suc (weight_within n s p)
-weight_within (suc n) s (If e p q) = suc (weight_within n s p + weight_within n s q)
-weight_within (suc n) s (ExternalChoice p q) = suc (weight_within n s p + weight_within n s q)
-weight_within (suc n) s (InternalChoice p q) = suc (weight_within n s p + weight_within n s q)
-weight_within (suc n) s (Sequential p q) = suc (weight_within n s p + weight_within n s q)
-weight_within (suc n) s (Interleaving p q) = suc (weight_within n s p + weight_within n s q)
-weight_within (suc n) s (Interrupt p q) = suc (weight_within n s p + weight_within n s q)
-weight_within (suc n) s (GeneralisedParallel p a q) = suc (weight_within n s p + weight_within n s q)
-weight_within (suc n) s (AlphabetisedParallel p a b q) = suc (weight_within n s p + weight_within n s q)
-weight_within (suc n) s (Hiding p a) = suc (weight_within n s p)
-weight_within (suc n) s (Renaming p rs) = suc (weight_within n s p)
-weight_within (suc n) s (ReplicatedExternalChoice x e p) = suc (suc (of_elements (elements s.types e) (λ vs. weights (weight_within n s) (instances x p vs))))
-weight_within (suc n) s (ReplicatedInternalChoice x e p) = suc (suc (of_elements (elements s.types e) (λ vs. weights (weight_within n s) (instances x p vs))))
-weight_within (suc n) s (ReplicatedInterleaving x e p) = suc (suc (of_elements (elements s.types e) (λ vs. weights (weight_within n s) (instances x p vs))))
-weight_within (suc n) s (SlidingChoice p q) = suc (weight_within n s p + weight_within n s q)
-
-abbrev pub weight : Script → Process → ℕ
-weight s p = weight_within (height p) s p
+use Rattle.csp_origins.specs.Weight.{of_elements, weight, weight_within, weights}
 
 weights-same : (f g : Process → ℕ) (x : ℕ) (p : Process) (vs : List Value) → ((v : Value) → f (put ((x, v) ∷ []) p) ≡ g (put ((x, v) ∷ []) p)) → weights f (instances x p vs) ≡ weights g (instances x p vs)
 weights-same f g x p [] same = refl
@@ -107,6 +72,15 @@ module _ (s : Script) where
   binary_weight binary.Sequential p q = two p q
   binary_weight binary.Interleaving p q = two p q
   binary_weight binary.Interrupt p q = two p q
+
+  pub guard_weight : (e : Expression) (p : Process) → weight s (Guard e p) ≡ suc (weight s p)
+  guard_weight e p = refl
+
+  pub hiding_weight : (p : Process) (a : EventSet) → weight s (Hiding p a) ≡ suc (weight s p)
+  hiding_weight p a = refl
+
+  pub renaming_weight : (p : Process) (rs : List RenamingPair) → weight s (Renaming p rs) ≡ suc (weight s p)
+  renaming_weight p rs = refl
 
   pub generalised_weight : (p : Process) (a : EventSet) (q : Process) → weight s (GeneralisedParallel p a q) ≡ suc (weight s p + weight s q)
   generalised_weight p a q = two p q

@@ -2,3 +2,5 @@ pub mod Origin
 pub mod Action
 pub mod Worked
 pub mod Telling
+pub mod Weight
+pub mod Ways

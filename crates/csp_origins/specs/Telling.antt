@@ -7,7 +7,7 @@ use Rattle.csp_syntax.specs.declared.process_operator.ReplicatedOperator.TheVari
 use Rattle.csp_semantics.specs.Meaning.Limits.{fits}
 use Rattle.csp_semantics.specs.Meaning.Faults.{cause_in}
 use Rattle.csp_semantics.specs.Meaning.Transitions.{RuleStep, chain}
-use Rattle.csp_origins.specs.Origin.{Left, Right, Passage, OnSide, SideEnds, Origin, Ends, Below, Together, ComesFrom, origin}
+use Rattle.csp_origins.specs.Origin.{Left, Right, OnSide, SideEnds, Origin, Ends, Below, Together, ComesFrom, origin}
 
 -- An origin of the step; or nothing, and then no rule gives it where no rule for the process lacks a value and the target is within the limits.
 abbrev pub Tells : Script → Process → Action → Process → Option Origin → Type 0
@@ -71,10 +71,9 @@ abbrev pub TellsWhere : Bool → (Option Origin → Type 0) → Option Origin �
 TellsWhere true tells o = tells o
 TellsWhere false tells o = o ≡ None
 
--- An origin below such an event of a part, of whose target the whole's is made; or nothing, and then the part does no such event.
-abbrev pub TellsThrough : Script → (Process → Process) → (Event → Passage) → (Event → Type 0) → Process → Process → Option Origin → Type 0
-TellsThrough script under passage passes p t (Some o) = (e : Event) × (u : Process) × (part : Origin) × passes e × (t ≡ under u) × (o ≡ Below (passage e) part) × ComesFrom script p (Ev e) u part
-TellsThrough script under passage passes p t None = cause_in script p ≡ None → (e : Event) → (u : Process) → passes e → t ≡ under u → IsTrue (fits u) → ¬ RuleStep script p (Ev e) u
+-- Where no rule for the part lacks a value, it does no such event to what the whole's target is made of.
+abbrev pub NoneThrough : Script → (Process → Process) → (Event → Type 0) → Process → Process → Type 0
+NoneThrough script under passes p t = cause_in script p ≡ None → (e : Event) → (u : Process) → passes e → t ≡ under u → IsTrue (fits u) → ¬ RuleStep script p (Ev e) u
 
 -- the chain of the instances of a replicated form
 abbrev pub instance_chain : ReplicatedOperator → List Process → Process
