@@ -2,3 +2,5 @@ pub mod Layer
 pub mod Layers
 pub mod Ends
 pub mod Ways
+pub mod Along
+pub mod Offers

@@ -6,3 +6,8 @@ pub mod Firing
 pub mod Showing
 pub mod Closing
 pub mod Along
+pub mod Closures
+pub mod Gathering
+pub mod Initials
+pub mod Acceptances
+pub mod Sortings

@@ -11,7 +11,7 @@ use Rattle.csp_semantics.proofs.Rising.{stands_from_Contains, Contains-from_stan
 use Rattle.csp_runs.specs.States.{Shows}
 use Rattle.csp_runs.proofs.Firing.{fired_steps, can_do, does}
 
-accepts_free : (script : Script) (t : Process) (xs : List Action) → IsAcceptance script t xs → IsNotStuck script t
+pub accepts_free : (script : Script) (t : Process) (xs : List Action) → IsAcceptance script t xs → IsNotStuck script t
 accepts_free script t xs (of_stable stable all) = stable.not_stuck
 accepts_free script t xs (of_tick can) = can.1.0
 

@@ -14,12 +14,17 @@ AreTermsOf script terms = (t : Process) → Contains terms t → IsTermOf script
 abbrev pub Layer : Type 0
 Layer = List Process × List ℕ
 
+abbrev pub IsEven : Layer → Type 0
+IsEven layer = length layer.1 ≡ length layer.0
+
 -- a step by x leads to u from the term before at the place that is kept at k
 abbrev pub HasParent : Script → List Process → Action → List ℕ → ℕ → Process → Type 0
 HasParent script before x parents k u = (p : ℕ) × (v : Process) × (slice_get parents k ≡ Some p) × (slice_get before p ≡ Some v) × Step script v x u
 
--- the terms that steps by x lead to from the terms before
+-- the terms that steps by x lead to from the terms before, each once
 pub record IsNextLayer (script : Script) (before : List Process) (x : Action) (layer : Layer) : Type 0 where
+  pub even : IsEven layer
+  pub distinct : AreDistinct layer.0
   pub each : (k : ℕ) (u : Process) → slice_get layer.0 k ≡ Some u → HasParent script before x layer.1 k u
   pub all : (v u : Process) → Contains before v → Step script v x u → Contains layer.0 u
 
@@ -38,9 +43,6 @@ AreSteps script t steps = (x : Action) (u : Process) → Step script t x u ↔ C
 -- it is there already, or it is new and put at the end with its parent
 abbrev pub IsAddedTo : Process → ℕ → Layer → Layer → Type 0
 IsAddedTo u parent layer after = (Contains layer.0 u × (after ≡ layer)) ⊎ ((Contains layer.0 u → ⊥) × (after.0 ≡ layer.0 ++ u ∷ []) × (after.1 ≡ layer.1 ++ parent ∷ []))
-
-abbrev pub IsEven : Layer → Type 0
-IsEven layer = length layer.1 ≡ length layer.0
 
 -- it stays in its place with its parent, or it is the target of one of the steps
 abbrev pub StaysOrComes : List (Action × Process) → Action → ℕ → Layer → Layer → ℕ → Process → Type 0

@@ -65,9 +65,13 @@ pub record AreStatesAlong (script : Script) (t : Process) (path : List Action) (
   pub long : length all ≡ suc (length path)
   pub each : (i : ℕ) (states : List Process) → slice_get all i ≡ Some states → AreAfter script t (trace (take i path)) states
 
+-- at most n terms, each once
+abbrev pub AreFew : ℕ → List Process → Type 0
+AreFew n states = AreDistinct states × (length states ≤ n)
+
 -- each of the lists has at most n terms, each once
 abbrev pub AreSmall : ℕ → List (List Process) → Type 0
-AreSmall n all = (i : ℕ) (states : List Process) → slice_get all i ≡ Some states → AreDistinct states × (length states ≤ n)
+AreSmall n all = (i : ℕ) (states : List Process) → slice_get all i ≡ Some states → AreFew n states
 
 -- after the trace of some beginning of the path there are more than n states
 abbrev pub AreMoreAlong : ℕ → Script → Process → List Action → Type 0
