@@ -1,0 +1,17 @@
+-- The message of a refusal.
+use Rattle.std.specs.Prelude.{◌≡◌, ℕ, ◌++◌, List, [], ◌∷◌, codes, take}
+use Rattle.std.specs.List.{concat}
+use Rattle.std.specs.Str.Lossy.{utf8_valid_len}
+use Rattle.excerpts.specs.Excerpts.{excerpt_of}
+use Rattle.diagnostics.specs.declared.faults.Refusal.{Refusal}
+use Rattle.diagnostics.specs.Faults.{fault_number, fault_rule}
+use Rattle.diagnostics.specs.Notes.{place_text}
+
+-- the file with the place, the number and the rule
+abbrev pub heading : List ℕ → Refusal → List ℕ
+heading file r = concat (file ∷ codes ":" ∷ place_text r.place ∷ codes ": " ∷ fault_number r.fault ∷ codes ": " ∷ fault_rule r.fault ∷ codes "\n" ∷ [])
+
+-- The heading, the line at the place of what is UTF-8 of the text, with its mark, and further lines that help.
+pub record IsMessage (file bytes : List ℕ) (r : Refusal) (message : List ℕ) : Type 0 where
+  pub help : List ℕ
+  pub lines : message ≡ heading file r ++ (excerpt_of (take (utf8_valid_len bytes) bytes) r.place ++ help)

@@ -1,0 +1,182 @@
+//! What may be meant at a refusal.
+
+use crate::characters::{CHARACTERS, character_advice, character_at};
+use crate::declared_names::declared_names;
+use crate::faults::{Fault, Refusal};
+use crate::grammar_tables::{
+    LOOK_BACK, mixed, nested, operands, operators, sets, unexpected_end, values, words,
+};
+use crate::kind_tables::{BAD_SET, TOO_MANY, TWICE, UNKNOWN, WRONG_COUNT, WRONG_KIND};
+use crate::notes::{bracket_note, end_note, name_note};
+use advice::{Advice, Surroundings, first_advice, surroundings_at};
+use csp_lex::{Place, TextFault, TokenList, tokens};
+use csp_names::KindFault;
+use csp_parse::{GrammarFault, parse};
+use excerpts::readable;
+use std::alloc::{AllocError, Allocator};
+
+const OTHER_CHARACTER: &str = "leave it out, or write it within a comment";
+
+const OPEN_COMMENT: &str =
+    "a comment `{-` goes to the first `-}` behind it; a set of a number below zero has a space, as `{ -1}`";
+
+const LARGE_NUMBER: &str = "numbers have 32 bits";
+
+const NOT_UTF8: &str = "save the file as UTF-8";
+
+/// The lines that tell what may be meant at the refusal of the text. It is an error where memory is refused.
+pub(crate) fn help<A: Allocator + Copy>(
+    alloc: A,
+    text: &[u8],
+    refusal: Refusal,
+) -> Result<String<A>, AllocError> {
+    match refusal.fault {
+        Fault::Text(fault) => {
+            let character = character_at(readable(text), refusal.place);
+            help_line(alloc, text_advice(fault, character))
+        }
+        Fault::Grammar(fault) => grammar_help(alloc, text, fault, refusal.place),
+        Fault::Kinds(fault) => kind_help(alloc, text, fault, refusal.place),
+    }
+}
+
+/// What may be meant where the text has no tokens.
+fn text_advice(fault: TextFault, character: Option<char>) -> Option<&'static str> {
+    match fault {
+        TextFault::NoToken => Some(no_token_advice(character)),
+        TextFault::OpenComment => Some(OPEN_COMMENT),
+        TextFault::LargeNumber => Some(LARGE_NUMBER),
+        TextFault::NotUtf8 => Some(NOT_UTF8),
+        TextFault::LongText => None,
+    }
+}
+
+/// What may be meant by a character that begins no token.
+fn no_token_advice(character: Option<char>) -> &'static str {
+    match character {
+        Some(character) => character_advice(CHARACTERS, character).unwrap_or(OTHER_CHARACTER),
+        None => OTHER_CHARACTER,
+    }
+}
+
+fn grammar_help<A: Allocator + Copy>(
+    alloc: A,
+    text: &[u8],
+    fault: GrammarFault,
+    place: Place,
+) -> Result<String<A>, AllocError> {
+    let Some(list) = tokens_of(alloc, text)? else {
+        return Ok(String::new(alloc));
+    };
+    let around = surroundings_at(alloc, &list.tokens, place)?;
+    let note = end_note(alloc, fault, around.before)?;
+    let help = advice_or_back(alloc, grammar_advice(fault, &around), &around)?;
+    format!(in alloc; "{note}{help}")
+}
+
+// The advice, or where there is none the bracket that is open, and that something may be missing.
+fn advice_or_back<A: Allocator + Copy>(
+    alloc: A,
+    advice: Option<&'static str>,
+    around: &Surroundings<'_>,
+) -> Result<String<A>, AllocError> {
+    match advice {
+        Some(text) => help_line(alloc, Some(text)),
+        None => looking_back(alloc, around),
+    }
+}
+
+// The bracket that is open, and that something may be missing.
+fn looking_back<A: Allocator + Copy>(
+    alloc: A,
+    around: &Surroundings<'_>,
+) -> Result<String<A>, AllocError> {
+    let note = bracket_note(alloc, around.bracket)?;
+    format!(in alloc; "{note}help: {LOOK_BACK}\n")
+}
+
+fn kind_help<A: Allocator + Copy>(
+    alloc: A,
+    text: &[u8],
+    fault: KindFault,
+    place: Place,
+) -> Result<String<A>, AllocError> {
+    let Some(list) = tokens_of(alloc, text)? else {
+        return Ok(String::new(alloc));
+    };
+    let around = surroundings_at(alloc, &list.tokens, place)?;
+    let note = note_at(alloc, fault, &list, &around)?;
+    let help = help_line(alloc, first_advice(kind_table(fault), &around))?;
+    format!(in alloc; "{note}{help}")
+}
+
+/// The tokens of the text, if it has tokens.
+fn tokens_of<A: Allocator>(alloc: A, text: &[u8]) -> Result<Option<TokenList<'_, A>>, AllocError> {
+    match tokens(alloc, text) {
+        Ok(list) => Ok(Some(list)),
+        Err(csp_lex::Refused::Text { .. }) => Ok(None),
+        Err(csp_lex::Refused::Memory) => Err(AllocError),
+    }
+}
+
+// What is told of the name that stands there.
+fn note_at<A: Allocator + Copy>(
+    alloc: A,
+    fault: KindFault,
+    list: &TokenList<'_, A>,
+    around: &Surroundings<'_>,
+) -> Result<String<A>, AllocError> {
+    let Some(here) = around.here else {
+        return Ok(String::new(alloc));
+    };
+    match parse(alloc, list) {
+        Ok(raw) => {
+            let names = declared_names(alloc, &raw)?;
+            name_note(alloc, fault, here.text, &names)
+        }
+        Err(csp_parse::Refused::Grammar { .. }) => Ok(String::new(alloc)),
+        Err(csp_parse::Refused::Memory) => Err(AllocError),
+    }
+}
+
+/// A line of advice, if there is some.
+fn help_line<A: Allocator>(
+    alloc: A,
+    advice: Option<&'static str>,
+) -> Result<String<A>, AllocError> {
+    match advice {
+        Some(text) => format!(in alloc; "help: {text}\n"),
+        None => Ok(String::new(alloc)),
+    }
+}
+
+/// What the tables have for the tokens around a place.
+fn grammar_advice(fault: GrammarFault, around: &Surroundings<'_>) -> Option<&'static str> {
+    match fault {
+        GrammarFault::UnexpectedToken => unexpected_advice(around),
+        GrammarFault::Nested => first_advice(nested(), around),
+        GrammarFault::UnexpectedEnd => first_advice(unexpected_end(), around),
+        GrammarFault::MixedOperators => first_advice(mixed(), around),
+    }
+}
+
+/// What the first of the tables that has something has for the tokens around a token that cannot stand there.
+fn unexpected_advice(around: &Surroundings<'_>) -> Option<&'static str> {
+    for table in [words(), sets(), operands(), values(), operators()] {
+        if let Some(text) = first_advice(table, around) {
+            return Some(text);
+        }
+    }
+    None
+}
+
+fn kind_table(fault: KindFault) -> &'static [Advice] {
+    match fault {
+        KindFault::UnknownName => UNKNOWN,
+        KindFault::DeclaredTwice => TWICE,
+        KindFault::WrongKind => WRONG_KIND,
+        KindFault::WrongCount => WRONG_COUNT,
+        KindFault::BadFieldSet => BAD_SET,
+        KindFault::TooManyEvents => TOO_MANY,
+    }
+}
