@@ -1,0 +1,30 @@
+-- The definitions at words that are written out.
+use Rattle.std.proofs.Common.{◌≡◌, refl, codes, [], ◌∷◌, Some}
+use Rattle.clap.specs.declared.error.kind.ErrorKind.TheVariants as kind
+use Rattle.clap.proofs.OnLiterals.{clap_on_literals}
+use Rattle.explain_settings.specs.CommandLine.{value}
+use Rattle.explain_settings.specs.Faults.{faults_of}
+
+file_alone : faults_of (codes "f" ∷ []) ≡ []
+unfolding clap_on_literals
+file_alone = refl
+
+file_and_assertion : faults_of (codes "f" ∷ codes "3" ∷ []) ≡ []
+unfolding clap_on_literals
+file_and_assertion = refl
+
+three_words : faults_of (codes "f" ∷ codes "3" ∷ codes "4" ∷ []) ≡ kind.UnknownArgument ∷ []
+unfolding clap_on_literals
+three_words = refl
+
+assertion_given : value (codes "assertion") (codes "f" ∷ codes "3" ∷ []) ≡ Some (codes "3")
+unfolding clap_on_literals
+assertion_given = refl
+
+each_assertion : value (codes "assertion") (codes "f" ∷ []) ≡ Some (codes "0")
+unfolding clap_on_literals
+each_assertion = refl
+
+width_given : value (codes "width") (codes "--width" ∷ codes "0" ∷ codes "f" ∷ []) ≡ Some (codes "0")
+unfolding clap_on_literals
+width_given = refl

@@ -1,0 +1,198 @@
+-- What a parse of the command line gives.
+use Rattle.std.proofs.Common.{zero, suc, ◌≡◌, ◌∙◌, ◌<◌, ◌≤◌, ◌||◌, ◌&&◌, ℕ, Bool, List, [], ◌∷◌, Option, Some, None, is_some, length, map, codes, true, false, not, refl, sym, ap, subst, inl, inr, arith, true≢false}
+use Rattle.std.specs.List.{All, list_all, list_any, slice_index_or}
+use Rattle.std.specs.Str.{bytes_eq}
+use Rattle.std.proofs.Math.ListN.{get_or-map}
+use Rattle.std.proofs.lemmas.List.{length-map}
+use Rattle.std.proofs.lemmas.Slice.Eq.{bytes_eq-Decides}
+use Rattle.clap.specs.Facts.{WantsDefault, args_of, least_values, unwrap_or_range}
+use Rattle.clap.specs.Texts.{items_of}
+use Rattle.clap.specs.Built.{IsAuto, IsParsedFrom, IsPlain, IsPlainArg}
+use Rattle.clap.specs.Matches.{first_value, found_of, one_text}
+use Rattle.clap.specs.Values.{IsUnsignedIn}
+use Rattle.clap.specs.Walk.{Rule, Text, first_of, rows_of, rule_of}
+use Rattle.clap.specs.Simple.{App, HasMatchesOf, IsSimple, app_of, is_ready, is_ready_leaf, is_simple, matches_of}
+use Rattle.clap.specs.declared.builder.action.ArgAction.TheVariants.{Set}
+use Rattle.clap.specs.declared.builder.arg.Arg.{Arg}
+use Rattle.clap.specs.declared.builder.command.Command.{Command}
+use Rattle.clap.specs.declared.builder.value_parser.ValueParser.TheVariants as vp
+use Rattle.clap.specs.declared.parser.matches.ArgMatches.{ArgMatches}
+use Rattle.clap.proofs.CallerLemmas.{default_present, required_has_value}
+use Rattle.clap.proofs.SimpleLemmas.{all_simple, ready_simple, simple_groups}
+use Rattle.clap.proofs.TakesLemmas.{each_rule, free_arg}
+use Rattle.clap.proofs.WalkLemmas.{first_value-rows}
+use Rattle.settings.specs.CommandLine.{HasNumber, IsNumeric, file_rule}
+use Rattle.settings.proofs.Found.{has_entry, reads}
+use Rattle.settings.proofs.Numbers.{number_is}
+use Rattle.explain_settings.specs.CommandLine.{command_line, command_rules, value}
+
+-- ---- an id that one argument has
+
+-- the rule at the place has the id, and no other one
+abbrev is_only_at : Text → ℕ → List Rule → Bool
+is_only_at id k [] = false
+is_only_at id zero (r ∷ rules) = list_all (λ s. not (bytes_eq s.id id)) rules
+is_only_at id (suc k) (r ∷ rules) = not (bytes_eq r.id id) && is_only_at id k rules
+
+both : (a b : Bool) → (a && b) ≡ true → (a ≡ true) × (b ≡ true)
+both true b e = (refl, e)
+both false b e = absurd (true≢false (sym e))
+
+not_so : (b : Bool) → not b ≡ true → b ≡ true → ⊥
+not_so true e f = true≢false (sym e)
+not_so false e f = true≢false (sym f)
+
+none_has : (id : Text) (rules : List Rule) → list_all (λ s. not (bytes_eq s.id id)) rules ≡ true → (j : ℕ) (e : Rule) → j < length rules → bytes_eq (slice_index_or rules j e).id id ≡ true → ⊥
+none_has id [] all j e lt same = absurd (omega arith)
+none_has id (r ∷ rules) all zero e lt same = not_so (bytes_eq r.id id) (both _ _ all).0 same
+none_has id (r ∷ rules) all (suc j) e lt same = none_has id rules (both (not (bytes_eq r.id id)) _ all).1 j e (omega arith) same
+
+only_at : (id : Text) (k : ℕ) (rules : List Rule) → is_only_at id k rules ≡ true → (j : ℕ) (e : Rule) → j < length rules → bytes_eq (slice_index_or rules j e).id id ≡ true → j ≡ k
+only_at id k [] only j e lt same = absurd (omega arith)
+only_at id zero (r ∷ rules) only zero e lt same = refl
+only_at id zero (r ∷ rules) only (suc j) e lt same = absurd (none_has id rules only j e (omega arith) same)
+only_at id (suc k) (r ∷ rules) only zero e lt same = absurd (not_so (bytes_eq r.id id) (both _ _ only).0 same)
+only_at id (suc k) (r ∷ rules) only (suc j) e lt same = ap suc (only_at id k rules (both (not (bytes_eq r.id id)) _ only).1 j e (omega arith) same)
+
+-- ---- an answer that is some text, and the text
+
+text_of : (o : Option Text) → is_some o ≡ true → (t : Text) × (o ≡ Some t)
+text_of None h = absurd (true≢false (sym h))
+text_of (Some t) h = (t, refl)
+
+differ : (a b : Text) → bytes_eq a b ≡ false → a ≡ b → ⊥
+differ a b apart e = true≢false (sym ((bytes_eq-Decides a b).1 e) ∙ apart)
+
+head_of : {X : Type 0} (xs : List X) → 0 < length xs → X
+head_of [] lt = absurd (omega arith)
+head_of (x ∷ xs) lt = x
+
+-- the id is no flag of the command line's own
+abbrev is_own : Text → Bool
+is_own id = bytes_eq id [] || (bytes_eq id (codes "help") || bytes_eq id (codes "version"))
+
+neither : (a b : Bool) → (a || b) ≡ false → (a ≡ false) × (b ≡ false)
+neither true b e = absurd (true≢false e)
+neither false b e = (refl, e)
+
+module _ (c : Command) (m : ArgMatches) (words : List Text) (is : app_of c ≡ command_line) (p : IsParsedFrom c m)
+    (has : HasMatchesOf (app_of c) words m) where
+  rows : rows_of (found_of m) ≡ matches_of command_line words
+  rows = (has (ap is_simple is)).0 ∙ ap (λ (a : App). matches_of a words) is
+
+  rules_are : map rule_of (args_of c) ≡ command_rules
+  rules_are = ap (λ (a : App). a.top.rules) is
+
+  simple : IsSimple c
+  simple = ready_simple c (ap (λ (a : App). is_ready a.top) is) (ap (λ (a : App). list_all is_ready_leaf a.subs) is)
+
+  rule_at : (j : ℕ) (d : Arg) → rule_of (slice_index_or (args_of c) j d) ≡ slice_index_or command_rules j (rule_of d)
+  rule_at j d = sym (get_or-map rule_of (args_of c) j d) ∙ ap (λ rs. slice_index_or rs j (rule_of d)) rules_are
+
+  count : length (args_of c) ≡ 6
+  count = sym (length-map (args_of c) rule_of) ∙ ap length rules_are
+
+  -- some argument of the command
+  first_arg : Arg
+  first_arg = head_of (args_of c) (subst (λ n. 0 < n) (sym count) (omega arith))
+
+  plain_arg : All IsPlainArg (args_of c)
+  plain_arg k d lt =
+      let a = slice_index_or (args_of c) k d in
+      let free = free_arg a (simple.args k d lt) (each_rule (λ r. r.is_free) (args_of c) (ap (λ (b : App). list_all (λ (r : Rule). r.is_free) b.top.rules) is) k d lt) in
+      (free.exclusive, free.conflicts, free.overrides, simple_groups c (ap (λ (b : App). all_simple b.top.rules) is) k d lt)
+
+  plain : IsPlain c
+  plain = (plain_arg, simple.groups)
+
+  -- the argument at a place is the only one with its id
+  unique_at : (k : ℕ) (d : Arg) (name : Text) → (slice_index_or (args_of c) k d).id.now ≡ name → is_only_at name k command_rules ≡ true → (j : ℕ) (e : Arg) → j < length (args_of c)
+      → bytes_eq (slice_index_or (args_of c) j e).id.now (slice_index_or (args_of c) k d).id.now ≡ true → j ≡ k
+  unique_at k d name id only j e lt same =
+      let there : bytes_eq (slice_index_or (args_of c) j e).id.now name ≡ true = subst (λ t. bytes_eq (slice_index_or (args_of c) j e).id.now t ≡ true) id same in
+      only_at name k command_rules only j (rule_of e) (subst (λ n. j < n) count lt) (subst (λ t. bytes_eq t name ≡ true) (ap (λ (r : Rule). r.id) (rule_at j e)) there)
+
+  value_is : (id t : Text) → first_value (found_of m) id ≡ Some t → value id words ≡ Some t
+  value_is id t e = ap (first_of id) (sym rows) ∙ sym (first_value-rows (found_of m) id) ∙ e
+
+  -- what is known of the text of a number
+  abbrev pub IsNumberText : Text → ℕ → ℕ → Text → Type 0
+  IsNumberText name least most t = (one_text (found_of m) name ≡ Some t) × (value name words ≡ Some t) × IsUnsignedIn least most t
+
+  -- the rule is one of a number in a range, with a default
+  abbrev IsNumber : Text → ℕ → ℕ → Rule → Type 0
+  IsNumber name least most r = (default : Text) × (r.id ≡ name) × (r.defaults ≡ default ∷ []) × (r.parser ≡ Some (vp.Unsigned least most)) × (r.action ≡ Some Set) × (r.range ≡ None)
+
+  number_text : (k : ℕ) (name : Text) (least most : ℕ) → k < 6 → is_only_at name k command_rules ≡ true → is_own name ≡ false
+      → IsNumber name least most (slice_index_or command_rules k (rule_of first_arg)) → (t : Text) × IsNumberText name least most t
+  number_text k name least most below only own_name r =
+      let d = first_arg in
+      let lt : k < length (args_of c) = subst (λ n. k < n) (sym count) below in
+      let at = rule_at k d in
+      let id : (slice_index_or (args_of c) k d).id.now ≡ name = ap (λ (x : Rule). x.id) at ∙ r.1 in
+      let enough : 1 ≤ least_values (slice_index_or (args_of c) k d) =
+      subst (λ o. 1 ≤ (unwrap_or_range o).start_inclusive) (sym (ap (λ (x : Rule). x.range) at ∙ r.5)) (omega arith) in
+      let one : length (items_of (slice_index_or (args_of c) k d).default_vals) ≡ 1 =
+      sym (length-map (items_of (slice_index_or (args_of c) k d).default_vals) (λ s. s.now)) ∙ ap length (ap (λ (x : Rule). x.defaults) at ∙ r.2) in
+      let wants : WantsDefault (slice_index_or (args_of c) k d) = ((simple.args k d lt).default_ifs, omega arith) in
+      let unique = unique_at k d name id only in
+      let apart = neither (bytes_eq name []) _ own_name in
+      let flags = neither (bytes_eq name (codes "help")) _ apart.1 in
+      let filled : (slice_index_or (args_of c) k d).id.now ≡ [] → ⊥ = λ e. differ name [] apart.0 (sym id ∙ e) in
+      let own : IsAuto (slice_index_or (args_of c) k d) → ⊥ = λ auto. elim auto [ inl h ↦ differ name (codes "help") flags.0 (sym id ∙ h) | inr h ↦ differ name (codes "version") flags.1 (sym id ∙ h) ] in
+      let has = has_entry c m p plain simple.globals k d lt unique filled own (default_present c m p simple.globals k d lt wants) in
+      let got = reads c m p plain simple.globals k d lt unique filled own (vp.Unsigned least most) (ap (λ (x : Rule). x.parser) at ∙ r.3) (ap (λ (x : Rule). x.action) at ∙ r.4)
+      (simple.args k d lt).delimiter enough has in (
+        got.0,
+        (
+          subst (λ t. one_text (found_of m) t ≡ Some got.0) id got.1.0,
+          value_is name got.0 (subst (λ t. first_value (found_of m) t ≡ Some got.0) id got.1.1),
+          got.1.2,
+        ),
+      )
+
+  pub workers : (t : Text) × IsNumberText (codes "workers") 1 64 t
+  workers = number_text 0 (codes "workers") 1 64 (omega arith) refl refl (codes "1", refl, refl, refl, refl, refl)
+
+  pub pairs : (t : Text) × IsNumberText (codes "max-pairs") 1 1000000 t
+  pairs = number_text 1 (codes "max-pairs") 1 1000000 (omega arith) refl refl (codes "100000", refl, refl, refl, refl, refl)
+
+  pub nodes : (t : Text) × IsNumberText (codes "max-nodes") 1 100000 t
+  nodes = number_text 2 (codes "max-nodes") 1 100000 (omega arith) refl refl (codes "10000", refl, refl, refl, refl, refl)
+
+  pub width : (t : Text) × IsNumberText (codes "width") 0 1000000 t
+  width = number_text 3 (codes "width") 0 1000000 (omega arith) refl refl (codes "100", refl, refl, refl, refl, refl)
+
+  pub assertion : (t : Text) × IsNumberText (codes "assertion") 0 1000000 t
+  assertion = number_text 5 (codes "assertion") 0 1000000 (omega arith) refl refl (codes "0", refl, refl, refl, refl, refl)
+
+  file_has_value : is_some (first_value (found_of m) (codes "file")) ≡ true
+  file_has_value =
+      let lt : 4 < length (args_of c) = subst (λ n. 4 < n) (sym count) (omega arith) in
+      let at : rule_of (slice_index_or (args_of c) 4 first_arg) ≡ file_rule = rule_at 4 first_arg in
+      let id : (slice_index_or (args_of c) 4 first_arg).id.now ≡ codes "file" = ap (λ (x : Rule). x.id) at in
+      let enough : 1 ≤ least_values (slice_index_or (args_of c) 4 first_arg) =
+      subst (λ o. 1 ≤ (unwrap_or_range o).start_inclusive) (sym (ap (λ (x : Rule). x.range) at)) (omega arith) in
+      subst (λ t. is_some (first_value (found_of m) t) ≡ true) id
+      (required_has_value c m p plain simple.globals (ap (λ (a : App). a.top.subcommand_negates_reqs) is) 4 first_arg lt
+      (ap (λ (x : Rule). x.required) at) (ap (λ (x : Rule). x.action) at) (simple.args 4 first_arg lt).delimiter enough
+      (unique_at 4 first_arg (codes "file") id refl)
+      (λ e. differ (codes "file") [] refl (sym id ∙ e))
+      (λ auto. elim auto [
+        | inl h ↦ differ (codes "file") (codes "help") refl (sym id ∙ h)
+        | inr h ↦ differ (codes "file") (codes "version") refl (sym id ∙ h)
+      ]))
+
+  -- the text of the file is the one that the words give
+  pub file : (t : Text) × (first_value (found_of m) (codes "file") ≡ Some t) × (value (codes "file") words ≡ Some t)
+  file = let t = text_of _ file_has_value in (t.0, t.1, value_is (codes "file") t.0 t.1)
+
+  -- a number that is read of its text is the one of its value
+  pub is_numeric : (name : Text) (least most : ℕ) → ((t : Text) × IsNumberText name least most t) → IsNumeric (one_text (found_of m) name)
+  is_numeric name least most known = subst IsNumeric (sym known.1.0) (known.1.2.0, known.1.2.1)
+
+  pub is_value : (name : Text) (least most n : ℕ) → ((t : Text) × IsNumberText name least most t) → HasNumber (one_text (found_of m) name) n → HasNumber (value name words) n
+  is_value name least most n known read = subst (λ o. HasNumber o n) (known.1.0 ∙ sym known.1.1) read
+
+  pub in_range : (name : Text) (least most n : ℕ) → ((t : Text) × IsNumberText name least most t) → HasNumber (one_text (found_of m) name) n → (least ≤ n) × (n ≤ most)
+  in_range name least most n known read = let is = number_is (one_text (found_of m) name) known.0 n known.1.0 read in (rw is known.1.2.2, rw is known.1.2.3)

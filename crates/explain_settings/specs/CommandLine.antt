@@ -1,0 +1,38 @@
+-- The command line: its arguments, and what the words give them.
+use Rattle.std.specs.Prelude.{ℕ, List, [], ◌∷◌, Option, Some, codes, true}
+use Rattle.clap.specs.Walk.{Rule, Text, first_of}
+use Rattle.clap.specs.Simple.{App, matches_of, new_rule, new_shape}
+use Rattle.clap.specs.declared.builder.action.ArgAction.TheVariants.{Set}
+use Rattle.clap.specs.declared.builder.value_parser.ValueParser.TheVariants as vp
+use Rattle.settings.specs.CommandLine.{file_rule, number_rule}
+
+-- an argument that is a number up to `most`, and is `default` where no word gives it
+abbrev pub count_rule : Text → Text → ℕ → Rule
+count_rule name default most = record (new_rule name) {
+  action = Some Set;
+  value_names = 1;
+  defaults = default ∷ [];
+  parser = Some (vp.Unsigned 0 most);
+}
+
+-- the same as an option, which is given by its name
+abbrev pub count_option : Text → Text → ℕ → Rule
+count_option name default most = record (count_rule name default most) { long = Some name }
+
+abbrev pub command_rules : List Rule
+command_rules = number_rule (codes "workers") (codes "1") 64
+    ∷ number_rule (codes "max-pairs") (codes "100000") 1000000
+    ∷ number_rule (codes "max-nodes") (codes "10000") 100000
+    ∷ count_option (codes "width") (codes "100") 1000000
+    ∷ file_rule ∷ count_rule (codes "assertion") (codes "0") 1000000 ∷ []
+
+-- the command, whose words do not begin with the program's name
+abbrev pub command_line : App
+command_line = record {
+  top = record (new_shape (codes "explain")) { rules = command_rules; no_binary_name = true; has_version = true };
+  subs = [];
+}
+
+-- the value of an argument on these words, given by them or by default
+abbrev pub value : Text → List Text → Option Text
+value id words = first_of id (matches_of command_line words)

@@ -1,0 +1,85 @@
+//! The arguments of the command line, as `clap` takes them.
+
+ghost use Rattle.std.specs.Prelude.{◌≡◌, ◌≤◌, IfOk, false};
+ghost use Rattle.clap.specs.Words.{app_of, rule_of};
+ghost use Rattle.settings.specs.CommandLine.{file_rule, number_rule};
+ghost use Rattle.explain_settings.specs.CommandLine.{command_line, count_rule};
+
+use crate::help::{ABOUT, STATUS, VERSION};
+use clap::{Arg, ArgAction, Command};
+use settings::{MAX_NODES, MAX_PAIRS, MAX_WORKERS};
+use std::alloc::{AllocError, Global};
+
+/// The most characters of a state that may be asked for, and the greatest number of an assertion. A text has no more.
+pub(crate) const MOST: usize = 1_000_000;
+
+/// The command line of the program, without the program's name.
+pub(crate) fn command_line<'a>(alloc: Global) -> Result<Command<'a>, AllocError>
+    ensures { IfOk result (λ c. app_of c ≡ command_line) }
+{
+    let workers = option(alloc, "workers", "1", MAX_WORKERS).help(
+        "How many workers search, 1 to 64; they change no line",
+    );
+    let pairs = option(alloc, "max-pairs", "100000", MAX_PAIRS).help(
+        "The most pairs that a search keeps, 1 to 1000000",
+    );
+    let nodes = option(alloc, "max-nodes", "10000", MAX_NODES).help(
+        "The most nodes of a specification, 1 to 100000",
+    );
+    let width = count(alloc, "width", "100", MOST).long("width").help(
+        "The most characters of a state that are told, or 0 for all",
+    );
+    let file = file(alloc);
+    let assertion = count(alloc, "assertion", "0", MOST).help(
+        "The number of the assertion to tell of, or 0 for each",
+    );
+    Command::new(alloc, "explain")
+        .no_binary_name(true)
+        .version(VERSION)
+        .about(ABOUT)
+        .after_help(STATUS)
+        .arg(workers)?
+        .arg(pairs)?
+        .arg(nodes)?
+        .arg(width)?
+        .arg(file)?
+        .arg(assertion)
+}
+
+fn file<'a>(alloc: Global) -> Arg<'a>
+    ensures rule { rule_of result ≡ file_rule }
+    ensures local { result.global ≡ false }
+{
+    Arg::new(alloc, "file")
+        .value_name("FILE")
+        .help("The script to check")
+        .required(true)
+        .action(ArgAction::Set)
+}
+
+// An option that takes a number from 1 to `most`.
+fn option<'a>(alloc: Global, name: &'a str, default: &'a str, most: usize) -> Arg<'a>
+    requires { most ≤ 1000000 }
+    ensures rule { rule_of result ≡ number_rule name.now default.now most }
+    ensures local { result.global ≡ false }
+{
+    Arg::new(alloc, name)
+        .long(name)
+        .value_name("N")
+        .action(ArgAction::Set)
+        .value_parser(clap::value_parser!(usize).range(1..=most as i64))
+        .default_value(default)
+}
+
+// An argument that takes a number up to `most`.
+fn count<'a>(alloc: Global, name: &'a str, default: &'a str, most: usize) -> Arg<'a>
+    requires { most ≤ 1000000 }
+    ensures rule { rule_of result ≡ count_rule name.now default.now most }
+    ensures local { result.global ≡ false }
+{
+    Arg::new(alloc, name)
+        .value_name("N")
+        .action(ArgAction::Set)
+        .value_parser(clap::value_parser!(usize).range(0..=most as i64))
+        .default_value(default)
+}

@@ -1,0 +1,60 @@
+//! What a command line asks of the program.
+
+ghost use Rattle.std.specs.Prelude.{◌≡◌, ◌≤◌, Some, [], IfOk, IfErr, codes};
+ghost use Rattle.clap.specs.Walk.{texts};
+ghost use Rattle.settings.specs.CommandLine.{HasNumber};
+ghost use Rattle.explain_settings.specs.CommandLine.{value};
+ghost use Rattle.explain_settings.specs.Faults.{IsFaultOf, faults_of};
+
+use crate::command::command_line;
+use settings::{CommandLineFault, number};
+use std::alloc::Global;
+
+/// What a command line asks of the program.
+#[derive(Clone, Copy, Debug, PartialEq, Eq)]
+pub struct Settings<'a> {
+    /// How many workers search, 1 to 64.
+    pub workers: usize,
+    /// The most pairs that a search keeps, 1 to 1,000,000.
+    pub max_pairs: usize,
+    /// The most nodes of a normal form, and the most states of each, 1 to 100,000.
+    pub max_nodes: usize,
+    /// The most characters of a state that are told, or 0 for all.
+    pub width: usize,
+    /// The name of the script's file.
+    pub file: &'a str,
+    /// The number of the assertion to tell of, or 0 for each.
+    pub assertion: usize,
+    pub ghost workers_in_range: { (1 ≤ workers) × (workers ≤ 64) },
+    pub ghost pairs_in_range: { (1 ≤ max_pairs) × (max_pairs ≤ 1000000) },
+    pub ghost nodes_in_range: { (1 ≤ max_nodes) × (max_nodes ≤ 100000) },
+}
+
+/// The settings of the words after the program's name.
+///
+/// The words may ask for the help (`Help`) or the version (`Version`), or be none of the command line's (`Refused`): a
+/// word that is no option, an option that is used twice, a value that is no number or lies out of its range, no file, or
+/// too many words.
+pub fn read<'a>(alloc: Global, words: &'a [&'a str]) -> Result<Settings<'a>, CommandLineFault>
+    ensures taken { IfOk result (λ _. faults_of (texts words.entry.now) ≡ []) }
+    ensures workers { IfOk result (λ s. HasNumber (value (codes "workers") (texts words.entry.now)) s.workers) }
+    ensures pairs { IfOk result (λ s. HasNumber (value (codes "max-pairs") (texts words.entry.now)) s.max_pairs) }
+    ensures nodes { IfOk result (λ s. HasNumber (value (codes "max-nodes") (texts words.entry.now)) s.max_nodes) }
+    ensures width { IfOk result (λ s. HasNumber (value (codes "width") (texts words.entry.now)) s.width) }
+    ensures file { IfOk result (λ s. value (codes "file") (texts words.entry.now) ≡ Some s.file.now) }
+    ensures assertion { IfOk result (λ s. HasNumber (value (codes "assertion") (texts words.entry.now)) s.assertion) }
+    ensures fault { IfErr result (IsFaultOf (texts words.entry.now)) }
+{
+    let matches = match command_line(alloc)?.try_get_matches_from(words) {
+        Ok(matches) => matches,
+        Err(error) => return Err(CommandLineFault::of(alloc, &error)),
+    };
+    Ok(Settings {
+        workers: number(&matches, "workers"),
+        max_pairs: number(&matches, "max-pairs"),
+        max_nodes: number(&matches, "max-nodes"),
+        width: number(&matches, "width"),
+        file: matches.get_str("file").unwrap(),
+        assertion: number(&matches, "assertion"),
+    })
+}
