@@ -13,3 +13,4 @@ mod offers;
 pub use expansion::Expansion;
 pub use firing::fire;
 pub use form::{Form, Step};
+pub use offers::copy_offers;

@@ -77,7 +77,7 @@ fn actions<A: AllocHandle>(alloc: A, steps: &[Step<A>]) -> Result<Vec<Action<A>,
 }
 
 /// A copy of each acceptance, in order.
-pub(crate) fn copy_offers<A: AllocHandle>(
+pub fn copy_offers<A: AllocHandle>(
     alloc: A,
     offers: &[Vec<Action<A>, A>],
 ) -> Result<Vec<Vec<Action<A>, A>, A>, Memory>

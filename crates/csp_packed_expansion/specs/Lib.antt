@@ -1,0 +1,4 @@
+pub mod Hashing
+pub mod PackedForm
+pub mod PackedExpansion
+pub mod Targets
