@@ -5,6 +5,8 @@
 #![tactic(auto)]
 
 #[cfg(test)]
+mod order;
+#[cfg(test)]
 mod shapes;
 #[cfg(test)]
 mod steps;

@@ -1,0 +1,3 @@
+pub mod ByOrder
+pub mod Ranks
+pub mod Falling

@@ -1,0 +1,3 @@
+pub mod Targets
+pub mod Numbers
+pub mod InOrder
