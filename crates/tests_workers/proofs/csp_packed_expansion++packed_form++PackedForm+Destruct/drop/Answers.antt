@@ -1,6 +1,6 @@
 -- What is held has a known size.
 use Rattle.std.proofs.Common.{inl, inr, lit<}
-use Rattle.bench.proofs.pair_store++packed_form++PackedForm+Destruct.drop.Goals as goal
+use Rattle.tests_workers.proofs.csp_packed_expansion++packed_form++PackedForm+Destruct.drop.Goals as goal
 
 pub drop-requires-room-T-Destruct : goal.drop-requires-room-T-Destruct
 drop-requires-room-T-Destruct g c κs within =
