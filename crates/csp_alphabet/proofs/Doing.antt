@@ -73,7 +73,7 @@ communications_in types bs (Input n ∷ fs) [] = tt
 communications_in types bs (InputFrom n e ∷ fs) [] = tt
 
 module _ (script : Script) where
-  abbrev IsOne : Event → Type 0
+  abbrev pub IsOne : Event → Type 0
   IsOne e = IsEventOf script e
 
   -- the sets of a channel, which are found there
@@ -114,7 +114,7 @@ module _ (script : Script) where
   all_in (v ∷ vs) [] long all = all
   all_in (v ∷ vs) (set ∷ sets) long all = (all.0, all_in vs sets (let e : length vs ≡ length sets = cc long in e) all.1)
 
-  event_is : (e : EventExpression) → IfValue IsOne (event_of script e)
+  pub event_is : (e : EventExpression) → IfValue IsOne (event_of script e)
   event_is e =
       value_then (AreSetsOf e.channel) IsOne (field_sets script e.channel) _ (sets_found e.channel) (λ sets is.
       value_then (λ vs. BeginsInTurn Has vs sets) IsOne (given_values script.types e.fields sets) _ (given_in script.types e.fields sets) (λ vs all.
@@ -130,10 +130,10 @@ module _ (script : Script) where
   sets_same s t e = slice_same (slice_cmp value_cmp) (slice_same value_cmp value_same) s t (is_eq-Equal (slice_cmp (slice_cmp value_cmp) s t) e)
 
   -- what is made of an event of the script are such events
-  abbrev Keeps : (Event → List Event) → Type 0
+  abbrev pub Keeps : (Event → List Event) → Type 0
   Keeps f = (e : Event) → IsOne e → AllByRecursion IsOne (f e)
 
-  channel_keeps : (c d : ℕ) → IfValue Keeps (channel_images script c d)
+  pub channel_keeps : (c d : ℕ) → IfValue Keeps (channel_images script c d)
   channel_keeps c d =
       value_then (AreSetsOf c) Keeps (field_sets script c) _ (sets_found c) (λ s s-is.
       value_then (AreSetsOf d) Keeps (field_sets script d) _ (sets_found d) (λ t t-is.

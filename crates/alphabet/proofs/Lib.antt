@@ -1,0 +1,12 @@
+pub mod Counting
+pub mod ValueLists
+pub mod Choosing
+pub mod ChannelEvents
+pub mod Halving
+pub mod Numbered
+pub mod Marks
+pub mod Operators
+pub mod Written
+pub mod InTurn
+pub mod Imaging
+pub mod Alphabets

@@ -1,0 +1,6 @@
+pub mod Numbers
+pub mod Choosing
+pub mod Pairs
+pub mod Images
+pub mod Sides
+pub mod Operators

@@ -1,0 +1,6 @@
+pub mod Cutting
+pub mod Deeper
+pub mod Forms
+pub mod Heads
+pub mod Runs
+pub mod Shaping

@@ -1,0 +1,5 @@
+pub mod Cut
+pub mod Heads
+pub mod Lists
+pub mod Placed
+pub mod Shaped
