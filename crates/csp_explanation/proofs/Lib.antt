@@ -1,2 +1,5 @@
+pub mod Comparings
+pub mod Lacking
+pub mod Lacks
 pub mod Replays
 pub mod Tellings

@@ -1,8 +1,13 @@
 pub mod Actions
+pub mod Comparing
+pub mod Counterexamples
+pub mod Counterparts
 pub mod Cutting
 pub mod Ends
 pub mod Headline
+pub mod Lacking
 pub mod Origins
 pub mod Reasons
+pub mod Samples
 pub mod Steps
 pub mod Telling

@@ -1,0 +1,44 @@
+-- The states of the replay, and what the specification has beside them.
+use Rattle.std.proofs.Common.{List, Option, Vec, IfSome, IsNone, map, option_map, refl, sym, subst, inl, inr, lit≤}
+use Rattle.csp_syntax.specs.Process.{Process}
+use Rattle.csp_semantics.specs.Kinds.Scripts.{IsTermOf}
+use Rattle.csp_runs.specs.States.{IsReplay}
+use Rattle.csp_explanation.specs.Counterexamples.{IsCounterpartFor}
+use Rattle.csp_value.specs.Action.{action_of}
+use Rattle.csp_value.specs.declared.action.Action.{Action}
+use Rattle.csp_term.specs.Script.{script_of}
+use Rattle.csp_term.specs.Term.{process_of}
+use Rattle.csp_term.specs.declared.term.Term.{Term}
+use Rattle.verdict.specs.Outcome.{violation_of}
+use Rattle.counterexample.specs.Counterexample.{counterpart_of, specification_in}
+use Rattle.counterexample.proofs.counterexamples.counterexample_of.Goals as goal
+
+pub replay-requires : goal.replay-requires
+replay-requires g c =
+    let closed : IsTermOf (script_of c.args.script.now) (process_of c.args.assertion.now.implementation) = c.requires.terms.implementation in
+    elim g.met.A.AllocHandle.small [ inl e ↦ rw (e.0, e.1) (search (lit≤, closed)) | inr e ↦ rw (e.0, e.1) (search (lit≤, closed)) ]
+
+pub returns-in_default-clause-none : goal.returns-in_default-clause-none
+returns-in_default-clause-none g c = λ none.
+    let N : Option (Vec (Term g.row.A.Denot) g.row.A.Denot) → Type 0 = λ found. IsNone found in
+    c.in_ok-found.ensures.none (subst N (sym c.in_default.is) refl)
+
+pub counterpart_for-requires : goal.counterpart_for-requires
+counterpart_for-requires g c =
+    let script = script_of c.args.script.now in
+    let S : Option Process → Type 0 = λ s. IfSome s (IsTermOf script) in
+    let given : IfSome (specification_in c.specification-specification.result) (IsTermOf script) = subst S (sym c.specification-specification.ensures) c.requires.terms.specification in
+    elim g.met.A.AllocHandle.small [ inl e ↦ rw (e.0, e.1) (search (lit≤, given)) | inr e ↦ rw (e.0, e.1) (search (lit≤, given)) ]
+
+pub returns-clause-found : goal.returns-clause-found
+returns-clause-found g c =
+    let script = script_of c.args.script.now in
+    let p = process_of c.args.assertion.now.implementation in
+    let most = c.args.most in
+    let F : Option (Vec (Term g.row.A.Denot) g.row.A.Denot) → Type 0 = λ found. IfSome found (λ states. IsReplay script p (violation_of c.args.shown.now) (map process_of states.items)) in
+    let P : List (Action g.row.A.Denot) → Type 0 = λ path. IsCounterpartFor script (specification_in c.specification-specification.result) (map action_of path) most (option_map counterpart_of c.in_ok-counterpart.counterpart) in
+    let S : Option Process → Type 0 = λ s. IsCounterpartFor script s (violation_of c.args.shown.now).path most (option_map counterpart_of c.in_ok-counterpart.counterpart) in
+    record {
+      replay = subst F c.in-Some.is c.in_ok-found.ensures.found;
+      counterpart = subst S c.specification-specification.ensures (subst P c.deref.ensures.value c.in_ok-counterpart.ensures);
+    }

@@ -1,0 +1,50 @@
+//! Violations with the states that lead to them.
+
+ghost use Rattle.std.specs.Prelude.{map, IfOk, IfSome, IsNone};
+ghost use Rattle.csp_answers.specs.Terms.{IsAssertionOf};
+ghost use Rattle.csp_runs.specs.States.{HasNoReplay};
+ghost use Rattle.csp_explanation.specs.Counterexamples.{IsCounterexample};
+ghost use Rattle.csp_term.specs.Script.{assertion_of, script_of};
+ghost use Rattle.csp_term.specs.Term.{process_of};
+ghost use Rattle.verdict.specs.Outcome.{violation_of};
+ghost use Rattle.counterexample.specs.Counterexample as told;
+
+use crate::counterparts::{Counterpart, counterpart_for};
+use csp_replay::replay;
+use csp_term::{AllocHandle, Assertion, Memory, Script, Term};
+use verdict::Shown;
+
+/// The states that lead to a violation, and what the specification has beside them.
+#[derive(Drop)]
+pub struct Counterexample<A: AllocHandle> {
+    /// The states of the implementation: one before each action of the path, and one at its end.
+    pub states: Vec<Term<A>, A>,
+    /// What the specification has along the path. An assertion of deadlock or divergence has none.
+    pub counterpart: Option<Counterpart<A>>,
+}
+
+/// The states on the way of a violation of the assertion between terms of the script, and what the specification has
+/// along its path, or that it has more than `most` states after one of its beginnings. `None` says that no run by the
+/// path ends as is shown, and `Memory` that there is no room to tell.
+pub fn counterexample_of<A: AllocHandle>(
+    alloc: A,
+    script: &Script<A>,
+    assertion: &Assertion<A>,
+    shown: &Shown<A>,
+    most: usize,
+) -> Result<Option<Counterexample<A>>, Memory>
+    requires terms { IsAssertionOf (script_of script.now) (assertion_of assertion.now) }
+    ensures found { IfOk result (λ found. IfSome found (λ c. IsCounterexample (script_of script.now) (assertion_of assertion.now) (violation_of shown.now) most (told.counterexample_of c))) }
+    ensures none { IfOk result (λ found. IsNone found → HasNoReplay (script_of script.now) (process_of assertion.now.implementation) (violation_of shown.now)) }
+{
+    let found = replay(alloc, script, &assertion.implementation, shown)?;
+    let Some(states) = found else {
+        return Ok(None);
+    };
+    let specification = assertion.property.specification();
+    let counterpart = counterpart_for(alloc, script, specification, &shown.path, most)?;
+    Ok(Some(Counterexample {
+        states,
+        counterpart,
+    }))
+}

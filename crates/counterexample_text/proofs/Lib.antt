@@ -1,0 +1,3 @@
+pub mod Acceptances
+pub mod Cuts
+pub mod Putting

@@ -1,0 +1,9 @@
+-- Texts that were put one behind the other, and lists without items.
+use Rattle.std.proofs.Common.{◌≡◌, ℕ, suc, List, [], ◌∷◌, ◌++◌, length, refl, ◌∙◌, ap, append_assoc, arith}
+
+pub put_behind : (old mid new x y : List ℕ) → mid ≡ old ++ x → new ≡ mid ++ y → new ≡ old ++ (x ++ y)
+put_behind old mid new x y first second = second ∙ ap (λ ts. ts ++ y) first ∙ append_assoc old x y
+
+pub no_items : {X : Type 0} (xs : List X) → length xs ≡ 0 → xs ≡ []
+no_items [] none = refl
+no_items (x ∷ xs) none = let some : suc (length xs) ≡ 0 = none in absurd (omega (arith, some))

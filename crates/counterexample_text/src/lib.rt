@@ -1,0 +1,24 @@
+//! The text of a counterexample.
+//!
+//! `push_counterexample` puts behind a string, by its contract, the text that the definitions give: the run of the
+//! implementation, state by state, with the first few states of the specification beside each of its own, what is wrong at
+//! its end, and what the specification has there, its initials or its least acceptances with what is lacking of each. Where
+//! memory is refused, a beginning of the text may have been put there.
+#![tactic(auto)]
+
+mod actions;
+mod comparing;
+mod counterexamples;
+mod ends;
+mod lacks;
+mod marks;
+mod runs;
+mod specification;
+mod states;
+mod style;
+mod width;
+
+pub use actions::{push_action, push_actions};
+pub use counterexamples::push_counterexample;
+pub use style::Style;
+pub use width::{Width, push_cut};

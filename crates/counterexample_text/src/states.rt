@@ -1,0 +1,30 @@
+//! States of implementations, each on a line of its own.
+
+ghost use Rattle.csp_term.specs.Term.{process_of};
+ghost use Rattle.csp_explanation.specs.Steps.{state_line};
+ghost use Rattle.csp_print.specs.Names.{names_of};
+ghost use Rattle.csp_print.specs.Writing.{Writes};
+ghost use Rattle.counterexample_text.specs.Widths.{width_of};
+
+use crate::marks::push_mark;
+use crate::style::Style;
+use crate::width::push_cut;
+use csp_print::push_term;
+use csp_term::{AllocHandle, Term};
+use std::alloc::AllocError;
+
+/// The line of the state, behind the string.
+pub(crate) fn push_state<A: AllocHandle>(
+    alloc: A,
+    style: &Style<'_, '_, A>,
+    state: &Term<A>,
+    text: &mut String<A>,
+) -> Result<(), AllocError>
+    ensures { Writes result text.old text.new (state_line (names_of style.now.names.now) (width_of style.now.width) (process_of state.now)) }
+{
+    let mut whole = String::new(alloc);
+    push_term(style.names, state, &mut whole)?;
+    push_mark("      ", text)?;
+    push_cut(alloc, style.width, whole.as_str(), text)?;
+    push_mark("\n", text)
+}

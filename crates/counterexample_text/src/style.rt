@@ -1,0 +1,16 @@
+//! How counterexamples are told.
+
+use crate::width::Width;
+use csp_print::Names;
+use std::alloc::Allocator;
+
+/// By which names terms are told, how much of a state, and how many states of a specification.
+#[derive(Clone, Copy, Drop)]
+pub struct Style<'n, 't, A: Allocator> {
+    /// The names of the script.
+    pub names: &'n Names<'t, A>,
+    /// How many characters of a state are told.
+    pub width: Width,
+    /// How many states of the specification are told at a time.
+    pub few: usize,
+}

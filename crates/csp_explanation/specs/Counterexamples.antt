@@ -1,0 +1,52 @@
+-- A violation with what leads to it: the states of the implementation, and what the specification has beside them.
+use Rattle.std.specs.Prelude.{◌≡◌, ◌≢◌, ℕ, List, [], length, slice_get, Option, Some, None, Contains, ⊤}
+use Rattle.csp_syntax.specs.Value.{Action}
+use Rattle.csp_syntax.specs.Process.{Process, Assertion, specification_of, Script}
+use Rattle.csp_semantics.specs.Meaning.Violations.{Evidence, ByEvent, ByOffers, Violation}
+use Rattle.csp_runs.specs.Acceptances.{AreLeastAcceptances}
+use Rattle.csp_runs.specs.Initials.{AreInitials}
+use Rattle.csp_runs.specs.States.{AreStatesAlong, AreSmall, AreMoreAlong, IsReplay}
+use Rattle.csp_explanation.specs.Lacking.{lacking}
+
+-- What a specification has along a path: its states after the trace of each beginning, the initials of the last ones, and
+-- the acceptances that they have at least. Or its states are too many.
+pub data Counterpart : Type 0 where
+  Along : (states : List (List Process)) (initials : List Action) (acceptances : List (List Action)) → Counterpart
+  TooManyStates : Counterpart
+
+-- the states of the implementation, and what the specification has along the path, if there is one
+pub record Counterexample : Type 0 where
+  pub states : List Process
+  pub counterpart : Option Counterpart
+
+-- the states along the path are at most n each time, and the last ones have these initials and least acceptances
+pub record HasAlong (script : Script) (spec : Process) (path : List Action) (n : ℕ) (states : List (List Process)) (initials : List Action) (acceptances : List (List Action)) : Type 0 where
+  pub along : AreStatesAlong script spec path states
+  pub small : AreSmall n states
+  pub last : List Process
+  pub at_end : slice_get states (length path) ≡ Some last
+  pub initials_of : AreInitials script last initials
+  pub acceptances_of : AreLeastAcceptances script last acceptances
+
+-- what the specification has along the path, or that after one of its beginnings it has more than n states
+abbrev pub IsCounterpart : Script → Process → List Action → ℕ → Counterpart → Type 0
+IsCounterpart script spec path n (Along states initials acceptances) = HasAlong script spec path n states initials acceptances
+IsCounterpart script spec path n TooManyStates = AreMoreAlong n script spec path
+
+-- what a specification has, where there is one
+abbrev pub IsCounterpartFor : Script → Option Process → List Action → ℕ → Option Counterpart → Type 0
+IsCounterpartFor script (Some spec) path n (Some c) = IsCounterpart script spec path n c
+IsCounterpartFor script (Some spec) path n None = ⊥
+IsCounterpartFor script None path n (Some c) = ⊥
+IsCounterpartFor script None path n None = ⊤
+
+-- the states of a replay of the violation, and what the specification has along its path
+pub record IsCounterexample (script : Script) (a : Assertion) (v : Violation) (n : ℕ) (c : Counterexample) : Type 0 where
+  pub replay : IsReplay script a.implementation v c.states
+  pub counterpart : IsCounterpartFor script (specification_of a.property) v.path n c.counterpart
+
+-- the event is none of the initials, or each of the acceptances has something that is not offered
+abbrev pub ShowsLack : Evidence → Counterpart → Type 0
+ShowsLack (ByEvent x) (Along states initials acceptances) = ¬ Contains initials x
+ShowsLack (ByOffers xs) (Along states initials acceptances) = (ys : List Action) → Contains acceptances ys → lacking xs ys ≢ []
+ShowsLack e c = ⊤
