@@ -1,16 +1,16 @@
 -- The images of events by their numbers.
-use Rattle.std.proofs.Common.{◌≡◌, ℕ, zero, suc, ◌+◌, ◌<◌, ◌≤◌, nat_eq, Bool, true, false, cond, List, [], ◌∷◌, ◌++◌, length, length-append, map, take, get_or, flat_map, Option, Some, None, slice_get, Result, Ok, Err, refl, sym, ◌∙◌, ap, ap₂, subst, Contains, inl, inr, ◌⊎◌, ⊎_elim, arith}
+use Rattle.std.proofs.Common.{◌≡◌, ℕ, ◌+◌, ◌<◌, ◌≤◌, nat_eq, true, false, cond, List, [], ◌∷◌, ◌++◌, length, length-append, map, take, get_or, flat_map, Option, Some, None, slice_get, Err, refl, sym, ◌∙◌, ap, ap₂, subst, inl, inr, ◌⊎◌, arith}
 use Rattle.std.specs.List.{AllByRecursion}
 use Rattle.std.specs.Result.{result_err}
 use Rattle.std.specs.declared.vec.Vec.{Vec}
-use Rattle.std.proofs.lemmas.Bool.{eq-eqb, eqb-true, cases_lt}
+use Rattle.std.proofs.lemmas.Bool.{cases_lt}
 use Rattle.std.proofs.lemmas.Grind.{flat_map-append}
 use Rattle.std.proofs.lemmas.List.{append-nil, map-append, take_more}
 use Rattle.std.proofs.lemmas.Option.{get_or_from_slice_get, slice_get-get_or, slice_get_within}
 use Rattle.csp_syntax.specs.Value.{Event, event_cmp, event_eq}
 use Rattle.csp_syntax.specs.Process.{RenamingPair, Script}
 use Rattle.csp_syntax.proofs.Equalities.{event_refl}
-use Rattle.csp_syntax.proofs.Places.{get_cases, get_end, get_front}
+use Rattle.csp_syntax.proofs.Places.{get_end, get_front}
 use Rattle.csp_semantics.specs.Meaning.Events.{images, images_by as pure_images_by, or_itself, renaming}
 use Rattle.csp_semantics.specs.Meaning.Offers.{RisesBy}
 use Rattle.csp_semantics.proofs.Rising.{Contains-from_stands}
@@ -20,7 +20,7 @@ use Rattle.csp_expression.specs.declared.no_value.NoValue.{NoValue}
 use Rattle.csp_expression.specs.declared.no_value.NoValue.TheVariants as eval
 use Rattle.csp_changes.specs.declared.framed.Images.{Images}
 use Rattle.csp_changes.specs.declared.numbers.EventId.{EventId}
-use Rattle.csp_changes.specs.Framed.{AreImagesAt, images_at, listed}
+use Rattle.csp_changes.specs.Framed.{images_at, listed}
 use Rattle.csp_changes.specs.Numbering.{Numbering}
 use Rattle.alphabet.specs.declared.pair.Pair.{Pair}
 use Rattle.alphabet.specs.declared.pair.Pair.TheVariants as pair

@@ -1,7 +1,6 @@
 -- The pairs of a renaming in turn.
-use Rattle.std.proofs.Common.{◌≡◌, ℕ, ◌+◌, ◌<◌, nat_eq, Bool, true, false, cond, List, [], ◌∷◌, ◌++◌, length, map, take, drop, get_or, flat_map, Some, slice_get, Result, Ok, Err, refl, sym, ◌∙◌, ap, ap₂, subst, Contains}
+use Rattle.std.proofs.Common.{◌≡◌, ℕ, ◌+◌, ◌<◌, nat_eq, true, cond, List, [], ◌∷◌, ◌++◌, length, take, drop, get_or, flat_map, Some, slice_get, Result, Ok, Err, refl, sym, ◌∙◌, ap, ap₂, subst, Contains}
 use Rattle.std.specs.List.{AllByRecursion}
-use Rattle.std.specs.declared.vec.Vec.{Vec}
 use Rattle.std.proofs.lemmas.Grind.{flat_map-append}
 use Rattle.std.proofs.lemmas.List.{append-nil, append_assoc, drop_more, map-append, take-append-drop, take_more}
 use Rattle.std.proofs.lemmas.Option.{get_or_from_slice_get, slice_get_within}
@@ -22,7 +21,7 @@ use Rattle.csp_alphabet.proofs.Listing.{alphabet_has, alphabet_is}
 use Rattle.csp_alphabet.proofs.Results.{IfValue, all_append}
 use Rattle.alphabet.specs.declared.pair.Pair.{Pair}
 use Rattle.alphabet.specs.declared.pair.Pair.TheVariants as pair
-use Rattle.alphabet.specs.Pairs.{ArePairsOf, IsNumberIn, IsPairOf, IsPlaced, Make, event_at, image_by, images_by}
+use Rattle.alphabet.specs.Pairs.{ArePairsOf, IsNumberIn, IsPairOf, IsPlaced, Make, image_by, images_by}
 
 -- what a renaming makes of events
 abbrev Image : Type 0

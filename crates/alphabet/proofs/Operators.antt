@@ -1,6 +1,5 @@
 -- What the operators of a shape have by the numbers of events.
-use Rattle.std.proofs.Common.{◌≡◌, ◌↔◌, Bool, true, not, ◌&&◌, List, map, Option, Some, None, Result, Ok, Err, refl, sym, ◌∙◌, ap, ap₂, subst}
-use Rattle.std.specs.Prelude.{⊤}
+use Rattle.std.proofs.Common.{◌≡◌, ◌↔◌, Bool, not, ◌&&◌, List, map, None, Result, Ok, Err, refl, ◌∙◌, ap, ap₂}
 use Rattle.std.specs.Result.{result_err}
 use Rattle.csp_syntax.specs.Value.{Event}
 use Rattle.csp_syntax.specs.Process.{EventSet, RenamingPair, Script}

@@ -1,10 +1,10 @@
 -- Lists of one value of each set, by their numbers.
-use Rattle.std.proofs.Common.{◌≡◌, ℕ, zero, suc, ◌+◌, ◌*◌, ◌/◌, ◌%◌, ◌<◌, List, [], ◌∷◌, ◌++◌, length, map, drop, Some, slice_get, get_or, refl, sym, ◌∙◌, ap, ap₂, subst, append_assoc, arith, length-append}
-use Rattle.std.proofs.lemmas.List.{drop_more, length-map}
+use Rattle.std.proofs.Common.{◌≡◌, ℕ, zero, suc, ◌+◌, ◌*◌, ◌/◌, ◌%◌, List, [], ◌∷◌, ◌++◌, length, map, Some, slice_get, sym, ◌∙◌, ap, ap₂, arith, length-append}
+use Rattle.std.proofs.lemmas.List.{length-map}
 use Rattle.std.proofs.Math.Nat.{suc-mul, zero-mul}
 use Rattle.csp_syntax.specs.Value.{Value}
 use Rattle.csp_syntax.proofs.Places.{get_front, get_some}
-use Rattle.csp_alphabet.specs.Alphabet.{each_before, field_lists}
+use Rattle.csp_alphabet.specs.Alphabet.{each_before}
 use Rattle.alphabet.proofs.Counting.{digits}
 
 get_behind : {X : Type 0} (xs ys : List X) (k : ℕ) → slice_get (xs ++ ys) (length xs + k) ≡ slice_get ys k

@@ -1,5 +1,5 @@
 -- How a channel's fields have values.
-use Rattle.std.specs.Prelude.{◌≡◌, ◌<◌, ◌≤◌, ℕ, List, length, Option, Some, None}
+use Rattle.std.specs.Prelude.{◌≡◌, ◌<◌, ◌≤◌, ℕ, Option, Some, None}
 
 -- that is the count, or it is more than so many
 abbrev pub IsCountWithin : ℕ → ℕ → Option ℕ → Type 0

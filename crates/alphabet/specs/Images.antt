@@ -1,5 +1,5 @@
 -- The images of a renaming by the numbers of events.
-use Rattle.std.specs.Prelude.{◌≡◌, List, Option, Some, None, Result}
+use Rattle.std.specs.Prelude.{◌≡◌, List, Some, None, Result}
 use Rattle.std.specs.Result.{result_err}
 use Rattle.csp_syntax.specs.Value.{Event}
 use Rattle.csp_syntax.specs.Process.{RenamingPair, Script}

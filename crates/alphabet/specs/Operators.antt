@@ -1,8 +1,8 @@
 -- What the operators of a shape have by the numbers of events.
-use Rattle.std.specs.Prelude.{◌≡◌, List, map, Option, Some, None, Result, Ok, Err}
+use Rattle.std.specs.Prelude.{◌≡◌, List, Option, Some, None, Result}
 use Rattle.std.specs.Result.{result_err}
 use Rattle.csp_syntax.specs.Value.{Event}
-use Rattle.csp_syntax.specs.Process.{RenamingPair, Script}
+use Rattle.csp_syntax.specs.Process.{Script}
 use Rattle.csp_semantics.specs.Meaning.Evaluation.{Cause, ◌and_then◌}
 use Rattle.csp_semantics.specs.Meaning.Events.{event_test, renaming}
 use Rattle.csp_shapes.specs.Operators.{CompositionHasValues, FrameHasValues}

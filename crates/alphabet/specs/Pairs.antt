@@ -3,9 +3,8 @@ use Rattle.std.specs.Prelude.{◌≡◌, ◌<◌, ℕ, nat_eq, Bool, true, false
 use Rattle.std.specs.List.{AllByRecursion, flat_map}
 use Rattle.std.specs.declared.vec.Vec.{Vec}
 use Rattle.csp_syntax.specs.Value.{Event, event_eq}
-use Rattle.csp_syntax.specs.Process.{RenamingPair, Script}
 use Rattle.csp_semantics.specs.Meaning.Evaluation.{Cause}
-use Rattle.csp_semantics.specs.Meaning.Events.{or_itself, pair_images, renaming}
+use Rattle.csp_semantics.specs.Meaning.Events.{or_itself}
 use Rattle.csp_expression.specs.Agreement.{AgreesBy}
 use Rattle.csp_expression.specs.declared.no_value.NoValue.{NoValue}
 use Rattle.csp_changes.specs.declared.framed.Images.{Images}

@@ -10,6 +10,7 @@ ghost use Rattle.csp_value.specs.Fields.{sets_of};
 ghost use Rattle.csp_event_sets.specs.Events.{event_expression_of, renaming_pair_of};
 ghost use Rattle.csp_term.specs.Script.{script_of_parts};
 ghost use Rattle.csp_event_tests.specs.Testing.{AreSetsOf};
+ghost use Rattle.alphabet.specs.Pairs.{IsPairOf};
 
 use crate::alphabet::Alphabet;
 use crate::written_event::number_of;
@@ -40,8 +41,6 @@ fn field_sets<A: AllocHandle>(
         None => Err(NoValue::Cause(Cause::Kind)),
     }
 }
-
-ghost use Rattle.alphabet.specs.Pairs.{IsPairOf};
 
 fn same_sets<A: AllocHandle>(sets: &[FieldSet<A>], others: &[FieldSet<A>]) -> bool
     ensures { result ≡ same_sets (sets_of sets.now) (sets_of others.now) }

@@ -1,7 +1,7 @@
 //! What the operators of terms have by the numbers of events.
 
 ghost use Rattle.std.specs.Prelude.{◌≡◌};
-ghost use Rattle.csp_alphabet.specs.Alphabet.{alphabet};
+ghost use Rattle.csp_alphabet.specs.Alphabet.{alphabet as events_of_script};
 ghost use Rattle.csp_term.specs.Script.{script_of};
 
 use crate::scripts::script;
@@ -142,7 +142,7 @@ fn write_operator(
     script: &Script<Global>,
     term: &Term<Global>,
 ) -> Result<(), Fail>
-    requires { alphabet.now ≡ alphabet (script_of script.now) }
+    requires { alphabet.now ≡ events_of_script (script_of script.now) }
 {
     let parts = script.parts();
     match term.form() {

@@ -1,4 +1,4 @@
-use Rattle.std.proofs.Common.{not, inl, inr, lit<, ap, refl, arith}
+use Rattle.std.proofs.Common.{not, inl, inr, lit<, ap, arith}
 use Rattle.csp_event_tests.specs.Testing.{test_of}
 use Rattle.alphabet.proofs.Marks.{all_marked, one_event_marked}
 use Rattle.alphabet.proofs.sides.by_shared.Goals as goal

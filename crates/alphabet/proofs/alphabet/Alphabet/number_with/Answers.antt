@@ -1,4 +1,4 @@
-use Rattle.std.proofs.Common.{inl, inr, lit<, ◌≡◌, List, length, Some, slice_get, Contains, Result, sym, ◌∙◌, ap, subst}
+use Rattle.std.proofs.Common.{inl, inr, lit<, ◌≡◌, List, length, Some, slice_get, Contains, sym, ◌∙◌, ap, subst}
 use Rattle.std.specs.List.Sorted.{IsBinarySearchResult, IsSearchInRange}
 use Rattle.std.proofs.lemmas.Fn.{always_returns_same}
 use Rattle.csp_syntax.specs.Value as pure

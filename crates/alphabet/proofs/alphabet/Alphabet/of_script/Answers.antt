@@ -1,4 +1,4 @@
-use Rattle.std.proofs.Common.{inl, inr, lit<, List, map, Option, sym, ◌∙◌, ap, subst, arith}
+use Rattle.std.proofs.Common.{inl, inr, lit<, map, Option, ◌∙◌, ap, subst, arith}
 use Rattle.std.specs.declared.vec.Vec.{Vec}
 use Rattle.csp_alphabet.specs.Alphabet.{alphabet, events_from}
 use Rattle.csp_value.specs.declared.action.Event.{Event}
