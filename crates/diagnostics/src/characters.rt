@@ -37,11 +37,31 @@ pub(crate) const CHARACTERS: &[CharacterAdvice] = &[
     },
     CharacterAdvice {
         character: '/',
-        text: "there is no division: `x / y` is the `z` of `[] z:S @ z*y <= x and x < (z+1)*y & P`; a comment begins with `--`",
+        text: "there is no `/`, and no `/+`: `x / y` is the `z` of `[] z:S @ z*y <= x and x < (z+1)*y & P`; a comment begins with `--`",
     },
     CharacterAdvice {
         character: '~',
         text: "internal choice is written `|~|`, and negation `not`",
+    },
+    CharacterAdvice {
+        character: '\u{2192}',
+        text: "the arrow is written `->`",
+    },
+    CharacterAdvice {
+        character: '\u{25a1}',
+        text: "external choice is written `[]`",
+    },
+    CharacterAdvice {
+        character: '\u{2293}',
+        text: "internal choice is written `|~|`",
+    },
+    CharacterAdvice {
+        character: '\u{2291}',
+        text: "refinement is written `[T=` or `[F=`",
+    },
+    CharacterAdvice {
+        character: '\u{2013}',
+        text: "this is a dash: write `-`, and `--` before a comment",
     },
     CharacterAdvice {
         character: '\u{a0}',

@@ -3,10 +3,8 @@
 use crate::characters::{CHARACTERS, character_advice, character_at};
 use crate::declared_names::declared_names;
 use crate::faults::{Fault, Refusal};
-use crate::grammar_tables::{
-    LOOK_BACK, mixed, nested, operands, operators, sets, unexpected_end, values, words,
-};
-use crate::kind_tables::{BAD_SET, TOO_MANY, TWICE, UNKNOWN, WRONG_COUNT, WRONG_KIND};
+use crate::grammar_tables::{LOOK_BACK, end_table, mixed_table, nested_table, unexpected_tables};
+use crate::kind_tables::{BAD_SET, TOO_MANY, TWICE, WRONG_COUNT, unknown_tables, wrong_kind_table};
 use crate::notes::{bracket_note, end_note, name_note};
 use advice::{Advice, Surroundings, first_advice, surroundings_at};
 use csp_lex::{Place, TextFault, TokenList, tokens};
@@ -106,7 +104,7 @@ fn kind_help<A: Allocator + Copy>(
     };
     let around = surroundings_at(alloc, &list.tokens, place)?;
     let note = note_at(alloc, fault, &list, &around)?;
-    let help = help_line(alloc, first_advice(kind_table(fault), &around))?;
+    let help = help_line(alloc, kind_advice(fault, &around))?;
     format!(in alloc; "{note}{help}")
 }
 
@@ -153,30 +151,31 @@ fn help_line<A: Allocator>(
 /// What the tables have for the tokens around a place.
 fn grammar_advice(fault: GrammarFault, around: &Surroundings<'_>) -> Option<&'static str> {
     match fault {
-        GrammarFault::UnexpectedToken => unexpected_advice(around),
-        GrammarFault::Nested => first_advice(nested(), around),
-        GrammarFault::UnexpectedEnd => first_advice(unexpected_end(), around),
-        GrammarFault::MixedOperators => first_advice(mixed(), around),
+        GrammarFault::UnexpectedToken => first_of(&unexpected_tables(), around),
+        GrammarFault::Nested => first_advice(nested_table(), around),
+        GrammarFault::UnexpectedEnd => first_advice(end_table(), around),
+        GrammarFault::MixedOperators => first_advice(mixed_table(), around),
     }
 }
 
-/// What the first of the tables that has something has for the tokens around a token that cannot stand there.
-fn unexpected_advice(around: &Surroundings<'_>) -> Option<&'static str> {
-    for table in [words(), sets(), operands(), values(), operators()] {
-        if let Some(text) = first_advice(table, around) {
+/// What the tables have for a name, a set or a kind that is wrong.
+fn kind_advice(fault: KindFault, around: &Surroundings<'_>) -> Option<&'static str> {
+    match fault {
+        KindFault::UnknownName => first_of(&unknown_tables(), around),
+        KindFault::DeclaredTwice => first_advice(TWICE, around),
+        KindFault::WrongKind => first_advice(wrong_kind_table(), around),
+        KindFault::WrongCount => first_advice(WRONG_COUNT, around),
+        KindFault::BadFieldSet => first_advice(BAD_SET, around),
+        KindFault::TooManyEvents => first_advice(TOO_MANY, around),
+    }
+}
+
+/// What the first of the tables that has something has for the tokens around a place.
+fn first_of(tables: &[&'static [Advice]], around: &Surroundings<'_>) -> Option<&'static str> {
+    for table in tables {
+        if let Some(text) = first_advice(*table, around) {
             return Some(text);
         }
     }
     None
-}
-
-fn kind_table(fault: KindFault) -> &'static [Advice] {
-    match fault {
-        KindFault::UnknownName => UNKNOWN,
-        KindFault::DeclaredTwice => TWICE,
-        KindFault::WrongKind => WRONG_KIND,
-        KindFault::WrongCount => WRONG_COUNT,
-        KindFault::BadFieldSet => BAD_SET,
-        KindFault::TooManyEvents => TOO_MANY,
-    }
 }

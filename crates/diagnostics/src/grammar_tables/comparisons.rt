@@ -1,0 +1,39 @@
+//! For comparisons.
+
+use advice::Advice;
+use advice::Condition::Here;
+
+const CHAINED: &str =
+    "a comparison has no second one behind it: write `0 <= x and x < 3` for `0 <= x < 3`; a field with one stands in brackets, as `c!(x == 0)`";
+
+const ROWS: &[Advice] = &[
+    Advice {
+        when: &[Here("==")],
+        text: CHAINED,
+    },
+    Advice {
+        when: &[Here("!=")],
+        text: CHAINED,
+    },
+    Advice {
+        when: &[Here("<")],
+        text: CHAINED,
+    },
+    Advice {
+        when: &[Here("<=")],
+        text: CHAINED,
+    },
+    Advice {
+        when: &[Here(">")],
+        text: CHAINED,
+    },
+    Advice {
+        when: &[Here(">=")],
+        text: CHAINED,
+    },
+];
+
+/// The rows.
+pub(crate) fn table() -> &'static [Advice] {
+    ROWS
+}

@@ -1,0 +1,55 @@
+//! For equations that are values.
+
+use crate::grammar_tables::texts::CONSTANT;
+use advice::Advice;
+use advice::Condition::{BeforeNumber, Earlier, Here, HereName, NoneOpen};
+
+const CONDITION: &str = "behind the condition of an `if` stands `then`, and behind a guard `&`";
+
+const ROWS: &[Advice] = &[
+    Advice {
+        when: &[Earlier("=="), BeforeNumber, HereName],
+        text: CONDITION,
+    },
+    Advice {
+        when: &[Earlier("!="), BeforeNumber, HereName],
+        text: CONDITION,
+    },
+    Advice {
+        when: &[Earlier("<"), BeforeNumber, HereName],
+        text: CONDITION,
+    },
+    Advice {
+        when: &[Earlier(">"), BeforeNumber, HereName],
+        text: CONDITION,
+    },
+    Advice {
+        when: &[BeforeNumber, Here("else")],
+        text: CONSTANT,
+    },
+    Advice {
+        when: &[BeforeNumber, HereName, NoneOpen],
+        text: CONSTANT,
+    },
+    Advice {
+        when: &[BeforeNumber, Here("datatype"), NoneOpen],
+        text: CONSTANT,
+    },
+    Advice {
+        when: &[BeforeNumber, Here("nametype"), NoneOpen],
+        text: CONSTANT,
+    },
+    Advice {
+        when: &[BeforeNumber, Here("channel"), NoneOpen],
+        text: CONSTANT,
+    },
+    Advice {
+        when: &[BeforeNumber, Here("assert"), NoneOpen],
+        text: CONSTANT,
+    },
+];
+
+/// The rows.
+pub(crate) fn table() -> &'static [Advice] {
+    ROWS
+}

@@ -1,0 +1,73 @@
+//! For events without a process behind them.
+
+use crate::grammar_tables::texts::EVENT_ALONE;
+use advice::Advice;
+use advice::Condition::{Earlier, Here, HereName, NoneOpen};
+
+const ROWS: &[Advice] = &[
+    Advice {
+        when: &[Earlier("!"), HereName],
+        text: EVENT_ALONE,
+    },
+    Advice {
+        when: &[Earlier("!"), Here("datatype")],
+        text: EVENT_ALONE,
+    },
+    Advice {
+        when: &[Earlier("!"), Here("nametype")],
+        text: EVENT_ALONE,
+    },
+    Advice {
+        when: &[Earlier("!"), Here("channel")],
+        text: EVENT_ALONE,
+    },
+    Advice {
+        when: &[Earlier("!"), Here("assert")],
+        text: EVENT_ALONE,
+    },
+    Advice {
+        when: &[Earlier("?"), HereName],
+        text: EVENT_ALONE,
+    },
+    Advice {
+        when: &[Earlier("?"), Here("datatype")],
+        text: EVENT_ALONE,
+    },
+    Advice {
+        when: &[Earlier("?"), Here("nametype")],
+        text: EVENT_ALONE,
+    },
+    Advice {
+        when: &[Earlier("?"), Here("channel")],
+        text: EVENT_ALONE,
+    },
+    Advice {
+        when: &[Earlier("?"), Here("assert")],
+        text: EVENT_ALONE,
+    },
+    Advice {
+        when: &[Earlier("."), HereName, NoneOpen],
+        text: EVENT_ALONE,
+    },
+    Advice {
+        when: &[Earlier("."), Here("datatype"), NoneOpen],
+        text: EVENT_ALONE,
+    },
+    Advice {
+        when: &[Earlier("."), Here("nametype"), NoneOpen],
+        text: EVENT_ALONE,
+    },
+    Advice {
+        when: &[Earlier("."), Here("channel"), NoneOpen],
+        text: EVENT_ALONE,
+    },
+    Advice {
+        when: &[Earlier("."), Here("assert"), NoneOpen],
+        text: EVENT_ALONE,
+    },
+];
+
+/// The rows.
+pub(crate) fn table() -> &'static [Advice] {
+    ROWS
+}

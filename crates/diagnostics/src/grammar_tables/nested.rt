@@ -1,0 +1,13 @@
+//! For a declaration that nests too deep.
+
+use advice::Advice;
+
+const ROWS: &[Advice] = &[Advice {
+    when: &[],
+    text: "make a part of it an equation of its own, and call that",
+}];
+
+/// The rows.
+pub(crate) fn table() -> &'static [Advice] {
+    ROWS
+}
