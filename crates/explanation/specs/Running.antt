@@ -1,0 +1,12 @@
+-- Outcomes whose violations have runs.
+use Rattle.std.specs.Prelude.{⊤}
+use Rattle.csp_syntax.specs.Process.{Process, Script}
+use Rattle.csp_answers.specs.Outcome.{Outcome, Holds, Fails, Unknown, Denied}
+use Rattle.csp_runs.specs.States.{HasEnd}
+
+-- where it shows a violation, a run of the process by its path ends with its evidence
+abbrev pub HasRun : Script → Process → Outcome → Type 0
+HasRun script p Holds = ⊤
+HasRun script p (Fails v) = HasEnd script p v
+HasRun script p (Unknown why) = ⊤
+HasRun script p Denied = ⊤

@@ -1,0 +1,117 @@
+//! The line that an explanation begins with.
+
+ghost use Rattle.std.specs.Prelude.{◌≡◌, IfOk};
+ghost use Rattle.std.specs.String.{string_bytes};
+ghost use Rattle.csp_syntax.specs.Models.{model_of};
+ghost use Rattle.csp_term.specs.Script.{assertion_of, property_of};
+ghost use Rattle.csp_term.specs.Term.{process_of};
+ghost use Rattle.verdict.specs.Outcome.{outcome_of};
+ghost use Rattle.csp_explanation.specs.Headline as told;
+ghost use Rattle.csp_print.specs.Names.{names_of};
+ghost use Rattle.csp_print.specs.Writing.{Writes};
+
+use crate::marks::{push_mark, push_number};
+use csp_print::{Names, push_term};
+use csp_term::{AllocHandle, Assertion, Model, Property, Term};
+use std::alloc::AllocError;
+use verdict::Outcome;
+
+/// The number of the assertion, its answer, and the assertion.
+pub(crate) fn headline_text<A: AllocHandle>(
+    alloc: A,
+    names: &Names<'_, A>,
+    number: usize,
+    assertion: &Assertion<A>,
+    outcome: &Outcome<A>,
+) -> Result<String<A>, AllocError>
+    ensures { IfOk result (λ text. string_bytes text ≡ told.headline (names_of names.now) number (assertion_of assertion.now) (outcome_of outcome.now)) }
+{
+    let mut text = String::new(alloc);
+    push_headline(names, number, assertion, outcome, &mut text)?;
+    Ok(text)
+}
+
+fn push_headline<A: AllocHandle>(
+    names: &Names<'_, A>,
+    number: usize,
+    assertion: &Assertion<A>,
+    outcome: &Outcome<A>,
+    text: &mut String<A>,
+) -> Result<(), AllocError>
+    ensures { Writes result text.old text.new (told.headline (names_of names.now) number (assertion_of assertion.now) (outcome_of outcome.now)) }
+{
+    push_number(number, text)?;
+    push_mark(" ", text)?;
+    push_mark(outcome_word(outcome), text)?;
+    push_mark("  assert ", text)?;
+    push_assertion(names, assertion, text)?;
+    push_mark("\n", text)
+}
+
+// The answer in a word.
+fn outcome_word<A: AllocHandle>(outcome: &Outcome<A>) -> &'static str
+    ensures { result.now ≡ told.outcome_word (outcome_of outcome.now) }
+{
+    match outcome {
+        Outcome::Holds => "holds",
+        Outcome::Fails(_) => "fails",
+        Outcome::Unknown(_) => "unknown",
+        Outcome::Denied => "fails",
+    }
+}
+
+// The assertion, as it is written.
+fn push_assertion<A: AllocHandle>(
+    names: &Names<'_, A>,
+    assertion: &Assertion<A>,
+    text: &mut String<A>,
+) -> Result<(), AllocError>
+    ensures { Writes result text.old text.new (told.assertion_text (names_of names.now) (assertion_of assertion.now)) }
+{
+    push_mark(negation_text(assertion.negated), text)?;
+    push_property(names, &assertion.property, &assertion.implementation, text)
+}
+
+fn negation_text(negated: bool) -> &'static str
+    ensures { result.now ≡ told.negation_text negated }
+{
+    if negated { "not " } else { "" }
+}
+
+fn push_property<A: AllocHandle>(
+    names: &Names<'_, A>,
+    property: &Property<A>,
+    implementation: &Term<A>,
+    text: &mut String<A>,
+) -> Result<(), AllocError>
+    ensures { Writes result text.old text.new (told.property_text (names_of names.now) (property_of property.now) (process_of implementation.now)) }
+{
+    match property {
+        Property::Refinement {
+            model,
+            specification,
+        } => {
+            push_term(names, specification, text)?;
+            push_mark(model_text(*model), text)?;
+            push_term(names, implementation, text)
+        }
+        Property::DeadlockFree => {
+            push_term(names, implementation, text)?;
+            push_mark(" :[deadlock free]", text)
+        }
+        Property::DivergenceFree => {
+            push_term(names, implementation, text)?;
+            push_mark(" :[divergence free]", text)
+        }
+    }
+}
+
+// What stands between the sides of a refinement.
+fn model_text(model: Model) -> &'static str
+    ensures { result.now ≡ told.model_text (model_of model) }
+{
+    match model {
+        Model::Traces => " [T= ",
+        Model::Failures => " [F= ",
+    }
+}
