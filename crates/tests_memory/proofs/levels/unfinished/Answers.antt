@@ -1,0 +1,10 @@
+use Rattle.std.proofs.Common.{subst}
+use Rattle.csp_syntax.specs.Process.{Script}
+use Rattle.csp_answers.specs.Terms.{AreTermsOf}
+use Rattle.pair_store.specs.Level.{level_of}
+use Rattle.tests_memory.proofs.levels.unfinished.Goals as goal
+
+pub returns : goal.returns
+returns c =
+    let P : Script → Type 0 = λ s. AreTermsOf s (level_of c.in_ok-level.level) in
+    subst P c.requires c.in_ok-level.ensures.terms
