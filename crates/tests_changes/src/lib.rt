@@ -5,8 +5,6 @@
 #![tactic(auto)]
 
 #[cfg(test)]
-mod order;
-#[cfg(test)]
 mod shapes;
 #[cfg(test)]
 mod steps;

@@ -10,7 +10,7 @@ use std::process::Abort;
 use std::test::Fail;
 
 /// Writes what is done behind the text.
-pub fn write_action(text: &mut String, action: ActionId) -> Result<(), Fail> {
+fn write_action(text: &mut String, action: ActionId) -> Result<(), Fail> {
     match action {
         ActionId::Tau => text.push_str("tau")?,
         ActionId::Tick => text.push_str("tick")?,
@@ -31,7 +31,7 @@ fn write_changes(text: &mut String, changes: &[Change]) -> Result<(), Fail> {
 }
 
 /// Writes the step behind the text: the action, and the changes of the holes.
-pub fn write_step(text: &mut String, step: Step, pool: &[Change]) -> Result<(), Fail> {
+fn write_step(text: &mut String, step: Step, pool: &[Change]) -> Result<(), Fail> {
     write_action(text, step.action)?;
     match step.changes {
         None => text.push_str(" leaves")?,

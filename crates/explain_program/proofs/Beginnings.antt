@@ -1,0 +1,30 @@
+-- Scripts of files, with their names.
+use Rattle.std.proofs.Common.{◌≡◌, ◌≤◌, ℕ, List, length}
+use Rattle.csp_syntax.specs.Process.{Script}
+use Rattle.csp_text.specs.Raw.{RawScript}
+use Rattle.csp_text.specs.Reading.{IsRead, read}
+use Rattle.csp_notation.specs.Names.{Names}
+use Rattle.csp_checking.specs.Checked.{IsCheckedText}
+use Rattle.files.specs.Beginning.{IsBeginning}
+use Rattle.program.specs.Running.{IsScriptOfFile}
+use Rattle.program.proofs.Beginnings.{whole}
+use Rattle.explain_program.specs.Naming.{IsNamedFile, IsNamedText}
+
+-- the tokens of a text are those of a short one
+short_of_read : (bytes : List ℕ) (raw : RawScript) → IsRead bytes raw → length bytes ≤ 65536
+short_of_read bytes raw (read are parsed) = are.short
+
+-- its script, without the names
+pub checked : (bytes : List ℕ) (script : Script) (names : Names) → IsNamedText bytes script names → IsCheckedText bytes script
+checked bytes script names named = (named.tree, named.read, named.checked)
+
+-- what is read of a file, with its names, is the file's
+pub named_file : (may_hold : List ℕ → List ℕ → Type 0) (name bytes : List ℕ) (script : Script) (names : Names) → IsBeginning (may_hold name) bytes → IsNamedText bytes script names → IsNamedFile may_hold name script names
+named_file may_hold name bytes script names begins named = record {
+  text = bytes;
+  held = whole {held = may_hold name} bytes begins (short_of_read bytes named.tree named.read);
+  of_text = named;
+}
+
+pub script_of_file : (may_hold : List ℕ → List ℕ → Type 0) (name : List ℕ) (script : Script) (names : Names) → IsNamedFile may_hold name script names → IsScriptOfFile may_hold name script
+script_of_file may_hold name script names file = record { text = file.text; held = file.held; of_text = checked file.text script names file.of_text }

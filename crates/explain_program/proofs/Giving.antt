@@ -1,0 +1,44 @@
+-- One explanation that is given to a sink.
+use Rattle.std.proofs.Common.{◌≡◌, ℕ, zero, suc, ◌<◌, max, Bool, List, [], ◌∷◌, ◌++◌, length, take, drop, map, get_or, refl, sym, ◌∙◌, ap, subst, append-nil, arith}
+use Rattle.std.specs.Prelude.{Option}
+use Rattle.csp_syntax.specs.Process.{Script, Assertion}
+use Rattle.csp_answers.specs.Outcome.{Bounds, Outcome, Holds, Fails, Unknown, Denied}
+use Rattle.csp_notation.specs.Names.{Names}
+use Rattle.csp_explanation.specs.Telling.{IsTold}
+use Rattle.csp_runs.proofs.Visiting.{has_end}
+use Rattle.explore.specs.Answering.{IsRightAsWritten}
+use Rattle.explanation.specs.Running.{HasRun}
+use Rattle.report.specs.Sending.{Sends, Breaks}
+use Rattle.program.specs.Running.{outcome_status}
+use Rattle.explain_program.specs.Asking.{Request, one_at}
+use Rattle.explain_program.specs.Giving.{AreTold, GoesOut}
+
+-- the assertion at the place is the only one there
+pub alone_at : {S : Type 0} (assertion_of : S → Assertion) (assertions : List S) (i : ℕ) (a : S) → i < length assertions → a ≡ get_or assertions i a → one_at i (map assertion_of assertions) ≡ assertion_of a ∷ []
+alone_at assertion_of [] i a within read = absurd (omega (arith, within))
+alone_at assertion_of (x ∷ xs) zero a within read = ap (λ y. assertion_of y ∷ []) (sym read)
+alone_at assertion_of (x ∷ xs) (suc i) a within read = alone_at assertion_of xs i a (omega (arith, within)) read
+
+-- a right outcome of one assertion, told in a text
+pub one_told : (request : Request) (script : Script) (names : Names) (n : ℕ) (asked : List Assertion) (a : Assertion) (o : Outcome) (Q : List Outcome → List ℕ → Type 0) → asked ≡ a ∷ [] →
+    IsRightAsWritten script a request.bounds o → (text : List ℕ) → IsTold names request.width script n a o text → Q (o ∷ []) text → AreTold request script names n asked Q
+one_told request script names n asked a o Q alone right text told out =
+    let T : List Assertion → Type 0 = λ xs. AreTold request script names n xs Q in
+    subst T (sym alone) (record {
+      outcomes = o ∷ [];
+      text = text;
+      right = (right, tt);
+      told = (text, [], sym (append-nil text), told, refl);
+      went_out = out;
+    })
+
+-- it went out, and the status is that of the one outcome
+pub went_out : (o : Outcome) (old new : Option (List ℕ)) (failed : Bool) (text : List ℕ) → Sends old new failed text → GoesOut old new failed (outcome_status o) (o ∷ []) text
+went_out o old new failed text sends = record { bytes = sends; status_is = omega arith }
+
+-- a violation that a right outcome shows has a run that ends with its evidence
+pub right_has_run : (script : Script) (a : Assertion) (bounds : Bounds) (o : Outcome) → IsRightAsWritten script a bounds o → HasRun script a.implementation o
+right_has_run script a bounds Holds right = tt
+right_has_run script a bounds (Fails v) right = has_end script a v right.true_of
+right_has_run script a bounds (Unknown why) right = tt
+right_has_run script a bounds Denied right = tt

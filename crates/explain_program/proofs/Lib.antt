@@ -1,0 +1,5 @@
+pub mod Asking
+pub mod Beginnings
+pub mod Giving
+pub mod Stopping
+pub mod Tellings

@@ -1,0 +1,137 @@
+-- What stops the explanations, and what went out till then.
+use Rattle.std.proofs.Common.{◌≡◌, ℕ, zero, suc, ◌+◌, ◌<◌, ◌≤◌, Bool, false, List, [], length, take, drop, refl, sym, ◌∙◌, ap, subst, inl, inr, arith}
+use Rattle.std.specs.Prelude.{Option, Result, Ok, Err, IfOk, IfErr}
+use Rattle.std.specs.Result.{IsErr, IsErrAnd}
+use Rattle.std.proofs.lemmas.Result.{err_from_is_err_and}
+use Rattle.std.proofs.lemmas.List.{take-take, take_all}
+use Rattle.csp_syntax.specs.Process.{Script, Assertion}
+use Rattle.csp_answers.specs.Outcome.{Outcome}
+use Rattle.csp_notation.specs.Names.{Names}
+use Rattle.files.specs.declared.files.Unread.{Unread}
+use Rattle.files.specs.declared.files.Unread.TheVariants as unread
+use Rattle.report.specs.Sending.{Sends, Breaks}
+use Rattle.program.specs.Reading.{IsRefusalOf}
+use Rattle.program.specs.Refusal.{of_file}
+use Rattle.program.specs.declared.refusal.Refusal.{Refusal}
+use Rattle.program.specs.declared.refusal.Refusal.TheVariants as refusal
+use Rattle.explain_program.specs.Asking.{Request, chosen, first_number, one_at}
+use Rattle.explain_program.specs.Explaining.{IsBegun, StopsBy, TellsAll, TellsFew}
+use Rattle.explain_program.specs.Giving.{AreTold, GoesOut, LeavesText}
+use Rattle.explain_program.specs.Naming.{IsNamedFile}
+use Rattle.explain_program.specs.Running.{IsStopCause, Leaves, of_untold}
+use Rattle.explain_program.specs.declared.untold.Untold.{Untold}
+use Rattle.explain_program.specs.declared.untold.Untold.TheVariants as untold
+use Rattle.explain_program.specs.declared.stop.Stop.{Stop}
+use Rattle.explain_program.specs.declared.stop.Stop.TheVariants as stop
+use Rattle.explain_program.proofs.Beginnings.{script_of_file}
+use Rattle.explain_program.proofs.Tellings.{no_text, none_told, one_cut, told_so}
+
+-- ---- of a script
+
+module _ (request : Request) (script : Script) (names : Names) where
+  -- each assertion was asked for, and all are told
+  pub all_told : (old new : Option (List ℕ)) (failed : Bool) (status place : ℕ) → request.number ≡ 0 → length script.assertions ≤ place →
+      AreTold request script names 1 (take place script.assertions) (GoesOut old new failed status) → TellsAll request script names old new failed status
+  all_told old new failed status place each whole told =
+      let P : ℕ → List Assertion → Type 0 = λ n xs. AreTold request script names n xs (GoesOut old new failed status) in
+      let all = subst (P 1) (take_all place script.assertions whole) told in
+      let Q : ℕ → Type 0 = λ n. P (first_number n) (chosen n script.assertions) in
+      record { there = omega (arith, each); told = subst Q (sym each) all }
+
+  -- the one that was asked for is told
+  pub asked_told : (old new : Option (List ℕ)) (failed : Bool) (status place : ℕ) → request.number ≡ suc place → place < length script.assertions →
+      AreTold request script names (suc place) (one_at place script.assertions) (GoesOut old new failed status) → TellsAll request script names old new failed status
+  asked_told old new failed status place one within told =
+      let Q : ℕ → Type 0 = λ n. AreTold request script names (first_number n) (chosen n script.assertions) (GoesOut old new failed status) in
+      record { there = omega (arith, one, within); told = subst Q (sym one) told }
+
+  -- the first few of each assertion
+  few_of_all : (few : ℕ) (P : List ℕ → Type 0) → request.number ≡ 0 → AreTold request script names 1 (take few script.assertions) (λ os text. P text) → TellsFew request script names P
+  few_of_all few P each told =
+      let Q : ℕ → Type 0 = λ n. AreTold request script names (first_number n) (take few (chosen n script.assertions)) (λ os text. P text) in
+      record { few = few; told = subst Q (sym each) told }
+
+  -- the first few of the one that was asked for
+  few_of_one : (few place : ℕ) (P : List ℕ → Type 0) → request.number ≡ suc place → AreTold request script names (suc place) (take few (one_at place script.assertions)) (λ os text. P text) → TellsFew request script names P
+  few_of_one few place P one told =
+      let Q : ℕ → Type 0 = λ n. AreTold request script names (first_number n) (take few (chosen n script.assertions)) (λ os text. P text) in
+      record { few = few; told = subst Q (sym one) told }
+
+  -- one of all assertions was not told
+  pub stops_in_all : {S : Type 0} (why : Untold) (taken : S → Option (List ℕ)) (has_failed : S → Bool) (old now new : S) (status place : ℕ) → request.number ≡ 0 → place < length script.assertions →
+      AreTold request script names 1 (take place script.assertions) (GoesOut (taken old) (taken now) (has_failed now) status) →
+      LeavesText why (λ WentOut. AreTold request script names (suc place) (one_at place script.assertions) (λ os text. WentOut text)) taken has_failed now new → StopsBy request script names (of_untold why) taken has_failed old new
+  stops_in_all untold.Memory taken has_failed old now new status place each within told same =
+      let P : List Outcome → List ℕ → Type 0 = λ os text. Sends (taken old) (taken now) (has_failed now) text in
+      let sent = told_so request script names 1 (take place script.assertions) (GoesOut (taken old) (taken now) (has_failed now) status) P told (λ os text out. out.bytes) in
+      rw same (few_of_all place (Sends (taken old) (taken now) (has_failed now)) each sent)
+  stops_in_all untold.Output taken has_failed old now new status place each within told cut =
+      few_of_all (suc place) (Breaks (taken old) (taken new) (has_failed new)) each
+      (one_cut request script names place (taken old) (taken now) (taken new) (has_failed now) (has_failed new) status within told cut)
+
+  -- the one that was asked for was not told
+  pub stops_in_one : {S : Type 0} (why : Untold) (taken : S → Option (List ℕ)) (has_failed : S → Bool) (old new : S) (place : ℕ) → has_failed old ≡ false → request.number ≡ suc place →
+      LeavesText why (λ WentOut. AreTold request script names (suc place) (one_at place script.assertions) (λ os text. WentOut text)) taken has_failed old new → StopsBy request script names (of_untold why) taken has_failed old new
+  stops_in_one untold.Memory taken has_failed old new place works one same =
+      rw same (few_of_one 0 place (Sends (taken old) (taken old) (has_failed old)) one
+      (none_told request script names (suc place) (λ os text. Sends (taken old) (taken old) (has_failed old) text) (no_text (taken old) (has_failed old) works)))
+  stops_in_one untold.Output taken has_failed old new place works one cut =
+      let P : List Assertion → Type 0 = λ xs. AreTold request script names (suc place) xs (λ os text. Breaks (taken old) (taken new) (has_failed new) text) in
+      few_of_one 1 place (Breaks (taken old) (taken new) (has_failed new)) one (subst P (sym (take-take 1 1 (drop place script.assertions) (omega arith))) cut)
+
+-- ---- of a file
+
+module _ (may_hold : List ℕ → List ℕ → Type 0) (may_lack : List ℕ → Type 0) (request : Request) (script : Script) (names : Names) (file : IsNamedFile may_hold request.name script names) where
+  begun : (P : List ℕ → Type 0) → TellsFew request script names P → IsBegun may_hold request P
+  begun P told = record { script = script; names = names; of_file = file; told = told }
+
+  -- what stops the explanations of the file's script stops those of the file
+  pub stop_cause : {S : Type 0} (why : Stop) (taken : S → Option (List ℕ)) (has_failed : S → Bool) (old new : S) → StopsBy request script names why taken has_failed old new → IsStopCause may_hold may_lack request why
+  stop_cause stop.NoAssertion taken has_failed old new stops = record { script = script; names = names; of_file = file; fewer = stops.0 }
+  stop_cause (stop.Refused refusal.File) taken has_failed old new stops = absurd stops
+  stop_cause (stop.Refused (refusal.Text f p)) taken has_failed old new stops = absurd stops
+  stop_cause (stop.Refused (refusal.Grammar f p)) taken has_failed old new stops = absurd stops
+  stop_cause (stop.Refused (refusal.Kinds f p)) taken has_failed old new stops = absurd stops
+  stop_cause (stop.Refused refusal.Memory) taken has_failed old new stops = tt
+  stop_cause (stop.Refused refusal.Output) taken has_failed old new stops = (script, script_of_file may_hold request.name script names file)
+
+  pub stop_leaves : {S : Type 0} (why : Stop) (taken : S → Option (List ℕ)) (has_failed : S → Bool) (old new : S) → StopsBy request script names why taken has_failed old new → Leaves may_hold request why taken has_failed old new
+  stop_leaves stop.NoAssertion taken has_failed old new stops = stops.1
+  stop_leaves (stop.Refused refusal.File) taken has_failed old new stops = absurd stops
+  stop_leaves (stop.Refused (refusal.Text f p)) taken has_failed old new stops = absurd stops
+  stop_leaves (stop.Refused (refusal.Grammar f p)) taken has_failed old new stops = absurd stops
+  stop_leaves (stop.Refused (refusal.Kinds f p)) taken has_failed old new stops = absurd stops
+  stop_leaves (stop.Refused refusal.Memory) taken has_failed old new stops = inr (begun (Sends (taken old) (taken new) (has_failed new)) stops)
+  stop_leaves (stop.Refused refusal.Output) taken has_failed old new stops = begun (Breaks (taken old) (taken new) (has_failed new)) stops
+
+-- ---- before anything is told
+
+-- a text that is refused leaves the output as it was
+pub untouched : {S : Type 0} (may_hold : List ℕ → List ℕ → Type 0) (request : Request) (bytes : List ℕ) (why : Refusal) (taken : S → Option (List ℕ)) (has_failed : S → Bool) (out : S) →
+    IsRefusalOf bytes why → Leaves may_hold request (stop.Refused why) taken has_failed out out
+untouched may_hold request bytes refusal.File taken has_failed out is = absurd is
+untouched may_hold request bytes (refusal.Text f p) taken has_failed out is = refl
+untouched may_hold request bytes (refusal.Grammar f p) taken has_failed out is = refl
+untouched may_hold request bytes (refusal.Kinds f p) taken has_failed out is = refl
+untouched may_hold request bytes refusal.Memory taken has_failed out is = inl refl
+untouched may_hold request bytes refusal.Output taken has_failed out is = absurd is
+
+-- and so does a file that is not read
+pub unread_leaves : {S : Type 0} (may_hold : List ℕ → List ℕ → Type 0) (request : Request) (fault : Unread) (taken : S → Option (List ℕ)) (has_failed : S → Bool) (out : S) →
+    Leaves may_hold request (stop.Refused (of_file fault)) taken has_failed out out
+unread_leaves may_hold request unread.File taken has_failed out = refl
+unread_leaves may_hold request unread.Memory taken has_failed out = inl refl
+
+-- ---- what is answered
+
+-- what stops it is handed on
+pub handed : {T : Type 0} (r : Result T Stop) {why : Stop} (P : Stop → Type 0) → IsErr r × IsErrAnd r (λ e. e ≡ why) → P why → IfErr r P
+handed r P same said = let p = err_from_is_err_and r same.1 in rw (p.1, p.2) said
+
+pub if_ok_so : {T E : Type 0} (r : Result T E) (P Q : T → Type 0) → ((x : T) → P x → Q x) → IfOk r P → IfOk r Q
+if_ok_so (Ok x) P Q weaker is = weaker x is
+if_ok_so (Err e) P Q weaker is = tt
+
+pub if_err_so : {T E : Type 0} (r : Result T E) (P Q : E → Type 0) → ((e : E) → P e → Q e) → IfErr r P → IfErr r Q
+if_err_so (Ok x) P Q weaker is = tt
+if_err_so (Err e) P Q weaker is = weaker e is

@@ -1,0 +1,113 @@
+-- Explanations that are told one behind the other.
+use Rattle.std.proofs.Common.{◌≡◌, ℕ, zero, suc, ◌+◌, ◌<◌, ◌≤◌, max, Bool, false, List, [], ◌∷◌, ◌++◌, length, take, drop, refl, sym, ◌∙◌, ap, subst, append-nil, append_assoc, arith}
+use Rattle.std.specs.Prelude.{Option}
+use Rattle.std.specs.List.{AllZip}
+use Rattle.std.proofs.lemmas.List.{length-take-le, take_all}
+use Rattle.csp_syntax.specs.Process.{Script, Assertion}
+use Rattle.csp_answers.specs.Outcome.{Outcome}
+use Rattle.csp_notation.specs.Names.{Names}
+use Rattle.csp_explanation.specs.Cutting.{Width}
+use Rattle.csp_explanation.specs.Telling.{IsTold, Tells}
+use Rattle.explore.specs.Answering.{IsRightAsWritten}
+use Rattle.report.specs.Sending.{Sends, Breaks}
+use Rattle.report.proofs.Sending.{appends_nothing, both, later}
+use Rattle.program.specs.Running.{outcome_status, status_of}
+use Rattle.explain_program.specs.Asking.{Request, one_at}
+use Rattle.explain_program.specs.Giving.{AreTold, GoesOut}
+
+-- ---- lists of them
+
+module _ (names : Names) (width : Width) (script : Script) where
+  tells_both : (n m : ℕ) (asked others : List Assertion) (os ps : List Outcome) (text more : List ℕ) → m ≡ n + length asked →
+      Tells names width script n asked os text → Tells names width script m others ps more → Tells names width script n (asked ++ others) (os ++ ps) (text ++ more)
+  tells_both n m [] others [] ps text more at none told =
+      let here : m ≡ n = omega (arith, at) in
+      rw none (subst (λ k. Tells names width script k others ps more) here told)
+  tells_both n m [] others (p ∷ os) ps text more at none told = absurd none
+  tells_both n m (b ∷ asked) others [] ps text more at none told = absurd none
+  tells_both n m (b ∷ asked) others (p ∷ os) ps text more at tells told =
+      let here : m ≡ suc n + length asked = omega (arith, at) in
+      let rest = tells_both (suc n) m asked others os ps tells.1 more here tells.4 told in
+      (tells.0, tells.1 ++ more, ap (λ ts. ts ++ more) tells.2 ∙ append_assoc tells.0 tells.1 more, tells.3, rest)
+
+zip_both : {X Y : Type 0} (R : X → Y → Type 0) (xs vs : List X) (ys ws : List Y) → AllZip R xs ys → AllZip R vs ws → AllZip R (xs ++ vs) (ys ++ ws)
+zip_both R [] vs [] ws all others = others
+zip_both R [] vs (y ∷ ys) ws all others = absurd all
+zip_both R (x ∷ xs) vs [] ws all others = absurd all
+zip_both R (x ∷ xs) vs (y ∷ ys) ws all others = (all.0, zip_both R xs vs ys ws all.1 others)
+
+status_of_both : (os ps : List Outcome) → status_of (os ++ ps) ≡ max (status_of os) (status_of ps)
+status_of_both [] ps = omega arith
+status_of_both (o ∷ os) ps = let rest = status_of_both os ps in omega (arith, rest)
+
+-- one member more at the end
+take_one_more : {X : Type 0} (i : ℕ) (xs : List X) → take (suc i) xs ≡ take i xs ++ one_at i xs
+take_one_more zero [] = refl
+take_one_more zero (x ∷ xs) = refl
+take_one_more (suc i) [] = refl
+take_one_more (suc i) (x ∷ xs) = ap (λ ys. x ∷ ys) (take_one_more i xs)
+
+-- ---- what went out
+
+-- what is told of the assertion at the place, behind what is told of those before it
+pub both_told : (request : Request) (script : Script) (names : Names) (place : ℕ) (P Q R : List Outcome → List ℕ → Type 0) → place ≤ length script.assertions →
+    AreTold request script names 1 (take place script.assertions) P → AreTold request script names (suc place) (one_at place script.assertions) Q →
+    ((os ps : List Outcome) (t u : List ℕ) → P os t → Q ps u → R (os ++ ps) (t ++ u)) → AreTold request script names 1 (take (suc place) script.assertions) R
+both_told request script names place P Q R within first second joined =
+    let asked = take place script.assertions in
+    let one = one_at place script.assertions in
+    let whole = take_one_more place script.assertions in
+    let long : length asked ≡ place = length-take-le place script.assertions within in
+    let at : suc place ≡ 1 + length asked = omega (arith, long) in
+    let right = zip_both (λ a o. IsRightAsWritten script a request.bounds o) asked one first.outcomes second.outcomes first.right second.right in
+    let told = tells_both names request.width script 1 (suc place) asked one first.outcomes second.outcomes first.text second.text at first.told second.told in
+    record {
+      outcomes = first.outcomes ++ second.outcomes;
+      text = first.text ++ second.text;
+      right = rw whole right;
+      told = rw whole told;
+      went_out = joined first.outcomes second.outcomes first.text second.text first.went_out second.went_out;
+    }
+
+-- nothing is told of no assertion
+pub none_told : (request : Request) (script : Script) (names : Names) (n : ℕ) (P : List Outcome → List ℕ → Type 0) → P [] [] → AreTold request script names n [] P
+none_told request script names n P went_out = record { outcomes = []; text = []; right = tt; told = refl; went_out = went_out }
+
+-- no text went out
+pub no_text : (a : Option (List ℕ)) (failed : Bool) → failed ≡ false → Sends a a failed []
+no_text a failed works = record { bytes = appends_nothing a; works = works }
+
+pub none_out : (a : Option (List ℕ)) (failed : Bool) → failed ≡ false → GoesOut a a failed 0 [] []
+none_out a failed works = record { bytes = no_text a failed works; status_is = refl }
+
+-- what went out is weakened
+pub told_so : (request : Request) (script : Script) (names : Names) (n : ℕ) (asked : List Assertion) (P Q : List Outcome → List ℕ → Type 0) → AreTold request script names n asked P →
+    ((os : List Outcome) (t : List ℕ) → P os t → Q os t) → AreTold request script names n asked Q
+told_so request script names n asked P Q told weaker = record {
+  outcomes = told.outcomes;
+  text = told.text;
+  right = told.right;
+  told = told.told;
+  went_out = weaker told.outcomes told.text told.went_out;
+}
+
+both_out : {a b c : Option (List ℕ)} {f g : Bool} (s t all : ℕ) → all ≡ max s t → (os ps : List Outcome) (x y : List ℕ) → GoesOut a b f s os x → GoesOut b c g t ps y → GoesOut a c g all (os ++ ps) (x ++ y)
+both_out {a} {b} {c} {f} {g} s t all is os ps x y first second =
+    let whole = status_of_both os ps in
+    let one = first.status_is in
+    let other = second.status_is in
+    record { bytes = both {a = a} {b = b} {c = c} first.bytes second.bytes; status_is = omega (arith, whole, one, other, is) }
+
+-- one explanation more went out
+pub one_more : (request : Request) (script : Script) (names : Names) (place : ℕ) (a b c : Option (List ℕ)) (f g : Bool) (s t all : ℕ) → place < length script.assertions → all ≡ max s t →
+    AreTold request script names 1 (take place script.assertions) (GoesOut a b f s) → AreTold request script names (suc place) (one_at place script.assertions) (GoesOut b c g t) →
+    AreTold request script names 1 (take (suc place) script.assertions) (GoesOut a c g all)
+one_more request script names place a b c f g s t all within is first second =
+    both_told request script names place (GoesOut a b f s) (GoesOut b c g t) (GoesOut a c g all) (omega (arith, within)) first second (both_out {a = a} {b = b} {c = c} {f = f} {g = g} s t all is)
+
+-- one more was cut off
+pub one_cut : (request : Request) (script : Script) (names : Names) (place : ℕ) (a b c : Option (List ℕ)) (f g : Bool) (s : ℕ) → place < length script.assertions →
+    AreTold request script names 1 (take place script.assertions) (GoesOut a b f s) → AreTold request script names (suc place) (one_at place script.assertions) (λ os text. Breaks b c g text) →
+    AreTold request script names 1 (take (suc place) script.assertions) (λ os text. Breaks a c g text)
+one_cut request script names place a b c f g s within first second =
+    both_told request script names place (GoesOut a b f s) (λ os text. Breaks b c g text) (λ os text. Breaks a c g text) (omega (arith, within)) first second (λ os ps x y out broken. later out.bytes broken)

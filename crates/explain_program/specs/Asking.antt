@@ -1,0 +1,65 @@
+-- What the words ask for.
+use Rattle.std.specs.Prelude.{◌≡◌, ◌⊎◌, ℕ, zero, suc, List, [], Some, codes, take, drop}
+use Rattle.csp_answers.specs.Outcome.{Bounds}
+use Rattle.csp_explanation.specs.Cutting.{Width, Whole, UpTo}
+use Rattle.settings.specs.CommandLine.{HasNumber}
+use Rattle.explain_settings.specs.CommandLine.{value}
+use Rattle.explain_settings.specs.Faults.{AskForHelp, AskForVersion, faults_of}
+use Rattle.explain_settings.specs.declared.options.Settings.{Settings}
+
+-- a file, limits, how much of a state is told, and the number of an assertion, or 0 for each
+pub record Request : Type 0 where
+  pub name : List ℕ
+  pub bounds : Bounds
+  pub width : Width
+  pub number : ℕ
+
+abbrev pub bounds_asked : Settings → Bounds
+bounds_asked settings = record { max_pairs = settings.max_pairs; max_nodes = settings.max_nodes }
+
+-- 0 stands for all characters
+abbrev pub width_of_number : ℕ → Width
+width_of_number zero = Whole
+width_of_number (suc n) = UpTo (suc n)
+
+-- what the settings ask for
+abbrev pub request_of : Settings → Request
+request_of settings = record {
+  name = settings.file.now;
+  bounds = bounds_asked settings;
+  width = width_of_number settings.width;
+  number = settings.assertion;
+}
+
+-- a width of this number
+abbrev pub IsWidthOf : Width → ℕ → Type 0
+IsWidthOf width n = width ≡ width_of_number n
+
+-- The words have no fault, and ask for this. A number that no word gives is the default.
+pub record AskForExplanation (words : List (List ℕ)) (request : Request) : Type 0 where
+  pub taken : faults_of words ≡ []
+  pub file : value (codes "file") words ≡ Some request.name
+  pub pairs : HasNumber (value (codes "max-pairs") words) request.bounds.max_pairs
+  pub nodes : HasNumber (value (codes "max-nodes") words) request.bounds.max_nodes
+  pub width : (n : ℕ) × HasNumber (value (codes "width") words) n × IsWidthOf request.width n
+  pub number : HasNumber (value (codes "assertion") words) request.number
+
+-- the words ask for a text, the help or the version
+abbrev pub AskForText : List (List ℕ) → Type 0
+AskForText words = AskForHelp words ⊎ AskForVersion words
+
+-- ---- the assertions that are told of
+
+-- the one at the place, alone
+abbrev pub one_at : {X : Type 0} → ℕ → List X → List X
+one_at place xs = take 1 (drop place xs)
+
+-- each, or the one of the number
+abbrev pub chosen : {X : Type 0} → ℕ → List X → List X
+chosen zero xs = xs
+chosen (suc place) xs = one_at place xs
+
+-- the number of the first one
+abbrev pub first_number : ℕ → ℕ
+first_number zero = 1
+first_number (suc place) = suc place

@@ -1,0 +1,30 @@
+-- Explanations that are given to a sink.
+use Rattle.std.specs.Prelude.{◌≡◌, ℕ, Bool, List, Option}
+use Rattle.csp_syntax.specs.Process.{Script, Assertion}
+use Rattle.csp_answers.specs.Outcome.{Outcome}
+use Rattle.csp_notation.specs.Names.{Names}
+use Rattle.csp_explanation.specs.Telling.{Tells}
+use Rattle.report.specs.Sending.{Sends, Breaks}
+use Rattle.program.specs.Answering.{AreRight}
+use Rattle.program.specs.Running.{status_of}
+use Rattle.explain_program.specs.Asking.{Request}
+use Rattle.explain_program.specs.declared.untold.Untold.{Untold}
+use Rattle.explain_program.specs.declared.untold.Untold.TheVariants as untold
+
+-- Where memory was refused nothing went out, and where the output failed a beginning did.
+abbrev pub LeavesText : {S : Type 0} → Untold → ((List ℕ → Type 0) → Type 0) → (S → Option (List ℕ)) → (S → Bool) → S → S → Type 0
+LeavesText untold.Memory Told taken failed old new = new ≡ old
+LeavesText untold.Output Told taken failed old new = Told (Breaks (taken old) (taken new) (failed new))
+
+-- Right outcomes of the assertions, told one behind the other and numbered from the first, of which so much went out.
+pub record AreTold (request : Request) (script : Script) (names : Names) (first : ℕ) (assertions : List Assertion) (WentOut : List Outcome → List ℕ → Type 0) : Type 0 where
+  pub outcomes : List Outcome
+  pub text : List ℕ
+  pub right : AreRight script request.bounds assertions outcomes
+  pub told : Tells names request.width script first assertions outcomes text
+  pub went_out : WentOut outcomes text
+
+-- all of it went out, and the status is that of the outcomes
+pub record GoesOut (old new : Option (List ℕ)) (failed : Bool) (status : ℕ) (outcomes : List Outcome) (text : List ℕ) : Type 0 where
+  pub bytes : Sends old new failed text
+  pub status_is : status ≡ status_of outcomes

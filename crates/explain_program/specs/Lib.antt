@@ -1,0 +1,5 @@
+pub mod Asking
+pub mod Explaining
+pub mod Giving
+pub mod Naming
+pub mod Running

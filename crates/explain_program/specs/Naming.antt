@@ -1,0 +1,20 @@
+-- Texts with their scripts and names.
+use Rattle.std.specs.Prelude.{◌≡◌, ℕ, List}
+use Rattle.csp_syntax.specs.Process.{Script}
+use Rattle.csp_text.specs.Raw.{RawScript}
+use Rattle.csp_text.specs.Reading.{IsRead}
+use Rattle.csp_checking.specs.Checked.{IsCheckedTree}
+use Rattle.csp_notation.specs.Names.{Names, names_in}
+
+-- the text is checked: this is its script, and these are the names of its tree
+pub record IsNamedText (bytes : List ℕ) (script : Script) (names : Names) : Type 0 where
+  pub tree : RawScript
+  pub read : IsRead bytes tree
+  pub checked : IsCheckedTree tree script
+  pub named : names ≡ names_in tree
+
+-- the file of this name holds such a text
+pub record IsNamedFile (may_hold : List ℕ → List ℕ → Type 0) (name : List ℕ) (script : Script) (names : Names) : Type 0 where
+  pub text : List ℕ
+  pub held : may_hold name text
+  pub of_text : IsNamedText text script names

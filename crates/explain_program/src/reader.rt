@@ -1,0 +1,45 @@
+//! From a text to its script and names.
+
+ghost use Rattle.std.specs.Prelude.{IfOk, IfErr};
+ghost use Rattle.csp_term.specs.Script.{script_of};
+ghost use Rattle.csp_print.specs.Names.{names_of};
+ghost use Rattle.program.specs.Reading.{IsRefusalOf};
+ghost use Rattle.explain_program.specs.Naming.{IsNamedText};
+
+use csp_kinds::check;
+use csp_lex::tokens;
+use csp_naming::names_of;
+use csp_parse::parse;
+use csp_print::Names;
+use csp_term::Script;
+use program::Refusal;
+use std::alloc::Allocator;
+
+/// A checked script, with the names of its text.
+#[derive(Drop)]
+pub struct NamedScript<'t, A: Allocator> {
+    /// The script.
+    pub script: Script<A>,
+    /// The spellings of its names.
+    pub names: Names<'t, A>,
+}
+
+/// The script that the text is, with its names.
+///
+/// The tokens are looked at first (`Text`), then the grammar (`Grammar`), then names and kinds (`Kinds`). `Memory`
+/// comes where memory was refused, and says nothing of the text.
+pub fn read<'t, A: Allocator + Copy>(
+    alloc: A,
+    text: &'t [u8],
+) -> Result<NamedScript<'t, A>, Refusal>
+    ensures named { IfOk result (λ named. IsNamedText text.now (script_of named.script) (names_of named.names)) }
+    ensures refused { IfErr result (λ why. IsRefusalOf text.now why) }
+{
+    let list = tokens(alloc, text)?;
+    let tree = parse(alloc, &list)?;
+    let script = check(alloc, &tree)?;
+    let Ok(names) = names_of(alloc, &tree) else {
+        return Err(Refusal::Memory);
+    };
+    Ok(NamedScript { script, names })
+}

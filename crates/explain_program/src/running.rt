@@ -1,0 +1,82 @@
+//! The program, over its words, files and streams.
+
+ghost use Rattle.std.specs.Prelude.{◌≡◌, ◌≤◌, ◌<◌, false};
+ghost use Rattle.program.specs.Running.{texts_of};
+ghost use Rattle.explain_program.specs.Asking.{request_of};
+ghost use Rattle.explain_program.specs.Running.{IsRefused, IsServed, IsStopped};
+ghost use Rattle.explain_program.specs.Explaining.{IsExplained};
+
+use crate::explaining::explain_file;
+use crate::stop::report_stop;
+use crate::text::{refuse_words, show};
+use csp_term::AllocHandle;
+use explain_settings::Settings;
+use files::Files;
+use program::{Refusal, refuse};
+use report::Sink;
+use settings::CommandLineFault;
+use std::alloc::Global;
+use std::sync::Wait;
+use std::thread::Threads;
+
+/// The whole program: answers the assertions that the words ask for, of the script in the file that they name and within
+/// the limits that they choose, and gives to `out` what is told of each as soon as it is answered; or gives the line of a
+/// refusal to `err`. Where the words ask for the help or the version, this text goes to `out`.
+///
+/// Answers the status: 3 where anything was refused, else 2 where an assertion has no answer within the limits, else 1
+/// where one fails, else 0. The words are looked at first, then the file, the script, the number of the assertion, and
+/// then each assertion in turn. A failure of `err` changes nothing. The words are read with the memory of
+/// `command_line`, and all else with that of `alloc`. Workers are started by `rt`.
+pub fn run<
+    'w,
+    A: AllocHandle + Send + Sync,
+    R: Threads + Wait + Sync,
+    F: Files<A>,
+    O: Sink,
+    E: Sink,
+>(
+    command_line: Global,
+    alloc: A,
+    rt: &R,
+    words: &'w [&'w str],
+    files: &mut F,
+    out: &mut O,
+    err: &mut E,
+) -> u8
+    requires out { O.has_failed out.old ≡ false }
+    requires err { E.has_failed err.old ≡ false }
+    ensures status { result ≤ 3 }
+    ensures served { result < 3 → IsServed (F.may_hold files.old) (texts_of words.entry.now) (O.taken out.old) (O.taken out.new) (O.has_failed out.new) result }
+    ensures silent { result < 3 → err.new ≡ err.old }
+    ensures refused { result ≡ 3 → IsRefused (F.may_hold files.old) (F.may_lack files.old) (texts_of words.entry.now) O.taken O.has_failed out.old out.new (E.taken err.old) (E.taken err.new) (E.has_failed err.new) }
+{
+    match explain_settings::read(command_line, words) {
+        Ok(settings) => explain(alloc, rt, &settings, files, out, err),
+        Err(CommandLineFault::Help(text)) => show(text.as_str(), out, err),
+        Err(CommandLineFault::Version(text)) => show(text.as_str(), out, err),
+        Err(CommandLineFault::Refused(text)) => refuse_words(text.as_str(), err),
+        Err(CommandLineFault::Memory) => refuse(Refusal::Memory, err),
+    }
+}
+
+// Explains what the settings ask for.
+fn explain<A: AllocHandle + Send + Sync, R: Threads + Wait + Sync, F: Files<A>, O: Sink, E: Sink>(
+    alloc: A,
+    rt: &R,
+    settings: &Settings<'_>,
+    files: &mut F,
+    out: &mut O,
+    err: &mut E,
+) -> u8
+    requires out { O.has_failed out.old ≡ false }
+    requires err { E.has_failed err.old ≡ false }
+    ensures status { result ≤ 3 }
+    ensures explained { result < 3 → IsExplained (F.may_hold files.old) (request_of settings.now) (O.taken out.old) (O.taken out.new) (O.has_failed out.new) result }
+    ensures silent { result < 3 → err.new ≡ err.old }
+    ensures stopped { result ≡ 3 → IsStopped (F.may_hold files.old) (F.may_lack files.old) (request_of settings.now) O.taken O.has_failed out.old out.new (E.taken err.old) (E.taken err.new) (E.has_failed err.new) }
+{
+    match explain_file(alloc, rt, settings, files, out) {
+        Ok(status) => status,
+        Err(why) => report_stop(why, err),
+    }
+}
