@@ -18,8 +18,6 @@ mod outcomes;
 #[cfg(test)]
 mod posts;
 #[cfg(test)]
-mod refused_worker;
-#[cfg(test)]
 mod scripts;
 #[cfg(test)]
 mod seen;
