@@ -1,0 +1,60 @@
+//! Command lines that are refused, and what is said of them. The file `script` is the only one.
+
+/// Words, the text of the file, and the line of the refusal.
+pub(crate) type Refused = (&'static [&'static str], &'static str, &'static str);
+
+const ONE: &str = "channel a\nassert STOP [T= a -> STOP\n";
+
+static REFUSED: [Refused; 7] = [
+    (&["script", "2"], ONE, "refused assertion\n"),
+    (&["script", "1"], "", "refused assertion\n"),
+    (&["script", "1000000"], ONE, "refused assertion\n"),
+    (&["other"], ONE, "refused file\n"),
+    (&["other", "2"], ONE, "refused file\n"),
+    (&["script"], "channel", "refused S03 at 1:8\n"),
+    (
+        &["script", "2"],
+        "assert STOP [T= P",
+        "refused K01 at 1:17\n",
+    ),
+];
+
+/// Command lines whose words are fine.
+pub(crate) fn refused() -> &'static [Refused] {
+    &REFUSED
+}
+
+/// Words, and the first line of what is said of them.
+pub(crate) type WrongWords = (&'static [&'static str], &'static str);
+
+static WRONG_WORDS: [WrongWords; 6] = [
+    (
+        &[],
+        "error: the following required arguments were not provided:\n",
+    ),
+    (
+        &["script", "x"],
+        "error: invalid value 'x' for '[N]': invalid digit found in string\n",
+    ),
+    (
+        &["script", "1000001"],
+        "error: invalid value '1000001' for '[N]': 1000001 is not in 0..=1000000\n",
+    ),
+    (
+        &["script", "1", "2"],
+        "error: unexpected argument '2' found\n",
+    ),
+    (
+        &["--width", "1000001", "script"],
+        "error: invalid value '1000001' for '--width <N>': 1000001 is not in 0..=1000000\n",
+    ),
+    (
+        &["--workers", "0", "script"],
+        "error: invalid value '0' for '--workers <N>': 0 is not in 1..=64\n",
+    ),
+];
+
+/// Command lines whose words are wrong.
+pub(crate) fn wrong_words() -> &'static [WrongWords] {
+    &WRONG_WORDS
+}

@@ -1,0 +1,55 @@
+//! The script `examples/dropping.csp`, word for word, and what is told of it.
+
+use crate::rows::Row;
+
+/// The assertion that shows the fault.
+pub(crate) const DROPPING: Row = Row {
+    words: &["--width=0", "script", "1"],
+    status: 1,
+    text: r"-- A buffer of two places made of a queue in front of a cell. The faulty queue takes an item also where it is full,
+-- and drops the oldest one.
+--
+-- Shows sequences as parameters, and one system compared by traces and by failures.
+--
+-- refcheck prints
+--   1 fails trace <put.0,put.0> event put.0
+--   2 fails trace <put.0,put.0> event put.0
+--   3 holds
+-- and ends with status 1.
+
+channel put, get, pass : {0..1}
+
+CELL = pass?x -> get!x -> CELL
+QUEUE(s) = (#s < 1 & put?x -> QUEUE(s^<x>)) [] (#s > 0 & pass!head(s) -> QUEUE(tail(s)))
+DROPPING(s) =
+     (#s < 1 & put?x -> DROPPING(s^<x>))
+  [] (#s > 0 & pass!head(s) -> DROPPING(tail(s)))
+  [] (#s == 1 & put?x -> DROPPING(tail(s)^<x>))
+
+MENDED = (QUEUE(<>) [| {| pass |} |] CELL) \ {| pass |}
+FAULTY = (DROPPING(<>) [| {| pass |} |] CELL) \ {| pass |}
+
+BUFFER(s) = (#s < 2 & put?x -> BUFFER(s^<x>)) [] (#s > 0 & get!head(s) -> BUFFER(tail(s)))
+
+assert BUFFER(<>) [T= FAULTY
+assert BUFFER(<>) [F= FAULTY
+assert BUFFER(<>) [F= MENDED
+",
+    told: r"1 fails  assert BUFFER(<>) [T= FAULTY
+  0 start
+      FAULTY
+  1 tau
+      (DROPPING(<>) [| {|pass|} |] CELL) \ {|pass|}
+  2 tau
+      ((#<> < 1 & put?x -> DROPPING(<> ^ <x>) [] #<> > 0 & pass!head(<>) -> DROPPING(tail(<>)) [] #<> == 1 & put?x -> DROPPING(tail(<>) ^ <x>)) [| {|pass|} |] CELL) \ {|pass|}
+  3 put.0
+      (DROPPING(<> ^ <0>) [| {|pass|} |] CELL) \ {|pass|}
+  4 tau
+      ((#<0> < 1 & put?x -> DROPPING(<0> ^ <x>) [] #<0> > 0 & pass!head(<0>) -> DROPPING(tail(<0>)) [] #<0> == 1 & put?x -> DROPPING(tail(<0>) ^ <x>)) [| {|pass|} |] CELL) \ {|pass|}
+  5 put.0
+      (DROPPING(tail(<0>) ^ <0>) [| {|pass|} |] CELL) \ {|pass|}
+  6 tau
+      ((#<0> < 1 & put?x -> DROPPING(<0> ^ <x>) [] #<0> > 0 & pass!head(<0>) -> DROPPING(tail(<0>)) [] #<0> == 1 & put?x -> DROPPING(tail(<0>) ^ <x>)) [| {|pass|} |] CELL) \ {|pass|}
+  then it does put.0, and the specification cannot
+",
+};

@@ -1,0 +1,32 @@
+//! What runs of the program `explain` are seen to print and answer, over texts in memory. What is expected comes from the
+//! rules of the language and from what is to be told.
+//!
+//! The tests stand in a crate above the libraries, since a crate is proved anew for the tests that it has of its own.
+#![tactic(auto)]
+
+#[cfg(test)]
+mod answers;
+#[cfg(test)]
+mod asked;
+#[cfg(test)]
+mod command_lines;
+#[cfg(test)]
+mod dropping;
+#[cfg(test)]
+mod full;
+#[cfg(test)]
+mod interlocking;
+#[cfg(test)]
+mod memory;
+#[cfg(test)]
+mod outputs;
+#[cfg(test)]
+mod replica;
+#[cfg(test)]
+mod rows;
+#[cfg(test)]
+mod runs;
+#[cfg(test)]
+mod small;
+#[cfg(test)]
+mod turns;

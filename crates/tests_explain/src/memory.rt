@@ -1,0 +1,86 @@
+//! Runs that are refused memory.
+
+use crate::runs::{Told, run_in};
+use files::OneText;
+use refusing_memory::RefusesOnce;
+use std::alloc::Global;
+use std::sync::Wait;
+use std::test::Fail;
+use std::thread::Threads;
+
+const TEXT: &str = "channel a\nassert a -> STOP [T= STOP\nassert STOP [T= a -> STOP\n";
+
+const HOLDS: &str = "1 holds  assert a -> STOP [T= STOP\n";
+
+const FIRST_UNKNOWN: &str = "1 unknown  assert a -> STOP [T= STOP\n  memory was refused\n";
+
+const FAILS: &str = "\
+2 fails  assert STOP [T= a -> STOP
+  0 start
+      a -> STOP
+  then it does a, and the specification cannot
+";
+
+const SECOND_UNKNOWN: &str = "2 unknown  assert STOP [T= a -> STOP\n  memory was refused\n";
+
+// Whether it is the first text with the second behind it.
+fn is_joined(out: &[u8], first: &str, second: &str) -> bool {
+    match out.strip_prefix(first.as_bytes()) {
+        Some(rest) => rest == second.as_bytes(),
+        None => false,
+    }
+}
+
+// Whether all is told, but for one answer that is unknown.
+fn is_without_one(told: &Told) -> bool {
+    let is = is_joined(&told.out, FIRST_UNKNOWN, FAILS)
+        || is_joined(&told.out, HOLDS, SECOND_UNKNOWN);
+    told.status == 2 && told.err.is_empty() && is
+}
+
+// Whether memory was refused, with the explanations before that.
+fn is_broken_off(told: &Told) -> bool {
+    told.is(3, "", "refused memory\n") || told.is(3, HOLDS, "refused memory\n")
+}
+
+// Whether all is told.
+fn is_whole(told: &Told) -> bool {
+    told.status == 1 && told.err.is_empty() && is_joined(&told.out, HOLDS, FAILS)
+}
+
+// What a run tells where the request of that number is refused, and whether it was made.
+fn told_without<R: Threads + Wait + Sync>(alloc: Global, rt: &R, request: u64) -> (Told, bool) {
+    let memory = RefusesOnce::new(alloc, request);
+    let mut files = OneText {
+        name: "script",
+        text: TEXT.as_bytes(),
+        alloc: &memory,
+    };
+    let told = run_in(alloc, &memory, rt, &["script"], &mut files);
+    let refused = memory.has_refused();
+    (told, refused)
+}
+
+#[test]
+fn refused_memory_leaves_what_was_told(rt: HostRuntime) -> Result<(), Fail> {
+    let (mut without, mut broken) = (0u32, 0u32);
+    for request in 0..100_000 {
+        let (told, refused) = told_without(rt.alloc(), &rt, request);
+        if !refused {
+            assert!(rt;
+                is_whole(&told) && without > 4 && broken > 4,
+                "before {request}"
+            );
+            return Ok(());
+        }
+        if is_broken_off(&told) {
+            broken = broken.saturating_add(1);
+        } else if is_without_one(&told) {
+            without = without.saturating_add(1);
+        } else {
+            assert!(rt; is_whole(&told), "without {request}");
+        }
+    }
+    assert!(rt; false, "no end");
+    Ok(())
+}

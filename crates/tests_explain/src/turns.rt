@@ -1,0 +1,82 @@
+//! The script `examples/turns.csp`, word for word, and what is told of it.
+
+use crate::rows::Row;
+
+/// The assertion that shows the fault.
+pub(crate) const TURNS: Row = Row {
+    words: &["script", "2"],
+    status: 1,
+    text: r"-- Mutual exclusion by two flags and a turn, as Peterson's. The faulty one has the flags alone: each waits while the
+-- other's flag is up.
+--
+-- Shows shared variables as processes, and deadlock freedom beside a refinement.
+--
+-- refcheck prints
+--   1 holds
+--   2 fails trace <> deadlock
+--   3 holds
+--   4 holds
+-- and ends with status 1.
+
+nametype Id = {0..1}
+channel raise, lower : Id
+channel flag : Id.Id.Bool
+channel give, turn : Id.Id
+channel enter, leave : Id
+
+-- i looks at the other's flag, and enters where it is down or where the turn is its own.
+PETERSON(i) = raise.i -> give.i!(1-i) -> WAITING(i)
+WAITING(i) = flag.i.(1-i)?up -> (if up then turn.i?t -> (if t == i then INSIDE(i) else WAITING(i)) else INSIDE(i))
+INSIDE(i) = enter.i -> leave.i -> lower.i -> PETERSON(i)
+
+POLITE(i) = raise.i -> PATIENT(i)
+PATIENT(i) = flag.i.(1-i).false -> enter.i -> leave.i -> lower.i -> POLITE(i)
+
+FLAG(i,b) = raise.i -> FLAG(i,true) [] lower.i -> FLAG(i,false) [] flag.(1-i).i!b -> FLAG(i,b)
+TURN(t) = ([] i:Id @ give.i?u -> TURN(u)) [] ([] i:Id @ turn.i!t -> TURN(t))
+VARIABLES = FLAG(0,false) ||| (FLAG(1,false) ||| TURN(0))
+
+MENDED = ((PETERSON(0) ||| PETERSON(1)) [| {| raise, lower, flag, give, turn |} |] VARIABLES)
+  \ {| raise, lower, flag, give, turn |}
+FAULTY = ((POLITE(0) ||| POLITE(1)) [| {| raise, lower, flag, give, turn |} |] VARIABLES)
+  \ {| raise, lower, flag, give, turn |}
+
+ALONE = [] i:Id @ enter.i -> leave.i -> ALONE
+
+assert ALONE [T= FAULTY
+assert FAULTY :[deadlock free]
+assert ALONE [T= MENDED
+assert MENDED :[deadlock free]
+",
+    told: r"2 fails  assert FAULTY :[deadlock free]
+  0 start
+      FAULTY
+  1 tau
+      ((POLITE(0) ||| POLITE(1)) [| {|raise, lower, flag, give, turn|} |] VARIABLES) \ {|raise, lower, fla .. 15 more characters
+  2 tau
+      ((POLITE(0) ||| POLITE(1)) [| {|raise, lower, flag, give, turn|} |] (FLAG(0,false) ||| (FLAG(1,false .. 53 more characters
+  3 tau
+      ((POLITE(0) ||| POLITE(1)) [| {|raise, lower, flag, give, turn|} |] (FLAG(0,false) ||| (FLAG(1,false .. 114 more characters
+  4 tau
+      ((POLITE(0) ||| POLITE(1)) [| {|raise, lower, flag, give, turn|} |] (FLAG(0,false) ||| ((raise!1 ->  .. 195 more characters
+  5 tau
+      ((POLITE(0) ||| POLITE(1)) [| {|raise, lower, flag, give, turn|} |] ((raise!0 -> FLAG(0,true) [] low .. 276 more characters
+  6 tau
+      ((POLITE(0) ||| raise!1 -> PATIENT(1)) [| {|raise, lower, flag, give, turn|} |] ((raise!0 -> FLAG(0, .. 288 more characters
+  7 tau
+      ((POLITE(0) ||| PATIENT(1)) [| {|raise, lower, flag, give, turn|} |] ((raise!0 -> FLAG(0,true) [] lo .. 195 more characters
+  8 tau
+      ((POLITE(0) ||| PATIENT(1)) [| {|raise, lower, flag, give, turn|} |] ((raise!0 -> FLAG(0,true) [] lo .. 275 more characters
+  9 tau
+      ((POLITE(0) ||| flag!1!(1 - 1)!false -> enter!1 -> leave!1 -> lower!1 -> POLITE(1)) [| {|raise, lowe .. 331 more characters
+  10 tau
+      ((raise!0 -> PATIENT(0) ||| flag!1!(1 - 1)!false -> enter!1 -> leave!1 -> lower!1 -> POLITE(1)) [| { .. 343 more characters
+  11 tau
+      ((PATIENT(0) ||| flag!1!(1 - 1)!false -> enter!1 -> leave!1 -> lower!1 -> POLITE(1)) [| {|raise, low .. 250 more characters
+  12 tau
+      ((PATIENT(0) ||| flag!1!(1 - 1)!false -> enter!1 -> leave!1 -> lower!1 -> POLITE(1)) [| {|raise, low .. 330 more characters
+  13 tau
+      ((flag!0!(1 - 0)!false -> enter!0 -> leave!0 -> lower!0 -> POLITE(0) ||| flag!1!(1 - 1)!false -> ent .. 386 more characters
+  then it can do nothing
+",
+};
