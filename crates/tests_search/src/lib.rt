@@ -7,8 +7,6 @@
 #[cfg(test)]
 mod answers;
 #[cfg(test)]
-mod arena;
-#[cfg(test)]
 mod chains;
 #[cfg(test)]
 mod divergence;
@@ -28,8 +26,6 @@ mod orders;
 mod paths;
 #[cfg(test)]
 mod positions;
-#[cfg(test)]
-mod refused_memory;
 #[cfg(test)]
 mod row;
 #[cfg(test)]
