@@ -25,8 +25,8 @@ use Rattle.csp_changes.specs.Numbering.{Numbering}
 use Rattle.alphabet.specs.declared.pair.Pair.{Pair}
 use Rattle.alphabet.specs.declared.pair.Pair.TheVariants as pair
 use Rattle.alphabet.specs.Images.{AnswersImages, AreImages}
-use Rattle.alphabet.specs.Numbers.{IsNumberOf, NumbersEvents}
-use Rattle.alphabet.specs.Pairs.{AreNumbersOf, ArePairsOf, HaveImages, IsImage, IsPlaced, Make, event_at, image_by, images_by, or_none}
+use Rattle.alphabet.specs.Numbers.{IsNumberOf, NumbersEvents, event_at, no_event}
+use Rattle.alphabet.specs.Pairs.{AreNumbersOf, ArePairsOf, HaveImages, IsImage, IsPlaced, Make, image_by, images_by, or_none}
 
 -- ---- one pair
 
@@ -45,17 +45,15 @@ module _ (es : List Event) (n : ℕ) (e : Event) (at : slice_get es n ≡ Some e
     -- the pair names the event
     pub image_of_event : n ≡ from.0 → IsImage es (image_by es e (pair.Events from to)) (Some to)
     image_of_event same =
-        let none : Event = record { channel = 0; fields = [] } in
-        let it : event_at es from ≡ e = get_or_from_slice_get es from.0 e none (ap (slice_get es) (sym same) ∙ at) in
+        let it : event_at es from ≡ e = get_or_from_slice_get es from.0 e no_event (ap (slice_get es) (sym same) ∙ at) in
         let named : event_eq e (event_at es from) ≡ true = ap (event_eq e) it ∙ event_refl e in
-        ap (λ b. map (λ g. Some g) (cond b (event_at es to ∷ []) [])) named ∙ ap (λ o. o ∷ []) (sym (slice_get-get_or es to.0 none placed.1))
+        ap (λ b. map (λ g. Some g) (cond b (event_at es to ∷ []) [])) named ∙ ap (λ o. o ∷ []) (sym (slice_get-get_or es to.0 no_event placed.1))
 
     -- it names another one
     pub no_image_of_event : RisesBy event_cmp es → nat_eq n from.0 ≡ false → IsImage es (image_by es e (pair.Events from to)) None
     no_image_of_event rise other =
-        let none : Event = record { channel = 0; fields = [] } in
-        let it : get_or es n none ≡ e = get_or_from_slice_get es n e none at in
-        let not_named : event_eq e (event_at es from) ≡ false = ap (λ g. event_eq g (event_at es from)) (sym it) ∙ apart none es rise n from.0 (slice_get_within es n e at) placed.0 ∙ other in
+        let it : get_or es n no_event ≡ e = get_or_from_slice_get es n e no_event at in
+        let not_named : event_eq e (event_at es from) ≡ false = ap (λ g. event_eq g (event_at es from)) (sym it) ∙ apart no_event es rise n from.0 (slice_get_within es n e at) placed.0 ∙ other in
         ap (λ b. cond b (event_at es to ∷ []) []) not_named
 
 -- ---- the pairs in turn

@@ -21,6 +21,7 @@ use Rattle.csp_alphabet.proofs.Listing.{alphabet_has, alphabet_is}
 use Rattle.csp_alphabet.proofs.Results.{IfValue, all_append}
 use Rattle.alphabet.specs.declared.pair.Pair.{Pair}
 use Rattle.alphabet.specs.declared.pair.Pair.TheVariants as pair
+use Rattle.alphabet.specs.Numbers.{no_event}
 use Rattle.alphabet.specs.Pairs.{ArePairsOf, IsNumberIn, IsPairOf, IsPlaced, Make, image_by, images_by}
 
 -- what a renaming makes of events
@@ -134,13 +135,12 @@ module _ (s : process.Script) where
   pub events_named : (es : List Event) (c d : process.EventExpression) (n m : EventId) (f g : Event) → event_of s c ≡ Ok f → event_of s d ≡ Ok g → slice_get es n.0 ≡ Some f → slice_get es m.0 ≡ Some g → Make es (pair.Events n m ∷ []) (event_images s c d)
   events_named es c d n m f g first second at_n at_m =
       let made : Event → Event → Image = λ x y e. cond (event_eq e x) (y ∷ []) [] in
-      let none : Event = record { channel = 0; fields = [] } in
       record {
         placed = ((slice_get_within es n.0 f at_n, slice_get_within es m.0 g at_m), tt);
         makes = made f g;
         is = ap (λ r. r and_then λ x. event_of s d and_then λ y. Ok (made x y)) first ∙ ap (λ r. r and_then λ y. Ok (made f y)) second;
         same = λ e.
-            ap₂ (λ x y. made x y e) (sym (get_or_from_slice_get es n.0 f none at_n)) (sym (get_or_from_slice_get es m.0 g none at_m))
+            ap₂ (λ x y. made x y e) (sym (get_or_from_slice_get es n.0 f no_event at_n)) (sym (get_or_from_slice_get es m.0 g no_event at_m))
             ∙ sym (append-nil (image_by es e (pair.Events n m)));
       }
 

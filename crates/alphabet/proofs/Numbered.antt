@@ -6,10 +6,7 @@ use Rattle.csp_syntax.specs.Process.{Omega, Process}
 use Rattle.csp_semantics.specs.Meaning.Offers.{RisesBy}
 use Rattle.csp_alphabet.proofs.Numbered.{apart}
 use Rattle.csp_changes.specs.Numbering.{AreBitsOf, Numbering}
-use Rattle.alphabet.specs.Numbers.{NumbersEvents}
-
-no_event : Event
-no_event = record { channel = 0; fields = [] }
+use Rattle.alphabet.specs.Numbers.{NumbersEvents, no_event}
 
 pub numbered : (es : List Event) (part : ℕ → Process) → RisesBy event_cmp es → ((n : ℕ) → (part n ≡ Omega) ↔ (n ≡ 0)) → (z : Numbering) × NumbersEvents es z × (z.part ≡ part)
 numbered es part rise first = (

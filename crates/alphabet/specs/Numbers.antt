@@ -1,5 +1,5 @@
 -- Events by their places in a list.
-use Rattle.std.specs.Prelude.{◌≡◌, ◌<◌, ◌≤◌, ◌^◌, ℕ, List, length, map, slice_get, Contains, Option, Some, None}
+use Rattle.std.specs.Prelude.{◌≡◌, ◌<◌, ◌≤◌, ◌^◌, ℕ, List, [], get_or, length, map, slice_get, Contains, Option, Some, None}
 use Rattle.std.specs.declared.vec.Vec.{Vec}
 use denote.Ref.{Bor}
 use Rattle.csp_syntax.specs.Value as pure
@@ -12,6 +12,14 @@ use Rattle.csp_changes.specs.Numbering.{Numbering}
 
 abbrev pub events_of : {A : Type 0} → List (Event A) → List pure.Event
 events_of es = map event_of es
+
+-- what stands for an event where there is none
+abbrev pub no_event : pure.Event
+no_event = record { channel = 0; fields = [] }
+
+-- the event of this number; beyond them, any
+abbrev pub event_at : List pure.Event → EventId → pure.Event
+event_at es n = get_or es n.0 no_event
 
 -- The events rise, so that each stands at one place, and each place has a number.
 pub record AreNumbered (es : List pure.Event) : Type 0 where

@@ -1,5 +1,5 @@
 -- What pairs of a renaming make of events, by numbers.
-use Rattle.std.specs.Prelude.{◌≡◌, ◌<◌, ℕ, nat_eq, Bool, true, false, cond, get_or, List, [], ◌∷◌, length, map, slice_get, Contains, Option, Some, None, Result, Ok}
+use Rattle.std.specs.Prelude.{◌≡◌, ◌<◌, ℕ, nat_eq, Bool, true, false, cond, List, [], ◌∷◌, length, map, slice_get, Contains, Option, Some, None, Result, Ok}
 use Rattle.std.specs.List.{AllByRecursion, flat_map}
 use Rattle.std.specs.declared.vec.Vec.{Vec}
 use Rattle.csp_syntax.specs.Value.{Event, event_eq}
@@ -10,25 +10,17 @@ use Rattle.csp_expression.specs.declared.no_value.NoValue.{NoValue}
 use Rattle.csp_changes.specs.declared.framed.Images.{Images}
 use Rattle.csp_changes.specs.declared.numbers.EventId.{EventId}
 use Rattle.csp_changes.specs.Framed.{images_at}
+use Rattle.alphabet.specs.Numbers.{event_at}
 use Rattle.alphabet.specs.declared.pair.Pair.{Pair}
 use Rattle.alphabet.specs.declared.pair.Pair.TheVariants as pair
 
 -- ---- events that are written
-
--- the number of the first event that passes, or none does
-abbrev pub IsFirstOf : List Event → (Event → Bool) → Option EventId → Type 0
-IsFirstOf es test (Some n) = (e : Event) × (slice_get es n.0 ≡ Some e) × (test e ≡ true)
-IsFirstOf es test None = AllByRecursion (λ e. test e ≡ false) es
 
 -- the event stands at the place of the number, or there is a cause
 abbrev pub IsNumberIn : List Event → Result EventId NoValue → Result Event Cause → Type 0
 IsNumberIn es = AgreesBy (λ n r. (e : Event) × (r ≡ Ok e) × (slice_get es n.0 ≡ Some e))
 
 -- ---- pairs
-
--- the event of this number; beyond them, any
-abbrev pub event_at : List Event → EventId → Event
-event_at es n = get_or es n.0 (record { channel = 0; fields = [] })
 
 -- what the pair makes of an event
 abbrev pub image_by : List Event → Event → Pair → List Event

@@ -1,24 +1,22 @@
 //! The pairs of a renaming, by the numbers of events.
 
-ghost use Rattle.std.specs.Prelude.{◌≡◌, ◌&&◌, Some, nat_eq, slice_get};
+ghost use Rattle.std.specs.Prelude.{◌≡◌, Some, nat_eq, slice_get};
 ghost use Rattle.csp_syntax.specs.Value.{event_cmp};
 ghost use Rattle.csp_semantics.specs.Meaning.Offers.{RisesBy};
-ghost use Rattle.csp_semantics.specs.Meaning.Events.{channel_images, event_images, field_sets, is_bare, pair_images, same_sets};
+ghost use Rattle.csp_semantics.specs.Meaning.Events.{channel_images, event_images, pair_images};
 ghost use Rattle.csp_alphabet.specs.Alphabet.{alphabet as events_of_script};
 ghost use Rattle.csp_value.specs.Action.{event_of};
-ghost use Rattle.csp_value.specs.Fields.{sets_of};
 ghost use Rattle.csp_event_sets.specs.Events.{event_expression_of, renaming_pair_of};
 ghost use Rattle.csp_term.specs.Script.{script_of_parts};
-ghost use Rattle.csp_event_tests.specs.Testing.{AreSetsOf};
 ghost use Rattle.alphabet.specs.Pairs.{IsPairOf};
 
 use crate::alphabet::Alphabet;
 use crate::written_event::number_of;
 use csp_changes::EventId;
-use csp_event_sets::{EventExpression, RenamingPair};
+use csp_event_sets::RenamingPair;
+use csp_event_tests::{are_channels, field_sets, same_sets};
 use csp_expression::NoValue;
 use csp_term::{AllocHandle, Cause, ChannelId, Event, ScriptParts};
-use csp_value::FieldSet;
 
 /// A pair of a renaming, evaluated.
 #[derive(Clone, Copy)]
@@ -27,25 +25,6 @@ pub(crate) enum Pair {
     Channels(ChannelId, ChannelId),
     /// The first event is done as the second.
     Events(EventId, EventId),
-}
-
-/// The field sets of the channel, or the cause where the script has none such.
-fn field_sets<A: AllocHandle>(
-    script: &ScriptParts<A>,
-    channel: ChannelId,
-) -> Result<&[FieldSet<A>], NoValue>
-    ensures { AreSetsOf result (field_sets (script_of_parts script.now) channel.0) }
-{
-    match script.channels.get(channel.0 as usize) {
-        Some(declared) => Ok(&declared.fields),
-        None => Err(NoValue::Cause(Cause::Kind)),
-    }
-}
-
-fn same_sets<A: AllocHandle>(sets: &[FieldSet<A>], others: &[FieldSet<A>]) -> bool
-    ensures { result ≡ same_sets (sets_of sets.now) (sets_of others.now) }
-{
-    *sets == *others
 }
 
 /// The pair of two channels, or the cause for which there is none: both have the same field sets.
@@ -78,20 +57,6 @@ fn pair_of_events<A: AllocHandle>(
     let from = number_of(alloc, alphabet, script, &pair.from)?;
     let to = number_of(alloc, alphabet, script, &pair.to)?;
     Ok(Pair::Events(from, to))
-}
-
-/// Whether the event has no fields.
-fn is_bare<A: AllocHandle>(written: &EventExpression<A>) -> bool
-    ensures { result ≡ is_bare (event_expression_of written.now) }
-{
-    written.fields.is_empty()
-}
-
-/// Whether the pair names channels.
-fn are_channels<A: AllocHandle>(pair: &RenamingPair<A>) -> bool
-    ensures { result ≡ is_bare (event_expression_of pair.now.from) && is_bare (event_expression_of pair.now.to) }
-{
-    is_bare(&pair.from) && is_bare(&pair.to)
 }
 
 /// What the pair names, or the first cause for which that is nothing.

@@ -18,7 +18,7 @@ pub(crate) struct System {
     pub(crate) large: Size,
 }
 
-pub(crate) static SYSTEMS: [System; 6] = [
+pub(crate) static SYSTEMS: [System; 11] = [
     System {
         name: "chain of buffers",
         text: "channel c : {0..$}.{0..1}
@@ -63,6 +63,105 @@ assert SAFE [T= RING \\ {| pass |}
         large: Size {
             size: 8,
             pairs: 4479,
+        },
+    },
+    System {
+        name: "lines that lose messages",
+        text: "channel in, out, ack : {0..`}
+channel data, got : {0..`}.{0..1}
+SEND(i,n) = in!i -> data!i!n -> WAIT(i,n)
+WAIT(i,n) = (ack!i -> SEND(i,1-n)) [] (data!i!n -> WAIT(i,n))
+RECEIVE(i,n) = got!i?m -> (if m == n then out!i -> ack!i -> RECEIVE(i,1-n) else RECEIVE(i,n))
+MEDIUM(i) = data!i?n -> (MEDIUM(i) |~| (got!i!n -> MEDIUM(i)))
+ENDS(i) = SEND(i,0) [| {ack.i} |] RECEIVE(i,0)
+LINE(i) = (ENDS(i) [| {| data.i, got.i |} |] MEDIUM(i)) \\ {| data.i, got.i, ack.i |}
+ONE(i) = in!i -> out!i -> ONE(i)
+assert ||| i:{0..`} @ ONE(i) [T= ||| i:{0..`} @ LINE(i)
+",
+        small: Size {
+            size: 1,
+            pairs: 161,
+        },
+        large: Size {
+            size: 2,
+            pairs: 25321,
+        },
+    },
+    System {
+        name: "election on a ring",
+        text: "channel wire, link : {0..`}.{0..`}
+channel elected : {0..`}
+NODE(i) = link!i?v -> (if v == i then elected!i -> NODE(i) else if v > i then wire!((i+1) % $)!v -> NODE(i) else NODE(i))
+START(i) = wire!((i+1) % $)!i -> NODE(i)
+BUFFER(i) = wire!i?v -> link!i!v -> BUFFER(i)
+NODES = ||| i:{0..`} @ START(i)
+BUFFERS = ||| i:{0..`} @ BUFFER(i)
+LEADER = elected!` -> LEADER
+assert LEADER [T= (NODES [| {| wire, link |} |] BUFFERS) \\ {| wire, link |}
+",
+        small: Size {
+            size: 3,
+            pairs: 673,
+        },
+        large: Size {
+            size: 5,
+            pairs: 39297,
+        },
+    },
+    System {
+        name: "arbiter in turns",
+        text: "channel think, ask, grant, free, pass : {0..`}
+CLIENT(i) = think!i -> ask!i -> grant!i -> free!i -> CLIENT(i)
+ARBITER(i) = (ask!i -> grant!i -> free!i -> ARBITER((i+1) % $)) [] (pass!i -> ARBITER((i+1) % $))
+CLIENTS = ||| i:{0..`} @ CLIENT(i)
+SAFE = (grant?i -> free!i -> SAFE) [] (think?i -> SAFE) [] (ask?i -> SAFE)
+AFTER = grant?i -> free!i -> AFTER
+assert AFTER [T= (CLIENTS [| {| ask, grant, free |} |] ARBITER(0)) \\ {| think, ask, pass |}
+",
+        small: Size {
+            size: 3,
+            pairs: 256,
+        },
+        large: Size {
+            size: 6,
+            pairs: 12418,
+        },
+    },
+    System {
+        name: "cells by renaming",
+        text: "channel one, two, over : {0..$}
+channel c : {0..$}
+CELL = one!0 -> two!0 -> over!0 -> CELL
+BIT(i) = CELL [[ one.0 <- c.i, two.0 <- c.i, over.0 <- c.(i+1) ]]
+BITS(n) = if n == 0 then BIT(0) else (BITS(n-1) [| {c.n} |] BIT(n))
+UP = c!0 -> UP
+assert UP [T= BITS(`) \\ diff({| c |},{c.0})
+",
+        small: Size { size: 2, pairs: 27 },
+        large: Size {
+            size: 7,
+            pairs: 31674,
+        },
+    },
+    System {
+        name: "readers and a writer",
+        text: "channel start, stop, open, close : {0..`}
+channel rest : {0..`}
+READER(i) = rest!i -> start!i -> stop!i -> READER(i)
+WRITER(i) = rest!i -> open!i -> close!i -> WRITER(i)
+FREE(n) = (n < 2 & start?i -> FREE(n+1)) [] (n > 0 & stop?i -> FREE(n-1)) [] (n == 0 & open?i -> close!i -> FREE(0))
+USERS = (||| i:{1..`} @ READER(i)) ||| WRITER(0)
+SAFE(n) = (start?i -> SAFE(n+1)) [] (n > 0 & stop?i -> SAFE(n-1)) [] (n == 0 & open?i -> close?j -> SAFE(0))
+BOUND(n) = (n < $ & start?i -> BOUND(n+1)) [] (n > 0 & stop?i -> BOUND(n-1)) [] (n == 0 & open?i -> close?j -> BOUND(0))
+assert BOUND(0) [T= (USERS [| {| start, stop, open, close |} |] FREE(0)) \\ {| rest |}
+",
+        small: Size {
+            size: 3,
+            pairs: 204,
+        },
+        large: Size {
+            size: 7,
+            pairs: 34272,
         },
     },
     System {

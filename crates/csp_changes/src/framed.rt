@@ -56,7 +56,7 @@ fn hide<A: Allocator>(
 ) -> Result<Vec<Step, A>, AllocError>
     ensures { IfOk result (λ all. all.items ≡ map (hidden_step hidden.now.marks.items) steps.now) }
 {
-    let mut all = Vec::new(alloc);
+    let mut all = Vec::with_capacity(alloc, steps.len())?;
     for step in steps {
         let seen = hide_one(*step, hidden);
         all.push(seen)?;
@@ -120,7 +120,7 @@ fn rename<A: Allocator>(
 ) -> Result<Vec<Step, A>, AllocError>
     ensures { IfOk result (λ all. all.items ≡ renamed_steps images.now.images.items steps.now) }
 {
-    let mut all = Vec::new(alloc);
+    let mut all = Vec::with_capacity(alloc, steps.len())?;
     for step in steps {
         add_renamed(&mut all, *step, images)?;
     }

@@ -51,8 +51,9 @@ pub(crate) fn hole_side<A: Allocator>(
 ) -> Result<Side<A>, AllocError>
     ensures { IfOk result (IsHoleSide hole row.now (steps_at parts.now row.now hole) pool.old.items pool.new.items) }
 {
-    let mut steps = Vec::new(alloc);
-    add_known(pool, &mut steps, hole, known_steps(row, parts, hole))?;
+    let known = known_steps(row, parts, hole);
+    let mut steps = Vec::with_capacity(alloc, known.len())?;
+    add_known(pool, &mut steps, hole, known)?;
     let part = PartId::OMEGA;
     let ending = Some(add_change(pool, Change { hole, part })?);
     let has_ended = has_ended(row, hole);

@@ -31,6 +31,24 @@ fn place_of(places: &[Place], hole: u32) -> Place
     }
 }
 
+/// How many bytes a target takes. It may tell another number where the places do not stand one behind the other.
+fn room_for<A: Allocator>(
+    bytes: &[u8],
+    places: &[Place],
+    changes: &[Change],
+    parts: &[Part<A>],
+) -> usize {
+    let mut room = bytes.len();
+    for change in changes {
+        let place = place_of(places, change.hole);
+        let new = spelling(parts, change.part).len();
+        room = room
+            .saturating_add(new)
+            .saturating_sub(place.end.saturating_sub(place.start));
+    }
+    room
+}
+
 /// The bytes of a row with the spellings of new parts in the places of their holes.
 pub fn target<A: Allocator>(
     alloc: A,
@@ -43,7 +61,7 @@ pub fn target<A: Allocator>(
     ensures edited { IfOk result (λ target. target.items ≡ edited bytes.now 0 (edits_of places.now parts.now changes.now)) }
     ensures spelled { IfOk result (λ target. IsTargetOf bytes.now places.now changes.now parts.now target.items) }
 {
-    let mut target = Vec::new(alloc);
+    let mut target = Vec::with_capacity(alloc, room_for(bytes, places, changes, parts))?;
     let mut copied = 0usize;
     for change in changes {
         let place = place_of(places, change.hole);

@@ -36,7 +36,7 @@ pub enum EventTest<A: AllocHandle> {
 }
 
 /// The field sets of the channel, or the cause where the script has none such.
-pub(crate) fn field_sets<A: AllocHandle>(
+pub fn field_sets<A: AllocHandle>(
     script: &ScriptParts<A>,
     channel: ChannelId,
 ) -> Result<&[FieldSet<A>], NoValue>
@@ -81,8 +81,8 @@ fn beginning<A: AllocHandle>(
     Ok(Event { channel, fields })
 }
 
-/// The event that is written, with all its fields.
-pub(crate) fn whole_event<A: AllocHandle>(
+/// The event that is written, with all its fields, or the first cause for which there is none.
+pub fn whole_event<A: AllocHandle>(
     alloc: A,
     script: &ScriptParts<A>,
     written: &EventExpression<A>,

@@ -32,14 +32,15 @@ fn is_bare<A: AllocHandle>(written: &EventExpression<A>) -> bool
     written.fields.is_empty()
 }
 
-/// Whether the pair names channels.
-fn are_channels<A: AllocHandle>(pair: &RenamingPair<A>) -> bool
+/// Whether the pair names channels, so that each event of the first is renamed.
+pub fn are_channels<A: AllocHandle>(pair: &RenamingPair<A>) -> bool
     ensures { result ≡ is_bare (event_expression_of pair.now.from) && is_bare (event_expression_of pair.now.to) }
 {
     is_bare(&pair.from) && is_bare(&pair.to)
 }
 
-fn same_sets<A: AllocHandle>(sets: &[FieldSet<A>], others: &[FieldSet<A>]) -> bool
+/// Whether the lists have the same field sets, in the same order.
+pub fn same_sets<A: AllocHandle>(sets: &[FieldSet<A>], others: &[FieldSet<A>]) -> bool
     ensures { result ≡ same_sets (sets_of sets.now) (sets_of others.now) }
 {
     *sets == *others

@@ -8,5 +8,5 @@
 mod event_test;
 mod images;
 
-pub use event_test::EventTest;
-pub use images::Images;
+pub use event_test::{EventTest, field_sets, whole_event};
+pub use images::{Images, are_channels, same_sets};

@@ -4,8 +4,6 @@
 //! so that what is put together of terms can be measured without being gone through.
 #![tactic(auto)]
 
-mod depths;
 mod measures;
-mod rooms;
 
 pub use measures::{depth_of, size_of};

@@ -4,8 +4,6 @@ ghost use Rattle.std.specs.Prelude.{◌≡◌, IsTrue};
 ghost use Rattle.csp_semantics.specs.Meaning.Limits.{depth, fits, size};
 ghost use Rattle.csp_term.specs.Term.{process_of};
 
-use crate::depths::is_within_depth;
-use crate::rooms::room_left;
 use csp_term::Term;
 use std::alloc::Allocator;
 
@@ -13,24 +11,24 @@ use std::alloc::Allocator;
 const MAX_SIZE: u32 = 2000;
 
 /// How many nodes a term within the limits has.
-pub fn size_of<A: Allocator>(term: &Term<A>) -> u32
+pub fn size_of<A: Allocator + Copy>(term: &Term<A>) -> u32
     requires { IsTrue (fits (process_of term.now)) }
     ensures { result ≡ size (process_of term.now) }
 {
-    match room_left(term, MAX_SIZE) {
+    match term.room_left(MAX_SIZE) {
         Some(rest) => MAX_SIZE - rest,
         None => MAX_SIZE,
     }
 }
 
 /// How deep a term within the limits is.
-pub fn depth_of<A: Allocator>(term: &Term<A>) -> u32
+pub fn depth_of<A: Allocator + Copy>(term: &Term<A>) -> u32
     requires { IsTrue (fits (process_of term.now)) }
     ensures { result ≡ depth (process_of term.now) }
 {
     // Most terms are shallow, and no try goes deeper than the one before it by more than one.
     let mut most = 0;
-    while !is_within_depth(term, most) {
+    while !term.is_within_depth(most) {
         most += 1;
     }
     most

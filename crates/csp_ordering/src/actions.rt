@@ -14,7 +14,7 @@ use std::alloc::{AllocError, Allocator};
 fn each_action<A: Allocator>(alloc: A, steps: &[Step]) -> Result<Vec<ActionId, A>, AllocError>
     ensures { IfOk result (λ actions. actions.items ≡ map (λ s. s.action) steps.now) }
 {
-    let mut actions = Vec::new(alloc);
+    let mut actions = Vec::with_capacity(alloc, steps.len())?;
     for step in steps {
         actions.push(step.action)?;
     }

@@ -14,7 +14,7 @@ fn one_offer<A: Allocator + Copy>(
 ) -> Result<Vec<Vec<ActionId, A>, A>, AllocError>
     ensures { IfOk result (λ offers. map (λ xs. xs.items) offers.items ≡ actions.now ∷ []) }
 {
-    let mut offers = Vec::new(alloc);
+    let mut offers = Vec::with_capacity(alloc, 1)?;
     offers.push(Vec::from_slice(alloc, actions)?)?;
     Ok(offers)
 }

@@ -8,7 +8,7 @@ ghost use Rattle.csp_semantics.specs.Meaning.Limits.{fits};
 ghost use Rattle.csp_spelling.specs.Spelling.{spelling};
 ghost use Rattle.csp_spell.specs.WithinLimits.{IsTermWithinLimits};
 ghost use Rattle.csp_term.specs.Term.{process_of};
-ghost use Rattle.csp_packed.specs.Within.{SpellsWithin, spells_prop};
+ghost use Rattle.csp_packed.specs.Within.{SpellsWithin, spells_prop, term_spelled};
 
 use csp_spell::{UnpackFault, unpack};
 use csp_term::{Memory, Term, TryCopy};
@@ -51,6 +51,14 @@ impl<A: Allocator> PackedTerm<A> {
     {
         let bytes = csp_spell::pack_by(alloc, term, buffer)?;
         Ok(PackedTerm { bytes })
+    }
+
+    /// The term that the bytes spell, which is within the limits.
+    pub fn from_bytes(bytes: Vec<u8, A>) -> PackedTerm<A>
+        requires { SpellsWithin bytes.items }
+        ensures { packed_process result ≡ term_spelled bytes.items }
+    {
+        PackedTerm { bytes }
     }
 
     /// The bytes.

@@ -16,7 +16,7 @@ use Rattle.csp_changes.specs.declared.part.Part.{Part}
 use Rattle.csp_parts.specs.declared.parts.Parts.{Parts}
 use Rattle.csp_parts.specs.Changed.{Extends, HasRowMore, HasSameRows, steps_of}
 use Rattle.csp_parts.specs.Kept.{IsKeptOf, IsPartOf, IsShown}
-use Rattle.csp_parts.specs.Known.{AreKept, AreKnown, processes_of, script_in, spelled_of}
+use Rattle.csp_parts.specs.Known.{AreKeptOf, AreKnown, processes_of, script_in, spelled_of}
 use Rattle.csp_parts.proofs.Stepping.{still_shown}
 
 -- what a list has stays where one more comes
@@ -50,7 +50,7 @@ module _ {A : Type 0} (script : Script) (ps : List Process) (p : Process) (parts
   new_shown more q r false is not = ap (λ z. z.steps) is ∙ unfired
 
   -- the first of all
-  pub kept_alone : p ≡ Omega → AreKept script (p ∷ []) (part ∷ []) (false ∷ [])
+  pub kept_alone : p ≡ Omega → AreKeptOf script (p ∷ []) (part ∷ []) (false ∷ [])
   kept_alone ended = record {
     first = ap Some ended;
     distinct = λ i j t at there. (get_only p t i at).0 ∙ sym (get_only p t j there).0;
@@ -62,7 +62,7 @@ module _ {A : Type 0} (script : Script) (ps : List Process) (p : Process) (parts
     shown = λ n q r at there. new_shown (p ∷ []) q r (get_or (false ∷ []) n false) (get_only part r n there).1 (fired_more [] n);
   }
 
-  module _ (kept : AreKept script ps parts fired) (absent : Contains ps p → ⊥) (room : length ps + 1 < 2 ^ 32) where
+  module _ (kept : AreKeptOf script ps parts fired) (absent : Contains ps p → ⊥) (room : length ps + 1 < 2 ^ 32) where
     abbrev more : List Process
     more = ps ++ p ∷ []
 
@@ -79,7 +79,7 @@ module _ {A : Type 0} (script : Script) (ps : List Process) (p : Process) (parts
     each_shown n q r (inr a) (inl b) = let within = slice_get_within parts n r b in let even = kept.all_kept in let end = a.0 in absurd (omega (arith, within, even, end))
     each_shown n q r (inr a) (inr b) = new_shown more q r (get_or fired n false) b.1 (unfired_past fired n (a.0 ∙ sym kept.all_marked))
 
-    pub kept_more : AreKept script more (parts ++ part ∷ []) (fired ++ false ∷ [])
+    pub kept_more : AreKeptOf script more (parts ++ part ∷ []) (fired ++ false ∷ [])
     kept_more = record {
       first = get_front ps (p ∷ []) 0 Omega kept.first;
       distinct = (added_grows p ps more (inr (absent, refl))).distinct kept.distinct;
@@ -94,9 +94,9 @@ module _ {A : Type 0} (script : Script) (ps : List Process) (p : Process) (parts
 
 -- the same, for lists that are these
 pub kept_as : {A : Type 0} (script other : Script) (ps qs : List Process) (parts rows : List (Part A)) (fired marks : List Bool) → other ≡ script → qs ≡ ps → rows ≡ parts → marks ≡ fired →
-    AreKept script ps parts fired → AreKept other qs rows marks
+    AreKeptOf script ps parts fired → AreKeptOf other qs rows marks
 kept_as script other ps qs parts rows fired marks a b c d kept =
-    subst (λ s. AreKept s qs rows marks) (sym a) (subst (λ zs. AreKept script zs rows marks) (sym b) (subst (λ zs. AreKept script ps zs marks) (sym c) (subst (λ zs. AreKept script ps parts zs) (sym d) kept)))
+    subst (λ s. AreKeptOf s qs rows marks) (sym a) (subst (λ zs. AreKeptOf script zs rows marks) (sym b) (subst (λ zs. AreKeptOf script ps zs marks) (sym c) (subst (λ zs. AreKeptOf script ps parts zs) (sym d) kept)))
 
 module _ {A : Type 0} (old new : Parts A) where
   -- the same rows are known as well

@@ -15,7 +15,6 @@ use Rattle.csp_shapes.specs.Moves.{steps_at}
 use Rattle.csp_shapes.specs.Shape.{Shape, holes, part_at}
 use Rattle.csp_shapes.specs.ShapeSteps.{AreFired}
 use Rattle.csp_alphabet.specs.Alphabet.{alphabet}
-use Rattle.csp_alphabet.proofs.Numbered.{apart}
 use Rattle.csp_changes.specs.declared.numbers.ActionId.{ActionId}
 use Rattle.csp_changes.specs.declared.numbers.ActionId.TheVariants as by_number
 use Rattle.csp_changes.specs.declared.numbers.PartId.{PartId}
@@ -25,12 +24,14 @@ use Rattle.csp_changes.specs.Measures.{AreMeasured}
 use Rattle.csp_changes.specs.Numbering.{IsNumbered, Numbering, action_at}
 use Rattle.csp_changes.specs.Places.{AreSpelled}
 use Rattle.csp_changes.specs.Rows.{ArePartsAmong, ArePartsNumbered, AreStepsNumbered, AreTargetsAmong, depth_of_part, kept, part_steps_of, row_parts, row_steps, size_of_part, spelling_of_part, steps_of_part}
-use Rattle.alphabet.specs.Numbers.{NumbersEvents}
+use Rattle.csp_rows.specs.ByParts.{AreKept, AreSpellable}
+use Rattle.alphabet.specs.Numbers.{NumbersEvents, no_event}
+use Rattle.alphabet.proofs.Numbered.{numbered}
 use Rattle.csp_parts.specs.declared.parts.Parts.{Parts}
 use Rattle.csp_parts.specs.Changed.{IsFiredAt, is_fired, steps_of}
 use Rattle.csp_parts.specs.Kept.{AreItsSteps, IsKeptOf, IsShown}
 use Rattle.csp_parts.specs.Known.{AreKnown, processes_of, script_in}
-use Rattle.csp_parts.specs.Places.{NumbersParts, action_in, no_event, part_in, steps_in}
+use Rattle.csp_parts.specs.Places.{NumbersParts, action_in, part_in, steps_in}
 use Rattle.csp_parts.specs.Serving.{AreRowFired, Serves}
 use Rattle.csp_parts.proofs.Showing.{same_place}
 
@@ -82,6 +83,9 @@ module _ {A : Type 0} (k : Parts A) (known : AreKnown k) (z : Numbering) (events
       let at = numbers n (omega (arith, within, even)) in
       let r = same_place ps parts n (z.part n) even at in
       (r.0, r.1, known.kept.kept n (z.part n) r.0 at r.1)
+
+  all_spellable : AreSpellable z (length parts)
+  all_spellable n within = let r = found_part n within in r.2.spellable
 
   all_spelled : AreSpelled z parts
   all_spelled n within = let r = found_part n within in ap spelling_of_part r.1 ∙ r.2.spelled
@@ -146,23 +150,22 @@ module _ {A : Type 0} (k : Parts A) (known : AreKnown k) (z : Numbering) (events
       let here : P (z.part n.0) (part_steps_of z (steps_of_part (slice_get parts n.0))) = fired_part n.0 (slice_get parts n.0) refl is.fired is.steps in
       subst (λ p. P p (steps_at (row_steps z parts row) i)) (sym part) (subst (λ ts. P (z.part n.0) ts) (sym steps) here)
 
+  -- the first one is there
+  some_part : 0 < length parts
+  some_part = let within = slice_get_within ps 0 Omega known.kept.first in let even = known.kept.all_kept in omega (arith, within, even)
+
+  all_kept : AreKept z parts
+  all_kept = record { some = some_part; spellable = all_spellable; spelled = all_spelled; measured = all_measured; numbered = all_numbered; among = all_among }
+
   pub serves : Serves k z
-  serves = record { spelled = all_spelled; measured = all_measured; numbered = all_numbered; among = all_among; fired = row_fired }
+  serves = record { kept = all_kept; fired = row_fired }
 
 -- ---- the numbering
 
 pub numbering : (es : List Event) (ps : List Process) → RisesBy event_cmp es → slice_get ps 0 ≡ Some Omega → AreDistinct ps → (z : Numbering) × NumbersEvents es z × NumbersParts ps z
-numbering es ps rise first distinct = (
-  record {
-    event = λ n. get_or es n no_event;
-    events = length es;
-    part = part_in ps;
-    apart = λ n m. apart no_event es rise n m;
-    first = λ n. (λ ended. omega_first n (part_place ps n) ended, λ zeroth. ap (part_in ps) zeroth ∙ get_or_from_slice_get ps 0 Omega Stop first);
-  },
-  record { count = refl; each = λ n within. slice_get-get_or es n no_event within },
-  λ n within. slice_get-get_or ps n Stop within,
-)
+numbering es ps rise first distinct =
+    let both = numbered es (part_in ps) rise (λ n. (λ ended. omega_first n (part_place ps n) ended, λ zeroth. ap (part_in ps) zeroth ∙ get_or_from_slice_get ps 0 Omega Stop first)) in
+    (both.0, both.1, λ n within. slice_get-get_or ps n Stop within ∙ ap (λ (part : ℕ → Process). Some (part n)) (sym both.2))
   where
     -- a number stands for a part, or for STOP
     part_place : (qs : List Process) (n : ℕ) → (slice_get qs n ≡ Some (part_in qs n)) ⊎ (part_in qs n ≡ Stop)

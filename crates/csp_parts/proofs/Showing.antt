@@ -14,7 +14,7 @@ use Rattle.csp_changes.specs.declared.step.PartStep.{PartStep}
 use Rattle.csp_parts.specs.declared.parts.Parts.{Parts}
 use Rattle.csp_parts.specs.Changed.{Extends, Grows, HasShown, is_fired, steps_of}
 use Rattle.csp_parts.specs.Kept.{IsKeptOf, IsShown, Shows}
-use Rattle.csp_parts.specs.Known.{AreKept, AreKnown, processes_of, script_in}
+use Rattle.csp_parts.specs.Known.{AreKeptOf, AreKnown, processes_of, script_in}
 use Rattle.csp_parts.proofs.Adding.{kept_as}
 
 -- the part with other steps
@@ -37,7 +37,7 @@ module _ {A : Type 0} (n : ℕ) (steps : Option (Vec PartStep A)) (old new : Par
   abbrev ps : List Process
   ps = processes_of old
 
-  abbrev kept : AreKept (script_in old) ps old.parts.items old.fired.items
+  abbrev kept : AreKeptOf (script_in old) ps old.parts.items old.fired.items
   kept = known.kept
 
   old_part : (r : Part A) × (slice_get old.parts.items n ≡ Some r)
@@ -57,7 +57,7 @@ module _ {A : Type 0} (n : ℕ) (steps : Option (Vec PartStep A)) (old new : Par
       let same : q ≡ p = same_at ps m n q p e here at in
       let is : r ≡ with_steps old_part.0 steps = same_at new.parts.items m n r (with_steps old_part.0 steps) e there new_part in
       let was : IsKeptOf p old_part.0 = kept.kept n p old_part.0 at old_part.1 in
-      subst (λ z. IsKeptOf z r) (sym same) (subst (IsKeptOf p) (sym is) (record { spelled = was.spelled; size = was.size; depth = was.depth }))
+      subst (λ z. IsKeptOf z r) (sym same) (subst (IsKeptOf p) (sym is) (record { spellable = was.spellable; spelled = was.spelled; size = was.size; depth = was.depth }))
   kept_at m q r here there (inr other) = kept.kept m q r here (sym (shown.same m other) ∙ there)
 
   module _ (is_shown : Shows (script_in old) (alphabet (script_in old)) ps p steps) where

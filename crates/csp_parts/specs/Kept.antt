@@ -8,6 +8,7 @@ use Rattle.csp_semantics.specs.Meaning.Expansions.{step_cmp}
 use Rattle.csp_semantics.specs.Meaning.Limits.{depth, fits, size}
 use Rattle.csp_semantics.specs.Meaning.Offers.{RisesBy}
 use Rattle.csp_semantics.specs.Meaning.Transitions.{IsNotStuck, IsStuck, RuleStep}
+use Rattle.csp_spelling.specs.Spellable.{IsSpellable}
 use Rattle.csp_spelling.specs.Spelling.{spelling}
 use Rattle.csp_changes.specs.declared.part.Part.{Part}
 use Rattle.csp_changes.specs.declared.step.PartStep.{PartStep}
@@ -19,8 +20,9 @@ pub record IsPartOf (script : Script) (p : Process) : Type 0 where
   pub closed : IsTermOf script p
   pub within : IsTrue (fits p)
 
--- what is kept are the bytes that spell it, and what it measures
+-- It has a spelling of its own. What is kept are its bytes, and what it measures.
 pub record IsKeptOf {A : Type 0} (p : Process) (part : Part A) : Type 0 where
+  pub spellable : IsSpellable p
   pub spelled : part.spelling.items ≡ spelling p
   pub size : part.size ≡ size p
   pub depth : part.depth ≡ depth p

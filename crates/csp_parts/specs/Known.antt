@@ -37,7 +37,7 @@ part_cmp ps n m = found_cmp (slice_get ps n) (slice_get ps m)
 
 -- What is kept of each of these terms, and whether it was fired. The first is the one that has ended, none stands twice,
 -- and each has a number.
-pub record AreKept {A : Type 0} (script : Script) (ps : List Process) (parts : List (Part A)) (fired : List Bool) : Type 0 where
+pub record AreKeptOf {A : Type 0} (script : Script) (ps : List Process) (parts : List (Part A)) (fired : List Bool) : Type 0 where
   pub first : slice_get ps 0 ≡ Some Omega
   pub distinct : AreDistinct ps
   pub of_script : (n : ℕ) (p : Process) → slice_get ps n ≡ Some p → IsPartOf script p
@@ -51,4 +51,4 @@ pub record AreKept {A : Type 0} (script : Script) (ps : List Process) (parts : L
 -- each is found by its spelling
 pub record AreKnown {A : Type 0} (k : Parts A) : Type 0 where
   pub spelled : spelled_of k ≡ processes_of k
-  pub kept : AreKept (script_in k) (processes_of k) k.parts.items k.fired.items
+  pub kept : AreKeptOf (script_in k) (processes_of k) k.parts.items k.fired.items

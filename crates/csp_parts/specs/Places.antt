@@ -1,20 +1,18 @@
 -- Steps by numbers, where events and parts are known by their places.
-use Rattle.std.specs.Prelude.{◌≡◌, ◌<◌, ℕ, List, [], get_or, length, map, slice_get, Contains, Some}
+use Rattle.std.specs.Prelude.{◌≡◌, ◌<◌, ℕ, List, get_or, length, map, slice_get, Contains, Some}
 use Rattle.csp_syntax.specs.Value.{Action, Event, Tau, Tick, Ev}
 use Rattle.csp_syntax.specs.Process.{Process, Stop}
 use Rattle.csp_changes.specs.declared.numbers.ActionId.{ActionId}
 use Rattle.csp_changes.specs.declared.numbers.ActionId.TheVariants as by_number
 use Rattle.csp_changes.specs.declared.step.PartStep.{PartStep}
 use Rattle.csp_changes.specs.Numbering.{Numbering}
-
-abbrev pub no_event : Event
-no_event = record { channel = 0; fields = [] }
+use Rattle.alphabet.specs.Numbers.{event_at}
 
 -- the action of this number, where these are the events
 abbrev pub action_in : List Event → ActionId → Action
 action_in es by_number.Tau = Tau
 action_in es by_number.Tick = Tick
-action_in es (by_number.Event n) = Ev (get_or es n.0 no_event)
+action_in es (by_number.Event n) = Ev (event_at es n)
 
 -- the part of this number, where these are the parts
 abbrev pub part_in : List Process → ℕ → Process

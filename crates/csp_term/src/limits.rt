@@ -29,7 +29,7 @@ impl<A: Allocator + Copy> Term<A> {
     }
 
     /// What the term leaves of the room for nodes, `None` where it has more.
-    fn room_left(&self, room: u32) -> Option<u32>
+    pub fn room_left(&self, room: u32) -> Option<u32>
         ensures { SomeIff result (size (process_of self.now) ≤ room) (room - size (process_of self.now)) }
     {
         let rest = self.form.room_left_by_head(room)?;
@@ -50,7 +50,7 @@ impl<A: Allocator + Copy> Term<A> {
 
     /// Whether the term is at most so deep.
     #[cycle(depth)]
-    fn is_within_depth(&self, most: u32) -> bool
+    pub fn is_within_depth(&self, most: u32) -> bool
         ensures { IsTrue result ↔ (depth (process_of self.now) ≤ most) }
     {
         most != 0 && self.form.are_parts_within_depth(most - 1)

@@ -2,7 +2,7 @@ use Rattle.std.proofs.Common.{sym, ◌∙◌, ap}
 use Rattle.std.proofs.lemmas.Option.{get_or_from_slice_get, slice_get_within}
 use Rattle.csp_syntax.specs.Value.{Ev}
 use Rattle.csp_value.specs.Action.{action_of, event_of}
-use Rattle.csp_parts.specs.Places.{no_event}
+use Rattle.alphabet.specs.Numbers.{no_event}
 use Rattle.csp_parts.proofs.actions.action_number.Goals as goal
 
 pub returns-in-Some-clause-value : goal.returns-in-Some-clause-value

@@ -1,0 +1,62 @@
+-- What is known of parts, and of the shape of a term.
+use Rattle.std.specs.Prelude.{◌≡◌, ⊤, IsTrue, Option, Some, None}
+use Rattle.csp_syntax.specs.Process.{Process, Script}
+use Rattle.csp_semantics.specs.Meaning.Limits.{fits}
+use Rattle.csp_alphabet.specs.Alphabet.{alphabet}
+use Rattle.csp_shapes.specs.Operators.{HasValues}
+use Rattle.csp_shapes.specs.Parts.{shape_of}
+use Rattle.csp_shapes.specs.Pieces.{pieces}
+use Rattle.csp_shapes.specs.Shape.{Hole, Shape}
+use Rattle.csp_spelling.specs.Spellable.{IsSpellable}
+use Rattle.csp_term.specs.Term.{process_of}
+use Rattle.csp_shaping.specs.Lists.{items_of}
+use Rattle.csp_shaping.specs.Shaped.{IsMeasured}
+use Rattle.csp_parts.specs.Known.{AreKnown, script_in}
+use Rattle.csp_row_firing.specs.declared.splitting.SplitRow.{SplitRow}
+use Rattle.csp_firing.specs.declared.last_shape.LastShape.{LastShape}
+use Rattle.csp_firing.specs.declared.known_parts.KnownParts.{KnownParts}
+use Rattle.csp_firing.specs.declared.finding.Found.{Found}
+use Rattle.csp_firing.specs.declared.finding.Found.TheVariants as found
+use Rattle.csp_firing.specs.Rows.{IsRowAmong}
+
+-- A term within the limits that has a spelling of its own, its shape by the numbers of these events, with what it measures,
+-- and the bytes round its parts.
+pub record IsShapeKept {A : Type 0} (script : Script) (last : LastShape A) : Type 0 where
+  pub within : IsTrue (fits (process_of last.term))
+  pub spellable : IsSpellable (process_of last.term)
+  pub measured : IsMeasured (alphabet script) script (shape_of (process_of last.term)) last.measured
+  pub pieces : items_of last.pieces.items ≡ pieces (shape_of (process_of last.term))
+
+abbrev pub IsLastKept : {A : Type 0} → Script → Option (LastShape A) → Type 0
+IsLastKept script None = ⊤
+IsLastKept script (Some last) = IsShapeKept script last
+
+-- it is that of the term, or one of its sets or renamings has no value
+abbrev pub IsShapeAnswered : {A : Type 0} → Script → Process → Option (LastShape A) → Type 0
+IsShapeAnswered script t None = HasValues script (shape_of t) → ⊥
+IsShapeAnswered script t (Some last) = (process_of last.term ≡ t) × IsShapeKept script last
+
+-- The events and the parts are those of the script, and so is the last shape.
+pub record AreKnownOf {A : Type 0} (script : Script) (k : KnownParts A) : Type 0 where
+  pub alphabet : k.alphabet ≡ alphabet script
+  pub of_script : script_in k.parts ≡ script
+  pub parts : AreKnown k.parts
+  pub last : IsLastKept script k.last
+
+abbrev pub IsKnownOf : {A : Type 0} → Script → Option (KnownParts A) → Type 0
+IsKnownOf script None = ⊤
+IsKnownOf script (Some k) = AreKnownOf script k
+
+-- the shape that is kept, if any is
+abbrev pub shape_in : {A : Type 0} → Option (LastShape A) → Shape
+shape_in None = Hole
+shape_in (Some last) = shape_of (process_of last.term)
+
+-- the term is a row of known parts in the last shape
+abbrev pub IsRowOf : {A : Type 0} → KnownParts A → Process → SplitRow A → Type 0
+IsRowOf k t row = IsRowAmong k.parts (shape_in k.last) t row
+
+-- it is found as such a row, or as a whole
+abbrev pub IsFound : {A : Type 0} → KnownParts A → Process → Found A → Type 0
+IsFound k t (found.Row row) = IsRowOf k t row
+IsFound k t (found.Whole term) = process_of term ≡ t
