@@ -1,3 +1,4 @@
 pub mod Acceptances
 pub mod Cuts
+pub mod Parts
 pub mod Putting

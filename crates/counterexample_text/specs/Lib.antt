@@ -1,1 +1,3 @@
+pub mod Styles
+pub mod Texts
 pub mod Widths

@@ -4,15 +4,13 @@ ghost use Rattle.std.specs.Prelude.{map, Some};
 ghost use Rattle.csp_term.specs.Term.{process_of};
 ghost use Rattle.verdict.specs.Outcome.{violation_of};
 ghost use Rattle.csp_explanation.specs.Comparing.{counterexample_text, text_beside};
-ghost use Rattle.csp_print.specs.Names.{names_of};
 ghost use Rattle.csp_print.specs.Writing.{Writes};
 ghost use Rattle.counterexample.specs.Counterexample.{counterexample_of, counterpart_of};
-ghost use Rattle.counterexample_text.specs.Widths.{width_of};
+ghost use Rattle.counterexample_text.specs.Styles.{style_of};
 
-use crate::comparing::push_compared;
 use crate::lacks::push_lack;
 use crate::marks::push_mark;
-use crate::runs::push_run;
+use crate::runs::{push_run, push_run_alone};
 use crate::style::Style;
 use counterexample::{Counterexample, Counterpart};
 use csp_term::{AllocHandle, Memory, Term};
@@ -27,13 +25,13 @@ pub fn push_counterexample<A: AllocHandle>(
     counterexample: &Counterexample<A>,
     text: &mut String<A>,
 ) -> Result<(), Memory>
-    ensures { Writes result text.old text.new (counterexample_text (names_of style.now.names.now) (width_of style.now.width) style.now.few (violation_of shown.now) (counterexample_of counterexample.now)) }
+    ensures { Writes result text.old text.new (counterexample_text (style_of style.now) (violation_of shown.now) (counterexample_of counterexample.now)) }
 {
     let states = &counterexample.states;
     match &counterexample.counterpart {
         Some(counterpart) => push_beside(alloc, style, shown, states, counterpart, text),
         None => {
-            push_run(alloc, style, shown, states, text)?;
+            push_run_alone(alloc, style, shown, states, text)?;
             Ok(())
         }
     }
@@ -48,7 +46,7 @@ fn push_beside<A: AllocHandle>(
     counterpart: &Counterpart<A>,
     text: &mut String<A>,
 ) -> Result<(), Memory>
-    ensures { Writes result text.old text.new (text_beside (names_of style.now.names.now) (width_of style.now.width) style.now.few (violation_of shown.now) (map process_of states.now) (Some (counterpart_of counterpart.now))) }
+    ensures { Writes result text.old text.new (text_beside (style_of style.now) (violation_of shown.now) (map process_of states.now) (Some (counterpart_of counterpart.now))) }
 {
     match counterpart {
         Counterpart::Along {
@@ -56,7 +54,7 @@ fn push_beside<A: AllocHandle>(
             initials,
             acceptances,
         } => {
-            push_compared(alloc, style, shown, states, along, text)?;
+            push_run(alloc, style, shown, states, along, text)?;
             push_lack(
                 alloc,
                 style.names,
@@ -67,7 +65,7 @@ fn push_beside<A: AllocHandle>(
             )
         }
         Counterpart::TooManyStates => {
-            push_run(alloc, style, shown, states, text)?;
+            push_run_alone(alloc, style, shown, states, text)?;
             push_mark(
                 "  along this path the specification has too many states to tell\n",
                 text,

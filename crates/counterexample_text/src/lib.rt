@@ -7,7 +7,7 @@
 #![tactic(auto)]
 
 mod actions;
-mod comparing;
+mod changes;
 mod counterexamples;
 mod ends;
 mod lacks;
@@ -18,7 +18,7 @@ mod states;
 mod style;
 mod width;
 
-pub use actions::{push_action, push_actions};
 pub use counterexamples::push_counterexample;
+pub use marks::{push_mark, push_number};
 pub use style::Style;
-pub use width::{Width, push_cut};
+pub use width::Width;

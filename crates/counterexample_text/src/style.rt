@@ -4,7 +4,7 @@ use crate::width::Width;
 use csp_print::Names;
 use std::alloc::Allocator;
 
-/// By which names terms are told, how much of a state, and how many states of a specification.
+/// By which names terms are told, how much of a state, and which states of a specification.
 #[derive(Clone, Copy, Drop)]
 pub struct Style<'n, 't, A: Allocator> {
     /// The names of the script.
@@ -13,4 +13,6 @@ pub struct Style<'n, 't, A: Allocator> {
     pub width: Width,
     /// How many states of the specification are told at a time.
     pub few: usize,
+    /// Up to how many states of the specification after a beginning of the path any of them are told.
+    pub most: usize,
 }

@@ -20,7 +20,7 @@ pub enum Width {
 }
 
 /// As much of the text as is told, behind the other.
-pub fn push_cut<A: Allocator>(
+pub(crate) fn push_cut<A: Allocator>(
     alloc: A,
     width: Width,
     whole: &str,
@@ -34,8 +34,8 @@ pub fn push_cut<A: Allocator>(
     }
 }
 
-// So many characters of the text, and how many are left out, if any are.
-fn push_beginning<A: Allocator>(
+/// So many characters of the text, and how many are left out, if any are.
+pub(crate) fn push_beginning<A: Allocator>(
     alloc: A,
     most: usize,
     whole: &str,

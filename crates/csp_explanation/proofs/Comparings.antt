@@ -1,14 +1,17 @@
 -- The steps that are left of a path, with the states behind them.
-use Rattle.std.proofs.Common.{◌≡◌, ℕ, zero, suc, ◌+◌, ◌≤◌, List, [], ◌∷◌, ◌++◌, length, drop, slice_get, Some, None, refl, add-one}
+use Rattle.std.proofs.Common.{◌≡◌, ℕ, zero, suc, ◌+◌, ◌≤◌, List, [], ◌∷◌, ◌++◌, length, drop, slice_get, Some, None, refl, sym, ◌∙◌, ap, add-one}
 use Rattle.std.proofs.lemmas.List.{drop_all}
 use Rattle.csp_syntax.specs.Value.{Action}
 use Rattle.csp_syntax.specs.Process.{Process}
 use Rattle.csp_syntax.proofs.Places.{drop_at}
-use Rattle.csp_notation.specs.Names.{Names}
-use Rattle.csp_explanation.specs.Comparing.{compared_steps}
+use Rattle.std.specs.Prelude.{codes}
+use Rattle.csp_semantics.specs.Meaning.Violations.{Violation}
+use Rattle.csp_notation.specs.Processes.{process_text}
 use Rattle.csp_explanation.specs.Counterparts.{specification_text}
-use Rattle.csp_explanation.specs.Cutting.{Width}
-use Rattle.csp_explanation.specs.Steps.{step_text, steps_text}
+use Rattle.csp_explanation.specs.Cutting.{cut}
+use Rattle.csp_explanation.specs.Ends.{end_text}
+use Rattle.csp_explanation.specs.Steps.{beside_text, behind_line, first_text, run_text, state_line, step_line, steps_text, width_before}
+use Rattle.csp_explanation.specs.Styles.{Style}
 
 drop_past : {X : Type 0} (xs : List X) (i : ℕ) → slice_get xs i ≡ None → drop i xs ≡ []
 drop_past [] zero at = refl
@@ -16,53 +19,62 @@ drop_past [] (suc i) at = refl
 drop_past (y ∷ ys) zero at = absurd (cc at)
 drop_past (y ∷ ys) (suc i) at = drop_past ys i at
 
-module _ (names : Names) (width : Width) where
-  -- ---- a run alone
+-- all but one more
+drop_one : {X : Type 0} (i : ℕ) (xs : List X) → drop 1 (drop i xs) ≡ drop (suc i) xs
+drop_one zero xs = refl
+drop_one (suc i) [] = refl
+drop_one (suc i) (x ∷ xs) = drop_one i xs
 
-  without_states : (n : ℕ) (path : List Action) → steps_text names width n path [] ≡ []
-  without_states n [] = refl
-  without_states n (x ∷ path) = refl
+module _ (style : Style) where
+  -- ---- the states of a specification
+
+  pub first_there : (along : List (List Process)) (i : ℕ) (us : List Process) → slice_get along i ≡ Some us → first_text style (drop i along) ≡ specification_text style.names style.width style.few us
+  first_there along i us at = rw (drop_at along i us at) refl
+
+  pub none_there : (along : List (List Process)) (i : ℕ) → slice_get along i ≡ None → first_text style (drop i along) ≡ []
+  none_there along i at = rw (drop_past along i at) refl
+
+  -- ---- the start
+
+  pub run_first : (v : Violation) (t : Process) (states : List Process) (along : List (List Process)) → slice_get states 0 ≡ Some t → run_text style v states along
+      ≡ codes "  0 start\n" ++ (state_line (cut (width_before style.width v.path) (process_text style.names t))
+      ++ (first_text style (drop 0 along) ++ (steps_text style 1 v.path states (drop 1 along) ++ end_text style.names v.evidence)))
+  run_first v t [] along at = absurd (cc at)
+  run_first v t (u ∷ states) along at = let same : Some u ≡ Some t = at in let is : u ≡ t = cc same in rw (sym is) refl
+
+  pub run_none : (v : Violation) (states : List Process) (along : List (List Process)) → slice_get states 0 ≡ None → run_text style v states along ≡ []
+  run_none v [] along at = refl
+  run_none v (t ∷ states) along at = absurd (cc at)
+
+  -- ---- steps
+
+  without_states : (n : ℕ) (path : List Action) (along : List (List Process)) → steps_text style n path [] along ≡ []
+  without_states n [] along = refl
+  without_states n (x ∷ path) along = refl
+
+  with_one : (n : ℕ) (path : List Action) (t : Process) (along : List (List Process)) → steps_text style n path (t ∷ []) along ≡ []
+  with_one n [] t along = refl
+  with_one n (x ∷ path) t along = refl
 
   -- the steps from this place on
-  abbrev pub steps_left : List Action → List Process → ℕ → List ℕ
-  steps_left path states i = steps_text names width (suc i) (drop i path) (drop i states)
+  abbrev pub steps_left : List Action → List Process → List (List Process) → ℕ → List ℕ
+  steps_left path states along i = steps_text style (suc i) (drop i path) (drop i states) (drop (suc i) along)
 
-  module _ (path : List Action) (states : List Process) (i : ℕ) where
-    pub step_left : (x : Action) (t : Process) → slice_get path i ≡ Some x → slice_get states i ≡ Some t → steps_left path states i ≡ step_text names width (i + 1) x t ++ steps_left path states (i + 1)
-    step_left x t p s = rw (add-one, drop_at path i x p, drop_at states i t s) refl
+  module _ (path : List Action) (states : List Process) (along : List (List Process)) (i : ℕ) where
+    pub step_left : (x : Action) (s t : Process) → slice_get path i ≡ Some x → slice_get states i ≡ Some s → slice_get states (i + 1) ≡ Some t →
+        steps_left path states along i
+        ≡ step_line style.names (i + 1) x ++ (behind_line style.names (width_before style.width (drop (i + 1) path)) s t ++ (beside_text style x (drop (i + 1) along) ++ steps_left path states along (i + 1)))
+    step_left x s t p before at =
+        let next : slice_get states (suc i) ≡ Some t = sym (ap (slice_get states) (add-one i)) ∙ at in
+        rw (add-one, drop_at path i x p, drop_at states i s before, drop_at states (suc i) t next, ← drop_one (suc i) along) refl
 
-    pub no_state_left : slice_get states i ≡ None → steps_left path states i ≡ []
-    no_state_left none = rw (drop_past states i none) (without_states (suc i) (drop i path))
+    pub no_state_left : slice_get states i ≡ None → steps_left path states along i ≡ []
+    no_state_left none = rw (drop_past states i none) (without_states (suc i) (drop i path) (drop (suc i) along))
 
-    pub no_step_left : length path ≤ i → steps_left path states i ≡ []
+    pub no_next_left : (s : Process) → slice_get states i ≡ Some s → slice_get states (i + 1) ≡ None → steps_left path states along i ≡ []
+    no_next_left s before none =
+        let next : slice_get states (suc i) ≡ None = sym (ap (slice_get states) (add-one i)) ∙ none in
+        rw (drop_at states i s before, drop_past states (suc i) next) (with_one (suc i) (drop i path) s (drop (suc i) along))
+
+    pub no_step_left : length path ≤ i → steps_left path states along i ≡ []
     no_step_left past = rw (drop_all i path past) refl
-
-  -- ---- both sides
-
-  module _ (few : ℕ) where
-    compared_alone : (n : ℕ) (path : List Action) (along : List (List Process)) → compared_steps names width few n path [] along ≡ []
-    compared_alone n [] along = refl
-    compared_alone n (x ∷ path) along = refl
-
-    compared_without : (n : ℕ) (path : List Action) (states : List Process) → compared_steps names width few n path states [] ≡ []
-    compared_without n [] states = refl
-    compared_without n (x ∷ path) [] = refl
-    compared_without n (x ∷ path) (t ∷ states) = refl
-
-    -- the steps from this place on
-    abbrev pub compared_left : List Action → List Process → List (List Process) → ℕ → List ℕ
-    compared_left path states along i = compared_steps names width few (suc i) (drop i path) (drop i states) (drop i along)
-
-    module _ (path : List Action) (states : List Process) (along : List (List Process)) (i : ℕ) where
-      pub compared_step : (x : Action) (t : Process) (us : List Process) → slice_get path i ≡ Some x → slice_get states i ≡ Some t → slice_get along i ≡ Some us →
-          compared_left path states along i ≡ step_text names width (i + 1) x t ++ (specification_text names width few us ++ compared_left path states along (i + 1))
-      compared_step x t us p s a = rw (add-one, drop_at path i x p, drop_at states i t s, drop_at along i us a) refl
-
-      pub no_state_compared : slice_get states i ≡ None → compared_left path states along i ≡ []
-      no_state_compared none = rw (drop_past states i none) (compared_alone (suc i) (drop i path) (drop i along))
-
-      pub nothing_beside : slice_get along i ≡ None → compared_left path states along i ≡ []
-      nothing_beside none = rw (drop_past along i none) (compared_without (suc i) (drop i path) (drop i states))
-
-      pub no_step_compared : length path ≤ i → compared_left path states along i ≡ []
-      no_step_compared past = rw (drop_all i path past) refl

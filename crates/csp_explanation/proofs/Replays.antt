@@ -1,5 +1,5 @@
 -- Replays, and what is told of them.
-use Rattle.std.proofs.Common.{◌≡◌, ℕ, suc, List, [], ◌∷◌, length, sym, ◌∙◌, ap}
+use Rattle.std.proofs.Common.{◌≡◌, suc, List, [], ◌∷◌, length, ◌∙◌, ap}
 use Rattle.csp_syntax.specs.Value.{Action}
 use Rattle.csp_syntax.specs.Process.{Process, Script}
 use Rattle.csp_semantics.specs.Meaning.Violations.{Violation}

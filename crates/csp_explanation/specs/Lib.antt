@@ -1,4 +1,5 @@
 pub mod Actions
+pub mod Changing
 pub mod Comparing
 pub mod Counterexamples
 pub mod Counterparts
@@ -10,4 +11,5 @@ pub mod Origins
 pub mod Reasons
 pub mod Samples
 pub mod Steps
+pub mod Styles
 pub mod Telling

@@ -1,30 +1,65 @@
--- The states of a path, one after each of its actions.
-use Rattle.std.specs.Prelude.{ℕ, suc, List, [], ◌∷◌, ◌++◌, codes, decimal}
-use Rattle.csp_syntax.specs.Value.{Action}
+-- The states of a path, one after each of its actions, and those of a specification beside them.
+use Rattle.std.specs.Prelude.{ℕ, suc, List, [], ◌∷◌, ◌++◌, drop, codes, decimal}
+use Rattle.csp_syntax.specs.Value.{Action, Tau, Tick, Ev}
 use Rattle.csp_syntax.specs.Process.{Process}
 use Rattle.csp_semantics.specs.Meaning.Violations.{Violation}
 use Rattle.csp_notation.specs.Names.{Names}
 use Rattle.csp_notation.specs.Processes.{process_text}
 use Rattle.csp_explanation.specs.Actions.{action_text}
-use Rattle.csp_explanation.specs.Cutting.{Width, cut}
+use Rattle.csp_explanation.specs.Changing.{change_text}
+use Rattle.csp_explanation.specs.Counterparts.{specification_text}
+use Rattle.csp_explanation.specs.Cutting.{Width, Whole, UpTo, cut, cut_after}
 use Rattle.csp_explanation.specs.Ends.{end_text}
+use Rattle.csp_explanation.specs.Styles.{Style}
 
--- a state, on a line of its own
-abbrev pub state_line : Names → Width → Process → List ℕ
-state_line names width t = codes "      " ++ (cut width (process_text names t) ++ codes "\n")
+-- ---- a state
 
--- an action, and the state that it leads to
-abbrev pub step_text : Names → Width → ℕ → Action → Process → List ℕ
-step_text names width n x t = codes "  " ++ (decimal n ++ (codes " " ++ (action_text names x ++ (codes "\n" ++ state_line names width t))))
+-- what is told of a state, on a line of its own
+abbrev pub state_line : List ℕ → List ℕ
+state_line told = codes "      " ++ (told ++ codes "\n")
 
--- the steps of a path, numbered from n
-abbrev pub steps_text : Names → Width → ℕ → List Action → List Process → List ℕ
-steps_text names width n [] states = []
-steps_text names width n (x ∷ path) [] = []
-steps_text names width n (x ∷ path) (t ∷ states) = step_text names width n x t ++ steps_text names width (suc n) path states
+-- how much is told of a state that has such a path before it: the last one is told whole
+abbrev pub width_before : Width → List Action → Width
+width_before width [] = Whole
+width_before width (x ∷ path) = width
 
--- the state at the start, the steps, and what is wrong at the end
-abbrev pub run_text : Names → Width → Violation → List Process → List ℕ
-run_text names width v [] = []
-run_text names width v (t ∷ states) =
-    codes "  0 start\n" ++ (state_line names width t ++ (steps_text names width 1 v.path states ++ end_text names v.evidence))
+-- what is told of a state behind another one: all, or of what has changed as much as is told
+abbrev pub told_behind : Width → List ℕ → List ℕ → List ℕ
+told_behind Whole old new = new
+told_behind (UpTo n) old new = cut_after n (change_text old new)
+
+-- the first of the lists of a specification's states, if there is one
+abbrev pub first_text : Style → List (List Process) → List ℕ
+first_text style [] = []
+first_text style (us ∷ along) = specification_text style.names style.width style.few us
+
+-- Behind a tau the specification is where it was, and is not told again.
+abbrev pub beside_text : Style → Action → List (List Process) → List ℕ
+beside_text style Tau along = []
+beside_text style Tick along = first_text style along
+beside_text style (Ev e) along = first_text style along
+
+-- ---- a path
+
+-- the number of a step, and its action
+abbrev pub step_line : Names → ℕ → Action → List ℕ
+step_line names n x = codes "  " ++ (decimal n ++ (codes " " ++ (action_text names x ++ codes "\n")))
+
+-- the state that a step leads to from another one
+abbrev pub behind_line : Names → Width → Process → Process → List ℕ
+behind_line names width before t = state_line (told_behind width (process_text names before) (process_text names t))
+
+-- the steps of a path, numbered from n, with the states on it, and those of the specification behind each action
+abbrev pub steps_text : Style → ℕ → List Action → List Process → List (List Process) → List ℕ
+steps_text style n [] states along = []
+steps_text style n (x ∷ path) [] along = []
+steps_text style n (x ∷ path) (before ∷ []) along = []
+steps_text style n (x ∷ path) (before ∷ t ∷ states) along =
+    step_line style.names n x ++ (behind_line style.names (width_before style.width path) before t ++ (beside_text style x along ++ steps_text style (suc n) path (t ∷ states) (drop 1 along)))
+
+-- the states at the start, the steps, and what is wrong at the end
+abbrev pub run_text : Style → Violation → List Process → List (List Process) → List ℕ
+run_text style v [] along = []
+run_text style v (t ∷ states) along =
+    codes "  0 start\n" ++ (state_line (cut (width_before style.width v.path) (process_text style.names t))
+    ++ (first_text style along ++ (steps_text style 1 v.path (t ∷ states) (drop 1 along) ++ end_text style.names v.evidence)))

@@ -14,7 +14,7 @@ ghost use Rattle.csp_explanation.specs.Comparing.{counterexample_text};
 ghost use Rattle.csp_explanation.specs.Counterexamples.{Along, Counterexample, Counterpart, IsCounterexample, ShowsLack};
 ghost use Rattle.csp_explanation.specs.Counterparts.{lack_text, specification_text};
 ghost use Rattle.csp_explanation.specs.Cutting.{Whole};
-ghost use Rattle.csp_explanation.specs.Samples.{c};
+ghost use Rattle.csp_explanation.specs.Samples.{c, told};
 
 /// Each state of a replay is reached by the path's beginning that leads up to it.
 pub fn replayed_states_are_reached()
@@ -44,5 +44,5 @@ pub fn texts_of_lacks()
 
 /// A step after which the specification cannot go on.
 pub fn texts_of_counterexamples()
-    ensures { counterexample_text names Whole 1 (record { path = c 1 ∷ []; evidence = ByEvent (c 2) }) (record { states = p ∷ Stop ∷ []; counterpart = Some (Along ((p ∷ []) ∷ (Omega ∷ p ∷ []) ∷ []) (Tick ∷ []) []) }) ≡ codes "  0 start\n      P\n      specification: P\n  1 c.1\n      STOP\n      specification: _OMEGA\n      specification: and 1 more\n  then it does c.2, and the specification cannot\n  there the specification can do no more than {tick}\n" }
+    ensures { counterexample_text told (record { path = c 1 ∷ []; evidence = ByEvent (c 2) }) (record { states = p ∷ Stop ∷ []; counterpart = Some (Along ((p ∷ []) ∷ (Omega ∷ p ∷ []) ∷ []) (Tick ∷ []) []) }) ≡ codes "  0 start\n      P\n      specification: P\n  1 c.1\n      STOP\n      specification: _OMEGA\n      specification: and 1 more\n  then it does c.2, and the specification cannot\n  there the specification can do no more than {tick}\n" }
 {}

@@ -1,5 +1,5 @@
 -- What the settings of words ask for.
-use Rattle.std.proofs.Common.{◌≡◌, ◌<◌, ◌⊎◌, ℕ, List, [], Some, codes, inl, inr, refl, arith}
+use Rattle.std.proofs.Common.{◌≡◌, ℕ, List, [], Some, codes, refl}
 use Rattle.settings.specs.CommandLine.{HasNumber}
 use Rattle.explain_settings.specs.CommandLine.{value}
 use Rattle.explain_settings.specs.Faults.{faults_of}
@@ -9,8 +9,3 @@ use Rattle.explain_program.specs.Asking.{AskForExplanation, request_of}
 pub asked : (words : List (List ℕ)) (s : Settings) → faults_of words ≡ [] → value (codes "file") words ≡ Some s.file.now → HasNumber (value (codes "max-pairs") words) s.max_pairs →
     HasNumber (value (codes "max-nodes") words) s.max_nodes → HasNumber (value (codes "width") words) s.width → HasNumber (value (codes "assertion") words) s.assertion → AskForExplanation words (request_of s)
 asked words s taken file pairs nodes width number = record { taken = taken; file = file; pairs = pairs; nodes = nodes; width = (s.width, width, refl); number = number }
-
--- of the two statuses of a text, the one below that of a refusal
-pub zero_below : (n : ℕ) → (n ≡ 0) ⊎ (n ≡ 3) → n < 3 → n ≡ 0
-zero_below n (inl zero) below = zero
-zero_below n (inr three) below = absurd (omega (arith, three, below))

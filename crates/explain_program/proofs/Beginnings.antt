@@ -1,18 +1,12 @@
 -- Scripts of files, with their names.
-use Rattle.std.proofs.Common.{◌≡◌, ◌≤◌, ℕ, List, length}
+use Rattle.std.proofs.Common.{ℕ, List}
 use Rattle.csp_syntax.specs.Process.{Script}
-use Rattle.csp_text.specs.Raw.{RawScript}
-use Rattle.csp_text.specs.Reading.{IsRead, read}
 use Rattle.csp_notation.specs.Names.{Names}
 use Rattle.csp_checking.specs.Checked.{IsCheckedText}
 use Rattle.files.specs.Beginning.{IsBeginning}
 use Rattle.program.specs.Running.{IsScriptOfFile}
-use Rattle.program.proofs.Beginnings.{whole}
+use Rattle.program.proofs.Beginnings.{short_of_read, whole}
 use Rattle.explain_program.specs.Naming.{IsNamedFile, IsNamedText}
-
--- the tokens of a text are those of a short one
-short_of_read : (bytes : List ℕ) (raw : RawScript) → IsRead bytes raw → length bytes ≤ 65536
-short_of_read bytes raw (read are parsed) = are.short
 
 -- its script, without the names
 pub checked : (bytes : List ℕ) (script : Script) (names : Names) → IsNamedText bytes script names → IsCheckedText bytes script

@@ -1,5 +1,5 @@
 -- What stops the explanations, and what went out till then.
-use Rattle.std.proofs.Common.{◌≡◌, ℕ, zero, suc, ◌+◌, ◌<◌, ◌≤◌, Bool, false, List, [], length, take, drop, refl, sym, ◌∙◌, ap, subst, inl, inr, arith}
+use Rattle.std.proofs.Common.{◌≡◌, ℕ, suc, ◌<◌, ◌≤◌, Bool, false, List, length, take, drop, refl, sym, subst, inl, inr, arith}
 use Rattle.std.specs.Prelude.{Option, Result, Ok, Err, IfOk, IfErr}
 use Rattle.std.specs.Result.{IsErr, IsErrAnd}
 use Rattle.std.proofs.lemmas.Result.{err_from_is_err_and}
@@ -12,6 +12,7 @@ use Rattle.files.specs.declared.files.Unread.TheVariants as unread
 use Rattle.report.specs.Sending.{Sends, Breaks}
 use Rattle.program.specs.Reading.{IsRefusalOf}
 use Rattle.program.specs.Refusal.{of_file}
+use Rattle.program.specs.Running.{IsCause}
 use Rattle.program.specs.declared.refusal.Refusal.{Refusal}
 use Rattle.program.specs.declared.refusal.Refusal.TheVariants as refusal
 use Rattle.explain_program.specs.Asking.{Request, chosen, first_number, one_at}
@@ -116,7 +117,12 @@ untouched may_hold request bytes (refusal.Kinds f p) taken has_failed out is = r
 untouched may_hold request bytes refusal.Memory taken has_failed out is = inl refl
 untouched may_hold request bytes refusal.Output taken has_failed out is = absurd is
 
--- and so does a file that is not read
+-- a file that is not read has its cause
+pub unread_cause : (may_hold : List ℕ → List ℕ → Type 0) (may_lack : List ℕ → Type 0) (name : List ℕ) (fault : Unread) → (fault ≡ unread.File → may_lack name) → IsCause may_hold may_lack name (of_file fault)
+unread_cause may_hold may_lack name unread.File lacks = lacks refl
+unread_cause may_hold may_lack name unread.Memory lacks = tt
+
+-- and it leaves the output as it was
 pub unread_leaves : {S : Type 0} (may_hold : List ℕ → List ℕ → Type 0) (request : Request) (fault : Unread) (taken : S → Option (List ℕ)) (has_failed : S → Bool) (out : S) →
     Leaves may_hold request (stop.Refused (of_file fault)) taken has_failed out out
 unread_leaves may_hold request unread.File taken has_failed out = refl

@@ -1,28 +1,28 @@
 -- Explanations that are told one behind the other.
-use Rattle.std.proofs.Common.{◌≡◌, ℕ, zero, suc, ◌+◌, ◌<◌, ◌≤◌, max, Bool, false, List, [], ◌∷◌, ◌++◌, length, take, drop, refl, sym, ◌∙◌, ap, subst, append-nil, append_assoc, arith}
+use Rattle.std.proofs.Common.{◌≡◌, ℕ, zero, suc, ◌+◌, ◌<◌, ◌≤◌, max, Bool, false, List, [], ◌∷◌, ◌++◌, length, take, refl, ◌∙◌, ap, subst, append_assoc, arith}
 use Rattle.std.specs.Prelude.{Option}
 use Rattle.std.specs.List.{AllZip}
-use Rattle.std.proofs.lemmas.List.{length-take-le, take_all}
+use Rattle.std.proofs.lemmas.List.{length-take-le}
 use Rattle.csp_syntax.specs.Process.{Script, Assertion}
 use Rattle.csp_answers.specs.Outcome.{Outcome}
 use Rattle.csp_notation.specs.Names.{Names}
-use Rattle.csp_explanation.specs.Cutting.{Width}
-use Rattle.csp_explanation.specs.Telling.{IsTold, Tells}
+use Rattle.csp_explanation.specs.Styles.{Style}
+use Rattle.csp_explanation.specs.Telling.{Tells}
 use Rattle.explore.specs.Answering.{IsRightAsWritten}
 use Rattle.report.specs.Sending.{Sends, Breaks}
 use Rattle.report.proofs.Sending.{appends_nothing, both, later}
-use Rattle.program.specs.Running.{outcome_status, status_of}
-use Rattle.explain_program.specs.Asking.{Request, one_at}
+use Rattle.program.specs.Running.{status_of}
+use Rattle.explain_program.specs.Asking.{Request, one_at, style_for}
 use Rattle.explain_program.specs.Giving.{AreTold, GoesOut}
 
 -- ---- lists of them
 
-module _ (names : Names) (width : Width) (script : Script) where
+module _ (style : Style) (script : Script) where
   tells_both : (n m : ℕ) (asked others : List Assertion) (os ps : List Outcome) (text more : List ℕ) → m ≡ n + length asked →
-      Tells names width script n asked os text → Tells names width script m others ps more → Tells names width script n (asked ++ others) (os ++ ps) (text ++ more)
+      Tells style script n asked os text → Tells style script m others ps more → Tells style script n (asked ++ others) (os ++ ps) (text ++ more)
   tells_both n m [] others [] ps text more at none told =
       let here : m ≡ n = omega (arith, at) in
-      rw none (subst (λ k. Tells names width script k others ps more) here told)
+      rw none (subst (λ k. Tells style script k others ps more) here told)
   tells_both n m [] others (p ∷ os) ps text more at none told = absurd none
   tells_both n m (b ∷ asked) others [] ps text more at none told = absurd none
   tells_both n m (b ∷ asked) others (p ∷ os) ps text more at tells told =
@@ -60,7 +60,7 @@ both_told request script names place P Q R within first second joined =
     let long : length asked ≡ place = length-take-le place script.assertions within in
     let at : suc place ≡ 1 + length asked = omega (arith, long) in
     let right = zip_both (λ a o. IsRightAsWritten script a request.bounds o) asked one first.outcomes second.outcomes first.right second.right in
-    let told = tells_both names request.width script 1 (suc place) asked one first.outcomes second.outcomes first.text second.text at first.told second.told in
+    let told = tells_both (style_for request names) script 1 (suc place) asked one first.outcomes second.outcomes first.text second.text at first.told second.told in
     record {
       outcomes = first.outcomes ++ second.outcomes;
       text = first.text ++ second.text;

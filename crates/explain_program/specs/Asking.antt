@@ -1,7 +1,9 @@
 -- What the words ask for.
 use Rattle.std.specs.Prelude.{◌≡◌, ◌⊎◌, ℕ, zero, suc, List, [], Some, codes, take, drop}
 use Rattle.csp_answers.specs.Outcome.{Bounds}
+use Rattle.csp_notation.specs.Names.{Names}
 use Rattle.csp_explanation.specs.Cutting.{Width, Whole, UpTo}
+use Rattle.csp_explanation.specs.Styles.{Style}
 use Rattle.settings.specs.CommandLine.{HasNumber}
 use Rattle.explain_settings.specs.CommandLine.{value}
 use Rattle.explain_settings.specs.Faults.{AskForHelp, AskForVersion, faults_of}
@@ -21,6 +23,10 @@ bounds_asked settings = record { max_pairs = settings.max_pairs; max_nodes = set
 abbrev pub width_of_number : ℕ → Width
 width_of_number zero = Whole
 width_of_number (suc n) = UpTo (suc n)
+
+-- How assertions are told by names: three states of a specification at a time, of which there may be as many as its nodes.
+abbrev pub style_for : Request → Names → Style
+style_for request names = record { names = names; width = request.width; few = 3; most = request.bounds.max_nodes }
 
 -- what the settings ask for
 abbrev pub request_of : Settings → Request

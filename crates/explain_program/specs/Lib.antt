@@ -2,4 +2,5 @@ pub mod Asking
 pub mod Explaining
 pub mod Giving
 pub mod Naming
+pub mod Refusals
 pub mod Running

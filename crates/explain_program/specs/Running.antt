@@ -1,5 +1,6 @@
 -- What a run of the program prints and answers.
 use Rattle.std.specs.Prelude.{◌≡◌, ◌⊎◌, ℕ, Bool, List, Option, codes}
+use Rattle.files.specs.Beginning.{IsBeginning}
 use Rattle.report.specs.Sending.{Sends, Breaks}
 use Rattle.explain_settings.specs.Faults.{AreWrong}
 use Rattle.program.specs.Refusal.{refusal_line}
@@ -8,6 +9,7 @@ use Rattle.program.specs.declared.refusal.Refusal.{Refusal}
 use Rattle.program.specs.declared.refusal.Refusal.TheVariants as refusal
 use Rattle.explain_program.specs.Asking.{Request, AskForExplanation, AskForText}
 use Rattle.explain_program.specs.Explaining.{IsBegun, IsExplained, LacksAssertion}
+use Rattle.explain_program.specs.Refusals.{TellsRefusal}
 use Rattle.explain_program.specs.declared.untold.Untold.{Untold}
 use Rattle.explain_program.specs.declared.untold.Untold.TheVariants as untold
 use Rattle.explain_program.specs.declared.stop.Stop.{Stop}
@@ -40,12 +42,17 @@ Leaves may_hold request (stop.Refused refusal.Output) taken failed old new = IsB
 Leaves may_hold request (stop.Refused refusal.Memory) taken failed old new = (new ≡ old) ⊎ IsBegun may_hold request (Sends (taken old) (taken new) (failed new))
 Leaves may_hold request _ taken failed old new = new ≡ old
 
--- A request is not met, with the cause: its line was given to the one sink, and the other is left so.
+-- What is told of what stops a run: its line, or of a text that is refused the message on what is read of the file.
+pub data TellsStop (may_hold : List ℕ → List ℕ → Type 0) (name : List ℕ) (why : Stop) (old new : Option (List ℕ)) (failed : Bool) : Type 0 where
+  by_line : IsGiven old new failed (stop_line why) → TellsStop may_hold name why old new failed
+  of_text : (refused : Refusal) (bytes : List ℕ) → why ≡ stop.Refused refused → IsBeginning (may_hold name) bytes → TellsRefusal name bytes refused old new failed → TellsStop may_hold name why old new failed
+
+-- A request is not met, with the cause, which the one sink is told, and the other is left so.
 pub record IsStopped {S : Type 0} (may_hold : List ℕ → List ℕ → Type 0) (may_lack : List ℕ → Type 0) (request : Request) (taken : S → Option (List ℕ)) (has_failed : S → Bool) (old new : S) (told_old told_new : Option (List ℕ)) (failed : Bool) : Type 0 where
   pub why : Stop
   pub cause : IsStopCause may_hold may_lack request why
   pub output : Leaves may_hold request why taken has_failed old new
-  pub line : IsGiven told_old told_new failed (stop_line why)
+  pub told : TellsStop may_hold request.name why told_old told_new failed
 
 -- A run is refused: its words are wrong, and the command line's own text was given to the error output; memory was
 -- refused for the words; the text that they ask for was cut off; or what they ask for is stopped.

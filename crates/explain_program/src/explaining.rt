@@ -1,45 +1,29 @@
-//! The explanations of the assertions of a file.
+//! The explanations of the assertions of a script.
 
 ghost use Rattle.std.specs.Prelude.{◌≡◌, ◌≤◌, ◌<◌, length, suc, false, IfOk, IfErr};
 ghost use Rattle.csp_term.specs.Script.{script_of};
 ghost use Rattle.csp_print.specs.Names.{names_of};
-ghost use Rattle.explanation.specs.Widths.{width_of};
-ghost use Rattle.explain_program.specs.Asking.{one_at, request_of, width_of_number};
-ghost use Rattle.explain_program.specs.Explaining.{IsExplained, StopsBy, TellsAll};
+ghost use Rattle.counterexample_text.specs.Styles.{style_of};
+ghost use Rattle.counterexample_text.specs.Widths.{width_of};
+ghost use Rattle.explain_program.specs.Asking.{one_at, request_of, style_for, width_of_number};
+ghost use Rattle.explain_program.specs.Explaining.{StopsBy, TellsAll};
 ghost use Rattle.explain_program.specs.Giving.{AreTold, GoesOut, LeavesText};
-ghost use Rattle.explain_program.specs.Running.{IsStopCause, Leaves};
 
 use crate::answering::{answer, outcome_status};
-use crate::reader::{NamedScript, read};
+use crate::reader::NamedScript;
 use crate::stop::Stop;
 use crate::untold::Untold;
+use counterexample_text::{Style, Width};
+use csp_print::Names;
 use csp_term::AllocHandle;
 use explain_settings::Settings;
-use explanation::{Style, Width, tell};
-use files::Files;
+use explanation::tell;
 use report::{Sink, push_all};
 use std::sync::Wait;
 use std::thread::Threads;
 
-/// Reads the file that the settings name, and explains the assertions that they ask for. The status is at most 2.
-pub(crate) fn explain_file<
-    A: AllocHandle + Send + Sync,
-    R: Threads + Wait + Sync,
-    F: Files<A>,
-    O: Sink,
->(alloc: A, rt: &R, settings: &Settings<'_>, files: &mut F, out: &mut O) -> Result<u8, Stop>
-    requires { O.has_failed out.old ≡ false }
-    ensures explained { IfOk result (λ status. (status ≤ 2) × IsExplained (F.may_hold files.old) (request_of settings.now) (O.taken out.old) (O.taken out.new) (O.has_failed out.new) status) }
-    ensures cause { IfErr result (IsStopCause (F.may_hold files.old) (F.may_lack files.old) (request_of settings.now)) }
-    ensures left { IfErr result (λ why. Leaves (F.may_hold files.old) (request_of settings.now) why O.taken O.has_failed out.old out.new) }
-{
-    let text = files.read(settings.file)?;
-    let named = read(alloc, &text)?;
-    explain_script(alloc, rt, settings, &named, out)
-}
-
-// Explains the assertions of the script that the settings ask for.
-fn explain_script<A: AllocHandle + Send + Sync, R: Threads + Wait + Sync, O: Sink>(
+/// Explains the assertions of the script that the settings ask for. The status is at most 2.
+pub(crate) fn explain_script<A: AllocHandle + Send + Sync, R: Threads + Wait + Sync, O: Sink>(
     alloc: A,
     rt: &R,
     settings: &Settings<'_>,
@@ -100,14 +84,30 @@ fn explain_one<A: AllocHandle + Send + Sync, R: Threads + Wait + Sync, O: Sink>(
     let assertions = named.script.assertions();
     let assertion = &assertions[place];
     let outcome = answer(alloc, rt, settings, &named.script, assertion);
-    let style = Style {
-        names: &named.names,
-        width: width(settings.width),
-    };
+    let style = style(settings, &named.names);
     let text = tell(alloc, &style, &named.script, place + 1, assertion, &outcome)?;
     match push_all(text.as_str().as_bytes(), out) {
         Ok(()) => Ok(outcome_status(&outcome)),
         Err(_) => Err(Untold::Output),
+    }
+}
+
+// How many states of a specification are told at a time.
+const FEW: usize = 3;
+
+// A specification with a normal form within the limits has no more states after a trace than they allow, so that they are
+// told.
+fn style<'n, 't, A: AllocHandle>(
+    settings: &Settings<'_>,
+    names: &'n Names<'t, A>,
+) -> Style<'n, 't, A>
+    ensures { style_of result ≡ style_for (request_of settings.now) (names_of names.now) }
+{
+    Style {
+        names,
+        width: width(settings.width),
+        few: FEW,
+        most: settings.max_nodes,
     }
 }
 

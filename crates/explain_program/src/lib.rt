@@ -1,17 +1,18 @@
 //! The program `explain`, over the words, files and streams that are handed in.
 //!
 //! The contract of `run` says that the explanations of right outcomes went out, one for each assertion that the words ask
-//! for, and the status is that of the outcomes; or the status is 3 and the line of a refusal went to the error stream,
-//! with its cause. Each explanation goes out as soon as its assertion is answered. So where memory is refused later, or
-//! the output fails, the explanations before stand there, and of the last one a beginning may.
+//! for, and the status is that of the outcomes; or the status is 3 and a refusal went to the error stream, with its cause:
+//! that of a script in words, with its place and line, and any other as a line. Each explanation goes out as soon as its
+//! assertion is answered. So where memory is refused later, or the output fails, the explanations before stand there, and
+//! of the last one a beginning may.
 #![tactic(auto)]
 
 mod answering;
 mod explaining;
 mod reader;
+mod refusals;
 mod running;
 mod stop;
-mod text;
 mod untold;
 
 pub use reader::{NamedScript, read};

@@ -6,13 +6,14 @@ ghost use Rattle.explain_program.specs.Asking.{request_of};
 ghost use Rattle.explain_program.specs.Running.{IsRefused, IsServed, IsStopped};
 ghost use Rattle.explain_program.specs.Explaining.{IsExplained};
 
-use crate::explaining::explain_file;
+use crate::explaining::explain_script;
+use crate::reader::read;
+use crate::refusals::refuse_text;
 use crate::stop::report_stop;
-use crate::text::{refuse_words, show};
 use csp_term::AllocHandle;
 use explain_settings::Settings;
 use files::Files;
-use program::{Refusal, refuse};
+use program::{Refusal, refuse, refuse_words, show};
 use report::Sink;
 use settings::CommandLineFault;
 use std::alloc::Global;
@@ -20,8 +21,8 @@ use std::sync::Wait;
 use std::thread::Threads;
 
 /// The whole program: answers the assertions that the words ask for, of the script in the file that they name and within
-/// the limits that they choose, and gives to `out` what is told of each as soon as it is answered; or gives the line of a
-/// refusal to `err`. Where the words ask for the help or the version, this text goes to `out`.
+/// the limits that they choose, and gives to `out` what is told of each as soon as it is answered; or tells `err` what is
+/// refused, of a script in words. Where the words ask for the help or the version, this text goes to `out`.
 ///
 /// Answers the status: 3 where anything was refused, else 2 where an assertion has no answer within the limits, else 1
 /// where one fails, else 0. The words are looked at first, then the file, the script, the number of the assertion, and
@@ -75,7 +76,15 @@ fn explain<A: AllocHandle + Send + Sync, R: Threads + Wait + Sync, F: Files<A>, 
     ensures silent { result < 3 → err.new ≡ err.old }
     ensures stopped { result ≡ 3 → IsStopped (F.may_hold files.old) (F.may_lack files.old) (request_of settings.now) O.taken O.has_failed out.old out.new (E.taken err.old) (E.taken err.new) (E.has_failed err.new) }
 {
-    match explain_file(alloc, rt, settings, files, out) {
+    let text = match files.read(settings.file) {
+        Ok(text) => text,
+        Err(fault) => return refuse(Refusal::from(fault), err),
+    };
+    let named = match read(alloc, &text) {
+        Ok(named) => named,
+        Err(why) => return refuse_text(alloc, settings.file, &text, why, err),
+    };
+    match explain_script(alloc, rt, settings, &named, out) {
         Ok(status) => status,
         Err(why) => report_stop(why, err),
     }

@@ -5,9 +5,8 @@ ghost use Rattle.program.specs.Running.{IsGiven};
 ghost use Rattle.explain_program.specs.Running.{stop_line};
 
 use crate::untold::Untold;
-use files::Unread;
-use program::{Refusal, refuse};
-use report::{Sink, push_all};
+use program::{Refusal, refuse, refuse_words};
+use report::Sink;
 
 /// Why a request is not met.
 #[derive(Clone, Copy, Debug, PartialEq, Eq)]
@@ -26,31 +25,7 @@ pub(crate) fn report_stop<E: Sink>(why: Stop, err: &mut E) -> u8
 {
     match why {
         Stop::Refused(why) => refuse(why, err),
-        Stop::NoAssertion => {
-            let _ = push_all(b"refused assertion\n", err);
-            3
-        }
-    }
-}
-
-impl From<Refusal> for Stop {
-    ghost use Rattle.explain_program.specs.declared.stop.Stop.TheVariants.{Refused as refused};
-
-    ghost from_gives = { λ why stop. stop ≡ refused why };
-
-    fn from(why: Refusal) -> Stop {
-        Stop::Refused(why)
-    }
-}
-
-impl From<Unread> for Stop {
-    ghost use Rattle.program.specs.Refusal.{of_file};
-    ghost use Rattle.explain_program.specs.declared.stop.Stop.TheVariants.{Refused as refused};
-
-    ghost from_gives = { λ fault stop. stop ≡ refused (of_file fault) };
-
-    fn from(fault: Unread) -> Stop {
-        Stop::Refused(Refusal::from(fault))
+        Stop::NoAssertion => refuse_words("refused assertion\n", err),
     }
 }
 

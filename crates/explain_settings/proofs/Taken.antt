@@ -161,7 +161,7 @@ module _ (c : Command) (m : ArgMatches) (words : List Text) (is : app_of c ≡ c
   nodes = number_text 2 (codes "max-nodes") 1 100000 (omega arith) refl refl (codes "10000", refl, refl, refl, refl, refl)
 
   pub width : (t : Text) × IsNumberText (codes "width") 0 1000000 t
-  width = number_text 3 (codes "width") 0 1000000 (omega arith) refl refl (codes "100", refl, refl, refl, refl, refl)
+  width = number_text 3 (codes "width") 0 1000000 (omega arith) refl refl (codes "200", refl, refl, refl, refl, refl)
 
   pub assertion : (t : Text) × IsNumberText (codes "assertion") 0 1000000 t
   assertion = number_text 5 (codes "assertion") 0 1000000 (omega arith) refl refl (codes "0", refl, refl, refl, refl, refl)

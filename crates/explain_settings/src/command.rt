@@ -26,8 +26,8 @@ pub(crate) fn command_line<'a>(alloc: Global) -> Result<Command<'a>, AllocError>
     let nodes = option(alloc, "max-nodes", "10000", MAX_NODES).help(
         "The most nodes of a specification, 1 to 100000",
     );
-    let width = count(alloc, "width", "100", MOST).long("width").help(
-        "The most characters of a state that are told, or 0 for all",
+    let width = count(alloc, "width", "200", MOST).long("width").help(
+        "The most characters that are told of a state, or 0 for all of it",
     );
     let file = file(alloc);
     let assertion = count(alloc, "assertion", "0", MOST).help(

@@ -1,5 +1,12 @@
 //! The texts of `--help` and `--version`.
 
+ghost use Rattle.std.specs.Prelude.{◌≡◌, ◌++◌, IfOk};
+ghost use Rattle.std.specs.String.{string_bytes};
+ghost use Rattle.explain_settings.specs.Help.{refusals};
+
+use diagnostics::refusal_list;
+use std::alloc::{AllocError, Allocator};
+
 /// What `--version` shows behind the program's name.
 pub(crate) const VERSION: &str = "0.1.0";
 
@@ -7,10 +14,12 @@ pub(crate) const VERSION: &str = "0.1.0";
 pub(crate) const ABOUT: &str =
     "Checks the assertions of a CSP script as refcheck does, and tells why";
 
-/// What each status means, and an example.
+/// What is told, what each status means, and an example.
 pub(crate) const STATUS: &str = "\
-For an assertion that fails it tells each step of the path: its number, what is seen of it, and the
-state of the implementation behind it; and at the end what is wrong there.
+For an assertion that fails it tells each step of the path: its number, what is seen of it, and what
+has changed in the state of the implementation, the last of which is told whole. At the start and
+behind each step that is seen stand states of the specification; and at the end what is wrong
+there, and what the specification has.
 
 Status, as refcheck's:
   0  every assertion holds
@@ -20,3 +29,16 @@ Status, as refcheck's:
 
 Example:
   explain --width 0 protocol.csp 3";
+
+/// The text with a line for each refusal of a script behind it.
+pub(crate) fn with_refusals<A: Allocator + Copy>(
+    alloc: A,
+    text: &str,
+) -> Result<String<A>, AllocError>
+    ensures { IfOk result (λ all. string_bytes all ≡ text.now ++ refusals) }
+{
+    let list = refusal_list(alloc)?;
+    format!(in alloc;
+        "{text}\nRefusals of a script, each told with its place, the line there and what may be meant:\n{list}"
+    )
+}

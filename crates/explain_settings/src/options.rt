@@ -2,11 +2,14 @@
 
 ghost use Rattle.std.specs.Prelude.{◌≡◌, ◌≤◌, Some, [], IfOk, IfErr, codes};
 ghost use Rattle.clap.specs.Walk.{texts};
+ghost use Rattle.clap.specs.Words.{kind_of};
 ghost use Rattle.settings.specs.CommandLine.{HasNumber};
+ghost use Rattle.settings.specs.Faults.{IsAnswerOf};
 ghost use Rattle.explain_settings.specs.CommandLine.{value};
 ghost use Rattle.explain_settings.specs.Faults.{IsFaultOf, faults_of};
 
 use crate::command::command_line;
+use crate::help::with_refusals;
 use settings::{CommandLineFault, number};
 use std::alloc::Global;
 
@@ -47,7 +50,7 @@ pub fn read<'a>(alloc: Global, words: &'a [&'a str]) -> Result<Settings<'a>, Com
 {
     let matches = match command_line(alloc)?.try_get_matches_from(words) {
         Ok(matches) => matches,
-        Err(error) => return Err(CommandLineFault::of(alloc, &error)),
+        Err(error) => return Err(fault(alloc, &error)),
     };
     Ok(Settings {
         workers: number(&matches, "workers"),
@@ -57,4 +60,17 @@ pub fn read<'a>(alloc: Global, words: &'a [&'a str]) -> Result<Settings<'a>, Com
         file: matches.get_str("file").unwrap(),
         assertion: number(&matches, "assertion"),
     })
+}
+
+// What the command line answers in place of matches. The help has the refusals of a script behind it.
+fn fault(alloc: Global, error: &clap::Error) -> CommandLineFault
+    ensures { IsAnswerOf (kind_of error.now) result }
+{
+    match CommandLineFault::of(alloc, error) {
+        CommandLineFault::Help(text) => match with_refusals(alloc, &text) {
+            Ok(text) => CommandLineFault::Help(text),
+            Err(_) => CommandLineFault::Memory,
+        },
+        other => other,
+    }
 }

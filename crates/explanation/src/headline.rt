@@ -10,7 +10,7 @@ ghost use Rattle.csp_explanation.specs.Headline as told;
 ghost use Rattle.csp_print.specs.Names.{names_of};
 ghost use Rattle.csp_print.specs.Writing.{Writes};
 
-use crate::marks::{push_mark, push_number};
+use counterexample_text::{push_mark, push_number};
 use csp_print::{Names, push_term};
 use csp_term::{AllocHandle, Assertion, Model, Property, Term};
 use std::alloc::AllocError;

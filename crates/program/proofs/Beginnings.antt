@@ -21,7 +21,7 @@ whole {held} bytes begins short =
     subst held (sym (begins.is ∙ take_all 65537 begins.text few)) begins.held
 
 -- the tokens of a text are those of a short one
-short_of_read : (bytes : List ℕ) (raw : RawScript) → IsRead bytes raw → length bytes ≤ 65536
+pub short_of_read : (bytes : List ℕ) (raw : RawScript) → IsRead bytes raw → length bytes ≤ 65536
 short_of_read bytes raw (read are parsed) = are.short
 
 -- a script that is read is that of the file

@@ -13,4 +13,4 @@ mod running;
 
 pub use reader::read;
 pub use refusal::Refusal;
-pub use running::{refuse, run};
+pub use running::{refuse, refuse_words, run, show};

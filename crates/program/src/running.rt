@@ -74,8 +74,8 @@ pub fn refuse<E: Sink>(why: Refusal, err: &mut E) -> u8
     3
 }
 
-// Gives what the command line says of wrong words to `err`, and answers the status of a refusal.
-fn refuse_words<E: Sink>(text: &str, err: &mut E) -> u8
+/// Gives a text that says what is refused to `err`, and answers the status of a refusal.
+pub fn refuse_words<E: Sink>(text: &str, err: &mut E) -> u8
     requires { E.has_failed err.old ≡ false }
     ensures status { result ≡ 3 }
     ensures text { IsGiven (E.taken err.old) (E.taken err.new) (E.has_failed err.new) text.now }
@@ -84,8 +84,8 @@ fn refuse_words<E: Sink>(text: &str, err: &mut E) -> u8
     3
 }
 
-// Gives a text that the words ask for to `out`.
-fn show<O: Sink, E: Sink>(text: &str, out: &mut O, err: &mut E) -> u8
+/// Gives a text that the words ask for to `out`. Answers 0, or where `out` fails the status of that refusal.
+pub fn show<O: Sink, E: Sink>(text: &str, out: &mut O, err: &mut E) -> u8
     requires out { O.has_failed out.old ≡ false }
     requires err { E.has_failed err.old ≡ false }
     ensures status { (result ≡ 0) ⊎ (result ≡ 3) }

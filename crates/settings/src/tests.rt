@@ -103,6 +103,11 @@ const HELPS: &[&str] = &[
     "[default: 10000]",
     "unknown pairs",
     "unknown nodes",
+    "Lines, each with the number of its assertion:\n",
+    "L01 to L05: at line 3, column 5 the text gives no token\n",
+    "S01 to S04:",
+    "K01 to K06:",
+    "`explain FILE 2`",
     "Status:",
     "Example:\n  refcheck --max-pairs 1000000 protocol.csp\n",
 ];

@@ -1,5 +1,6 @@
 //! Command lines of `explain`, with what they ask of it or why they are refused.
 
+use crate::refusals::LIST;
 use explain_settings::read;
 use settings::CommandLineFault;
 use std::test::Fail;
@@ -9,9 +10,9 @@ type Asked = (usize, usize, usize, usize, &'static str, usize);
 
 /// Words, and what they ask for.
 static TAKEN: [(&[&str], Asked); 13] = [
-    (&["a.csp"], (1, 100_000, 10_000, 100, "a.csp", 0)),
-    (&["a.csp", "3"], (1, 100_000, 10_000, 100, "a.csp", 3)),
-    (&["a.csp", "0"], (1, 100_000, 10_000, 100, "a.csp", 0)),
+    (&["a.csp"], (1, 100_000, 10_000, 200, "a.csp", 0)),
+    (&["a.csp", "3"], (1, 100_000, 10_000, 200, "a.csp", 3)),
+    (&["a.csp", "0"], (1, 100_000, 10_000, 200, "a.csp", 0)),
     (
         &["--width", "0", "a.csp"],
         (1, 100_000, 10_000, 0, "a.csp", 0),
@@ -26,22 +27,22 @@ static TAKEN: [(&[&str], Asked); 13] = [
     ),
     (
         &["--workers", "64", "a.csp"],
-        (64, 100_000, 10_000, 100, "a.csp", 0),
+        (64, 100_000, 10_000, 200, "a.csp", 0),
     ),
-    (&["--max-pairs=1", "a.csp"], (1, 1, 10_000, 100, "a.csp", 0)),
+    (&["--max-pairs=1", "a.csp"], (1, 1, 10_000, 200, "a.csp", 0)),
     (
         &["--max-nodes", "100000", "a.csp"],
-        (1, 100_000, 100_000, 100, "a.csp", 0),
+        (1, 100_000, 100_000, 200, "a.csp", 0),
     ),
     (
         &["a.csp", "1000000"],
-        (1, 100_000, 10_000, 100, "a.csp", 1_000_000),
+        (1, 100_000, 10_000, 200, "a.csp", 1_000_000),
     ),
     (
         &["--", "--width", "7"],
-        (1, 100_000, 10_000, 100, "--width", 7),
+        (1, 100_000, 10_000, 200, "--width", 7),
     ),
-    (&["12", "34"], (1, 100_000, 10_000, 100, "12", 34)),
+    (&["12", "34"], (1, 100_000, 10_000, 200, "12", 34)),
     (
         &[
             "--workers=2",
@@ -152,6 +153,10 @@ fn help_and_version_are_asked_for(rt: HostRuntime) -> Result<(), Fail> {
     match read(rt.alloc(), &["-h", "a.csp"]) {
         Err(CommandLineFault::Help(text)) => {
             assert!(rt; text.starts_with("Checks the assertions of a CSP script as refcheck does"));
+            let refusals = format!(in rt.alloc();
+                "Example:\n  explain --width 0 protocol.csp 3\n\nRefusals of a script, each told with its place, the line there and what may be meant:\n{LIST}"
+            )?;
+            assert!(rt; text.ends_with(refusals.as_str()), "{text}");
         }
         _ => return Err(Fail::new("no help")),
     }

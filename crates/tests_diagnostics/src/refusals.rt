@@ -3,7 +3,8 @@
 use diagnostics::{Fault, refusal_list};
 use std::test::Fail;
 
-const LIST: &str = r"  L01  no token begins with this character
+/// The list of refusals.
+pub(crate) const LIST: &str = r"  L01  no token begins with this character
   L02  this comment has no end
   L03  a number is at most 2147483647
   L04  the text is not UTF-8 from here on

@@ -1,14 +1,19 @@
 //! What is told and refused.
 
 use crate::asked::asked_for;
+use crate::cache::CACHE;
 use crate::command_lines::{refused, wrong_words};
 use crate::dropping::DROPPING;
+use crate::election::ELECTION;
 use crate::interlocking::INTERLOCKING;
+use crate::lossy_line::LOSSY_LINE;
+use crate::monitor::MONITOR;
 use crate::replica::REPLICA;
 use crate::rows::Row;
 use crate::runs::run_on;
 use crate::small::small_scripts;
 use crate::turns::TURNS;
+use crate::unknowns::unknowns;
 use std::alloc::Global;
 use std::process::Abort;
 use std::sync::Wait;
@@ -39,11 +44,32 @@ fn small_scripts_are_told_so(rt: HostRuntime) -> Result<(), Fail> {
 }
 
 #[test]
-fn examples_are_told_so(rt: HostRuntime) -> Result<(), Fail> {
-    for row in &[DROPPING, INTERLOCKING, REPLICA, TURNS] {
+fn unknowns_are_told_so(rt: HostRuntime) -> Result<(), Fail> {
+    for row in unknowns() {
         is_told(&rt, rt.alloc(), row)?;
     }
     Ok(())
+}
+
+#[test]
+fn examples_are_told_so(rt: HostRuntime) -> Result<(), Fail> {
+    for row in &[DROPPING, ELECTION, INTERLOCKING, REPLICA, TURNS] {
+        is_told(&rt, rt.alloc(), row)?;
+    }
+    Ok(())
+}
+
+#[test]
+fn larger_examples_are_told_so(rt: HostRuntime) -> Result<(), Fail> {
+    for row in &[CACHE, LOSSY_LINE] {
+        is_told(&rt, rt.alloc(), row)?;
+    }
+    Ok(())
+}
+
+#[test]
+fn monitor_is_told_so(rt: HostRuntime) -> Result<(), Fail> {
+    is_told(&rt, rt.alloc(), &MONITOR)
 }
 
 #[test]

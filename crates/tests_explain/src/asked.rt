@@ -2,7 +2,7 @@
 
 use crate::rows::Row;
 
-static ASKED: [Row; 4] = [
+static ASKED: [Row; 6] = [
     // The status is that of the one assertion.
     Row {
         words: &["script", "2"],
@@ -12,7 +12,9 @@ static ASKED: [Row; 4] = [
 2 fails  assert STOP [T= a -> STOP
   0 start
       a -> STOP
+      specification: STOP
   then it does a, and the specification cannot
+  there the specification can do no more than {}
 ",
     },
     Row {
@@ -21,27 +23,72 @@ static ASKED: [Row; 4] = [
         text: "channel a\nassert STOP [T= STOP\nassert STOP [T= a -> STOP\n",
         told: "1 holds  assert STOP [T= STOP\n",
     },
-    // Of nine characters five are told, or all.
+    // Of fourteen characters five are told, or nine, and of the last state all.
     Row {
         words: &["--width=5", "script"],
         status: 1,
-        text: "channel a\nassert STOP [T= a -> STOP\n",
+        text: "channel a\nassert a -> STOP [T= a -> a -> STOP\n",
         told: "\
-1 fails  assert STOP [T= a -> STOP
+1 fails  assert a -> STOP [T= a -> a -> STOP
   0 start
-      a ->  .. 4 more characters
+      a ->  .. 9 more characters
+      specification: a ->  .. 4 more characters
+  1 a
+      a -> STOP
+      specification: STOP
   then it does a, and the specification cannot
+  there the specification can do no more than {}
 ",
     },
     Row {
         words: &["--width=9", "script"],
         status: 1,
-        text: "channel a\nassert STOP [T= a -> STOP\n",
+        text: "channel a\nassert a -> STOP [T= a -> a -> STOP\n",
         told: "\
-1 fails  assert STOP [T= a -> STOP
+1 fails  assert a -> STOP [T= a -> a -> STOP
   0 start
+      a -> a -> .. 5 more characters
+      specification: a -> STOP
+  1 a
       a -> STOP
+      specification: STOP
   then it does a, and the specification cannot
+  there the specification can do no more than {}
+",
+    },
+    // What has changed is cut, and told whole where all is asked for.
+    Row {
+        words: &["--width=12", "script"],
+        status: 1,
+        text: "channel a, b, c\nassert a -> b -> c -> STOP [| {a, b, c} |] a -> b -> c -> STOP :[deadlock free]\n",
+        told: "\
+1 fails  assert a -> b -> c -> STOP [| {a, b, c} |] a -> b -> c -> STOP :[deadlock free]
+  0 start
+      a -> b -> c  .. 43 more characters
+  1 a
+      b -> c -> ST .. 28 more characters
+  2 b
+      c -> STOP [| .. 23 more characters
+  3 c
+      STOP [| {a, b, c} |] STOP
+  then it can do nothing
+",
+    },
+    Row {
+        words: &["--width=0", "script"],
+        status: 1,
+        text: "channel a, b, c\nassert a -> b -> c -> STOP [| {a, b, c} |] a -> b -> c -> STOP :[deadlock free]\n",
+        told: "\
+1 fails  assert a -> b -> c -> STOP [| {a, b, c} |] a -> b -> c -> STOP :[deadlock free]
+  0 start
+      a -> b -> c -> STOP [| {a, b, c} |] a -> b -> c -> STOP
+  1 a
+      b -> c -> STOP [| {a, b, c} |] b -> c -> STOP
+  2 b
+      c -> STOP [| {a, b, c} |] c -> STOP
+  3 c
+      STOP [| {a, b, c} |] STOP
+  then it can do nothing
 ",
     },
 ];

@@ -1,21 +1,25 @@
 //! Command lines that are refused, and what is said of them. The file `script` is the only one.
 
-/// Words, the text of the file, and the line of the refusal.
+/// Words, the text of the file, and what is told of the refusal.
 pub(crate) type Refused = (&'static [&'static str], &'static str, &'static str);
 
 const ONE: &str = "channel a\nassert STOP [T= a -> STOP\n";
 
-static REFUSED: [Refused; 7] = [
+static REFUSED: [Refused; 6] = [
     (&["script", "2"], ONE, "refused assertion\n"),
     (&["script", "1"], "", "refused assertion\n"),
     (&["script", "1000000"], ONE, "refused assertion\n"),
     (&["other"], ONE, "refused file\n"),
     (&["other", "2"], ONE, "refused file\n"),
-    (&["script"], "channel", "refused S03 at 1:8\n"),
     (
         &["script", "2"],
-        "assert STOP [T= P",
-        "refused K01 at 1:17\n",
+        "channel",
+        r"script:1:8: S03: the text ends within a declaration
+    channel
+           ^
+note: the last token is the `channel` at 1:1
+help: where something is missing before it, look back: the declaration above may lack a `)`, an `else`, or a process
+",
     ),
 ];
 

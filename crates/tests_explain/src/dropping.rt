@@ -4,7 +4,7 @@ use crate::rows::Row;
 
 /// The assertion that shows the fault.
 pub(crate) const DROPPING: Row = Row {
-    words: &["--width=0", "script", "1"],
+    words: &["script", "1"],
     status: 1,
     text: r"-- A buffer of two places made of a queue in front of a cell. The faulty queue takes an item also where it is full,
 -- and drops the oldest one.
@@ -38,18 +38,25 @@ assert BUFFER(<>) [F= MENDED
     told: r"1 fails  assert BUFFER(<>) [T= FAULTY
   0 start
       FAULTY
+      specification: BUFFER(<>)
+      specification: #<> < 2 & put?x -> BUFFER(<> ^ <x>) [] #<> > 0 & get!head(<>) -> BUFFER(tail(<>))
   1 tau
       (DROPPING(<>) [| {|pass|} |] CELL) \ {|pass|}
   2 tau
-      ((#<> < 1 & put?x -> DROPPING(<> ^ <x>) [] #<> > 0 & pass!head(<>) -> DROPPING(tail(<>)) [] #<> == 1 & put?x -> DROPPING(tail(<>) ^ <x>)) [| {|pass|} |] CELL) \ {|pass|}
+      ((#<> < 1 & put?x -> DROPPING(<> ^ <x>) [] #<> > 0 & pass!head(<>) -> DROPPING(tail(<>)) [] #<> == 1 & put?x -> DROPPING(tail(<>) ^ <x>)) [| {|pass|} |] ..
   3 put.0
-      (DROPPING(<> ^ <0>) [| {|pass|} |] CELL) \ {|pass|}
+      (DROPPING(<> ^ <0>) [| {|pass|} |] ..
+      specification: BUFFER(<> ^ <0>)
+      specification: #<0> < 2 & put?x -> BUFFER(<0> ^ <x>) [] #<0> > 0 & get!head(<0>) -> BUFFER(tail(<0>))
   4 tau
-      ((#<0> < 1 & put?x -> DROPPING(<0> ^ <x>) [] #<0> > 0 & pass!head(<0>) -> DROPPING(tail(<0>)) [] #<0> == 1 & put?x -> DROPPING(tail(<0>) ^ <x>)) [| {|pass|} |] CELL) \ {|pass|}
+      ((#<0> < 1 & put?x -> DROPPING(<0> ^ <x>) [] #<0> > 0 & pass!head(<0>) -> DROPPING(tail(<0>)) [] #<0> == 1 & put?x -> DROPPING(tail(<0>) ^ <x>)) [| {|pass|} |] ..
   5 put.0
-      (DROPPING(tail(<0>) ^ <0>) [| {|pass|} |] CELL) \ {|pass|}
+      (DROPPING(tail(<0>) ^ <0>) [| {|pass|} |] ..
+      specification: BUFFER(<0> ^ <0>)
+      specification: #<0,0> < 2 & put?x -> BUFFER(<0,0> ^ <x>) [] #<0,0> > 0 & get!head(<0,0>) -> BUFFER(tail(<0,0>))
   6 tau
       ((#<0> < 1 & put?x -> DROPPING(<0> ^ <x>) [] #<0> > 0 & pass!head(<0>) -> DROPPING(tail(<0>)) [] #<0> == 1 & put?x -> DROPPING(tail(<0>) ^ <x>)) [| {|pass|} |] CELL) \ {|pass|}
   then it does put.0, and the specification cannot
+  there the specification can do no more than {get.0}
 ",
 };

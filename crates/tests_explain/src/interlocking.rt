@@ -4,7 +4,7 @@ use crate::rows::Row;
 
 /// The assertion that shows the fault.
 pub(crate) const INTERLOCKING: Row = Row {
-    words: &["--width=0", "script", "1"],
+    words: &["script", "1"],
     status: 1,
     text: r"-- Two points lead trains into one section of track. A signal shows green only where the section is free and the
 -- other signal is red. The faulty interlocking looks at the section alone.
@@ -52,34 +52,36 @@ assert STOP [T= MENDED
     told: r"1 fails  assert STOP [T= FAULTY
   0 start
       FAULTY
+      specification: STOP
   1 tau
       ((TRAINS [| {|green, red, pass, clear|} |] CARELESS(false,false,0)) [| {|pass, clear|} |] TRACK) \ {|green, red, pass, clear|}
   2 tau
-      ((TRAINS [| {|green, red, pass, clear|} |] CARELESS(false,false,0)) [| {|pass, clear|} |] (([] i:Side @ pass!i -> TAKEN) [] ([] i:Side @ clear!i -> TRACK))) \ {|green, red, pass, clear|}
+      .. {|pass, clear|} |] (([] i:Side @ pass!i -> TAKEN) [] ([] i:Side @ clear!i -> TRACK))) \ {|green, red, ..
   3 tau
-      ((TRAINS [| {|green, red, pass, clear|} |] (0 == 0 & green!0 -> CARELESS(true,false,0) [] 0 == 0 & green!1 -> CARELESS(false,true,0) [] red!0 -> CARELESS(false,false,0) [] red!1 -> CARELESS(false,false,0) [] ([] i:Side @ pass!i -> CARELESS(false,false,0 + 1)) [] ([] i:Side @ 0 > 0 & clear!i -> CARELESS(false,false,0 - 1)))) [| {|pass, clear|} |] (([] i:Side @ pass!i -> TAKEN) [] ([] i:Side @ clear!i -> TRACK))) \ {|green, red, pass, clear|}
+      .. pass, clear|} |] (0 == 0 & green!0 -> CARELESS(true,false,0) [] 0 == 0 & green!1 -> CARELESS(false,true,0) [] red!0 -> CARELESS(false,false,0) [] red!1 -> CARELESS(false,false,0) [] ([] i:Side @ pa .. 124 more characters
   4 tau
-      (((TRAIN(0) ||| TRAIN(1)) [| {|green, red, pass, clear|} |] (0 == 0 & green!0 -> CARELESS(true,false,0) [] 0 == 0 & green!1 -> CARELESS(false,true,0) [] red!0 -> CARELESS(false,false,0) [] red!1 -> CARELESS(false,false,0) [] ([] i:Side @ pass!i -> CARELESS(false,false,0 + 1)) [] ([] i:Side @ 0 > 0 & clear!i -> CARELESS(false,false,0 - 1)))) [| {|pass, clear|} |] (([] i:Side @ pass!i -> TAKEN) [] ([] i:Side @ clear!i -> TRACK))) \ {|green, red, pass, clear|}
+      (((TRAIN(0) ||| TRAIN(1)) [| {|green, red, ..
   5 tau
-      (((TRAIN(0) ||| green!1 -> pass!1 -> red!1 -> clear!1 -> TRAIN(1)) [| {|green, red, pass, clear|} |] (0 == 0 & green!0 -> CARELESS(true,false,0) [] 0 == 0 & green!1 -> CARELESS(false,true,0) [] red!0 -> CARELESS(false,false,0) [] red!1 -> CARELESS(false,false,0) [] ([] i:Side @ pass!i -> CARELESS(false,false,0 + 1)) [] ([] i:Side @ 0 > 0 & clear!i -> CARELESS(false,false,0 - 1)))) [| {|pass, clear|} |] (([] i:Side @ pass!i -> TAKEN) [] ([] i:Side @ clear!i -> TRACK))) \ {|green, red, pass, clear|}
+      (((TRAIN(0) ||| green!1 -> pass!1 -> red!1 -> clear!1 -> TRAIN(1)) [| {|green, ..
   6 tau
-      (((TRAIN(0) ||| pass!1 -> red!1 -> clear!1 -> TRAIN(1)) [| {|green, red, pass, clear|} |] CARELESS(false,true,0)) [| {|pass, clear|} |] (([] i:Side @ pass!i -> TAKEN) [] ([] i:Side @ clear!i -> TRACK))) \ {|green, red, pass, clear|}
+      (((TRAIN(0) ||| pass!1 -> red!1 -> clear!1 -> TRAIN(1)) [| {|green, red, pass, clear|} |] CARELESS(false,true,0)) [| {|pass, clear|} ..
   7 tau
-      (((TRAIN(0) ||| pass!1 -> red!1 -> clear!1 -> TRAIN(1)) [| {|green, red, pass, clear|} |] (0 == 0 & green!0 -> CARELESS(true,true,0) [] 0 == 0 & green!1 -> CARELESS(false,true,0) [] red!0 -> CARELESS(false,true,0) [] red!1 -> CARELESS(false,false,0) [] ([] i:Side @ pass!i -> CARELESS(false,true,0 + 1)) [] ([] i:Side @ 0 > 0 & clear!i -> CARELESS(false,true,0 - 1)))) [| {|pass, clear|} |] (([] i:Side @ pass!i -> TAKEN) [] ([] i:Side @ clear!i -> TRACK))) \ {|green, red, pass, clear|}
+      .. pass, clear|} |] (0 == 0 & green!0 -> CARELESS(true,true,0) [] 0 == 0 & green!1 -> CARELESS(false,true,0) [] red!0 -> CARELESS(false,true,0) [] red!1 -> CARELESS(false,false,0) [] ([] i:Side @ pass .. 120 more characters
   8 tau
-      (((green!0 -> pass!0 -> red!0 -> clear!0 -> TRAIN(0) ||| pass!1 -> red!1 -> clear!1 -> TRAIN(1)) [| {|green, red, pass, clear|} |] (0 == 0 & green!0 -> CARELESS(true,true,0) [] 0 == 0 & green!1 -> CARELESS(false,true,0) [] red!0 -> CARELESS(false,true,0) [] red!1 -> CARELESS(false,false,0) [] ([] i:Side @ pass!i -> CARELESS(false,true,0 + 1)) [] ([] i:Side @ 0 > 0 & clear!i -> CARELESS(false,true,0 - 1)))) [| {|pass, clear|} |] (([] i:Side @ pass!i -> TAKEN) [] ([] i:Side @ clear!i -> TRACK))) \ {|green, red, pass, clear|}
+      (((green!0 -> pass!0 -> red!0 -> clear!0 -> TRAIN(0) ||| pass!1 -> ..
   9 tau
-      (((pass!0 -> red!0 -> clear!0 -> TRAIN(0) ||| pass!1 -> red!1 -> clear!1 -> TRAIN(1)) [| {|green, red, pass, clear|} |] CARELESS(true,true,0)) [| {|pass, clear|} |] (([] i:Side @ pass!i -> TAKEN) [] ([] i:Side @ clear!i -> TRACK))) \ {|green, red, pass, clear|}
+      (((pass!0 -> red!0 -> clear!0 -> TRAIN(0) ||| pass!1 -> red!1 -> clear!1 -> TRAIN(1)) [| {|green, red, pass, clear|} |] CARELESS(true,true,0)) [| {|pass, clear|} ..
   10 tau
-      (((pass!0 -> red!0 -> clear!0 -> TRAIN(0) ||| pass!1 -> red!1 -> clear!1 -> TRAIN(1)) [| {|green, red, pass, clear|} |] (0 == 0 & green!0 -> CARELESS(true,true,0) [] 0 == 0 & green!1 -> CARELESS(true,true,0) [] red!0 -> CARELESS(false,true,0) [] red!1 -> CARELESS(true,false,0) [] ([] i:Side @ pass!i -> CARELESS(true,true,0 + 1)) [] ([] i:Side @ 0 > 0 & clear!i -> CARELESS(true,true,0 - 1)))) [| {|pass, clear|} |] (([] i:Side @ pass!i -> TAKEN) [] ([] i:Side @ clear!i -> TRACK))) \ {|green, red, pass, clear|}
+      .. pass, clear|} |] (0 == 0 & green!0 -> CARELESS(true,true,0) [] 0 == 0 & green!1 -> CARELESS(true,true,0) [] red!0 -> CARELESS(false,true,0) [] red!1 -> CARELESS(true,false,0) [] ([] i:Side @ pass!i .. 116 more characters
   11 tau
-      (((red!0 -> clear!0 -> TRAIN(0) ||| pass!1 -> red!1 -> clear!1 -> TRAIN(1)) [| {|green, red, pass, clear|} |] CARELESS(true,true,0 + 1)) [| {|pass, clear|} |] TAKEN) \ {|green, red, pass, clear|}
+      (((red!0 -> clear!0 -> TRAIN(0) ||| pass!1 -> red!1 -> clear!1 -> TRAIN(1)) [| {|green, red, pass, clear|} |] CARELESS(true,true,0 + 1)) [| {|pass, clear|} |] TAKEN) \ {|green, red, ..
   12 tau
-      (((red!0 -> clear!0 -> TRAIN(0) ||| pass!1 -> red!1 -> clear!1 -> TRAIN(1)) [| {|green, red, pass, clear|} |] CARELESS(true,true,0 + 1)) [| {|pass, clear|} |] (([] i:Side @ clear!i -> TRACK) [] ([] i:Side @ pass!i -> crash -> STOP))) \ {|green, red, pass, clear|}
+      .. {|pass, clear|} |] (([] i:Side @ clear!i -> TRACK) [] ([] i:Side @ pass!i -> crash -> STOP))) \ {|green, red, ..
   13 tau
-      (((red!0 -> clear!0 -> TRAIN(0) ||| pass!1 -> red!1 -> clear!1 -> TRAIN(1)) [| {|green, red, pass, clear|} |] (1 == 0 & green!0 -> CARELESS(true,true,1) [] 1 == 0 & green!1 -> CARELESS(true,true,1) [] red!0 -> CARELESS(false,true,1) [] red!1 -> CARELESS(true,false,1) [] ([] i:Side @ pass!i -> CARELESS(true,true,1 + 1)) [] ([] i:Side @ 1 > 0 & clear!i -> CARELESS(true,true,1 - 1)))) [| {|pass, clear|} |] (([] i:Side @ clear!i -> TRACK) [] ([] i:Side @ pass!i -> crash -> STOP))) \ {|green, red, pass, clear|}
+      .. pass, clear|} |] (1 == 0 & green!0 -> CARELESS(true,true,1) [] 1 == 0 & green!1 -> CARELESS(true,true,1) [] red!0 -> CARELESS(false,true,1) [] red!1 -> CARELESS(true,false,1) [] ([] i:Side @ pass!i .. 116 more characters
   14 tau
       (((red!0 -> clear!0 -> TRAIN(0) ||| red!1 -> clear!1 -> TRAIN(1)) [| {|green, red, pass, clear|} |] CARELESS(true,true,1 + 1)) [| {|pass, clear|} |] crash -> STOP) \ {|green, red, pass, clear|}
   then it does crash, and the specification cannot
+  there the specification can do no more than {}
 ",
 };

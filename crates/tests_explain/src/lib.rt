@@ -9,17 +9,27 @@ mod answers;
 #[cfg(test)]
 mod asked;
 #[cfg(test)]
+mod cache;
+#[cfg(test)]
 mod command_lines;
 #[cfg(test)]
 mod dropping;
+#[cfg(test)]
+mod election;
 #[cfg(test)]
 mod full;
 #[cfg(test)]
 mod interlocking;
 #[cfg(test)]
+mod lossy_line;
+#[cfg(test)]
 mod memory;
 #[cfg(test)]
+mod monitor;
+#[cfg(test)]
 mod outputs;
+#[cfg(test)]
+mod refusals;
 #[cfg(test)]
 mod replica;
 #[cfg(test)]
@@ -30,3 +40,5 @@ mod runs;
 mod small;
 #[cfg(test)]
 mod turns;
+#[cfg(test)]
+mod unknowns;

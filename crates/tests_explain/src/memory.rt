@@ -18,7 +18,9 @@ const FAILS: &str = "\
 2 fails  assert STOP [T= a -> STOP
   0 start
       a -> STOP
+      specification: STOP
   then it does a, and the specification cannot
+  there the specification can do no more than {}
 ";
 
 const SECOND_UNKNOWN: &str = "2 unknown  assert STOP [T= a -> STOP\n  memory was refused\n";
@@ -48,12 +50,17 @@ fn is_whole(told: &Told) -> bool {
     told.status == 1 && told.err.is_empty() && is_joined(&told.out, HOLDS, FAILS)
 }
 
-// What a run tells where the request of that number is refused, and whether it was made.
-fn told_without<R: Threads + Wait + Sync>(alloc: Global, rt: &R, request: u64) -> (Told, bool) {
+// What a run on the text tells where the request of that number is refused, and whether it was made.
+fn told_without<R: Threads + Wait + Sync>(
+    alloc: Global,
+    rt: &R,
+    text: &str,
+    request: u64,
+) -> (Told, bool) {
     let memory = RefusesOnce::new(alloc, request);
     let mut files = OneText {
         name: "script",
-        text: TEXT.as_bytes(),
+        text: text.as_bytes(),
         alloc: &memory,
     };
     let told = run_in(alloc, &memory, rt, &["script"], &mut files);
@@ -65,7 +72,7 @@ fn told_without<R: Threads + Wait + Sync>(alloc: Global, rt: &R, request: u64) -
 fn refused_memory_leaves_what_was_told(rt: HostRuntime) -> Result<(), Fail> {
     let (mut without, mut broken) = (0u32, 0u32);
     for request in 0..100_000 {
-        let (told, refused) = told_without(rt.alloc(), &rt, request);
+        let (told, refused) = told_without(rt.alloc(), &rt, TEXT, request);
         if !refused {
             assert!(rt;
                 is_whole(&told) && without > 4 && broken > 4,
@@ -79,6 +86,40 @@ fn refused_memory_leaves_what_was_told(rt: HostRuntime) -> Result<(), Fail> {
             without = without.saturating_add(1);
         } else {
             assert!(rt; is_whole(&told), "without {request}");
+        }
+    }
+    assert!(rt; false, "no end");
+    Ok(())
+}
+
+const REFUSED: &str = "channel a, a\n";
+
+const IN_WORDS: &str = r"script:1:12: K02: this name is declared already
+    channel a, a
+               ^
+note: `a` is the channel declared at 1:9, with 0 fields
+help: datatypes, constructors, nametypes, channels and equations share one space of names, a bound name is none of them, and a head names each parameter once: rename one of the two
+";
+
+// Where there is no memory for the words, the refusal has its line.
+#[test]
+fn a_refusal_without_memory_is_told_by_its_line(rt: HostRuntime) -> Result<(), Fail> {
+    let (mut unread, mut lines) = (0u32, 0u32);
+    for request in 0..100_000 {
+        let (told, refused) = told_without(rt.alloc(), &rt, REFUSED, request);
+        if !refused {
+            assert!(rt;
+                told.is(3, "", IN_WORDS) && unread > 4 && lines > 4,
+                "before {request}"
+            );
+            return Ok(());
+        }
+        if told.is(3, "", "refused memory\n") {
+            unread = unread.saturating_add(1);
+        } else if told.is(3, "", "refused K02 at 1:12\n") {
+            lines = lines.saturating_add(1);
+        } else {
+            assert!(rt; told.is(3, "", IN_WORDS), "without {request}");
         }
     }
     assert!(rt; false, "no end");

@@ -17,7 +17,9 @@ const TOLD: &str = "\
 2 fails  assert STOP [T= a -> STOP
   0 start
       a -> STOP
+      specification: STOP
   then it does a, and the specification cannot
+  there the specification can do no more than {}
 ";
 
 // Whether the run is refused since the output fails, as the error output says.

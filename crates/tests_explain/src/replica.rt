@@ -4,7 +4,7 @@ use crate::rows::Row;
 
 /// The assertion that shows the fault.
 pub(crate) const REPLICA: Row = Row {
-    words: &["--width=0", "script", "1"],
+    words: &["script", "1"],
     status: 1,
     text: r"-- A word that is kept by two replicas. A write goes to the first one, which tells the second and answers the client
 -- when that has confirmed. The faulty one answers before.
@@ -38,16 +38,23 @@ assert STORE(0) [T= MENDED
     told: r"1 fails  assert STORE(0) [T= FAULTY
   0 start
       FAULTY
+      specification: STORE(0)
+      specification: read!0 -> STORE(0) [] write?w -> CHANGING(0,w)
   1 tau
       (HASTY [| {|copy, confirm|} |] SECOND(0)) \ {|copy, confirm|}
   2 tau
-      (HASTY [| {|copy, confirm|} |] (copy?w -> confirm -> SECOND(w) [] read!0 -> SECOND(0))) \ {|copy, confirm|}
+      .. {|copy, confirm|} |] (copy?w -> confirm -> SECOND(w) [] read!0 -> SECOND(0))) \ {|copy, confirm|}
   3 tau
-      (write?v -> written -> copy!v -> confirm -> HASTY [| {|copy, confirm|} |] (copy?w -> confirm -> SECOND(w) [] read!0 -> SECOND(0))) \ {|copy, confirm|}
+      (write?v -> written -> copy!v -> confirm -> HASTY [| {|copy, confirm|} ..
   4 write.1
-      (written -> copy!1 -> confirm -> HASTY [| {|copy, confirm|} |] (copy?w -> confirm -> SECOND(w) [] read!0 -> SECOND(0))) \ {|copy, confirm|}
+      (written -> copy!1 -> confirm -> ..
+      specification: CHANGING(0,1)
+      specification: read?x:{0,1} -> CHANGING(0,1) [] written -> STORE(1)
   5 written
       (copy!1 -> confirm -> HASTY [| {|copy, confirm|} |] (copy?w -> confirm -> SECOND(w) [] read!0 -> SECOND(0))) \ {|copy, confirm|}
+      specification: STORE(1)
+      specification: read!1 -> STORE(1) [] write?w -> CHANGING(1,w)
   then it does read.0, and the specification cannot
+  there the specification can do no more than {write.0,write.1,read.1}
 ",
 };

@@ -2,7 +2,7 @@
 
 use crate::rows::Row;
 
-static SMALL: [Row; 14] = [
+static SMALL: [Row; 13] = [
     Row {
         words: &["script"],
         status: 0,
@@ -23,7 +23,9 @@ static SMALL: [Row; 14] = [
 1 fails  assert STOP [T= a -> STOP
   0 start
       a -> STOP
+      specification: STOP
   then it does a, and the specification cannot
+  there the specification can do no more than {}
 ",
     },
     Row {
@@ -34,7 +36,9 @@ static SMALL: [Row; 14] = [
 1 fails  assert a -> STOP [T= SKIP
   0 start
       SKIP
+      specification: a -> STOP
   then it does tick, and the specification cannot
+  there the specification can do no more than {a}
 ",
     },
     // A call unfolds by a tau.
@@ -73,9 +77,11 @@ static SMALL: [Row; 14] = [
 1 fails  assert a -> STOP [] b -> STOP [F= a -> STOP |~| b -> STOP
   0 start
       a -> STOP |~| b -> STOP
+      specification: a -> STOP [] b -> STOP
   1 tau
       a -> STOP
   then it may refuse all but {a}, and the specification may not
+  there the specification may offer {a,b}, of which {b} is lacking
 ",
     },
     Row {
@@ -86,9 +92,11 @@ static SMALL: [Row; 14] = [
 1 fails  assert a -> STOP [] b -> STOP [] SKIP [F= (a -> STOP [] b -> STOP) |~| SKIP
   0 start
       (a -> STOP [] b -> STOP) |~| SKIP
+      specification: a -> STOP [] b -> STOP [] SKIP
   1 tau
       a -> STOP [] b -> STOP
   then it may refuse all but {a,b}, and the specification may not
+  there the specification may offer {tick}, of which {tick} is lacking
 ",
     },
     // An event with its fields. Its target is the body, where the value stands for the name.
@@ -100,7 +108,9 @@ static SMALL: [Row; 14] = [
 1 fails  assert c!A!true -> STOP [T= c!A?x -> c!(B.1)!x -> STOP
   0 start
       c!A?x -> c!(B.1)!x -> STOP
+      specification: c!A!true -> STOP
   then it does c.A.false, and the specification cannot
+  there the specification can do no more than {c.A.true}
 ",
     },
     Row {
@@ -111,9 +121,50 @@ static SMALL: [Row; 14] = [
 1 fails  assert c?x -> STOP [T= c?y -> c!y -> STOP
   0 start
       c?y -> c!y -> STOP
+      specification: c?x -> STOP
   1 c.0
       c!0 -> STOP
+      specification: STOP
   then it does c.0, and the specification cannot
+  there the specification can do no more than {}
+",
+    },
+    // Three of five states of the specification.
+    Row {
+        words: &["script"],
+        status: 1,
+        text: "channel a, b, c\nassert a -> STOP |~| (b -> STOP |~| c -> STOP) [T= a -> a -> STOP\n",
+        told: "\
+1 fails  assert a -> STOP |~| (b -> STOP |~| c -> STOP) [T= a -> a -> STOP
+  0 start
+      a -> a -> STOP
+      specification: a -> STOP |~| (b -> STOP |~| c -> STOP)
+      specification: a -> STOP
+      specification: b -> STOP |~| c -> STOP
+      specification: and 2 more
+  1 a
+      a -> STOP
+      specification: STOP
+  then it does a, and the specification cannot
+  there the specification can do no more than {}
+",
+    },
+    // The last five words after `a` are as before; the nearest three of them are told. The last state is told whole.
+    Row {
+        words: &["script"],
+        status: 1,
+        text: "channel a, b, c\nassert a -> b -> c -> STOP [| {a, b, c} |] a -> b -> c -> STOP :[deadlock free]\n",
+        told: "\
+1 fails  assert a -> b -> c -> STOP [| {a, b, c} |] a -> b -> c -> STOP :[deadlock free]
+  0 start
+      a -> b -> c -> STOP [| {a, b, c} |] a -> b -> c -> STOP
+  1 a
+      b -> c -> STOP [| {a, b, c} |] b -> c ..
+  2 b
+      c -> STOP [| {a, b, c} |] c -> STOP
+  3 c
+      STOP [| {a, b, c} |] STOP
+  then it can do nothing
 ",
     },
     Row {
@@ -124,34 +175,6 @@ static SMALL: [Row; 14] = [
 1 fails  assert not a -> STOP [T= STOP
   without `not` it holds
 2 holds  assert not STOP [T= a -> STOP
-",
-    },
-    Row {
-        words: &["script"],
-        status: 2,
-        text: "channel c : {0..1}\nassert STOP [T= c!2 -> STOP\n",
-        told: "\
-1 unknown  assert STOP [T= c!2 -> STOP
-  a side comes to a value that lies outside of the set of its field
-",
-    },
-    Row {
-        words: &["--max-pairs", "1", "script"],
-        status: 2,
-        text: "channel a, b, c\nR = a -> R\nassert R [T= a -> STOP\n",
-        told: "\
-1 unknown  assert R [T= a -> STOP
-  more pairs are reachable, of a node of the specification and a process of the implementation, than --max-pairs allows
-",
-    },
-    Row {
-        words: &["--max-nodes", "10", "script"],
-        status: 2,
-        text: "channel a\nP(n) = a -> P(n+1)\nassert P(0) [T= P(0)\nassert STOP [T= STOP\n",
-        told: "\
-1 unknown  assert P(0) [T= P(0)
-  the specification has more nodes, or more states in one of them, than --max-nodes allows
-2 holds  assert STOP [T= STOP
 ",
     },
 ];

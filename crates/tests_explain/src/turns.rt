@@ -52,31 +52,31 @@ assert MENDED :[deadlock free]
   0 start
       FAULTY
   1 tau
-      ((POLITE(0) ||| POLITE(1)) [| {|raise, lower, flag, give, turn|} |] VARIABLES) \ {|raise, lower, fla .. 15 more characters
+      ((POLITE(0) ||| POLITE(1)) [| {|raise, lower, flag, give, turn|} |] VARIABLES) \ {|raise, lower, flag, give, turn|}
   2 tau
-      ((POLITE(0) ||| POLITE(1)) [| {|raise, lower, flag, give, turn|} |] (FLAG(0,false) ||| (FLAG(1,false .. 53 more characters
+      .. give, turn|} |] (FLAG(0,false) ||| (FLAG(1,false) ||| TURN(0)))) \ {|raise, lower, ..
   3 tau
-      ((POLITE(0) ||| POLITE(1)) [| {|raise, lower, flag, give, turn|} |] (FLAG(0,false) ||| (FLAG(1,false .. 114 more characters
+      .. ||| (FLAG(1,false) ||| (([] i:Id @ give!i?u -> TURN(u)) [] ([] i:Id @ turn!i!0 -> TURN(0)))))) \ {|raise, lower, ..
   4 tau
-      ((POLITE(0) ||| POLITE(1)) [| {|raise, lower, flag, give, turn|} |] (FLAG(0,false) ||| ((raise!1 ->  .. 195 more characters
+      .. |] (FLAG(0,false) ||| ((raise!1 -> FLAG(1,true) [] lower!1 -> FLAG(1,false) [] flag!(1 - 1)!1!false -> FLAG(1,false)) ||| (([] i:Id ..
   5 tau
-      ((POLITE(0) ||| POLITE(1)) [| {|raise, lower, flag, give, turn|} |] ((raise!0 -> FLAG(0,true) [] low .. 276 more characters
+      .. give, turn|} |] ((raise!0 -> FLAG(0,true) [] lower!0 -> FLAG(0,false) [] flag!(1 - 0)!0!false -> FLAG(0,false)) ||| ((raise!1 -> ..
   6 tau
-      ((POLITE(0) ||| raise!1 -> PATIENT(1)) [| {|raise, lower, flag, give, turn|} |] ((raise!0 -> FLAG(0, .. 288 more characters
+      ((POLITE(0) ||| raise!1 -> PATIENT(1)) [| {|raise, lower, ..
   7 tau
-      ((POLITE(0) ||| PATIENT(1)) [| {|raise, lower, flag, give, turn|} |] ((raise!0 -> FLAG(0,true) [] lo .. 195 more characters
+      ((POLITE(0) ||| PATIENT(1)) [| {|raise, lower, flag, give, turn|} |] ((raise!0 -> FLAG(0,true) [] lower!0 -> FLAG(0,false) [] flag!(1 - 0)!0!false -> FLAG(0,false)) ||| (FLAG(1,true) ||| (([] i:Id ..
   8 tau
-      ((POLITE(0) ||| PATIENT(1)) [| {|raise, lower, flag, give, turn|} |] ((raise!0 -> FLAG(0,true) [] lo .. 275 more characters
+      .. -> FLAG(0,false)) ||| ((raise!1 -> FLAG(1,true) [] lower!1 -> FLAG(1,false) [] flag!(1 - 1)!1!true -> FLAG(1,true)) ||| (([] i:Id ..
   9 tau
-      ((POLITE(0) ||| flag!1!(1 - 1)!false -> enter!1 -> leave!1 -> lower!1 -> POLITE(1)) [| {|raise, lowe .. 331 more characters
+      ((POLITE(0) ||| flag!1!(1 - 1)!false -> enter!1 -> leave!1 -> lower!1 -> POLITE(1)) [| {|raise, lower, ..
   10 tau
-      ((raise!0 -> PATIENT(0) ||| flag!1!(1 - 1)!false -> enter!1 -> leave!1 -> lower!1 -> POLITE(1)) [| { .. 343 more characters
+      ((raise!0 -> PATIENT(0) ||| flag!1!(1 - ..
   11 tau
-      ((PATIENT(0) ||| flag!1!(1 - 1)!false -> enter!1 -> leave!1 -> lower!1 -> POLITE(1)) [| {|raise, low .. 250 more characters
+      ((PATIENT(0) ||| flag!1!(1 - 1)!false -> enter!1 -> leave!1 -> lower!1 -> POLITE(1)) [| {|raise, lower, flag, give, turn|} |] (FLAG(0,true) ||| ((raise!1 -> ..
   12 tau
-      ((PATIENT(0) ||| flag!1!(1 - 1)!false -> enter!1 -> leave!1 -> lower!1 -> POLITE(1)) [| {|raise, low .. 330 more characters
+      .. give, turn|} |] ((raise!0 -> FLAG(0,true) [] lower!0 -> FLAG(0,false) [] flag!(1 - 0)!0!true -> FLAG(0,true)) ||| ((raise!1 -> ..
   13 tau
-      ((flag!0!(1 - 0)!false -> enter!0 -> leave!0 -> lower!0 -> POLITE(0) ||| flag!1!(1 - 1)!false -> ent .. 386 more characters
+      ((flag!0!(1 - 0)!false -> enter!0 -> leave!0 -> lower!0 -> POLITE(0) ||| flag!1!(1 - 1)!false -> enter!1 -> leave!1 -> lower!1 -> POLITE(1)) [| {|raise, lower, flag, give, turn|} |] ((raise!0 -> FLAG(0,true) [] lower!0 -> FLAG(0,false) [] flag!(1 - 0)!0!true -> FLAG(0,true)) ||| ((raise!1 -> FLAG(1,true) [] lower!1 -> FLAG(1,false) [] flag!(1 - 1)!1!true -> FLAG(1,true)) ||| (([] i:Id @ give!i?u -> TURN(u)) [] ([] i:Id @ turn!i!0 -> TURN(0)))))) \ {|raise, lower, flag, give, turn|}
   then it can do nothing
 ",
 };

@@ -5,21 +5,18 @@ use Rattle.csp_term.specs.Term.{process_of}
 use Rattle.csp_term.specs.declared.term.Term.{Term}
 use Rattle.verdict.specs.Outcome.{violation_of}
 use Rattle.csp_explanation.specs.Comparing.{text_beside}
-use Rattle.csp_print.specs.Names.{names_of}
 use Rattle.csp_print.proofs.Writing.{alike}
 use Rattle.counterexample.specs.Counterexample.{counterpart_of}
 use Rattle.counterexample.specs.declared.counterparts.Counterpart.{Counterpart}
-use Rattle.counterexample_text.specs.Widths.{width_of}
+use Rattle.counterexample_text.specs.Styles.{style_of}
 use Rattle.counterexample_text.proofs.counterexamples.push_counterexample.Goals as goal
 
 pub returns-in-Some : goal.returns-in-Some
 returns-in-Some g c =
-    let names = names_of c.args.style.now.names.now in
-    let width = width_of c.args.style.now.width in
-    let few = c.args.style.now.few in
+    let style = style_of c.args.style.now in
     let v = violation_of c.args.shown.now in
     let states = c.args.counterexample.now.states.items in
     let same =
-    ap (λ (ts : List (Term g.row.A.Denot)). text_beside names width few v (map process_of ts) (Some (counterpart_of c.in-Some.counterpart))) c.deref.ensures.value
-    ∙ ap (λ (k : Option (Counterpart g.row.A.Denot)). text_beside names width few v (map process_of states) (option_map counterpart_of k)) (sym c.in-Some.is) in
+    ap (λ (ts : List (Term g.row.A.Denot)). text_beside style v (map process_of ts) (Some (counterpart_of c.in-Some.counterpart))) c.deref.ensures.value
+    ∙ ap (λ (k : Option (Counterpart g.row.A.Denot)). text_beside style v (map process_of states) (option_map counterpart_of k)) (sym c.in-Some.is) in
     alike c.push_beside.result (string_bytes c.args.text.now) (string_bytes c.push_beside.new.text) _ _ same c.push_beside.ensures

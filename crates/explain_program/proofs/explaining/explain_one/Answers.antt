@@ -1,11 +1,10 @@
 -- The assertion at the place is answered and told.
 use denote.Param.Send.{sendable}
-use Rattle.std.proofs.Common.{◌≡◌, ◌<◌, ◌≤◌, ℕ, suc, ◌+◌, List, [], ◌∷◌, length, map, get_or, sym, ap, subst, ◌∙◌, arith, inl, inr, lit<}
+use Rattle.std.proofs.Common.{◌≡◌, ◌<◌, ℕ, suc, ◌+◌, List, [], ◌∷◌, length, sym, ap, subst, ◌∙◌, arith, inl, inr, lit<}
 use Rattle.std.proofs.lemmas.List.{length-map}
 use Rattle.std.specs.String.{string_bytes}
 use Rattle.csp_syntax.specs.Process as pure
-use Rattle.csp_answers.specs.Terms.{IsAssertionOf}
-use Rattle.csp_explanation.specs.Cutting.{Width}
+use Rattle.csp_explanation.specs.Styles.{Style}
 use Rattle.csp_explanation.specs.Telling.{IsTold}
 use Rattle.csp_term.specs.Script.{HasSidesOf, assertion_of, script_of}
 use Rattle.csp_print.specs.Names.{names_of}
@@ -14,7 +13,7 @@ use Rattle.verdict.specs.Outcome.{outcome_of}
 use Rattle.program.specs.Running.{outcome_status}
 use Rattle.program.proofs.Answering.{sides_at}
 use Rattle.program.proofs.Reporting.{status_at_most}
-use Rattle.explain_program.specs.Asking.{one_at, request_of}
+use Rattle.explain_program.specs.Asking.{one_at, request_of, style_for}
 use Rattle.explain_program.specs.Giving.{AreTold, GoesOut}
 use Rattle.explain_program.proofs.Giving.{alone_at, one_told, right_has_run, went_out}
 use Rattle.explain_program.proofs.explaining.explain_one.Goals as goal
@@ -64,8 +63,8 @@ tell-requires g c =
     (λ b sides. record { specification = sides.0; implementation = sides.1 }) in
     let run = right_has_run script (assertion_of c.index-assertions-place.result) (request_of c.args.settings.now).bounds (outcome_of c.answer-outcome.result) c.answer-outcome.ensures in
     elim (g.met.A.AllocHandle g.world.𝓛 g.world.𝓜 g.world.𝓡 ((λ s x. x), (λ x. x), (λ x. x), λ x. x)).small [
-      | inl e ↦ rw (e.0, e.1) (lit< tt, (sides.implementation, run))
-      | inr e ↦ rw (e.0, e.1) (lit< tt, (sides.implementation, run))
+      | inl e ↦ rw (e.0, e.1) (lit< tt, (sides, run))
+      | inr e ↦ rw (e.0, e.1) (lit< tt, (sides, run))
     ]
 
 pub returns-in-Ok-clause-told : goal.returns-in-Ok-clause-told
@@ -84,10 +83,10 @@ returns-in-Ok-clause-told g c =
     let A : List pure.Assertion → Type 0 = λ xs. one_at place xs ≡ a ∷ [] in
     let alone = subst A c.assertions-assertions.ensures.value (alone_at assertion_of items place c.index-assertions-place.result within c.index-assertions-place.is) in
     let bytes = string_bytes c.in_ok-text.text in
-    let W : Width → Type 0 = λ w. IsTold names w script (place + 1) a o bytes in
-    let N : ℕ → Type 0 = λ n. IsTold names request.width script n a o bytes in
+    let W : Style → Type 0 = λ w. IsTold w script (place + 1) a o bytes in
+    let N : ℕ → Type 0 = λ n. IsTold (style_for request names) script n a o bytes in
     let next : place + 1 ≡ suc place = omega arith in
-    let told = subst N next (subst W c.width.ensures c.in_ok-text.ensures) in
+    let told = subst N next (subst W c.style-style.ensures c.in_ok-text.ensures) in
     let old = g.O.Sink.taken c.args.out.now in
     let new = g.O.Sink.taken c.push_all.new.sink in
     let failed = g.O.Sink.has_failed c.push_all.new.sink in
@@ -116,10 +115,10 @@ returns-clause-left g c =
     let A : List pure.Assertion → Type 0 = λ xs. one_at place xs ≡ a ∷ [] in
     let alone = subst A c.assertions-assertions.ensures.value (alone_at assertion_of items place c.index-assertions-place.result within c.index-assertions-place.is) in
     let bytes = string_bytes c.in_ok-text.text in
-    let W : Width → Type 0 = λ w. IsTold names w script (place + 1) a o bytes in
-    let N : ℕ → Type 0 = λ n. IsTold names request.width script n a o bytes in
+    let W : Style → Type 0 = λ w. IsTold w script (place + 1) a o bytes in
+    let N : ℕ → Type 0 = λ n. IsTold (style_for request names) script n a o bytes in
     let next : place + 1 ≡ suc place = omega arith in
-    let told = subst N next (subst W c.width.ensures c.in_ok-text.ensures) in
+    let told = subst N next (subst W c.style-style.ensures c.in_ok-text.ensures) in
     let old = g.O.Sink.taken c.args.out.now in
     let new = g.O.Sink.taken c.push_all.new.sink in
     let failed = g.O.Sink.has_failed c.push_all.new.sink in

@@ -1,5 +1,5 @@
 -- Each assertion is explained, or the one that is asked for, if there is one.
-use Rattle.std.proofs.Common.{◌≡◌, ◌<◌, ◌-◌, ℕ, suc, length, ap, arith, refl}
+use Rattle.std.proofs.Common.{◌≡◌, ◌<◌, ◌-◌, suc, length, ap, arith, refl}
 use Rattle.std.proofs.lemmas.List.{length-map}
 use Rattle.csp_term.specs.Script.{assertion_of, script_of}
 use Rattle.csp_print.specs.Names.{names_of}

@@ -4,7 +4,8 @@ use Rattle.explain_settings.specs.Faults.{IsFaultOf}
 use Rattle.program.specs.Running.{texts_of}
 use Rattle.explain_program.specs.Asking.{request_of}
 use Rattle.explain_program.specs.Running as running
-use Rattle.explain_program.proofs.Asking.{asked, zero_below}
+use Rattle.program.proofs.Serving.{zero_below}
+use Rattle.explain_program.proofs.Asking.{asked}
 use Rattle.explain_program.proofs.running.run.Goals as goal
 
 pub returns-in-Ok-clause-served : goal.returns-in-Ok-clause-served

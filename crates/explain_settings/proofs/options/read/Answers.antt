@@ -62,6 +62,6 @@ returns-clause-file c =
 
 pub returns-in-Err-clause-fault : goal.returns-in-Err-clause-fault
 returns-in-Err-clause-fault c =
-    answered (texts c.args.words.now) (kind_of c.in-Err.error) c.of.result
+    answered (texts c.args.words.now) (kind_of c.in-Err.error) c.fault.result
     (subst (λ (a : App). HasKind (fault_of a (texts c.args.words.now)) c.in-Err.error) c.in_ok-command_line.ensures (c.in-Err.ensures.kinds (ap is_simple_and_free c.in_ok-command_line.ensures)))
-    c.of.ensures
+    c.fault.ensures

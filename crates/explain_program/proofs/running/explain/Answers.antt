@@ -1,0 +1,82 @@
+-- What is told of the file's script is told of the file.
+use Rattle.std.proofs.Common.{ℕ, List, Err, subst, refl, ap}
+use Rattle.csp_term.specs.Script.{script_of}
+use Rattle.csp_print.specs.Names.{names_of}
+use Rattle.program.specs.Reading.{IsRefusalOf}
+use Rattle.program.specs.Refusal.{of_file, refusal_line}
+use Rattle.program.specs.Running.{IsGiven}
+use Rattle.program.specs.declared.refusal.Refusal.{Refusal}
+use Rattle.program.proofs.Beginnings.{cause_of_text}
+use Rattle.explain_program.specs.Asking.{request_of}
+use Rattle.explain_program.specs.Naming.{IsNamedText}
+use Rattle.explain_program.specs.Refusals.{TellsRefusal}
+use Rattle.explain_program.specs.Running as running
+use Rattle.explain_program.specs.declared.stop.Stop.TheVariants as stop
+use Rattle.explain_program.proofs.Beginnings.{named_file}
+use Rattle.explain_program.proofs.Stopping.{stop_cause, stop_leaves, unread_cause, unread_leaves, untouched}
+use Rattle.explain_program.proofs.running.explain.Goals as goal
+
+pub returns-in-Err-clause-stopped : goal.returns-in-Err-clause-stopped
+returns-in-Err-clause-stopped g c three =
+    let request = request_of c.args.settings.now in
+    let may_hold = g.F.Files.may_hold c.args.files.now in
+    let may_lack = g.F.Files.may_lack c.args.files.now in
+    let fault = c.in-Err.fault in
+    let told = c.refuse.new.err in
+    let L : Refusal → Type 0 = λ why. IsGiven (g.E.Sink.taken c.args.err.now) (g.E.Sink.taken told) (g.E.Sink.has_failed told) (refusal_line why) in
+    record {
+      why = stop.Refused (of_file fault);
+      cause = unread_cause may_hold may_lack request.name fault (λ file. c.in-Err.ensures.lacks (ap Err file));
+      output = unread_leaves may_hold request fault g.O.Sink.taken g.O.Sink.has_failed c.args.out.now;
+      told = running.by_line (subst L c.from.ensures c.refuse.ensures.line);
+    }
+
+pub returns-in-Err-read-clause-stopped : goal.returns-in-Err-read-clause-stopped
+returns-in-Err-read-clause-stopped g c three =
+    let request = request_of c.args.settings.now in
+    let may_hold = g.F.Files.may_hold c.args.files.now in
+    let may_lack = g.F.Files.may_lack c.args.files.now in
+    let why = c.in-Err-read.why in
+    let bytes = c.in-Ok.text.items in
+    let holds = c.in-Ok.ensures.holds in
+    let told = c.refuse_text.new.err in
+    let is = subst (λ bs. IsRefusalOf bs why) c.deref.ensures.value c.in-Err-read.ensures.refused in
+    let T : List ℕ → Type 0 = λ bs. TellsRefusal request.name bs why (g.E.Sink.taken c.args.err.now) (g.E.Sink.taken told) (g.E.Sink.has_failed told) in
+    record {
+      why = stop.Refused why;
+      cause = cause_of_text may_hold may_lack request.name bytes why holds is;
+      output = untouched may_hold request bytes why g.O.Sink.taken g.O.Sink.has_failed c.args.out.now is;
+      told = running.of_text why bytes refl holds (subst T c.deref-in-Err-read.ensures.value c.refuse_text.ensures.told);
+    }
+
+pub returns-in-Ok-explain_script-clause-explained : goal.returns-in-Ok-explain_script-clause-explained
+returns-in-Ok-explain_script-clause-explained g c below =
+    let request = request_of c.args.settings.now in
+    let script = script_of c.in-Ok-read.named.script in
+    let names = names_of c.in-Ok-read.named.names in
+    let named = subst (λ bs. IsNamedText bs script names) c.deref.ensures.value c.in-Ok-read.ensures.named in
+    record {
+      script = script;
+      names = names;
+      of_file = named_file (g.F.Files.may_hold c.args.files.now) request.name c.in-Ok.text.items script names c.in-Ok.ensures.holds named;
+      told = c.in-Ok-explain_script.ensures.told.1;
+    }
+
+pub returns-clause-stopped : goal.returns-clause-stopped
+returns-clause-stopped g c three =
+    let request = request_of c.args.settings.now in
+    let may_hold = g.F.Files.may_hold c.args.files.now in
+    let may_lack = g.F.Files.may_lack c.args.files.now in
+    let script = script_of c.in-Ok-read.named.script in
+    let names = names_of c.in-Ok-read.named.names in
+    let why = c.in-Err-explain_script.why in
+    let out = c.explain_script.new.out in
+    let named = subst (λ bs. IsNamedText bs script names) c.deref.ensures.value c.in-Ok-read.ensures.named in
+    let file = named_file may_hold request.name c.in-Ok.text.items script names c.in-Ok.ensures.holds named in
+    let stops = c.in-Err-explain_script.ensures.stopped in
+    record {
+      why = why;
+      cause = stop_cause may_hold may_lack request script names file why g.O.Sink.taken g.O.Sink.has_failed c.args.out.now out stops;
+      output = stop_leaves may_hold may_lack request script names file why g.O.Sink.taken g.O.Sink.has_failed c.args.out.now out stops;
+      told = running.by_line c.report_stop.ensures.line;
+    }

@@ -1,0 +1,121 @@
+//! The script `examples/monitor.csp`, word for word, and what is told of it.
+
+use crate::rows::Row;
+
+/// The assertion that shows the fault.
+pub(crate) const MONITOR: Row = Row {
+    words: &["script", "1"],
+    status: 1,
+    text: r"-- A producer and a consumer with one place between them. Who can do nothing looks first and then goes to sleep; who
+-- has done something wakes the other, and a bell that nobody sleeps for is not heard. In the faulty system the other
+-- one may act between the look and the sleep, so that the bell is lost; in the mended one looking and falling asleep
+-- are one step under the lock.
+--
+-- Shows a truth value as a field, shared state as a process, and a deadlock after a trace.
+--
+-- refcheck prints
+--   1 fails trace <put> deadlock
+--   2 holds
+-- and ends with status 1.
+
+nametype Who = {0..1}
+channel lock, unlock, sleep, bell, awake : Who
+channel full, empty : Bool
+channel put, get
+
+PRODUCER = lock.0 -> full?f -> (if f then unlock.0 -> sleep.0 -> awake.0 -> PRODUCER
+                                else put -> bell.1 -> unlock.0 -> PRODUCER)
+CONSUMER = lock.1 -> empty?e -> (if e then unlock.1 -> sleep.1 -> awake.1 -> CONSUMER
+                                 else get -> bell.0 -> unlock.1 -> CONSUMER)
+
+CAREFUL_PRODUCER = lock.0 -> full?f -> (if f then sleep.0 -> unlock.0 -> awake.0 -> CAREFUL_PRODUCER
+                                        else put -> bell.1 -> unlock.0 -> CAREFUL_PRODUCER)
+CAREFUL_CONSUMER = lock.1 -> empty?e -> (if e then sleep.1 -> unlock.1 -> awake.1 -> CAREFUL_CONSUMER
+                                         else get -> bell.0 -> unlock.1 -> CAREFUL_CONSUMER)
+
+PLACE(n) = full!(n == 1) -> PLACE(n) [] empty!(n == 0) -> PLACE(n)
+  [] (n == 0 & put -> PLACE(1)) [] (n == 1 & get -> PLACE(0))
+LOCK = [] i:Who @ lock.i -> unlock.i -> LOCK
+-- A bell wakes who sleeps, and nobody else.
+BED(i) = sleep.i -> bell.i -> awake.i -> BED(i) [] bell.i -> BED(i)
+BEDS = BED(0) ||| BED(1)
+
+MONITOR = LOCK ||| (PLACE(0) ||| BEDS)
+
+FAULTY = ((PRODUCER ||| CONSUMER) [| {| lock, unlock, full, empty, put, get, sleep, bell, awake |} |] MONITOR)
+  \ {| lock, unlock, full, empty, sleep, bell, awake |}
+MENDED = ((CAREFUL_PRODUCER ||| CAREFUL_CONSUMER)
+  [| {| lock, unlock, full, empty, put, get, sleep, bell, awake |} |] MONITOR)
+  \ {| lock, unlock, full, empty, sleep, bell, awake |}
+
+assert FAULTY :[deadlock free]
+assert MENDED :[deadlock free]
+",
+    told: r"1 fails  assert FAULTY :[deadlock free]
+  0 start
+      FAULTY
+  1 tau
+      ((PRODUCER ||| CONSUMER) [| {|lock, unlock, full, empty, put, get, sleep, bell, awake|} |] MONITOR) \ {|lock, unlock, full, empty, sleep, bell, awake|}
+  2 tau
+      .. bell, awake|} |] (LOCK ||| (PLACE(0) ||| BEDS))) \ {|lock, unlock, ..
+  3 tau
+      .. ||| (PLACE(0) ||| (BED(0) ||| BED(1))))) \ {|lock, unlock, ..
+  4 tau
+      .. ||| (BED(0) ||| (sleep!1 -> bell!1 -> awake!1 -> BED(1) [] bell!1 -> BED(1)))))) \ {|lock, unlock, ..
+  5 tau
+      .. ||| (PLACE(0) ||| ((sleep!0 -> bell!0 -> awake!0 -> BED(0) [] bell!0 -> BED(0)) ||| (sleep!1 -> ..
+  6 tau
+      .. |] (LOCK ||| ((full!(0 == 1) -> PLACE(0) [] empty!(0 == 0) -> PLACE(0) [] 0 == 0 & put -> PLACE(1) [] 0 == 1 & get -> PLACE(0)) ||| ((sleep!0 -> ..
+  7 tau
+      .. bell, awake|} |] (([] i:Who @ lock!i -> unlock!i -> LOCK) ||| ((full!(0 == ..
+  8 tau
+      ((PRODUCER ||| lock!1 -> empty?e -> (if e then unlock!1 -> sleep!1 -> awake!1 -> CONSUMER else get -> bell!0 -> unlock!1 -> CONSUMER)) [| {|lock, unlock, ..
+  9 tau
+      ((PRODUCER ||| empty?e -> (if e then unlock!1 -> sleep!1 -> awake!1 -> CONSUMER else get -> bell!0 -> unlock!1 -> CONSUMER)) [| {|lock, unlock, full, empty, put, get, sleep, bell, awake|} |] (unlock!1 .. 28 more characters
+  10 tau
+      ((PRODUCER ||| (if true then unlock!1 -> sleep!1 -> awake!1 -> CONSUMER else get -> bell!0 -> unlock!1 -> CONSUMER)) [| {|lock, unlock, full, empty, put, get, sleep, bell, awake|} |] (unlock!1 -> LOCK .. 34 more characters
+  11 tau
+      ((PRODUCER ||| sleep!1 -> awake!1 -> CONSUMER) [| {|lock, unlock, full, empty, put, get, sleep, bell, awake|} |] (LOCK ||| (PLACE(0) ||| ..
+  12 tau
+      .. |] (LOCK ||| ((full!(0 == 1) -> PLACE(0) [] empty!(0 == 0) -> PLACE(0) [] 0 == 0 & put -> PLACE(1) [] 0 == 1 & get -> PLACE(0)) ||| ((sleep!0 -> ..
+  13 tau
+      .. bell, awake|} |] (([] i:Who @ lock!i -> unlock!i -> LOCK) ||| ((full!(0 == ..
+  14 tau
+      ((lock!0 -> full?f -> (if f then unlock!0 -> sleep!0 -> awake!0 -> PRODUCER else put -> bell!1 -> unlock!0 -> PRODUCER) ||| sleep!1 -> ..
+  15 tau
+      ((full?f -> (if f then unlock!0 -> sleep!0 -> awake!0 -> PRODUCER else put -> bell!1 -> unlock!0 -> PRODUCER) ||| sleep!1 -> awake!1 -> CONSUMER) [| {|lock, unlock, full, empty, put, get, sleep, bell, .. 49 more characters
+  16 tau
+      (((if false then unlock!0 -> sleep!0 -> awake!0 -> PRODUCER else put -> bell!1 -> unlock!0 -> PRODUCER) ||| sleep!1 -> awake!1 -> CONSUMER) [| {|lock, unlock, full, empty, put, get, sleep, bell, awake .. 57 more characters
+  17 tau
+      .. -> LOCK ||| ((full!(0 == 1) -> PLACE(0) [] empty!(0 == 0) -> PLACE(0) [] 0 == 0 & put -> PLACE(1) [] 0 == 1 & get -> PLACE(0)) ||| ((sleep!0 -> ..
+  18 put
+      ((bell!1 -> unlock!0 -> PRODUCER ||| sleep!1 -> awake!1 -> CONSUMER) [| {|lock, unlock, full, empty, put, get, sleep, bell, awake|} |] (unlock!0 -> LOCK ||| (PLACE(1) ||| ((sleep!0 -> ..
+  19 tau
+      ((unlock!0 -> PRODUCER ||| sleep!1 -> awake!1 -> CONSUMER) [| {|lock, unlock, full, empty, put, get, sleep, bell, awake|} |] (unlock!0 -> LOCK ||| (PLACE(1) ||| ((sleep!0 -> bell!0 -> awake!0 -> BED(0 .. 58 more characters
+  20 tau
+      ((PRODUCER ||| sleep!1 -> awake!1 -> CONSUMER) [| {|lock, unlock, full, empty, put, get, sleep, bell, awake|} |] (LOCK ||| (PLACE(1) ||| ..
+  21 tau
+      .. -> BED(0)) ||| (sleep!1 -> bell!1 -> awake!1 -> BED(1) [] bell!1 -> BED(1)))))) \ {|lock, unlock, ..
+  22 tau
+      .. |] (LOCK ||| ((full!(1 == 1) -> PLACE(1) [] empty!(1 == 0) -> PLACE(1) [] 1 == 0 & put -> PLACE(1) [] 1 == 1 & get -> PLACE(0)) ||| ((sleep!0 -> ..
+  23 tau
+      .. bell, awake|} |] (([] i:Who @ lock!i -> unlock!i -> LOCK) ||| ((full!(1 == ..
+  24 tau
+      ((PRODUCER ||| awake!1 -> CONSUMER) [| {|lock, unlock, full, empty, put, get, sleep, bell, awake|} |] (([] i:Who @ lock!i -> unlock!i -> LOCK) ||| ((full!(1 == 1) -> PLACE(1) [] empty!(1 == 0) -> PLAC .. 184 more characters
+  25 tau
+      ((lock!0 -> full?f -> (if f then unlock!0 -> sleep!0 -> awake!0 -> PRODUCER else put -> bell!1 -> unlock!0 -> PRODUCER) ||| awake!1 -> ..
+  26 tau
+      ((full?f -> (if f then unlock!0 -> sleep!0 -> awake!0 -> PRODUCER else put -> bell!1 -> unlock!0 -> PRODUCER) ||| awake!1 -> CONSUMER) [| {|lock, unlock, full, empty, put, get, sleep, bell, awake|} |] .. 38 more characters
+  27 tau
+      (((if true then unlock!0 -> sleep!0 -> awake!0 -> PRODUCER else put -> bell!1 -> unlock!0 -> PRODUCER) ||| awake!1 -> CONSUMER) [| {|lock, unlock, full, empty, put, get, sleep, bell, awake|} |] (unloc .. 45 more characters
+  28 tau
+      ((sleep!0 -> awake!0 -> PRODUCER ||| awake!1 -> CONSUMER) [| {|lock, unlock, full, empty, put, get, sleep, bell, awake|} |] (LOCK ||| (PLACE(1) ||| ..
+  29 tau
+      .. |] (LOCK ||| ((full!(1 == 1) -> PLACE(1) [] empty!(1 == 0) -> PLACE(1) [] 1 == 0 & put -> PLACE(1) [] 1 == 1 & get -> PLACE(0)) ||| ((sleep!0 -> ..
+  30 tau
+      .. bell, awake|} |] (([] i:Who @ lock!i -> unlock!i -> LOCK) ||| ((full!(1 == ..
+  31 tau
+      ((awake!0 -> PRODUCER ||| awake!1 -> CONSUMER) [| {|lock, unlock, full, empty, put, get, sleep, bell, awake|} |] (([] i:Who @ lock!i -> unlock!i -> LOCK) ||| ((full!(1 == 1) -> PLACE(1) [] empty!(1 == 0) -> PLACE(1) [] 1 == 0 & put -> PLACE(1) [] 1 == 1 & get -> PLACE(0)) ||| (bell!0 -> awake!0 -> BED(0) ||| bell!1 -> awake!1 -> BED(1))))) \ {|lock, unlock, full, empty, sleep, bell, awake|}
+  then it can do nothing
+",
+};
