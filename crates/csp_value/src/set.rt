@@ -9,6 +9,7 @@ ghost use Rattle.csp_value.specs.Value.{IsRisingSet, members_of, value_of, value
 use crate::copy::TryCopy;
 use crate::limits::{are_within_depth, room_left_by};
 use crate::memory::Memory;
+use crate::rising::is_rising;
 use crate::value::{Value, copy_values};
 use std::alloc::Allocator;
 use std::cmp::Ordering;
@@ -97,11 +98,13 @@ impl<A: Allocator> SetOf<A> {
         ensures members { IfOk result (λ both. members_of both ≡ to_values (insert_values (values_list (members_of self)) (values_list (members_of other)))) }
         ensures rising { IsRisingSet other → IfOk result IsRisingSet }
     {
-        let mut both = other.members;
-        for value in self.members {
-            insert(&mut both, value)?;
+        if !is_rising(&other.members) {
+            return insert_each(self.members, other.members);
         }
-        Ok(SetOf { members: both })
+        let mut both = self.members;
+        let mut others = other.members;
+        both.append(&mut others)?;
+        Ok(SetOf::from_values(both))
     }
 
     /// The members that are in the other set too. Nothing is copied.
@@ -110,7 +113,11 @@ impl<A: Allocator> SetOf<A> {
         ensures rising { IsRisingSet self → IsRisingSet result }
     {
         let mut members = self.members;
-        members.retain(|value| other.contains(value));
+        if is_rising(&other.members) {
+            members.retain(|value| other.contains_by_halving(value));
+        } else {
+            members.retain(|value| other.contains(value));
+        }
         SetOf { members }
     }
 
@@ -120,9 +127,27 @@ impl<A: Allocator> SetOf<A> {
         ensures rising { IsRisingSet self → IsRisingSet result }
     {
         let mut members = self.members;
-        members.retain(|value| !other.contains(value));
+        if is_rising(&other.members) {
+            members.retain(|value| !other.contains_by_halving(value));
+        } else {
+            members.retain(|value| !other.contains(value));
+        }
         SetOf { members }
     }
+}
+
+/// The set of the members with each of the values put in, in whatever order they stand.
+fn insert_each<A: Allocator>(
+    values: Vec<Value<A>, A>,
+    members: Vec<Value<A>, A>,
+) -> Result<SetOf<A>, Memory>
+    ensures { IfOk result (λ both. members_of both ≡ to_values (insert_values (values_of values.items) (values_of members.items))) }
+{
+    let mut both = members;
+    for value in values {
+        insert(&mut both, value)?;
+    }
+    Ok(SetOf { members: both })
 }
 
 /// Puts the value in before the first member above it, unless an equal one comes first.
