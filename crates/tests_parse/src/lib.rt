@@ -38,6 +38,8 @@ mod rows;
 #[cfg(test)]
 mod show;
 #[cfg(test)]
+mod show_script;
+#[cfg(test)]
 mod texts;
 #[cfg(test)]
 mod worked;

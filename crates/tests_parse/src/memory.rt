@@ -2,7 +2,7 @@
 //! none is refused. That is told, or the tree is the one with ample memory. Then nothing is held, and the tokens are as
 //! they were.
 
-use crate::show;
+use crate::show_script;
 use crate::worked::WORKED;
 use csp_lex::{Token, TokenList, tokens};
 use csp_parse::parse;
@@ -30,7 +30,7 @@ fn read_in<A: Allocator + Copy>(
     list: &TokenList<'_, Global>,
 ) -> Result<String, AllocError> {
     match parse(memory, list) {
-        Ok(raw) => show::script(alloc, &raw),
+        Ok(raw) => show_script::script(alloc, &raw),
         Err(refused) => format!(in alloc; "{refused}"),
     }
 }

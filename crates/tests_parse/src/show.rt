@@ -1,11 +1,10 @@
-//! Trees as text, with brackets round each part. Each function writes its part behind what is shown.
+//! Processes and expressions as text, with brackets round each part. Each function writes its part behind what is shown.
 
 use csp_parse::{
-    BinaryOperator, Clause, Declaration, Domain, Event, EventSet, EventSetOperator, Expression,
-    Field, Infix, Model, Name, Pair, Process, ProcessOperator, Property, Raw, ReplicatedOperator,
-    UnaryOperator,
+    BinaryOperator, Event, EventSet, EventSetOperator, Expression, Field, Infix, Name, Pair,
+    Process, ProcessOperator, ReplicatedOperator, UnaryOperator,
 };
-use std::alloc::{AllocError, Allocator, Global};
+use std::alloc::{AllocError, Allocator};
 use std::fmt::Write;
 
 fn unary(operator: UnaryOperator) -> &'static str {
@@ -105,7 +104,7 @@ fn listed<A: Allocator>(shown: &mut String, items: &[Expression<'_, A>]) -> Resu
 }
 
 #[cycle(expression)]
-fn expression<A: Allocator>(
+pub(crate) fn expression<A: Allocator>(
     shown: &mut String,
     item: &Expression<'_, A>,
 ) -> Result<(), AllocError> {
@@ -326,7 +325,10 @@ fn between<A: Allocator>(shown: &mut String, item: &Process<'_, A>) -> Result<()
     }
 }
 
-fn process<A: Allocator>(shown: &mut String, item: &Process<'_, A>) -> Result<(), AllocError> {
+pub(crate) fn process<A: Allocator>(
+    shown: &mut String,
+    item: &Process<'_, A>,
+) -> Result<(), AllocError> {
     opening(shown, item)?;
     match item {
         Process::Stop | Process::Skip => return Ok(()),
@@ -348,158 +350,4 @@ fn process<A: Allocator>(shown: &mut String, item: &Process<'_, A>) -> Result<()
         }
     }
     shown.push_str(")")
-}
-
-/// A name with its place.
-fn name(shown: &mut String, item: Name<'_>) -> Result<(), AllocError> {
-    let (text, place) = (item.text, item.place);
-    write!(shown, "{text}@{place}")?;
-    Ok(())
-}
-
-/// Names with spaces before each.
-fn names(shown: &mut String, items: &[Name<'_>]) -> Result<(), AllocError> {
-    for item in items {
-        shown.push_str(" ")?;
-        name(shown, *item)?;
-    }
-    Ok(())
-}
-
-/// A set with its place, and a space before each.
-fn domain<A: Allocator>(shown: &mut String, item: &Domain<'_, A>) -> Result<(), AllocError> {
-    let place = item.place;
-    write!(shown, " {place} ")?;
-    expression(shown, &item.set)
-}
-
-fn domains<A: Allocator>(shown: &mut String, items: &[Domain<'_, A>]) -> Result<(), AllocError> {
-    if !items.is_empty() {
-        shown.push_str(" :")?;
-    }
-    for item in items {
-        domain(shown, item)?;
-    }
-    Ok(())
-}
-
-fn channels<A: Allocator>(
-    shown: &mut String,
-    channels: &[Name<'_>],
-    sets: &[Domain<'_, A>],
-) -> Result<(), AllocError> {
-    shown.push_str("channel")?;
-    names(shown, channels)?;
-    domains(shown, sets)
-}
-
-fn equation<A: Allocator>(
-    shown: &mut String,
-    equation: Name<'_>,
-    parameters: &[Name<'_>],
-    body: &Process<'_, A>,
-) -> Result<(), AllocError> {
-    name(shown, equation)?;
-    names(shown, parameters)?;
-    shown.push_str(" = ")?;
-    process(shown, body)
-}
-
-fn refinement<A: Allocator>(
-    shown: &mut String,
-    specification: &Process<'_, A>,
-    model: Model,
-    implementation: &Process<'_, A>,
-) -> Result<(), AllocError> {
-    process(shown, specification)?;
-    shown.push_str(match model {
-        Model::Traces => " traces ",
-        Model::Failures => " failures ",
-    })?;
-    process(shown, implementation)
-}
-
-fn clause<A: Allocator>(shown: &mut String, item: &Clause<'_, A>) -> Result<(), AllocError> {
-    shown.push_str(" ")?;
-    name(shown, item.name)?;
-    for field in &item.fields {
-        shown.push_str(" of")?;
-        domain(shown, field)?;
-    }
-    Ok(())
-}
-
-fn assertion<A: Allocator>(
-    shown: &mut String,
-    property: &Property<'_, A>,
-    implementation: &Process<'_, A>,
-) -> Result<(), AllocError> {
-    match property {
-        Property::Refinement {
-            model,
-            specification,
-        } => refinement(shown, specification, *model, implementation),
-        Property::DeadlockFree => {
-            process(shown, implementation)?;
-            shown.push_str(" never deadlocks")
-        }
-        Property::DivergenceFree => {
-            process(shown, implementation)?;
-            shown.push_str(" never diverges")
-        }
-    }
-}
-
-fn declaration<A: Allocator>(
-    shown: &mut String,
-    item: &Declaration<'_, A>,
-) -> Result<(), AllocError> {
-    match item {
-        Declaration::Datatype {
-            name: datatype,
-            clauses,
-        } => {
-            shown.push_str("datatype ")?;
-            name(shown, *datatype)?;
-            for item in clauses {
-                clause(shown, item)?;
-            }
-        }
-        Declaration::Nametype {
-            name: nametype,
-            domain: set,
-        } => {
-            shown.push_str("nametype ")?;
-            name(shown, *nametype)?;
-            domain(shown, set)?;
-        }
-        Declaration::Channels { names, domains } => channels(shown, names, domains)?,
-        Declaration::Equation {
-            name,
-            parameters,
-            body,
-        } => equation(shown, *name, parameters, body)?,
-        Declaration::Assertion {
-            place,
-            negated,
-            property,
-            implementation,
-        } => {
-            write!(shown, "assert {place} ")?;
-            if *negated {
-                shown.push_str("not: ")?;
-            }
-            assertion(shown, property, implementation)?;
-        }
-    }
-    shown.push_str("; ")
-}
-
-/// The declarations of a script, each with `; ` behind it.
-pub(crate) fn script<A: Allocator>(alloc: Global, raw: &Raw<'_, A>) -> Result<String, AllocError> {
-    let mut shown = String::new(alloc);
-    for item in &raw.declarations {
-        declaration(&mut shown, item)?;
-    }
-    Ok(shown)
 }

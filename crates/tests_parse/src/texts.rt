@@ -1,6 +1,6 @@
 //! What a text is read as: its tree, shown with brackets round each part, or its refusal.
 
-use crate::show;
+use crate::show_script;
 use csp_lex::tokens;
 use csp_parse::parse;
 use std::alloc::{AllocError, Global};
@@ -9,7 +9,7 @@ use std::alloc::{AllocError, Global};
 pub(crate) fn read(alloc: Global, text: &str) -> Result<String, AllocError> {
     match tokens(alloc, text.as_bytes()) {
         Ok(list) => match parse(alloc, &list) {
-            Ok(raw) => show::script(alloc, &raw),
+            Ok(raw) => show_script::script(alloc, &raw),
             Err(refused) => format!(in alloc; "{refused}"),
         },
         Err(refused) => format!(in alloc; "{refused}"),

@@ -1,7 +1,8 @@
 //! Texts and command lines, each with what it is answered with.
 
 use crate::command_lines::{checked, wrong_words};
-use crate::examples::{all_examples, examples_with_options};
+use crate::examples::all_examples;
+use crate::examples_with_options::examples_with_options;
 use crate::outcomes::{BEYOND_STOP, failing, holding, unknown};
 use crate::refusals::{no_scripts, unchecked};
 use crate::rows::Row;

@@ -15,7 +15,11 @@ mod deep;
 #[cfg(test)]
 mod endless;
 #[cfg(test)]
+mod example;
+#[cfg(test)]
 mod examples;
+#[cfg(test)]
+mod examples_with_options;
 #[cfg(test)]
 mod full;
 #[cfg(test)]
