@@ -66,8 +66,8 @@ pub(crate) fn push_run_alone<A: AllocHandle>(
     push_run(alloc, style, shown, states, &none, text)
 }
 
-// The steps, each with the states that it leads to.
-fn push_steps<A: AllocHandle>(
+/// The steps, each with the states that it leads to.
+pub(crate) fn push_steps<A: AllocHandle>(
     alloc: A,
     style: &Style<'_, '_, A>,
     path: &[Action<A>],
@@ -110,8 +110,8 @@ fn push_step<A: AllocHandle>(
     push_mark("\n", text)
 }
 
-// How much is told of a state that has such a path before it: the last one is told whole.
-fn width_before<A: AllocHandle>(width: Width, path: &[Action<A>]) -> Width
+/// How much is told of a state that has such a path before it: the last one is told whole.
+pub(crate) fn width_before<A: AllocHandle>(width: Width, path: &[Action<A>]) -> Width
     ensures { width_of result ≡ width_before (width_of width) (map action_of path.now) }
 {
     if path.is_empty() { Width::Whole } else { width }

@@ -3,3 +3,4 @@ pub mod Lacking
 pub mod Lacks
 pub mod Replays
 pub mod Tellings
+pub mod Paths

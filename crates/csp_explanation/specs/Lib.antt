@@ -3,11 +3,14 @@ pub mod Changing
 pub mod Comparing
 pub mod Counterexamples
 pub mod Counterparts
+pub mod Counting
 pub mod Cutting
 pub mod Ends
+pub mod Faults
 pub mod Headline
 pub mod Lacking
 pub mod Origins
+pub mod Paths
 pub mod Reasons
 pub mod Samples
 pub mod Steps

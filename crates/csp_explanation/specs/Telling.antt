@@ -1,10 +1,12 @@
 -- What is told of an assertion.
-use Rattle.std.specs.Prelude.{◌≡◌, ℕ, suc, List, [], ◌∷◌, ◌++◌, codes}
+use Rattle.std.specs.Prelude.{◌≡◌, ℕ, suc, List, [], ◌∷◌, ◌++◌, codes, Option, Some, None}
 use Rattle.csp_syntax.specs.Process.{Script, Assertion}
 use Rattle.csp_semantics.specs.Meaning.Violations.{Violation}
-use Rattle.csp_answers.specs.Outcome.{Outcome, Holds, Fails, Unknown, Denied}
+use Rattle.csp_answers.specs.Outcome.{Outcome, Holds, Fails, Unknown, Denied, Why}
+use Rattle.csp_stuck_runs.specs.Stuck.{Hindrance}
 use Rattle.csp_explanation.specs.Comparing.{counterexample_text}
 use Rattle.csp_explanation.specs.Counterexamples.{Counterexample, IsCounterexample}
+use Rattle.csp_explanation.specs.Faults.{IsFound, SideRun, found_text, hindrance}
 use Rattle.csp_explanation.specs.Headline.{headline}
 use Rattle.csp_explanation.specs.Reasons.{reason}
 use Rattle.csp_explanation.specs.Styles.{Style}
@@ -14,11 +16,20 @@ abbrev pub TellsCounterexample : Style → Script → Assertion → Violation �
 TellsCounterexample style script a v old new =
     (c : Counterexample) × IsCounterexample script a v style.most c × (new ≡ old ++ counterexample_text style v c)
 
+-- behind the old text stands what is told of a run that is found to a state that is stuck so, if any is to be found
+abbrev pub TellsFound : Style → Script → Assertion → Option Hindrance → List ℕ → List ℕ → Type 0
+TellsFound style script a None old new = new ≡ old
+TellsFound style script a (Some h) old new = (found : Option SideRun) × IsFound script a h style.most found × (new ≡ old ++ found_text style h found)
+
+-- behind the old text stands why there is no answer, and a run to a state for which there is none
+abbrev pub TellsUnknown : Style → Script → Assertion → Why → List ℕ → List ℕ → Type 0
+TellsUnknown style script a why old new = TellsFound style script a (hindrance why) (old ++ reason why) new
+
 -- behind the old text stands why the assertion has this outcome
 abbrev pub TellsWhy : Style → Script → Assertion → Outcome → List ℕ → List ℕ → Type 0
 TellsWhy style script a Holds old new = new ≡ old
 TellsWhy style script a (Fails v) old new = TellsCounterexample style script a v old new
-TellsWhy style script a (Unknown why) old new = new ≡ old ++ reason why
+TellsWhy style script a (Unknown why) old new = TellsUnknown style script a why old new
 TellsWhy style script a Denied old new = new ≡ old ++ codes "  without `not` it holds\n"
 
 -- the text tells of the assertion with this number and outcome: its headline, and why

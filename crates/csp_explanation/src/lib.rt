@@ -5,7 +5,7 @@
 #![tactic(auto)]
 
 ghost use Rattle.std.specs.Prelude.{◌≡◌, ◌∷◌, [], codes, List, Some, ℕ};
-ghost use Rattle.csp_syntax.specs.Process.{Assertion, Omega, Process, Script, Stop};
+ghost use Rattle.csp_syntax.specs.Process.{Assertion, DeadlockFree, Omega, Process, RefinementOf, Script, Stop, Traces};
 ghost use Rattle.csp_syntax.specs.Value.{Tick};
 ghost use Rattle.csp_semantics.specs.Meaning.Violations.{ByEvent, ByOffers, IsViolation, Violation};
 ghost use Rattle.csp_notation.specs.Samples.{names, p};
@@ -13,6 +13,7 @@ ghost use Rattle.csp_runs.specs.States.{AreReached, IsReplay};
 ghost use Rattle.csp_explanation.specs.Comparing.{counterexample_text};
 ghost use Rattle.csp_explanation.specs.Counterexamples.{Along, Counterexample, Counterpart, IsCounterexample, ShowsLack};
 ghost use Rattle.csp_explanation.specs.Counterparts.{lack_text, specification_text};
+ghost use Rattle.csp_explanation.specs.Counting.{count_text};
 ghost use Rattle.csp_explanation.specs.Cutting.{Whole};
 ghost use Rattle.csp_explanation.specs.Samples.{c, told};
 
@@ -45,4 +46,11 @@ pub fn texts_of_lacks()
 /// A step after which the specification cannot go on.
 pub fn texts_of_counterexamples()
     ensures { counterexample_text told (record { path = c 1 ∷ []; evidence = ByEvent (c 2) }) (record { states = p ∷ Stop ∷ []; counterpart = Some (Along ((p ∷ []) ∷ (Omega ∷ p ∷ []) ∷ []) (Tick ∷ []) []) }) ≡ codes "  0 start\n      P\n      specification: P\n  1 c.1\n      STOP\n      specification: _OMEGA\n      specification: and 1 more\n  then it does c.2, and the specification cannot\n  there the specification can do no more than {tick}\n" }
+{}
+
+/// How large a search was, of one and of several.
+pub fn texts_of_counts()
+    ensures refinement { count_text (RefinementOf Traces Stop) 785 12 ≡ codes "  785 pairs, 12 nodes\n" }
+    ensures one { count_text (RefinementOf Traces Stop) 1 1 ≡ codes "  1 pair, 1 node\n" }
+    ensures freedom { count_text DeadlockFree 785 0 ≡ codes "  785 pairs\n" }
 {}

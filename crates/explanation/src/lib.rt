@@ -3,11 +3,14 @@
 //! `tell` makes the text of one assertion. By its contract it is what the definitions tell: the number, the answer and the
 //! assertion; behind them, where it fails, a run by the path of the violation, state by state, beside what the
 //! specification has along it, what is wrong at its end, and what the specification has there; and where it has no answer,
-//! the reason. The text is made whole or not at all.
+//! the reason, and where a state that is faulty or large is why, a run of a side to such a state. The text is made whole or
+//! not at all.
 #![tactic(auto)]
 
+mod faults;
 mod headline;
 mod reasons;
+mod sides;
 mod telling;
 
 pub use telling::tell;

@@ -12,8 +12,8 @@ ghost use Rattle.csp_print.specs.Writing.{Writes};
 ghost use Rattle.counterexample_text.specs.Styles.{style_of};
 ghost use Rattle.explanation.specs.Running.{HasRun};
 
+use crate::faults::push_unknown;
 use crate::headline::headline_text;
-use crate::reasons::reason;
 use counterexample::counterexample_of;
 use counterexample_text::{Style, push_counterexample, push_mark};
 use csp_term::{AllocHandle, Assertion, Memory, Script};
@@ -57,7 +57,7 @@ fn push_why<A: AllocHandle>(
     match outcome {
         Outcome::Holds => Ok(()),
         Outcome::Fails(shown) => push_violation(alloc, style, script, assertion, shown, text),
-        Outcome::Unknown(why) => push_sentence(reason(*why), text),
+        Outcome::Unknown(why) => push_unknown(alloc, style, script, assertion, *why, text),
         Outcome::Denied => push_sentence("  without `not` it holds\n", text),
     }
 }

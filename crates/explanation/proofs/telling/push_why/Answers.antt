@@ -7,7 +7,6 @@ use Rattle.csp_term.specs.Term.{process_of}
 use Rattle.verdict.specs.declared.outcome.Outcome.{Outcome}
 use Rattle.verdict.specs.Outcome.{outcome_of, violation_of}
 use Rattle.csp_explanation.specs.Telling.{TellsWhy}
-use Rattle.csp_print.proofs.Writing.{alike}
 use Rattle.counterexample_text.specs.Styles.{style_of}
 use Rattle.explanation.specs.Running.{HasRun}
 use Rattle.explanation.proofs.telling.push_why.Goals as goal
@@ -37,13 +36,13 @@ returns-in-Fails g c =
 pub returns-in-Unknown : goal.returns-in-Unknown
 returns-in-Unknown g c =
     let start = string_bytes c.args.text.now in
-    let all = string_bytes c.push_sentence.new.text in
-    let T : Outcome g.row.A.Denot → Type 0 = λ o. OnOk c.push_sentence.result (TellsWhy (style_of c.args.style.now) (script_of c.args.script.now) (assertion_of c.args.assertion.now) (outcome_of o) start all) in
-    subst T (sym c.in-Unknown.is) (alike c.push_sentence.result start all _ _ c.reason.ensures c.push_sentence.ensures)
+    let all = string_bytes c.push_unknown.new.text in
+    let T : Outcome g.row.A.Denot → Type 0 = λ o. OnOk c.push_unknown.result (TellsWhy (style_of c.args.style.now) (script_of c.args.script.now) (assertion_of c.args.assertion.now) (outcome_of o) start all) in
+    subst T (sym c.in-Unknown.is) c.push_unknown.ensures
 
 pub returns-in-Denied : goal.returns-in-Denied
 returns-in-Denied g c =
     let start = string_bytes c.args.text.now in
-    let all = string_bytes c.push_sentence-in-Denied.new.text in
-    let T : Outcome g.row.A.Denot → Type 0 = λ o. OnOk c.push_sentence-in-Denied.result (TellsWhy (style_of c.args.style.now) (script_of c.args.script.now) (assertion_of c.args.assertion.now) (outcome_of o) start all) in
-    subst T (sym c.in-Denied.is) c.push_sentence-in-Denied.ensures
+    let all = string_bytes c.push_sentence.new.text in
+    let T : Outcome g.row.A.Denot → Type 0 = λ o. OnOk c.push_sentence.result (TellsWhy (style_of c.args.style.now) (script_of c.args.script.now) (assertion_of c.args.assertion.now) (outcome_of o) start all) in
+    subst T (sym c.in-Denied.is) c.push_sentence.ensures

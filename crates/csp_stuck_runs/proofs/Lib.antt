@@ -1,0 +1,4 @@
+pub mod Forms
+pub mod Meeting
+pub mod Closing
+pub mod Returning

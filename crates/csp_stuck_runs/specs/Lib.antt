@@ -1,0 +1,4 @@
+pub mod Stuck
+pub mod Runs
+pub mod Meeting
+pub mod Returning

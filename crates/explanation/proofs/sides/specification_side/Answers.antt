@@ -1,0 +1,18 @@
+-- A run of the specification is one of that side.
+use Rattle.std.proofs.Common.{Option, subst}
+use Rattle.csp_syntax.specs.Process.{specification_of}
+use Rattle.csp_term.specs.Script.{property_of, script_of}
+use Rattle.stuck_runs.specs.Hindrance.{hindrance_of}
+use Rattle.stuck_runs.specs.declared.way.StuckRun.{StuckRun}
+use Rattle.explanation.specs.Sides.{IsSpecificationRun}
+use Rattle.explanation.proofs.sides.specification_side.Goals as goal
+
+pub returns-in_default : goal.returns-in_default
+returns-in_default g c =
+    let F : Option (StuckRun g.row.A.Denot) → Type 0 = IsSpecificationRun (script_of c.args.script.now) (specification_of (property_of c.args.property.now)) (hindrance_of c.args.hindrance) c.args.most in
+    subst F c.in_default.is c.in_ok-found.ensures
+
+pub returns : goal.returns
+returns g c =
+    let F : Option (StuckRun g.row.A.Denot) → Type 0 = IsSpecificationRun (script_of c.args.script.now) (specification_of (property_of c.args.property.now)) (hindrance_of c.args.hindrance) c.args.most in
+    subst F c.in-Some.is c.in_ok-found.ensures

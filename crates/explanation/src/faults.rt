@@ -1,0 +1,124 @@
+//! Why an assertion has no answer, with a run to the state for which it has none.
+
+ghost use Rattle.std.specs.Prelude.{◌≡◌, ◌++◌, map, OnOk, Some};
+ghost use Rattle.std.specs.Option.{option_map};
+ghost use Rattle.std.specs.String.{string_bytes};
+ghost use Rattle.csp_answers.specs.Terms.{IsAssertionOf};
+ghost use Rattle.csp_value.specs.Action.{action_of};
+ghost use Rattle.csp_term.specs.Script.{assertion_of, script_of};
+ghost use Rattle.csp_term.specs.Term.{process_of};
+ghost use Rattle.csp_explanation.specs.Faults as told;
+ghost use Rattle.csp_explanation.specs.Paths.{path_text};
+ghost use Rattle.csp_explanation.specs.Telling.{TellsFound, TellsUnknown};
+ghost use Rattle.csp_print.specs.Writing.{Writes};
+ghost use Rattle.counterexample_text.specs.Styles.{style_of};
+ghost use Rattle.stuck_runs.specs.Hindrance.{hindrance_of};
+ghost use Rattle.verdict.specs.Outcome.{why_of};
+ghost use Rattle.explanation.specs.Sides.{side_run_of};
+
+use crate::reasons::reason;
+use crate::sides::{SideRun, side_run};
+use counterexample_text::{Style, push_mark, push_path};
+use csp_term::{AllocHandle, Assertion, Memory, Script};
+use std::alloc::AllocError;
+use stuck_runs::{Hindrance, StuckRun};
+use verdict::Why;
+
+/// Why there is no answer, and a run to a state that is faulty or large, where that is why.
+pub(crate) fn push_unknown<A: AllocHandle>(
+    alloc: A,
+    style: &Style<'_, '_, A>,
+    script: &Script<A>,
+    assertion: &Assertion<A>,
+    why: Why,
+    text: &mut String<A>,
+) -> Result<(), Memory>
+    requires terms { IsAssertionOf (script_of script.now) (assertion_of assertion.now) }
+    ensures { OnOk result (TellsUnknown (style_of style.now) (script_of script.now) (assertion_of assertion.now) (why_of why) (string_bytes text.old) (string_bytes text.new)) }
+{
+    push_mark(reason(why), text)?;
+    let stuck_by = hindrance(why);
+    let Some(hindrance) = stuck_by else {
+        return Ok(());
+    };
+    push_found(alloc, style, script, assertion, hindrance, text)
+}
+
+// What a state of a side is stuck by, where there is no answer for that.
+fn hindrance(why: Why) -> Option<Hindrance>
+    ensures { option_map hindrance_of result ≡ told.hindrance (why_of why) }
+{
+    match why {
+        Why::Pairs => None,
+        Why::Nodes => None,
+        Why::Term => Some(Hindrance::Size),
+        Why::Fault(fault) => Some(Hindrance::Fault(fault)),
+        Why::Memory => None,
+    }
+}
+
+// A run of a side to such a state, where one is found.
+fn push_found<A: AllocHandle>(
+    alloc: A,
+    style: &Style<'_, '_, A>,
+    script: &Script<A>,
+    assertion: &Assertion<A>,
+    hindrance: Hindrance,
+    text: &mut String<A>,
+) -> Result<(), Memory>
+    requires terms { IsAssertionOf (script_of script.now) (assertion_of assertion.now) }
+    ensures { OnOk result (TellsFound (style_of style.now) (script_of script.now) (assertion_of assertion.now) (Some (hindrance_of hindrance)) (string_bytes text.old) (string_bytes text.new)) }
+{
+    let found = side_run(alloc, script, assertion, hindrance, style.most)?;
+    let Some(run) = found else {
+        return Ok(());
+    };
+    push_side_run(alloc, style, hindrance, &run, text)?;
+    Ok(())
+}
+
+// The side, its run state by state, and what is wrong at the end.
+fn push_side_run<A: AllocHandle>(
+    alloc: A,
+    style: &Style<'_, '_, A>,
+    hindrance: Hindrance,
+    run: &SideRun<A>,
+    text: &mut String<A>,
+) -> Result<(), AllocError>
+    ensures { Writes result text.old text.new (told.fault_run_text (style_of style.now) (hindrance_of hindrance) (side_run_of run.now)) }
+{
+    match run {
+        SideRun::Implementation(run) => {
+            push_mark("  the implementation comes there by\n", text)?;
+            push_run(alloc, style, hindrance, run, text)
+        }
+        SideRun::Specification(run) => {
+            push_mark("  the specification comes there by\n", text)?;
+            push_run(alloc, style, hindrance, run, text)
+        }
+    }
+}
+
+// The run state by state, and what is wrong at the end.
+fn push_run<A: AllocHandle>(
+    alloc: A,
+    style: &Style<'_, '_, A>,
+    hindrance: Hindrance,
+    run: &StuckRun<A>,
+    text: &mut String<A>,
+) -> Result<(), AllocError>
+    ensures { Writes result text.old text.new (path_text (style_of style.now) (map action_of run.now.path.items) (map process_of run.now.states.items) ++ told.stuck_line (hindrance_of hindrance)) }
+{
+    push_path(alloc, style, &run.path, &run.states, text)?;
+    push_mark(stuck_line(hindrance), text)
+}
+
+// What the last state of the run is stuck by.
+fn stuck_line(hindrance: Hindrance) -> &'static str
+    ensures { result.now ≡ told.stuck_line (hindrance_of hindrance) }
+{
+    match hindrance {
+        Hindrance::Fault(_) => "  there a rule lacks a value\n",
+        Hindrance::Size => "  there it is too large, or what a step leads to\n",
+    }
+}

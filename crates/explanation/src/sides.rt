@@ -1,0 +1,80 @@
+//! Runs of a side of an assertion to a state that is stuck.
+
+ghost use Rattle.std.specs.Prelude.{IfOk, IfSome};
+ghost use Rattle.std.specs.Option.{option_map};
+ghost use Rattle.csp_syntax.specs.Process.{specification_of};
+ghost use Rattle.csp_semantics.specs.Kinds.Scripts.{IsTermOf};
+ghost use Rattle.csp_answers.specs.Terms.{IsAssertionOf};
+ghost use Rattle.csp_term.specs.Script.{assertion_of, property_of, script_of};
+ghost use Rattle.csp_explanation.specs.Faults.{IsFound};
+ghost use Rattle.stuck_runs.specs.Hindrance.{hindrance_of};
+ghost use Rattle.explanation.specs.Sides.{IsSpecificationRun, IsSpecificationSide, side_run_of};
+
+use csp_term::{AllocHandle, Assertion, Memory, Property, Script};
+use stuck_runs::{Hindrance, StuckRun, run_to_stuck};
+
+/// A run of a side.
+#[derive(Drop)]
+pub(crate) enum SideRun<A: AllocHandle> {
+    /// One of the implementation.
+    Implementation(StuckRun<A>),
+    /// One of the specification.
+    Specification(StuckRun<A>),
+}
+
+/// A run of the implementation to a state that is stuck by this, or where none is found among `most` states one of the
+/// specification, where one is found among so many.
+pub(crate) fn side_run<A: AllocHandle>(
+    alloc: A,
+    script: &Script<A>,
+    assertion: &Assertion<A>,
+    hindrance: Hindrance,
+    most: usize,
+) -> Result<Option<SideRun<A>>, Memory>
+    requires terms { IsAssertionOf (script_of script.now) (assertion_of assertion.now) }
+    ensures { IfOk result (λ found. IsFound (script_of script.now) (assertion_of assertion.now) (hindrance_of hindrance) most (option_map side_run_of found)) }
+{
+    let found = run_to_stuck(alloc, script, &assertion.implementation, hindrance, most)?;
+    let Some(run) = found else {
+        return specification_side(alloc, script, &assertion.property, hindrance, most);
+    };
+    Ok(Some(SideRun::Implementation(run)))
+}
+
+// The same of the specification alone.
+fn specification_side<A: AllocHandle>(
+    alloc: A,
+    script: &Script<A>,
+    property: &Property<A>,
+    hindrance: Hindrance,
+    most: usize,
+) -> Result<Option<SideRun<A>>, Memory>
+    requires terms { IfSome (specification_of (property_of property.now)) (IsTermOf (script_of script.now)) }
+    ensures { IfOk result (λ found. IsSpecificationSide (script_of script.now) (specification_of (property_of property.now)) (hindrance_of hindrance) most (option_map side_run_of found)) }
+{
+    let found = specification_run(alloc, script, property, hindrance, most)?;
+    let Some(run) = found else {
+        return Ok(None);
+    };
+    Ok(Some(SideRun::Specification(run)))
+}
+
+// A run of the specification, where there is one.
+fn specification_run<A: AllocHandle>(
+    alloc: A,
+    script: &Script<A>,
+    property: &Property<A>,
+    hindrance: Hindrance,
+    most: usize,
+) -> Result<Option<StuckRun<A>>, Memory>
+    requires terms { IfSome (specification_of (property_of property.now)) (IsTermOf (script_of script.now)) }
+    ensures { IfOk result (IsSpecificationRun (script_of script.now) (specification_of (property_of property.now)) (hindrance_of hindrance) most) }
+{
+    match property {
+        Property::Refinement { specification, .. } => {
+            run_to_stuck(alloc, script, specification, hindrance, most)
+        }
+        Property::DeadlockFree => Ok(None),
+        Property::DivergenceFree => Ok(None),
+    }
+}

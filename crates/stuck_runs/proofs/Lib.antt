@@ -1,0 +1,3 @@
+pub mod Putting
+pub mod Fired
+pub mod Backwards

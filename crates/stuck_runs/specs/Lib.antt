@@ -1,0 +1,5 @@
+pub mod Hindrance
+pub mod Looking
+pub mod Met
+pub mod Ways
+pub mod Running
