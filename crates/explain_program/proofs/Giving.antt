@@ -4,14 +4,14 @@ use Rattle.std.specs.Prelude.{Option}
 use Rattle.csp_syntax.specs.Process.{Script, Assertion}
 use Rattle.csp_answers.specs.Outcome.{Bounds, Outcome, Holds, Fails, Unknown, Denied}
 use Rattle.csp_notation.specs.Names.{Names}
-use Rattle.csp_explanation.specs.Telling.{IsTold}
 use Rattle.csp_runs.proofs.Visiting.{has_end}
 use Rattle.explore.specs.Answering.{IsRightAsWritten}
 use Rattle.explanation.specs.Running.{HasRun}
 use Rattle.report.specs.Sending.{Sends}
 use Rattle.program.specs.Running.{outcome_status}
-use Rattle.explain_program.specs.Asking.{Request, one_at, style_for}
+use Rattle.explain_program.specs.Asking.{Request, one_at}
 use Rattle.explain_program.specs.Giving.{AreTold, GoesOut}
+use Rattle.explain_program.specs.Telling.{IsToldAsAsked}
 
 -- the assertion at the place is the only one there
 pub alone_at : {S : Type 0} (assertion_of : S → Assertion) (assertions : List S) (i : ℕ) (a : S) → i < length assertions → a ≡ get_or assertions i a → one_at i (map assertion_of assertions) ≡ assertion_of a ∷ []
@@ -21,7 +21,7 @@ alone_at assertion_of (x ∷ xs) (suc i) a within read = alone_at assertion_of x
 
 -- a right outcome of one assertion, told in a text
 pub one_told : (request : Request) (script : Script) (names : Names) (n : ℕ) (asked : List Assertion) (a : Assertion) (o : Outcome) (Q : List Outcome → List ℕ → Type 0) → asked ≡ a ∷ [] →
-    IsRightAsWritten script a request.bounds o → (text : List ℕ) → IsTold (style_for request names) script n a o text → Q (o ∷ []) text → AreTold request script names n asked Q
+    IsRightAsWritten script a request.bounds o → (text : List ℕ) → IsToldAsAsked request script names n a o text → Q (o ∷ []) text → AreTold request script names n asked Q
 one_told request script names n asked a o Q alone right text told out =
     let T : List Assertion → Type 0 = λ xs. AreTold request script names n xs Q in
     subst T (sym alone) (record {

@@ -1,5 +1,6 @@
 pub mod Asking
 pub mod Beginnings
 pub mod Giving
+pub mod Sizes
 pub mod Stopping
 pub mod Tellings

@@ -1,28 +1,49 @@
 -- Explanations that are told one behind the other.
-use Rattle.std.proofs.Common.{◌≡◌, ℕ, zero, suc, ◌+◌, ◌<◌, ◌≤◌, max, Bool, false, List, [], ◌∷◌, ◌++◌, length, take, refl, ◌∙◌, ap, subst, append_assoc, arith}
-use Rattle.std.specs.Prelude.{Option}
+use Rattle.std.proofs.Common.{◌≡◌, ℕ, zero, suc, ◌+◌, ◌<◌, ◌≤◌, max, Bool, true, false, List, [], ◌∷◌, ◌++◌, length, take, refl, sym, ◌∙◌, ap, subst, append_assoc, arith}
+use Rattle.std.specs.Prelude.{Option, Result, Ok, Err, IfOk}
+use Rattle.std.specs.String.{string_bytes}
+use Rattle.std.specs.declared.string.String.{String}
 use Rattle.std.specs.List.{AllZip}
 use Rattle.std.proofs.lemmas.List.{length-take-le}
 use Rattle.csp_syntax.specs.Process.{Script, Assertion}
 use Rattle.csp_answers.specs.Outcome.{Outcome}
 use Rattle.csp_notation.specs.Names.{Names}
-use Rattle.csp_explanation.specs.Styles.{Style}
-use Rattle.csp_explanation.specs.Telling.{Tells}
+use Rattle.csp_explanation.specs.Telling.{IsTold}
 use Rattle.explore.specs.Answering.{IsRightAsWritten}
 use Rattle.report.specs.Sending.{Sends, Breaks}
 use Rattle.report.proofs.Sending.{appends_nothing, both, later}
 use Rattle.program.specs.Running.{status_of}
 use Rattle.explain_program.specs.Asking.{Request, one_at, style_for}
 use Rattle.explain_program.specs.Giving.{AreTold, GoesOut}
+use Rattle.explain_program.specs.Sizes.{IsSizeFor}
+use Rattle.explain_program.specs.Telling.{IsToldAsAsked, IsToldBy, TellsEach, size_text}
+use Rattle.explain_program.specs.declared.search_size.SearchSize.{SearchSize}
+
+-- ---- one of them
+
+module _ (request : Request) (script : Script) (names : Names) (n : ℕ) (a : Assertion) (o : Outcome) where
+  -- alone, where that is asked for
+  pub told_alone : (told : List ℕ) → request.count ≡ false → IsTold (style_for request names) script n a o told → IsToldAsAsked request script names n a o told
+  told_alone told alone is =
+      let T : Bool → Type 0 = λ count. IsToldBy count request script names n a o told in
+      subst T (sym alone) is
+
+  -- with the size of its search
+  pub told_with_size : {E A : Type 0} (made : Result (String A) E) (told : List ℕ) (size : Option SearchSize) → request.count ≡ true → IsTold (style_for request names) script n a o told →
+      IsSizeFor script a request.bounds o size → IfOk made (λ all. string_bytes all ≡ told ++ size_text a.property size) → IfOk made (λ all. IsToldAsAsked request script names n a o (string_bytes all))
+  told_with_size (Ok all) told size counted is is_size whole =
+      let T : Bool → Type 0 = λ count. IsToldBy count request script names n a o (string_bytes all) in
+      subst T (sym counted) (record { told = told; is_told = is; size = size; is_size = is_size; whole = whole })
+  told_with_size (Err e) told size counted is is_size whole = tt
 
 -- ---- lists of them
 
-module _ (style : Style) (script : Script) where
+module _ (request : Request) (script : Script) (names : Names) where
   tells_both : (n m : ℕ) (asked others : List Assertion) (os ps : List Outcome) (text more : List ℕ) → m ≡ n + length asked →
-      Tells style script n asked os text → Tells style script m others ps more → Tells style script n (asked ++ others) (os ++ ps) (text ++ more)
+      TellsEach request script names n asked os text → TellsEach request script names m others ps more → TellsEach request script names n (asked ++ others) (os ++ ps) (text ++ more)
   tells_both n m [] others [] ps text more at none told =
       let here : m ≡ n = omega (arith, at) in
-      rw none (subst (λ k. Tells style script k others ps more) here told)
+      rw none (subst (λ k. TellsEach request script names k others ps more) here told)
   tells_both n m [] others (p ∷ os) ps text more at none told = absurd none
   tells_both n m (b ∷ asked) others [] ps text more at none told = absurd none
   tells_both n m (b ∷ asked) others (p ∷ os) ps text more at tells told =
@@ -60,7 +81,7 @@ both_told request script names place P Q R within first second joined =
     let long : length asked ≡ place = length-take-le place script.assertions within in
     let at : suc place ≡ 1 + length asked = omega (arith, long) in
     let right = zip_both (λ a o. IsRightAsWritten script a request.bounds o) asked one first.outcomes second.outcomes first.right second.right in
-    let told = tells_both (style_for request names) script 1 (suc place) asked one first.outcomes second.outcomes first.text second.text at first.told second.told in
+    let told = tells_both request script names 1 (suc place) asked one first.outcomes second.outcomes first.text second.text at first.told second.told in
     record {
       outcomes = first.outcomes ++ second.outcomes;
       text = first.text ++ second.text;

@@ -1,19 +1,21 @@
 -- What the words ask for.
-use Rattle.std.specs.Prelude.{◌≡◌, ◌⊎◌, ℕ, zero, suc, List, [], Some, codes, take, drop}
+use Rattle.std.specs.Prelude.{◌≡◌, ◌⊎◌, ◌↔◌, ℕ, Bool, IsTrue, zero, suc, List, [], Some, codes, take, drop}
 use Rattle.csp_answers.specs.Outcome.{Bounds}
 use Rattle.csp_notation.specs.Names.{Names}
 use Rattle.csp_explanation.specs.Cutting.{Width, Whole, UpTo}
 use Rattle.csp_explanation.specs.Styles.{Style}
 use Rattle.settings.specs.CommandLine.{HasNumber}
-use Rattle.explain_settings.specs.CommandLine.{value}
+use Rattle.explain_settings.specs.CommandLine.{IsUsed, value}
 use Rattle.explain_settings.specs.Faults.{AskForHelp, AskForVersion, faults_of}
 use Rattle.explain_settings.specs.declared.options.Settings.{Settings}
 
--- a file, limits, how much of a state is told, and the number of an assertion, or 0 for each
+-- a file, limits, how much of a state is told, whether it is told how large a search was, and the number of an assertion,
+-- or 0 for each
 pub record Request : Type 0 where
   pub name : List ℕ
   pub bounds : Bounds
   pub width : Width
+  pub count : Bool
   pub number : ℕ
 
 abbrev pub bounds_asked : Settings → Bounds
@@ -34,6 +36,7 @@ request_of settings = record {
   name = settings.file.now;
   bounds = bounds_asked settings;
   width = width_of_number settings.width;
+  count = settings.count;
   number = settings.assertion;
 }
 
@@ -48,6 +51,7 @@ pub record AskForExplanation (words : List (List ℕ)) (request : Request) : Typ
   pub pairs : HasNumber (value (codes "max-pairs") words) request.bounds.max_pairs
   pub nodes : HasNumber (value (codes "max-nodes") words) request.bounds.max_nodes
   pub width : (n : ℕ) × HasNumber (value (codes "width") words) n × IsWidthOf request.width n
+  pub count : IsTrue request.count ↔ IsUsed (codes "count") words
   pub number : HasNumber (value (codes "assertion") words) request.number
 
 -- the words ask for a text, the help or the version

@@ -3,11 +3,11 @@ use Rattle.std.specs.Prelude.{◌≡◌, ℕ, Bool, List, Option}
 use Rattle.csp_syntax.specs.Process.{Script, Assertion}
 use Rattle.csp_answers.specs.Outcome.{Outcome}
 use Rattle.csp_notation.specs.Names.{Names}
-use Rattle.csp_explanation.specs.Telling.{Tells}
 use Rattle.report.specs.Sending.{Sends, Breaks}
 use Rattle.program.specs.Answering.{AreRight}
 use Rattle.program.specs.Running.{status_of}
-use Rattle.explain_program.specs.Asking.{Request, style_for}
+use Rattle.explain_program.specs.Asking.{Request}
+use Rattle.explain_program.specs.Telling.{TellsEach}
 use Rattle.explain_program.specs.declared.untold.Untold.{Untold}
 use Rattle.explain_program.specs.declared.untold.Untold.TheVariants as untold
 
@@ -21,7 +21,7 @@ pub record AreTold (request : Request) (script : Script) (names : Names) (first 
   pub outcomes : List Outcome
   pub text : List ℕ
   pub right : AreRight script request.bounds assertions outcomes
-  pub told : Tells (style_for request names) script first assertions outcomes text
+  pub told : TellsEach request script names first assertions outcomes text
   pub went_out : WentOut outcomes text
 
 -- all of it went out, and the status is that of the outcomes

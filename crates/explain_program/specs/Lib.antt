@@ -4,3 +4,5 @@ pub mod Giving
 pub mod Naming
 pub mod Refusals
 pub mod Running
+pub mod Sizes
+pub mod Telling

@@ -8,36 +8,31 @@ ghost use Rattle.explore.specs.Answering.{IsRightAsWritten};
 ghost use Rattle.verdict.specs.Outcome.{outcome_of};
 ghost use Rattle.program.specs.Running as program;
 ghost use Rattle.explain_program.specs.Asking.{bounds_asked};
+ghost use Rattle.explain_program.specs.Sizes.{IsSizeFor};
 
+use crate::searching::{Answer, answer_together};
 use csp_term::{AllocHandle, Assertion, Script};
 use explain_settings::Settings;
-use explore::{Open, explore};
 use pair_store::Limits;
 use std::sync::Wait;
 use std::thread::Threads;
 use verdict::Outcome;
 
-/// A right outcome of the assertion, within the limits of the settings and by as many workers as they say.
+/// The answer to the assertion, within the limits of the settings and by as many workers as they say: a right outcome, and
+/// how large the search for it was.
 pub(crate) fn answer<A: AllocHandle + Send + Sync, R: Threads + Wait + Sync>(
     alloc: A,
     rt: &R,
     settings: &Settings<'_>,
     script: &Script<A>,
     assertion: &Assertion<A>,
-) -> Outcome<A>
+) -> Answer<A>
     requires terms { IsAssertionOf (script_of script.now) (assertion_of assertion.now) }
-    ensures { IsRightAsWritten (script_of script.now) (assertion_of assertion.now) (bounds_asked settings.now) (outcome_of result) }
+    ensures right { IsRightAsWritten (script_of script.now) (assertion_of assertion.now) (bounds_asked settings.now) (outcome_of result.outcome) }
+    ensures size { IsSizeFor (script_of script.now) (assertion_of assertion.now) (bounds_asked settings.now) (outcome_of result.outcome) result.size }
 {
     let limits = limits(settings);
-    explore(
-        alloc,
-        rt,
-        script,
-        assertion,
-        limits,
-        settings.workers,
-        &Open,
-    )
+    answer_together(alloc, rt, script, assertion, limits, settings.workers)
 }
 
 // The limits of each search. The settings keep them in range.

@@ -3,21 +3,17 @@
 ghost use Rattle.std.specs.Prelude.{◌≡◌, ◌≤◌, ◌<◌, length, suc, false, IfOk, IfErr};
 ghost use Rattle.csp_term.specs.Script.{script_of};
 ghost use Rattle.csp_print.specs.Names.{names_of};
-ghost use Rattle.counterexample_text.specs.Styles.{style_of};
-ghost use Rattle.counterexample_text.specs.Widths.{width_of};
-ghost use Rattle.explain_program.specs.Asking.{one_at, request_of, style_for, width_of_number};
+ghost use Rattle.explain_program.specs.Asking.{one_at, request_of};
 ghost use Rattle.explain_program.specs.Explaining.{StopsBy, TellsAll};
 ghost use Rattle.explain_program.specs.Giving.{AreTold, GoesOut, LeavesText};
 
 use crate::answering::{answer, outcome_status};
 use crate::reader::NamedScript;
 use crate::stop::Stop;
+use crate::telling::explanation_text;
 use crate::untold::Untold;
-use counterexample_text::{Style, Width};
-use csp_print::Names;
 use csp_term::AllocHandle;
 use explain_settings::Settings;
-use explanation::tell;
 use report::{Sink, push_all};
 use std::sync::Wait;
 use std::thread::Threads;
@@ -83,41 +79,10 @@ fn explain_one<A: AllocHandle + Send + Sync, R: Threads + Wait + Sync, O: Sink>(
 {
     let assertions = named.script.assertions();
     let assertion = &assertions[place];
-    let outcome = answer(alloc, rt, settings, &named.script, assertion);
-    let style = style(settings, &named.names);
-    let text = tell(alloc, &style, &named.script, place + 1, assertion, &outcome)?;
+    let answer = answer(alloc, rt, settings, &named.script, assertion);
+    let text = explanation_text(alloc, settings, named, place + 1, assertion, &answer)?;
     match push_all(text.as_str().as_bytes(), out) {
-        Ok(()) => Ok(outcome_status(&outcome)),
+        Ok(()) => Ok(outcome_status(&answer.outcome)),
         Err(_) => Err(Untold::Output),
-    }
-}
-
-// How many states of a specification are told at a time.
-const FEW: usize = 3;
-
-// A specification with a normal form within the limits has no more states after a trace than they allow, so that they are
-// told.
-fn style<'n, 't, A: AllocHandle>(
-    settings: &Settings<'_>,
-    names: &'n Names<'t, A>,
-) -> Style<'n, 't, A>
-    ensures { style_of result ≡ style_for (request_of settings.now) (names_of names.now) }
-{
-    Style {
-        names,
-        width: width(settings.width),
-        few: FEW,
-        most: settings.max_nodes,
-    }
-}
-
-// 0 stands for all characters.
-fn width(number: usize) -> Width
-    ensures { width_of result ≡ width_of_number number }
-{
-    if number == 0 {
-        Width::Whole
-    } else {
-        Width::UpTo(number)
     }
 }

@@ -8,11 +8,15 @@
 #![tactic(auto)]
 
 mod answering;
+mod counting;
 mod explaining;
 mod reader;
 mod refusals;
 mod running;
+mod search_size;
+mod searching;
 mod stop;
+mod telling;
 mod untold;
 
 pub use reader::{NamedScript, read};

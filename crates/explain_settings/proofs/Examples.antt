@@ -28,3 +28,11 @@ each_assertion = refl
 width_given : value (codes "width") (codes "--width" ∷ codes "0" ∷ codes "f" ∷ []) ≡ Some (codes "0")
 unfolding clap_on_literals
 width_given = refl
+
+count_given : value (codes "count") (codes "--count" ∷ codes "f" ∷ []) ≡ Some (codes "true")
+unfolding clap_on_literals
+count_given = refl
+
+no_count : value (codes "count") (codes "f" ∷ []) ≡ Some (codes "false")
+unfolding clap_on_literals
+no_count = refl

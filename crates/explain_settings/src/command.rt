@@ -3,7 +3,7 @@
 ghost use Rattle.std.specs.Prelude.{◌≡◌, ◌≤◌, IfOk, false};
 ghost use Rattle.clap.specs.Words.{app_of, rule_of};
 ghost use Rattle.settings.specs.CommandLine.{file_rule, number_rule};
-ghost use Rattle.explain_settings.specs.CommandLine.{command_line, count_rule};
+ghost use Rattle.explain_settings.specs.CommandLine.{command_line, count_rule, flag_rule};
 
 use crate::help::{ABOUT, STATUS, VERSION};
 use clap::{Arg, ArgAction, Command};
@@ -29,6 +29,9 @@ pub(crate) fn command_line<'a>(alloc: Global) -> Result<Command<'a>, AllocError>
     let width = count(alloc, "width", "200", MOST).long("width").help(
         "The most characters that are told of a state, or 0 for all of it",
     );
+    let counted = flag(alloc, "count").help(
+        "Tell how many pairs and nodes the search of each assertion had",
+    );
     let file = file(alloc);
     let assertion = count(alloc, "assertion", "0", MOST).help(
         "The number of the assertion to tell of, or 0 for each",
@@ -42,6 +45,7 @@ pub(crate) fn command_line<'a>(alloc: Global) -> Result<Command<'a>, AllocError>
         .arg(pairs)?
         .arg(nodes)?
         .arg(width)?
+        .arg(counted)?
         .arg(file)?
         .arg(assertion)
 }
@@ -82,4 +86,12 @@ fn count<'a>(alloc: Global, name: &'a str, default: &'a str, most: usize) -> Arg
         .action(ArgAction::Set)
         .value_parser(clap::value_parser!(usize).range(0..=most as i64))
         .default_value(default)
+}
+
+// An option without a value of its own.
+fn flag<'a>(alloc: Global, name: &'a str) -> Arg<'a>
+    ensures rule { rule_of result ≡ flag_rule name.now }
+    ensures local { result.global ≡ false }
+{
+    Arg::new(alloc, name).long(name).action(ArgAction::SetTrue)
 }

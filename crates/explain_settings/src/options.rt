@@ -1,15 +1,16 @@
 //! What a command line asks of the program.
 
-ghost use Rattle.std.specs.Prelude.{◌≡◌, ◌≤◌, Some, [], IfOk, IfErr, codes};
+ghost use Rattle.std.specs.Prelude.{◌≡◌, ◌≤◌, ◌↔◌, Some, [], IfOk, IfErr, IsTrue, codes};
 ghost use Rattle.clap.specs.Walk.{texts};
-ghost use Rattle.clap.specs.Words.{kind_of};
+ghost use Rattle.clap.specs.Words.{first_value, found_of, kind_of};
 ghost use Rattle.settings.specs.CommandLine.{HasNumber};
 ghost use Rattle.settings.specs.Faults.{IsAnswerOf};
-ghost use Rattle.explain_settings.specs.CommandLine.{value};
+ghost use Rattle.explain_settings.specs.CommandLine.{IsUsed, value};
 ghost use Rattle.explain_settings.specs.Faults.{IsFaultOf, faults_of};
 
 use crate::command::command_line;
 use crate::help::with_refusals;
+use clap::ArgMatches;
 use settings::{CommandLineFault, number};
 use std::alloc::Global;
 
@@ -24,6 +25,8 @@ pub struct Settings<'a> {
     pub max_nodes: usize,
     /// The most characters of a state that are told, or 0 for all.
     pub width: usize,
+    /// Whether it is told how large the search of an assertion was.
+    pub count: bool,
     /// The name of the script's file.
     pub file: &'a str,
     /// The number of the assertion to tell of, or 0 for each.
@@ -44,6 +47,7 @@ pub fn read<'a>(alloc: Global, words: &'a [&'a str]) -> Result<Settings<'a>, Com
     ensures pairs { IfOk result (λ s. HasNumber (value (codes "max-pairs") (texts words.entry.now)) s.max_pairs) }
     ensures nodes { IfOk result (λ s. HasNumber (value (codes "max-nodes") (texts words.entry.now)) s.max_nodes) }
     ensures width { IfOk result (λ s. HasNumber (value (codes "width") (texts words.entry.now)) s.width) }
+    ensures count { IfOk result (λ s. IsTrue s.count ↔ IsUsed (codes "count") (texts words.entry.now)) }
     ensures file { IfOk result (λ s. value (codes "file") (texts words.entry.now) ≡ Some s.file.now) }
     ensures assertion { IfOk result (λ s. HasNumber (value (codes "assertion") (texts words.entry.now)) s.assertion) }
     ensures fault { IfErr result (IsFaultOf (texts words.entry.now)) }
@@ -57,9 +61,20 @@ pub fn read<'a>(alloc: Global, words: &'a [&'a str]) -> Result<Settings<'a>, Com
         max_pairs: number(&matches, "max-pairs"),
         max_nodes: number(&matches, "max-nodes"),
         width: number(&matches, "width"),
+        count: is_used(&matches, "count"),
         file: matches.get_str("file").unwrap(),
         assertion: number(&matches, "assertion"),
     })
+}
+
+// Whether the words use the flag, whose value is then `true`.
+fn is_used(matches: &ArgMatches<'_>, flag: &str) -> bool
+    ensures { IsTrue result ↔ first_value (found_of matches.now) flag.now ≡ Some (codes "true") }
+{
+    match matches.get_str(flag) {
+        Some(value) => value == "true",
+        None => false,
+    }
 }
 
 // What the command line answers in place of matches. The help has the refusals of a script behind it.

@@ -132,6 +132,14 @@ fn command_lines_ask_so(rt: HostRuntime) -> Result<(), Fail> {
 }
 
 #[test]
+fn counts_are_asked_for(rt: HostRuntime) -> Result<(), Fail> {
+    assert!(rt; !read(rt.alloc(), &["a.csp"])?.count);
+    assert!(rt; !read(rt.alloc(), &["--", "--count"])?.count);
+    assert!(rt; read(rt.alloc(), &["a.csp", "--count", "3"])?.count);
+    Ok(())
+}
+
+#[test]
 fn wrong_command_lines_are_refused(rt: HostRuntime) -> Result<(), Fail> {
     for (words, beginning) in &REFUSED {
         match read(rt.alloc(), words) {

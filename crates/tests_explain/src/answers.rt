@@ -3,6 +3,7 @@
 use crate::asked::asked_for;
 use crate::cache::CACHE;
 use crate::command_lines::{refused, wrong_words};
+use crate::counted::counted;
 use crate::dropping::DROPPING;
 use crate::election::ELECTION;
 use crate::interlocking::INTERLOCKING;
@@ -46,6 +47,14 @@ fn small_scripts_are_told_so(rt: HostRuntime) -> Result<(), Fail> {
 #[test]
 fn unknowns_are_told_so(rt: HostRuntime) -> Result<(), Fail> {
     for row in unknowns() {
+        is_told(&rt, rt.alloc(), row)?;
+    }
+    Ok(())
+}
+
+#[test]
+fn searches_are_counted_so(rt: HostRuntime) -> Result<(), Fail> {
+    for row in counted() {
         is_told(&rt, rt.alloc(), row)?;
     }
     Ok(())

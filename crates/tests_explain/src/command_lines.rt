@@ -31,7 +31,7 @@ pub(crate) fn refused() -> &'static [Refused] {
 /// Words, and the first line of what is said of them.
 pub(crate) type WrongWords = (&'static [&'static str], &'static str);
 
-static WRONG_WORDS: [WrongWords; 6] = [
+static WRONG_WORDS: [WrongWords; 8] = [
     (
         &[],
         "error: the following required arguments were not provided:\n",
@@ -51,6 +51,14 @@ static WRONG_WORDS: [WrongWords; 6] = [
     (
         &["--width", "1000001", "script"],
         "error: invalid value '1000001' for '--width <N>': 1000001 is not in 0..=1000000\n",
+    ),
+    (
+        &["--count=1", "script"],
+        "error: unexpected value '1' for '--count' found; no more were expected\n",
+    ),
+    (
+        &["--count", "--count", "script"],
+        "error: the argument '--count' cannot be used multiple times\n",
     ),
     (
         &["--workers", "0", "script"],

@@ -13,6 +13,8 @@ mod cache;
 #[cfg(test)]
 mod command_lines;
 #[cfg(test)]
+mod counted;
+#[cfg(test)]
 mod dropping;
 #[cfg(test)]
 mod election;

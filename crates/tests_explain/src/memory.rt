@@ -12,6 +12,8 @@ const TEXT: &str = "channel a\nassert a -> STOP [T= STOP\nassert STOP [T= a -> S
 
 const HOLDS: &str = "1 holds  assert a -> STOP [T= STOP\n";
 
+const COUNTED: &str = "1 holds  assert a -> STOP [T= STOP\n  1 pair, 2 nodes\n";
+
 const FIRST_UNKNOWN: &str = "1 unknown  assert a -> STOP [T= STOP\n  memory was refused\n";
 
 const FAILS: &str = "\
@@ -50,10 +52,11 @@ fn is_whole(told: &Told) -> bool {
     told.status == 1 && told.err.is_empty() && is_joined(&told.out, HOLDS, FAILS)
 }
 
-// What a run on the text tells where the request of that number is refused, and whether it was made.
-fn told_without<R: Threads + Wait + Sync>(
+// What a run on the words and the text tells where the request of that number is refused, and whether it was made.
+fn told_without<'w, R: Threads + Wait + Sync>(
     alloc: Global,
     rt: &R,
+    words: &'w [&'w str],
     text: &str,
     request: u64,
 ) -> (Told, bool) {
@@ -63,7 +66,7 @@ fn told_without<R: Threads + Wait + Sync>(
         text: text.as_bytes(),
         alloc: &memory,
     };
-    let told = run_in(alloc, &memory, rt, &["script"], &mut files);
+    let told = run_in(alloc, &memory, rt, words, &mut files);
     let refused = memory.has_refused();
     (told, refused)
 }
@@ -72,7 +75,7 @@ fn told_without<R: Threads + Wait + Sync>(
 fn refused_memory_leaves_what_was_told(rt: HostRuntime) -> Result<(), Fail> {
     let (mut without, mut broken) = (0u32, 0u32);
     for request in 0..100_000 {
-        let (told, refused) = told_without(rt.alloc(), &rt, TEXT, request);
+        let (told, refused) = told_without(rt.alloc(), &rt, &["script"], TEXT, request);
         if !refused {
             assert!(rt;
                 is_whole(&told) && without > 4 && broken > 4,
@@ -86,6 +89,32 @@ fn refused_memory_leaves_what_was_told(rt: HostRuntime) -> Result<(), Fail> {
             without = without.saturating_add(1);
         } else {
             assert!(rt; is_whole(&told), "without {request}");
+        }
+    }
+    assert!(rt; false, "no end");
+    Ok(())
+}
+
+// A search that is refused memory has no count.
+#[test]
+fn refused_memory_leaves_no_count(rt: HostRuntime) -> Result<(), Fail> {
+    let (mut without, mut broken) = (0u32, 0u32);
+    let words = &["--count", "script", "1"];
+    for request in 0..100_000 {
+        let (told, refused) = told_without(rt.alloc(), &rt, words, TEXT, request);
+        if !refused {
+            assert!(rt;
+                told.is(0, COUNTED, "") && without > 4 && broken > 4,
+                "before {request}"
+            );
+            return Ok(());
+        }
+        if told.is(3, "", "refused memory\n") {
+            broken = broken.saturating_add(1);
+        } else if told.is(2, FIRST_UNKNOWN, "") {
+            without = without.saturating_add(1);
+        } else {
+            assert!(rt; told.is(0, COUNTED, ""), "without {request}");
         }
     }
     assert!(rt; false, "no end");
@@ -106,7 +135,7 @@ help: datatypes, constructors, nametypes, channels and equations share one space
 fn a_refusal_without_memory_is_told_by_its_line(rt: HostRuntime) -> Result<(), Fail> {
     let (mut unread, mut lines) = (0u32, 0u32);
     for request in 0..100_000 {
-        let (told, refused) = told_without(rt.alloc(), &rt, REFUSED, request);
+        let (told, refused) = told_without(rt.alloc(), &rt, &["script"], REFUSED, request);
         if !refused {
             assert!(rt;
                 told.is(3, "", IN_WORDS) && unread > 4 && lines > 4,

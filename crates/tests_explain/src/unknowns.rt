@@ -2,7 +2,7 @@
 
 use crate::rows::Row;
 
-static UNKNOWNS: [Row; 8] = [
+static UNKNOWNS: [Row; 11] = [
     Row {
         words: &["--max-pairs", "1", "script"],
         status: 2,
@@ -25,10 +25,18 @@ static UNKNOWNS: [Row; 8] = [
     Row {
         words: &["script"],
         status: 2,
-        text: "P = P ; SKIP\nassert STOP [T= P\n",
+        text: "channel a\nchannel c : {0..63}\nP = a -> (||| x:{0..63} @ c!x -> c!x -> c!x -> c!x -> c!x -> c!x -> c!x -> c!x -> c!x -> c!x -> STOP)\nassert a -> STOP [T= P\n",
         told: "\
-1 unknown  assert STOP [T= P
+1 unknown  assert a -> STOP [T= P
   a side comes to a process that is too large, and no option allows more
+  the implementation comes there by
+  0 start
+      P
+  1 tau
+      a -> (||| x:{0..63} @ c!x -> c!x -> c!x -> c!x -> c!x -> c!x -> c!x -> c!x -> c!x -> c!x -> STOP)
+  2 a
+      ||| x:{0..63} @ c!x -> c!x -> c!x -> c!x -> c!x -> c!x -> c!x -> c!x -> c!x -> c!x -> STOP
+  there it is too large, or what a step leads to
 ",
     },
     Row {
@@ -38,10 +46,29 @@ static UNKNOWNS: [Row; 8] = [
         told: "\
 1 unknown  assert STOP [T= c!2 -> STOP
   a side comes to a value that lies outside of the set of its field
+  the implementation comes there by
+  0 start
+      c!2 -> STOP
+  there a rule lacks a value
 ",
     },
     Row {
         words: &["script"],
+        status: 2,
+        text: "P(n) = P(n+1)\nassert STOP [T= P(2147483647)\n",
+        told: "\
+1 unknown  assert STOP [T= P(2147483647)
+  a side comes to a number outside of 32 bits, or to a set or sequence that is too long
+  the implementation comes there by
+  0 start
+      P(2147483647)
+  1 tau
+      P(2147483647 + 1)
+  there a rule lacks a value
+",
+    },
+    Row {
+        words: &["--max-nodes", "1", "script"],
         status: 2,
         text: "P(n) = P(n+1)\nassert STOP [T= P(2147483647)\n",
         told: "\
@@ -56,6 +83,12 @@ static UNKNOWNS: [Row; 8] = [
         told: "\
 1 unknown  assert STOP [T= P(<>)
   a side comes to the head or tail of an empty sequence
+  the implementation comes there by
+  0 start
+      P(<>)
+  1 tau
+      c!head(<>) -> STOP
+  there a rule lacks a value
 ",
     },
     Row {
@@ -65,6 +98,27 @@ static UNKNOWNS: [Row; 8] = [
         told: "\
 1 unknown  assert STOP [T= c!(1 % 0) -> STOP
   a side comes to a remainder by a number that is not positive
+  the implementation comes there by
+  0 start
+      c!(1 % 0) -> STOP
+  there a rule lacks a value
+",
+    },
+    Row {
+        words: &["script"],
+        status: 2,
+        text: "channel a\nchannel c : {0..1}\nP = a -> P\nQ(n) = a -> c!(1 % n) -> STOP\nassert P [T= Q(0)\n",
+        told: "\
+1 unknown  assert P [T= Q(0)
+  a side comes to a remainder by a number that is not positive
+  the implementation comes there by
+  0 start
+      Q(0)
+  1 tau
+      a -> c!(1 % 0) -> STOP
+  2 a
+      c!(1 % 0) -> STOP
+  there a rule lacks a value
 ",
     },
     Row {
@@ -74,6 +128,23 @@ static UNKNOWNS: [Row; 8] = [
         told: "\
 1 unknown  assert STOP [T= |~| x:{} @ STOP
   a side comes to an internal choice over the empty set
+  the implementation comes there by
+  0 start
+      |~| x:{} @ STOP
+  there a rule lacks a value
+",
+    },
+    Row {
+        words: &["script"],
+        status: 2,
+        text: "channel c : {0..1}\nassert c!2 -> STOP [T= STOP\n",
+        told: "\
+1 unknown  assert c!2 -> STOP [T= STOP
+  a side comes to a value that lies outside of the set of its field
+  the specification comes there by
+  0 start
+      c!2 -> STOP
+  there a rule lacks a value
 ",
     },
 ];

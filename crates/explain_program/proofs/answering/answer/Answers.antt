@@ -1,16 +1,15 @@
--- What the answer says is there.
+-- The limits are those that are asked for.
 use denote.Param.Send.{sendable}
 use Rattle.std.proofs.Common.{subst, inl, inr, lit<}
 use Rattle.csp_answers.specs.Outcome.{Bounds}
 use Rattle.csp_term.specs.Script.{assertion_of, script_of}
-use Rattle.pair_store.specs.Bounds.{bounds_of}
 use Rattle.explore.specs.Answering.{IsRightAsWritten}
 use Rattle.verdict.specs.Outcome.{outcome_of}
-use Rattle.program.proofs.Answering.{is_right}
+use Rattle.explain_program.specs.Sizes.{IsSizeFor}
 use Rattle.explain_program.proofs.answering.answer.Goals as goal
 
-pub explore-requires : goal.explore-requires
-explore-requires g c =
+pub answer_together-requires : goal.answer_together-requires
+answer_together-requires g c =
     let sa = c.type_bounds.send-A in
     let ya = c.type_bounds.sync-A in
     let sr = c.type_bounds.sync-R in
@@ -21,27 +20,25 @@ explore-requires g c =
         (
           search sendable depth 20,
           (
-            search sendable depth 20,
+            c.type_bounds.frees-A-Allocator,
             (
-              c.type_bounds.frees-A-Allocator,
-              (
-                elim small [
-                  | inl e ↦ rw (e.0, e.1) (lit< tt)
-                  | inr e ↦ rw (e.0, e.1) (lit< tt)
-                ],
-                (c.requires.terms, c.args.settings.now.workers_in_range),
-              ),
+              elim small [
+                | inl e ↦ rw (e.0, e.1) (lit< tt)
+                | inr e ↦ rw (e.0, e.1) (lit< tt)
+              ],
+              (c.requires.terms, c.args.settings.now.workers_in_range),
             ),
           ),
         ),
       ),
     )
 
-pub returns : goal.returns
-returns g c =
-    let script = script_of c.args.script.now in
-    let a = assertion_of c.args.assertion.now in
-    let o = outcome_of c.explore.result in
-    let P : Bounds → Type 0 = λ bounds. IsRightAsWritten script a bounds o in
-    let says = c.explore.ensures in
-    subst P c.limits-limits.ensures (is_right script a (bounds_of c.limits-limits.result) o says.answer says.soundly says.denied says.fails says.pairs says.nodes says.term says.fault)
+pub returns-clause-right : goal.returns-clause-right
+returns-clause-right g c =
+    let P : Bounds → Type 0 = λ bounds. IsRightAsWritten (script_of c.args.script.now) (assertion_of c.args.assertion.now) bounds (outcome_of c.answer_together.result.outcome) in
+    subst P c.limits-limits.ensures c.answer_together.ensures.right
+
+pub returns-clause-size : goal.returns-clause-size
+returns-clause-size g c =
+    let P : Bounds → Type 0 = λ bounds. IsSizeFor (script_of c.args.script.now) (assertion_of c.args.assertion.now) bounds (outcome_of c.answer_together.result.outcome) c.answer_together.result.size in
+    subst P c.limits-limits.ensures c.answer_together.ensures.size

@@ -4,8 +4,6 @@ use Rattle.std.proofs.Common.{◌≡◌, ◌<◌, ℕ, suc, ◌+◌, List, [], �
 use Rattle.std.proofs.lemmas.List.{length-map}
 use Rattle.std.specs.String.{string_bytes}
 use Rattle.csp_syntax.specs.Process as pure
-use Rattle.csp_explanation.specs.Styles.{Style}
-use Rattle.csp_explanation.specs.Telling.{IsTold}
 use Rattle.csp_term.specs.Script.{HasSidesOf, assertion_of, script_of}
 use Rattle.csp_print.specs.Names.{names_of}
 use Rattle.report.specs.Sending.{Breaks, Sends}
@@ -13,13 +11,14 @@ use Rattle.verdict.specs.Outcome.{outcome_of}
 use Rattle.program.specs.Running.{outcome_status}
 use Rattle.program.proofs.Answering.{sides_at}
 use Rattle.program.proofs.Reporting.{status_at_most}
-use Rattle.explain_program.specs.Asking.{one_at, request_of, style_for}
+use Rattle.explain_program.specs.Asking.{one_at, request_of}
 use Rattle.explain_program.specs.Giving.{AreTold, GoesOut}
+use Rattle.explain_program.specs.Telling.{IsToldAsAsked}
 use Rattle.explain_program.proofs.Giving.{alone_at, one_told, right_has_run, went_out}
 use Rattle.explain_program.proofs.explaining.explain_one.Goals as goal
 
-pub answer-outcome-requires : goal.answer-outcome-requires
-answer-outcome-requires g c =
+pub answer-answer-requires : goal.answer-answer-requires
+answer-answer-requires g c =
     let script = script_of c.args.named.now.script in
     let items = c.assertions-assertions.result.now in
     let whole = ap length c.assertions-assertions.ensures.value in
@@ -51,8 +50,8 @@ answer-outcome-requires g c =
       ),
     )
 
-pub tell-requires : goal.tell-requires
-tell-requires g c =
+pub explanation_text-requires : goal.explanation_text-requires
+explanation_text-requires g c =
     let script = script_of c.args.named.now.script in
     let items = c.assertions-assertions.result.now in
     let whole = ap length c.assertions-assertions.ensures.value in
@@ -61,10 +60,10 @@ tell-requires g c =
     let within : c.args.place < length items = omega (arith, whole, mapped, there) in
     let sides = sides_at assertion_of (HasSidesOf script) script items c.args.place c.index-assertions-place.result c.assertions-assertions.ensures.sides within c.index-assertions-place.is
     (λ b sides. record { specification = sides.0; implementation = sides.1 }) in
-    let run = right_has_run script (assertion_of c.index-assertions-place.result) (request_of c.args.settings.now).bounds (outcome_of c.answer-outcome.result) c.answer-outcome.ensures in
+    let run = right_has_run script (assertion_of c.index-assertions-place.result) (request_of c.args.settings.now).bounds (outcome_of c.answer-answer.result.outcome) c.answer-answer.ensures.right in
     elim (g.met.A.AllocHandle g.world.𝓛 g.world.𝓜 g.world.𝓡 ((λ s x. x), (λ x. x), (λ x. x), λ x. x)).small [
-      | inl e ↦ rw (e.0, e.1) (lit< tt, (sides, run))
-      | inr e ↦ rw (e.0, e.1) (lit< tt, (sides, run))
+      | inl e ↦ rw (e.0, e.1) (lit< tt, (sides, (run, c.answer-answer.ensures.size)))
+      | inr e ↦ rw (e.0, e.1) (lit< tt, (sides, (run, c.answer-answer.ensures.size)))
     ]
 
 pub returns-in-Ok-clause-told : goal.returns-in-Ok-clause-told
@@ -75,7 +74,7 @@ returns-in-Ok-clause-told g c =
     let place = c.args.place in
     let items = c.assertions-assertions.result.now in
     let a = assertion_of c.index-assertions-place.result in
-    let o = outcome_of c.answer-outcome.result in
+    let o = outcome_of c.answer-answer.result.outcome in
     let whole = ap length c.assertions-assertions.ensures.value in
     let mapped = length-map items assertion_of in
     let there = c.requires.there in
@@ -83,10 +82,9 @@ returns-in-Ok-clause-told g c =
     let A : List pure.Assertion → Type 0 = λ xs. one_at place xs ≡ a ∷ [] in
     let alone = subst A c.assertions-assertions.ensures.value (alone_at assertion_of items place c.index-assertions-place.result within c.index-assertions-place.is) in
     let bytes = string_bytes c.in_ok-text.text in
-    let W : Style → Type 0 = λ w. IsTold w script (place + 1) a o bytes in
-    let N : ℕ → Type 0 = λ n. IsTold (style_for request names) script n a o bytes in
+    let N : ℕ → Type 0 = λ n. IsToldAsAsked request script names n a o bytes in
     let next : place + 1 ≡ suc place = omega arith in
-    let told = subst N next (subst W c.style-style.ensures c.in_ok-text.ensures) in
+    let told = subst N next c.in_ok-text.ensures in
     let old = g.O.Sink.taken c.args.out.now in
     let new = g.O.Sink.taken c.push_all.new.sink in
     let failed = g.O.Sink.has_failed c.push_all.new.sink in
@@ -96,7 +94,7 @@ returns-in-Ok-clause-told g c =
     let is = c.outcome_status.ensures in
     let most = status_at_most (o ∷ []) in (
       omega (arith, is, most),
-      subst T (sym is) (one_told request script names (suc place) (one_at place script.assertions) a o (GoesOut old new failed (outcome_status o)) alone c.answer-outcome.ensures bytes told (went_out o old new failed bytes sends)),
+      subst T (sym is) (one_told request script names (suc place) (one_at place script.assertions) a o (GoesOut old new failed (outcome_status o)) alone c.answer-answer.ensures.right bytes told (went_out o old new failed bytes sends)),
     )
 
 pub returns-clause-left : goal.returns-clause-left
@@ -107,7 +105,7 @@ returns-clause-left g c =
     let place = c.args.place in
     let items = c.assertions-assertions.result.now in
     let a = assertion_of c.index-assertions-place.result in
-    let o = outcome_of c.answer-outcome.result in
+    let o = outcome_of c.answer-answer.result.outcome in
     let whole = ap length c.assertions-assertions.ensures.value in
     let mapped = length-map items assertion_of in
     let there = c.requires.there in
@@ -115,43 +113,42 @@ returns-clause-left g c =
     let A : List pure.Assertion → Type 0 = λ xs. one_at place xs ≡ a ∷ [] in
     let alone = subst A c.assertions-assertions.ensures.value (alone_at assertion_of items place c.index-assertions-place.result within c.index-assertions-place.is) in
     let bytes = string_bytes c.in_ok-text.text in
-    let W : Style → Type 0 = λ w. IsTold w script (place + 1) a o bytes in
-    let N : ℕ → Type 0 = λ n. IsTold (style_for request names) script n a o bytes in
+    let N : ℕ → Type 0 = λ n. IsToldAsAsked request script names n a o bytes in
     let next : place + 1 ≡ suc place = omega arith in
-    let told = subst N next (subst W c.style-style.ensures c.in_ok-text.ensures) in
+    let told = subst N next c.in_ok-text.ensures in
     let old = g.O.Sink.taken c.args.out.now in
     let new = g.O.Sink.taken c.push_all.new.sink in
     let failed = g.O.Sink.has_failed c.push_all.new.sink in
     let S : List ℕ → Type 0 = λ ts. Breaks old new failed ts in
     let breaks = subst S (c.as_bytes.ensures.value ∙ c.as_str.ensures.value) c.in-Err.ensures.beginning in
-    one_told request script names (suc place) (one_at place script.assertions) a o (λ os text. Breaks old new failed text) alone c.answer-outcome.ensures bytes told breaks
+    one_told request script names (suc place) (one_at place script.assertions) a o (λ os text. Breaks old new failed text) alone c.answer-answer.ensures.right bytes told breaks
 
-pub drop-outcome-requires-room-T-Destruct : goal.drop-outcome-requires-room-T-Destruct
-drop-outcome-requires-room-T-Destruct g c κs within = elim (g.met.A.AllocHandle g.world.𝓛 g.world.𝓜 g.world.𝓡 ((λ s x. x), (λ x. x), (λ x. x), λ x. x)).small [ inl e ↦ rw (e.0, e.1) (lit< tt) | inr e ↦ rw (e.0, e.1) (lit< tt) ]
+pub drop-answer-requires-room-T-Destruct : goal.drop-answer-requires-room-T-Destruct
+drop-answer-requires-room-T-Destruct g c κs within = elim (g.met.A.AllocHandle g.world.𝓛 g.world.𝓜 g.world.𝓡 ((λ s x. x), (λ x. x), (λ x. x), λ x. x)).small [ inl e ↦ rw (e.0, e.1) (lit< tt) | inr e ↦ rw (e.0, e.1) (lit< tt) ]
 
 pub drop-requires-in_err-text-2-room-T-Destruct : goal.drop-requires-in_err-text-2-room-T-Destruct
 drop-requires-in_err-text-2-room-T-Destruct g c κs within = elim (g.met.A.AllocHandle g.world.𝓛 g.world.𝓜 g.world.𝓡 ((λ s x. x), (λ x. x), (λ x. x), λ x. x)).small [ inl e ↦ rw (e.0, e.1) (lit< tt) | inr e ↦ rw (e.0, e.1) (lit< tt) ]
 
-pub drop-outcome-requires-in-Ok-room-T-Destruct : goal.drop-outcome-requires-in-Ok-room-T-Destruct
-drop-outcome-requires-in-Ok-room-T-Destruct g c κs within = elim (g.met.A.AllocHandle g.world.𝓛 g.world.𝓜 g.world.𝓡 ((λ s x. x), (λ x. x), (λ x. x), λ x. x)).small [ inl e ↦ rw (e.0, e.1) (lit< tt) | inr e ↦ rw (e.0, e.1) (lit< tt) ]
+pub drop-answer-requires-in-Ok-room-T-Destruct : goal.drop-answer-requires-in-Ok-room-T-Destruct
+drop-answer-requires-in-Ok-room-T-Destruct g c κs within = elim (g.met.A.AllocHandle g.world.𝓛 g.world.𝓜 g.world.𝓡 ((λ s x. x), (λ x. x), (λ x. x), λ x. x)).small [ inl e ↦ rw (e.0, e.1) (lit< tt) | inr e ↦ rw (e.0, e.1) (lit< tt) ]
 
 pub drop-requires-in-Ok-2-room-T-Destruct : goal.drop-requires-in-Ok-2-room-T-Destruct
 drop-requires-in-Ok-2-room-T-Destruct g c κs within = elim (g.met.A.AllocHandle g.world.𝓛 g.world.𝓜 g.world.𝓡 ((λ s x. x), (λ x. x), (λ x. x), λ x. x)).small [ inl e ↦ rw (e.0, e.1) (lit< tt) | inr e ↦ rw (e.0, e.1) (lit< tt) ]
 
-pub drop-outcome-requires-2-room-T-Destruct : goal.drop-outcome-requires-2-room-T-Destruct
-drop-outcome-requires-2-room-T-Destruct g c κs within = elim (g.met.A.AllocHandle g.world.𝓛 g.world.𝓜 g.world.𝓡 ((λ s x. x), (λ x. x), (λ x. x), λ x. x)).small [ inl e ↦ rw (e.0, e.1) (lit< tt) | inr e ↦ rw (e.0, e.1) (lit< tt) ]
+pub drop-answer-requires-2-room-T-Destruct : goal.drop-answer-requires-2-room-T-Destruct
+drop-answer-requires-2-room-T-Destruct g c κs within = elim (g.met.A.AllocHandle g.world.𝓛 g.world.𝓜 g.world.𝓡 ((λ s x. x), (λ x. x), (λ x. x), λ x. x)).small [ inl e ↦ rw (e.0, e.1) (lit< tt) | inr e ↦ rw (e.0, e.1) (lit< tt) ]
 
 pub drop-requires-in-Err-2-room-T-Destruct : goal.drop-requires-in-Err-2-room-T-Destruct
 drop-requires-in-Err-2-room-T-Destruct g c κs within = elim (g.met.A.AllocHandle g.world.𝓛 g.world.𝓜 g.world.𝓡 ((λ s x. x), (λ x. x), (λ x. x), λ x. x)).small [ inl e ↦ rw (e.0, e.1) (lit< tt) | inr e ↦ rw (e.0, e.1) (lit< tt) ]
 
-pub array_drop-outcome-requires : goal.array_drop-outcome-requires
-array_drop-outcome-requires g c = elim (g.met.A.AllocHandle g.world.𝓛 g.world.𝓜 g.world.𝓡 ((λ s x. x), (λ x. x), (λ x. x), λ x. x)).small [ inl e ↦ rw (e.0, e.1) (lit< tt) | inr e ↦ rw (e.0, e.1) (lit< tt) ]
+pub array_drop-answer-requires : goal.array_drop-answer-requires
+array_drop-answer-requires g c = elim (g.met.A.AllocHandle g.world.𝓛 g.world.𝓜 g.world.𝓡 ((λ s x. x), (λ x. x), (λ x. x), λ x. x)).small [ inl e ↦ rw (e.0, e.1) (lit< tt) | inr e ↦ rw (e.0, e.1) (lit< tt) ]
 
-pub array_drop-outcome-requires-in-Ok : goal.array_drop-outcome-requires-in-Ok
-array_drop-outcome-requires-in-Ok g c = elim (g.met.A.AllocHandle g.world.𝓛 g.world.𝓜 g.world.𝓡 ((λ s x. x), (λ x. x), (λ x. x), λ x. x)).small [ inl e ↦ rw (e.0, e.1) (lit< tt) | inr e ↦ rw (e.0, e.1) (lit< tt) ]
+pub array_drop-answer-requires-in-Ok : goal.array_drop-answer-requires-in-Ok
+array_drop-answer-requires-in-Ok g c = elim (g.met.A.AllocHandle g.world.𝓛 g.world.𝓜 g.world.𝓡 ((λ s x. x), (λ x. x), (λ x. x), λ x. x)).small [ inl e ↦ rw (e.0, e.1) (lit< tt) | inr e ↦ rw (e.0, e.1) (lit< tt) ]
 
-pub array_drop-outcome-requires-2 : goal.array_drop-outcome-requires-2
-array_drop-outcome-requires-2 g c = elim (g.met.A.AllocHandle g.world.𝓛 g.world.𝓜 g.world.𝓡 ((λ s x. x), (λ x. x), (λ x. x), λ x. x)).small [ inl e ↦ rw (e.0, e.1) (lit< tt) | inr e ↦ rw (e.0, e.1) (lit< tt) ]
+pub array_drop-answer-requires-2 : goal.array_drop-answer-requires-2
+array_drop-answer-requires-2 g c = elim (g.met.A.AllocHandle g.world.𝓛 g.world.𝓜 g.world.𝓡 ((λ s x. x), (λ x. x), (λ x. x), λ x. x)).small [ inl e ↦ rw (e.0, e.1) (lit< tt) | inr e ↦ rw (e.0, e.1) (lit< tt) ]
 
 pub outcome_status-requires : goal.outcome_status-requires
 outcome_status-requires g c = elim (g.met.A.AllocHandle g.world.𝓛 g.world.𝓜 g.world.𝓡 ((λ s x. x), (λ x. x), (λ x. x), λ x. x)).small [ inl e ↦ rw (e.0, e.1) (lit< tt) | inr e ↦ rw (e.0, e.1) (lit< tt) ]

@@ -1,0 +1,79 @@
+-- What an ended search shows is right, and so is why none was begun.
+use denote.Param.Send.{sendable}
+use Rattle.std.proofs.Common.{◌≢◌, inl, inr, lit<}
+use Rattle.csp_answers.specs.Search.{Open}
+use Rattle.csp_answers.specs.Sound.{IsFor, ScriptSearch}
+use Rattle.csp_term.specs.Script.{assertion_of, script_of}
+use Rattle.pair_store.specs.Bounds.{bounds_of}
+use Rattle.verdict.specs.Outcome.{outcome_of, why_of}
+use Rattle.explore.proofs.Ending.{of_some}
+use Rattle.explain_program.proofs.Sizes.{no_size, reason_right, told_right, told_size}
+use Rattle.explain_program.proofs.searching.answer_together.Goals as goal
+
+pub ended_together-requires-send-A : goal.ended_together-requires-send-A
+ended_together-requires-send-A g c κs within = let h = c.type_bounds.send-A in search sendable depth 20
+
+pub ended_together-requires-sync-A : goal.ended_together-requires-sync-A
+ended_together-requires-sync-A g c κs within = let h = c.type_bounds.sync-A in search sendable depth 20
+
+pub ended_together-requires-sync-R : goal.ended_together-requires-sync-R
+ended_together-requires-sync-R g c κs within = let h = c.type_bounds.sync-R in search sendable depth 20
+
+pub ended_together-requires-frees-A-Allocator : goal.ended_together-requires-frees-A-Allocator
+ended_together-requires-frees-A-Allocator g c κs within = let h = c.type_bounds.frees-A-Allocator in search sendable depth 20
+
+pub concluded-requires : goal.concluded-requires
+concluded-requires g c =
+    let ended = of_some (λ (s : ScriptSearch). s.search.verdict ≢ Open) c.in-Ok-Some.field-0 c.in-Ok-Some.store c.in-Ok-Some.field-0-is c.in-Ok-Some.ensures.ended in
+    let met = g.met.A.AllocHandle g.world.𝓛 g.world.𝓜 g.world.𝓡 ((λ s x. x), (λ x. x), (λ x. x), λ x. x) in
+    elim met.small [
+      | inl e ↦ rw (e.0, e.1) (lit< tt, ended)
+      | inr e ↦ rw (e.0, e.1) (lit< tt, ended)
+    ]
+
+pub returns-in-Ok-Some-clause-right : goal.returns-in-Ok-Some-clause-right
+returns-in-Ok-Some-clause-right g c =
+    let script = script_of c.args.script.now in
+    let a = assertion_of c.args.assertion.now in
+    let bounds = bounds_of c.args.limits in
+    let same = of_some (IsFor script a bounds) c.in-Ok-Some.field-0 c.in-Ok-Some.store c.in-Ok-Some.field-0-is c.in-Ok-Some.ensures.same in
+    told_right script a bounds c.in-Ok-Some.store (outcome_of c.concluded.result.outcome) same c.concluded.ensures.lawful c.in-Ok-Some.ensures.begun c.concluded.ensures.told
+
+pub returns-in-Ok-Some-clause-size : goal.returns-in-Ok-Some-clause-size
+returns-in-Ok-Some-clause-size g c =
+    let script = script_of c.args.script.now in
+    let a = assertion_of c.args.assertion.now in
+    let bounds = bounds_of c.args.limits in
+    let same = of_some (IsFor script a bounds) c.in-Ok-Some.field-0 c.in-Ok-Some.store c.in-Ok-Some.field-0-is c.in-Ok-Some.ensures.same in
+    let ended = of_some (λ (s : ScriptSearch). s.search.verdict ≢ Open) c.in-Ok-Some.field-0 c.in-Ok-Some.store c.in-Ok-Some.field-0-is c.in-Ok-Some.ensures.ended in
+    told_size script a bounds c.in-Ok-Some.store (outcome_of c.concluded.result.outcome) c.concluded.result.size same c.concluded.ensures.lawful ended c.concluded.ensures.told c.concluded.ensures.size
+
+pub returns-in-Err-clause-right : goal.returns-in-Err-clause-right
+returns-in-Err-clause-right g c = reason_right (script_of c.args.script.now) (assertion_of c.args.assertion.now) (bounds_of c.args.limits) (why_of c.in-Err.why) c.in-Err.ensures.why
+
+pub returns-in-Err-clause-size : goal.returns-in-Err-clause-size
+returns-in-Err-clause-size g c = no_size (script_of c.args.script.now) (assertion_of c.args.assertion.now) (bounds_of c.args.limits) (why_of c.in-Err.why) c.in-Err.ensures.why
+
+pub drop-store-inside-requires-in-Ok-Some-15-room-T-Destruct : goal.drop-store-inside-requires-in-Ok-Some-15-room-T-Destruct
+drop-store-inside-requires-in-Ok-Some-15-room-T-Destruct g c κs within =
+    let met = g.met.A.AllocHandle g.world.𝓛 g.world.𝓜 g.world.𝓡 ((λ s x. x), (λ x. x), (λ x. x), λ x. x) in
+    elim met.small [
+      | inl e ↦ rw (e.0, e.1) (lit< tt)
+      | inr e ↦ rw (e.0, e.1) (lit< tt)
+    ]
+
+pub drop-store-inside-requires-in-Ok-Some-16-room-T-Destruct : goal.drop-store-inside-requires-in-Ok-Some-16-room-T-Destruct
+drop-store-inside-requires-in-Ok-Some-16-room-T-Destruct g c κs within =
+    let met = g.met.A.AllocHandle g.world.𝓛 g.world.𝓜 g.world.𝓡 ((λ s x. x), (λ x. x), (λ x. x), λ x. x) in
+    elim met.small [
+      | inl e ↦ rw (e.0, e.1) (lit< tt)
+      | inr e ↦ rw (e.0, e.1) (lit< tt)
+    ]
+
+pub drop-store-inside-requires-in-Ok-Some-21-room-T-Destruct : goal.drop-store-inside-requires-in-Ok-Some-21-room-T-Destruct
+drop-store-inside-requires-in-Ok-Some-21-room-T-Destruct g c κs within =
+    let met = g.met.A.AllocHandle g.world.𝓛 g.world.𝓜 g.world.𝓡 ((λ s x. x), (λ x. x), (λ x. x), λ x. x) in
+    elim met.small [
+      | inl e ↦ rw (e.0, e.1) (lit< tt)
+      | inr e ↦ rw (e.0, e.1) (lit< tt)
+    ]

@@ -1,0 +1,10 @@
+use Rattle.std.proofs.Common.{ap}
+use Rattle.csp_explanation.specs.Cutting.{Width}
+use Rattle.csp_explanation.specs.Styles.{Style}
+use Rattle.csp_print.specs.Names.{names_of}
+use Rattle.explain_program.proofs.telling.style.Goals as goal
+
+pub returns : goal.returns
+returns g c =
+    let S : Width → Style = λ w. record { names = names_of c.args.names.now; width = w; few = 3; most = c.args.settings.now.max_nodes } in
+    ap S c.width.ensures

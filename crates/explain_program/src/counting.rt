@@ -1,0 +1,82 @@
+//! The line that tells how large a search was.
+
+ghost use Rattle.std.specs.Prelude.{◌≡◌, ◌++◌, IfOk};
+ghost use Rattle.std.specs.String.{string_bytes};
+ghost use Rattle.csp_term.specs.Script.{property_of};
+ghost use Rattle.csp_explanation.specs.Counting.{count_text, nodes_text, number_text, plural_text};
+ghost use Rattle.csp_print.specs.Writing.{Writes};
+ghost use Rattle.explain_program.specs.Telling.{size_text};
+
+use crate::search_size::SearchSize;
+use counterexample_text::{push_mark, push_number};
+use csp_term::{AllocHandle, Memory, Property};
+use std::alloc::AllocError;
+
+/// The text with the line of the search behind it, if there was one.
+pub(crate) fn with_size<A: AllocHandle>(
+    property: &Property<A>,
+    size: Option<SearchSize>,
+    mut text: String<A>,
+) -> Result<String<A>, Memory>
+    ensures { IfOk result (λ all. string_bytes all ≡ string_bytes text ++ size_text (property_of property.now) size) }
+{
+    match size {
+        None => Ok(text),
+        Some(size) => {
+            push_count(property, size, &mut text)?;
+            Ok(text)
+        }
+    }
+}
+
+// The line of the search.
+fn push_count<A: AllocHandle>(
+    property: &Property<A>,
+    size: SearchSize,
+    text: &mut String<A>,
+) -> Result<(), AllocError>
+    ensures { Writes result text.old text.new (count_text (property_of property.now) size.pairs size.nodes) }
+{
+    push_mark("  ", text)?;
+    push_amount(size.pairs, "pair", text)?;
+    push_nodes(property, size.nodes, text)?;
+    push_mark("\n", text)
+}
+
+// The nodes of a specification, where there is one.
+fn push_nodes<A: AllocHandle>(
+    property: &Property<A>,
+    nodes: usize,
+    text: &mut String<A>,
+) -> Result<(), AllocError>
+    ensures { Writes result text.old text.new (nodes_text (property_of property.now) nodes) }
+{
+    match property {
+        Property::Refinement { .. } => {
+            push_mark(", ", text)?;
+            push_amount(nodes, "node", text)
+        }
+        Property::DeadlockFree | Property::DivergenceFree => Ok(()),
+    }
+}
+
+// So many of what the word stands for.
+fn push_amount<A: AllocHandle>(
+    number: usize,
+    word: &str,
+    text: &mut String<A>,
+) -> Result<(), AllocError>
+    ensures { Writes result text.old text.new (number_text number word.now) }
+{
+    push_number(number, text)?;
+    push_mark(" ", text)?;
+    push_mark(word, text)?;
+    push_mark(plural(number), text)
+}
+
+// What stands behind the word for more than one, or for none.
+fn plural(number: usize) -> &'static str
+    ensures { result.now ≡ plural_text number }
+{
+    if number == 1 { "" } else { "s" }
+}
