@@ -11,3 +11,4 @@ pub mod Twice
 pub mod Beginning
 pub mod Prefixing
 pub mod Replicating
+pub mod Repeating

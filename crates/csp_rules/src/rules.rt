@@ -18,6 +18,7 @@ mod interrupt;
 mod parallel;
 mod prefix;
 mod renaming;
+mod repeated;
 mod replicated;
 mod sequential;
 mod side;

@@ -17,6 +17,41 @@ T = [] x:{0, 1, 2} @ P(x)
 DOES = tau -> ((P(0) [] P(1)) [] c!2 -> STOP) [] tau -> ((P(0) [] c!1 -> STOP) [] P(2)) [] tau -> ((c!0 -> STOP [] P(1)) [] P(2))
 OFFERS = NOTHING
 
+-- Instances that are one term have its steps once, where none is a tau.
+T = [] x:{0, 1, 2} @ a -> STOP
+DOES = a -> STOP
+OFFERS = a -> STOP
+T = [] x:{0..1} @ ([] y:{0..1} @ a -> P(0))
+DOES = a -> P(0)
+OFFERS = a -> STOP
+T = [] x:{0..1} @ ([] x:{0..1} @ c!x -> STOP)
+DOES = c!0 -> STOP [] c!1 -> STOP
+OFFERS = c!0 -> STOP [] c!1 -> STOP
+T = [] x:{0..1} @ SKIP
+DOES = tick -> OMEGA
+OFFERS = tick -> STOP
+T = [] x:{0..1} @ STOP
+DOES = STOP
+OFFERS = STOP
+T = [] x:{0..1} @ c!2 -> STOP
+FAULT = range
+
+-- A tau of each of them leads to a choice of its own.
+T = [] x:{0..1} @ (a -> STOP |~| b -> STOP)
+DOES = tau -> (a -> STOP [] (a -> STOP |~| b -> STOP)) [] tau -> (b -> STOP [] (a -> STOP |~| b -> STOP)) [] tau -> ((a -> STOP |~| b -> STOP) [] a -> STOP) [] tau -> ((a -> STOP |~| b -> STOP) [] b -> STOP)
+OFFERS = NOTHING
+T = [] x:{0, 1, 2} @ P(0)
+DOES = tau -> ((P(0) [] P(0)) [] c!0 -> STOP) [] tau -> ((P(0) [] c!0 -> STOP) [] P(0)) [] tau -> ((c!0 -> STOP [] P(0)) [] P(0))
+OFFERS = NOTHING
+T = [] x:{0..1} @ (a -> STOP [> b -> STOP)
+DOES = tau -> (b -> STOP [] (a -> STOP [> b -> STOP)) [] tau -> ((a -> STOP [> b -> STOP) [] b -> STOP) [] a -> STOP
+OFFERS = NOTHING
+
+-- Terms of equal values are not one term, and their steps are the same.
+T = [] x:{0, 1, 2} @ c!(x % 2) -> STOP
+DOES = c!0 -> STOP [] c!1 -> STOP
+OFFERS = c!0 -> STOP [] c!1 -> STOP
+
 -- The name hides an outer one in the process, and not in the set.
 T = c?x -> ([] x:{x} @ c!x -> STOP)
 DOES = c!0 -> ([] x:{0} @ c!x -> STOP) [] c!1 -> ([] x:{1} @ c!x -> STOP)
@@ -85,8 +120,13 @@ FAULT = modulus
 T = [] x:{0..999} @ (x < 2 & c!x -> STOP)
 DOES = c!0 -> STOP [] c!1 -> STOP
 OFFERS = c!0 -> STOP [] c!1 -> STOP
+T = [] x:{0..999} @ a -> STOP
+DOES = a -> STOP
+OFFERS = a -> STOP
 
 -- A step that keeps the chain is past them.
+T = [] x:{0..999} @ P(0)
+LARGE = STOP
 T = ||| x:{0..999} @ (x < 2 & c!x -> STOP)
 LARGE = STOP
 T = [] x:{0..11} @ (P(x) ; MUCH(<MANY(180, 1)>))

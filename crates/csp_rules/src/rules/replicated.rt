@@ -2,7 +2,7 @@
 //! set, in order, with the value put in for the name. The steps of the chain are found from those of its instances, and
 //! of the chain itself no more is built than fits the limits.
 
-ghost use Rattle.std.specs.Prelude.{◌≡◌, IfOk};
+ghost use Rattle.std.specs.Prelude.{◌≡◌, IfOk, IsTrue};
 ghost use Rattle.csp_syntax.specs.Process.{ExternalChoice, InternalChoice, Interleaving, Skip, Stop};
 ghost use Rattle.csp_syntax.specs.Operators.{replicated_process};
 ghost use Rattle.csp_semantics.specs.Meaning.Transitions.{chain};
@@ -12,9 +12,9 @@ ghost use Rattle.csp_term.specs.Term.{process_of};
 ghost use Rattle.csp_operators.specs.Answering.{AnswersIn, answers_of, target_of, within_limits};
 ghost use Rattle.csp_operators.specs.Composing.{HaveSameSteps, IsSideOf, answers_of_sides, process_of_sides, side_answers};
 ghost use Rattle.csp_rules.specs.Answering.{AnswersUnder};
-ghost use Rattle.csp_rules.specs.Replicating.{AnswersChoices, chosen_answers, instance_chain, instance_of, instances_of, looking_answers, looking_process};
+ghost use Rattle.csp_rules.specs.Replicating.{AnswersChoices, AreAlike, GoesOn, chosen_answers, instance_chain, instance_of, instances_of, looking_answers, looking_process};
 
-use crate::rules::{side, skip};
+use crate::rules::{repeated, side, skip};
 use csp_expression::{Binding, Expr, NoValue};
 use csp_operators::{RuleStep, Side, Target, choice, parallel};
 use csp_term::{AllocHandle, Cause, Memory, Name, ReplicatedOperator, ScriptParts, Term, bind};
@@ -106,22 +106,36 @@ impl<'v, 'b, A: AllocHandle> Instances<'v, 'b, A> {
         Target::put_in(self.alloc, self.body, &bindings)
     }
 
-    /// The chain of an operator that looks at each instance, of at least one.
+    /// The steps of the chain that begins with the given process, with the instances of the values behind it.
     #[cycle(steps)]
     fn chain(
         &self,
         operator: Looking,
-        first: &'v Value<A>,
+        first: Side<A>,
         others: &'v [Value<A>],
     ) -> Result<Vec<RuleStep<A>, A>, NoValue>
-        ensures { AnswersIn self.now.script.now (instance_chain self.now (looking_process operator) first.now others.now) result }
+        ensures { GoesOn (script_of_parts self.now.script.now) (looking_process operator) first (instances_of self.now others.now) result }
     {
-        let mut chain = self.side(first)?;
+        let mut chain = first;
         for value in others {
             let instance = self.side(value)?;
             chain = operator.compose(self.alloc, chain, instance)?;
         }
         Ok(chain.steps)
+    }
+
+    /// Whether the instances of the others are known to be the same term as that of the first.
+    fn are_alike(&self, first: &'v Value<A>, others: &'v [Value<A>]) -> Result<bool, Memory>
+        ensures { IfOk result (λ alike. IsTrue alike → AreAlike self.now first.now others.now) }
+    {
+        let expected = self.process(first)?;
+        for value in others {
+            let instance = self.process(value)?;
+            if !repeated::is_same_term(&expected, &instance) {
+                return Ok(false);
+            }
+        }
+        Ok(true)
     }
 
     /// The chain of internal choices, of at least one, if it is within the limits.
@@ -150,15 +164,20 @@ impl<'v, 'b, A: AllocHandle> Instances<'v, 'b, A> {
         choice::taus(self.alloc, chain, instance)
     }
 
-    /// The steps of `[]` over the values. Of none it is `STOP`.
+    /// The steps of `[]` over the values. Of none it is `STOP`. Those of one instance without a tau are those of the
+    /// choice between any number of the same, so that the others are not fired.
     #[cycle(steps)]
     fn external(&self, values: &'v [Value<A>]) -> Result<Vec<RuleStep<A>, A>, NoValue>
         ensures { AnswersIn self.now.script.now (chain ExternalChoice Stop (instances_of self.now values.now)) result }
     {
-        match values.split_first() {
-            None => Ok(Vec::new(self.alloc)),
-            Some((first, others)) => self.chain(Looking::ExternalChoice, first, others),
+        let Some((first, others)) = values.split_first() else {
+            return Ok(Vec::new(self.alloc));
+        };
+        let side = self.side(first)?;
+        if !repeated::has_tau(&side.steps) && self.are_alike(first, others)? {
+            return Ok(side.steps);
         }
+        self.chain(Looking::ExternalChoice, side, others)
     }
 
     /// The steps of `|||` over the values. Of none it is `SKIP`.
@@ -168,7 +187,10 @@ impl<'v, 'b, A: AllocHandle> Instances<'v, 'b, A> {
     {
         match values.split_first() {
             None => skip::steps(self.alloc, self.script),
-            Some((first, others)) => self.chain(Looking::Interleaving, first, others),
+            Some((first, others)) => {
+                let side = self.side(first)?;
+                self.chain(Looking::Interleaving, side, others)
+            }
         }
     }
 

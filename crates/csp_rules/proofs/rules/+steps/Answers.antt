@@ -1,6 +1,6 @@
 -- Each form is answered as its rule says, and each call is of less.
 use Rattle.std.proofs.Common.{◌≡◌, ℕ, suc, ◌<◌, Result, Ok, Err, Some, List, refl, sym, ◌∙◌, ap, ap₂, subst, arith, inl, inr, lit<, max, ◌*◌, ◌+◌, [], ◌∷◌, ◌++◌, length, map, take, drop}
-use Rattle.std.proofs.lemmas.List.{map-append}
+use Rattle.std.proofs.lemmas.List.{map-append, take_all}
 use Rattle.std.proofs.Math.Nat.{le-max_left, le-max_right}
 use Rattle.std.proofs.lemmas.Result.{err_from_is_err_and}
 use Rattle.std.specs.declared.vec.Vec.{Vec}
@@ -33,6 +33,9 @@ use Rattle.csp_operators.specs.Composing.{AreSidesOf, IsSideOf}
 use Rattle.csp_rules.specs.Replicating.{AnswersChoices, instance_of, instances_of, looking_process}
 use Rattle.csp_rules.proofs.Members.{no_members}
 use Rattle.csp_rules.proofs.Replicating.{external_by_chain, grouped_more, instances_are, interleaving_by_chain, internal_by_chain, last_choice, mapped_more, mapped_split, no_set, seen_elements, set_stuck, stuck_at_first, stuck_behind, two_sides}
+use Rattle.csp_rules.specs.declared.rules.replicated.Looking.TheVariants as looking
+use Rattle.csp_rules.specs.Repeating.{HasTau}
+use Rattle.csp_rules.proofs.Repeating.{any_number}
 use Rattle.csp_operators.proofs.Siding.{side_of_stuck, stuck_at_first_side, stuck_at_second_side, stuck_of_side}
 use Rattle.csp_rules.proofs.Smaller.{alphabetised_height, binary_height, branch_height, generalised_height, guard_height, height_of, hiding_height, renaming_height, replicated_height, sliding_height}
 use Rattle.csp_rules.proofs.Ruling.{guarded, closed, first_branch, second_branch, guard_stuck, if_stuck, ended, stopped}
@@ -354,67 +357,96 @@ replicated::steps-returns g t c =
     let P : ReplicatedOperator → Type 0 = λ op. Answers script (put bs (replicated_process op n e body)) c.interleaving.result in
     subst P (sym c.in-Interleaving.is) (interleaving_by_chain script n (put_expression bs e) (put (without n bs) body) (values_of values) are c.interleaving.result (subst H (sym (instances_are n bs body values)) c.interleaving.ensures))
 
-pub replicated::Instances::chain-returns-in_err-chain : goal.replicated::Instances::chain-returns-in_err-chain
-replicated::Instances::chain-returns-in_err-chain g t c =
-    let i = c.args.self.now in
-    let k = c.args.operator in
-    let script = script_of_parts i.script.now in
-    let first = instance_of i c.args.first.now in
-    let others = instances_of i c.args.others.now in
-    let why = c.in_err-chain.field-0.0 in
-    let q = err_from_is_err_and c.from_residual.result c.from_residual.ensures.1 in
-    let Q : Result (Vec (RuleStep g.row.A.Denot) g.row.A.Denot) NoValue → Type 0 = λ r. Answers script (left_grouped (looking_process k) first others) r in
-    subst Q (sym (q.1 ∙ ap Err q.2)) (stuck_at_first script k g.row.A.Denot first others why c.in_err-chain.ensures)
-
 pub replicated::Instances::chain-returns-in_err-instance : goal.replicated::Instances::chain-returns-in_err-instance
-replicated::Instances::chain-returns-in_err-instance g t c =
+replicated::Instances::chain-returns-in_err-instance g t c p is =
     let i = c.args.self.now in
     let k = c.args.operator in
     let script = script_of_parts i.script.now in
-    let first = instance_of i c.args.first.now in
     let items = c.args.others.now in
     let m = c.loop-value.value-index in
     let item = c.value-item.result in
     let before = instances_of i (take m items) in
     let after = instances_of i (drop (m + 1) items) in
     let why = c.in_err-instance.field-0.0 in
-    let q = err_from_is_err_and c.from_residual-in_err-instance.result c.from_residual-in_err-instance.ensures.1 in
-    let P : List Process → Type 0 = λ qs. Answers {A = g.row.A.Denot} script (left_grouped (looking_process k) first qs) (Err why) in
-    let Q : Result (Vec (RuleStep g.row.A.Denot) g.row.A.Denot) NoValue → Type 0 = λ r. Answers script (left_grouped (looking_process k) first (instances_of i items)) r in
+    let q = err_from_is_err_and c.from_residual.result c.from_residual.ensures.1 in
+    let so_far = c.loop-value.invariant p is in
+    let P : List Process → Type 0 = λ qs. Answers {A = g.row.A.Denot} script (left_grouped (looking_process k) p qs) (Err why) in
+    let Q : Result (Vec (RuleStep g.row.A.Denot) g.row.A.Denot) NoValue → Type 0 = λ r. Answers script (left_grouped (looking_process k) p (instances_of i items)) r in
     subst Q (sym (q.1 ∙ ap Err q.2)) (subst P (sym (mapped_split (instance_of i) items m item c.loop-value-test.true c.value-item.is))
-    (stuck_behind script k g.row.A.Denot first before (instance_of i item) after c.loop-value.invariant.1.no_cause why c.in_err-instance.ensures))
+    (stuck_behind script k g.row.A.Denot p before (instance_of i item) after so_far.1.no_cause why c.in_err-instance.ensures))
+
+pub replicated::Instances::chain-returns-in_err-chain : goal.replicated::Instances::chain-returns-in_err-chain
+replicated::Instances::chain-returns-in_err-chain g t c p is =
+    let i = c.args.self.now in
+    let q = err_from_is_err_and c.from_residual-in_err-chain.result c.from_residual-in_err-chain.ensures.1 in
+    let Q : Result (Vec (RuleStep g.row.A.Denot) g.row.A.Denot) NoValue → Type 0 = λ r. Answers (script_of_parts i.script.now) (left_grouped (looking_process c.args.operator) p (instances_of i c.args.others.now)) r in
+    subst Q (sym (q.1 ∙ ap Err q.2)) tt
+
+pub replicated::Instances::chain-loop-value-init : goal.replicated::Instances::chain-loop-value-init
+replicated::Instances::chain-loop-value-init g t c p is = is
 
 pub replicated::Instances::chain-loop-value-preserved : goal.replicated::Instances::chain-loop-value-preserved
-replicated::Instances::chain-loop-value-preserved g t c =
+replicated::Instances::chain-loop-value-preserved g t c p is =
     let i = c.args.self.now in
     let k = c.args.operator in
     let script = script_of_parts i.script.now in
-    let first = instance_of i c.args.first.now in
     let items = c.args.others.now in
     let m = c.loop-value.value-index in
     let item = c.value-item.result in
     let before = instances_of i (take m items) in
     let one = instance_of i item in
-    let more = c.in_ok-chain-2.chain in
-    let P : List Process → Type 0 = λ qs. IsSideOf script (left_grouped (looking_process k) first qs) (Ok more) in
+    let more = c.in_ok-chain.chain in
+    let P : List Process → Type 0 = λ qs. IsSideOf script (left_grouped (looking_process k) p qs) (Ok more) in
     let Q : Process → Type 0 = λ p. IsSideOf script p (Ok more) in
     subst P (sym (mapped_more (instance_of i) items m item c.loop-value-test.true c.value-item.is))
-    (subst Q (sym (grouped_more (looking_process k) first before one))
-    (two_sides script k (left_grouped (looking_process k) first before) one c.loop-value.chain c.in_ok-instance.instance more c.loop-value.invariant c.in_ok-instance.ensures c.in_ok-chain-2.ensures.process c.in_ok-chain-2.ensures.steps))
+    (subst Q (sym (grouped_more (looking_process k) p before one))
+    (two_sides script k (left_grouped (looking_process k) p before) one c.loop-value.chain c.in_ok-instance.instance more (c.loop-value.invariant p is) c.in_ok-instance.ensures c.in_ok-chain.ensures.process c.in_ok-chain.ensures.steps))
 
-pub replicated::Instances::external-returns-in-None : goal.replicated::Instances::external-returns-in-None
-replicated::Instances::external-returns-in-None g t c =
+pub replicated::Instances::chain-returns : goal.replicated::Instances::chain-returns
+replicated::Instances::chain-returns g t c p is =
+    let i = c.args.self.now in
+    let steps = c.loop-value.chain.steps in
+    let P : List (Value g.row.A.Denot) → Type 0 = λ vs. IsAnswered (script_of_parts i.script.now) (left_grouped (looking_process c.args.operator) p (instances_of i vs)) (map answered_of steps.items) in
+    subst P (take_all c.loop-value.value-index c.args.others.now (omega arith)) (c.loop-value.invariant p is).1
+
+pub replicated::Instances::external-returns-in_default : goal.replicated::Instances::external-returns-in_default
+replicated::Instances::external-returns-in_default g t c =
     let i = c.args.self.now in
     let script = script_of_parts i.script.now in
     let P : List (Value g.row.A.Denot) → Type 0 = λ vs. IsAnswered script (chain pure.ExternalChoice pure.Stop (instances_of i vs)) [] in
     let Q : List (RuleStep g.row.A.Denot) → Type 0 = λ ss. IsAnswered script (chain pure.ExternalChoice pure.Stop (instances_of i c.args.values.now)) (map answered_of ss) in
-    subst Q (sym c.new.ensures.items) (subst P (sym (nothing_in c.args.values.now c.in-None.ensures.cases)) (stopped script))
+    subst Q (sym c.new.ensures.items) (subst P (sym (nothing_in c.args.values.now c.in_default.ensures.cases)) (stopped script))
 
-pub replicated::Instances::external-returns-in-Some : goal.replicated::Instances::external-returns-in-Some
-replicated::Instances::external-returns-in-Some g t c =
+pub replicated::Instances::external-returns-in_err-side : goal.replicated::Instances::external-returns-in_err-side
+replicated::Instances::external-returns-in_err-side g t c =
+    let i = c.args.self.now in
+    let script = script_of_parts i.script.now in
+    let first = instance_of i c.in-Some.first.now in
+    let others = instances_of i c.in-Some.others.now in
+    let why = c.in_err-side.field-0.0 in
+    let q = err_from_is_err_and c.from_residual.result c.from_residual.ensures.1 in
+    let P : List (Value g.row.A.Denot) → Type 0 = λ vs. Answers {A = g.row.A.Denot} script (chain pure.ExternalChoice pure.Stop (instances_of i vs)) (Err why) in
+    let Q : Result (Vec (RuleStep g.row.A.Denot) g.row.A.Denot) NoValue → Type 0 = λ r. Answers script (chain pure.ExternalChoice pure.Stop (instances_of i c.args.values.now)) r in
+    subst Q (sym (q.1 ∙ ap Err q.2)) (subst P (sym c.in-Some.ensures.cases.0) (stuck_at_first script looking.ExternalChoice g.row.A.Denot first others why c.in_err-side.ensures))
+
+pub replicated::Instances::external-returns-then-branch : goal.replicated::Instances::external-returns-then-branch
+replicated::Instances::external-returns-then-branch g t c =
+    let i = c.args.self.now in
+    let script = script_of_parts i.script.now in
+    let p = instance_of i c.in-Some.first.now in
+    let others = c.in-Some.others.now in
+    let steps = map answered_of c.in_ok-side.side.steps.items in
+    let P : List (Value g.row.A.Denot) → Type 0 = λ vs. IsAnswered script (chain pure.ExternalChoice pure.Stop (instances_of i vs)) steps in
+    let Q : List Process → Type 0 = λ qs. IsAnswered script (left_grouped pure.ExternalChoice p qs) steps in
+    let no_tau : HasTau steps → ⊥ = λ has. let is = c.has_tau.ensures.1 (subst (λ ss. HasTau (map answered_of ss)) (sym c.deref.ensures.value) has) in let no = c.if-not-has_tau.true in cc (is, no) in
+    let alike = c.in_ok-are_alike.ensures c.if-branch.true in
+    subst P (sym c.in-Some.ensures.cases.0) (subst Q (sym alike) (any_number script p steps c.in_ok-side.ensures.1 no_tau others p c.in_ok-side.ensures.1))
+
+pub replicated::Instances::external-returns : goal.replicated::Instances::external-returns
+replicated::Instances::external-returns g t c =
     let i = c.args.self.now in
     let P : List (Value g.row.A.Denot) → Type 0 = λ vs. Answers (script_of_parts i.script.now) (chain pure.ExternalChoice pure.Stop (instances_of i vs)) c.chain.result in
-    subst P (sym c.in-Some.ensures.cases.0) c.chain.ensures
+    subst P (sym c.in-Some.ensures.cases.0) (c.chain.ensures (instance_of i c.in-Some.first.now) c.in_ok-side.ensures)
 
 pub replicated::Instances::interleaving-returns-in-None : goal.replicated::Instances::interleaving-returns-in-None
 replicated::Instances::interleaving-returns-in-None g t c =
@@ -422,11 +454,23 @@ replicated::Instances::interleaving-returns-in-None g t c =
     let P : List (Value g.row.A.Denot) → Type 0 = λ vs. Answers (script_of_parts i.script.now) (chain pure.Interleaving pure.Skip (instances_of i vs)) c.steps.result in
     subst P (sym (nothing_in c.args.values.now c.in-None.ensures.cases)) c.steps.ensures
 
-pub replicated::Instances::interleaving-returns-in-Some : goal.replicated::Instances::interleaving-returns-in-Some
-replicated::Instances::interleaving-returns-in-Some g t c =
+pub replicated::Instances::interleaving-returns-in_err-side-in-Some : goal.replicated::Instances::interleaving-returns-in_err-side-in-Some
+replicated::Instances::interleaving-returns-in_err-side-in-Some g t c =
+    let i = c.args.self.now in
+    let script = script_of_parts i.script.now in
+    let first = instance_of i c.in-Some.first.now in
+    let others = instances_of i c.in-Some.others.now in
+    let why = c.in_err-side-in-Some.field-0.0 in
+    let q = err_from_is_err_and c.from_residual.result c.from_residual.ensures.1 in
+    let P : List (Value g.row.A.Denot) → Type 0 = λ vs. Answers {A = g.row.A.Denot} script (chain pure.Interleaving pure.Skip (instances_of i vs)) (Err why) in
+    let Q : Result (Vec (RuleStep g.row.A.Denot) g.row.A.Denot) NoValue → Type 0 = λ r. Answers script (chain pure.Interleaving pure.Skip (instances_of i c.args.values.now)) r in
+    subst Q (sym (q.1 ∙ ap Err q.2)) (subst P (sym c.in-Some.ensures.cases.0) (stuck_at_first script looking.Interleaving g.row.A.Denot first others why c.in_err-side-in-Some.ensures))
+
+pub replicated::Instances::interleaving-returns-in_ok-side-in-Some : goal.replicated::Instances::interleaving-returns-in_ok-side-in-Some
+replicated::Instances::interleaving-returns-in_ok-side-in-Some g t c =
     let i = c.args.self.now in
     let P : List (Value g.row.A.Denot) → Type 0 = λ vs. Answers (script_of_parts i.script.now) (chain pure.Interleaving pure.Skip (instances_of i vs)) c.chain.result in
-    subst P (sym c.in-Some.ensures.cases.0) c.chain.ensures
+    subst P (sym c.in-Some.ensures.cases.0) (c.chain.ensures (instance_of i c.in-Some.first.now) c.in_ok-side-in-Some.ensures)
 
 pub replicated::Instances::internal-returns-in_ok-side-in-None : goal.replicated::Instances::internal-returns-in_ok-side-in-None
 replicated::Instances::internal-returns-in_ok-side-in-None g t c =

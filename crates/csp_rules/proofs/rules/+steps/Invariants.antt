@@ -1,9 +1,10 @@
 -- A rule that looks at a part goes on to it, so each call counts less than six times the height of the term.
 use Rattle.std.proofs.Common.{◌+◌, ◌*◌, max, take, Ok}
+use Rattle.csp_syntax.specs.Process.{Process}
 use Rattle.csp_semantics.specs.Meaning.Transitions.{left_grouped}
 use Rattle.csp_term.specs.Script.{script_of_parts}
 use Rattle.csp_operators.specs.Composing.{IsSideOf}
-use Rattle.csp_rules.specs.Replicating.{instance_of, instances_of, looking_process}
+use Rattle.csp_rules.specs.Replicating.{instances_of, looking_process}
 use Rattle.csp_rules.proofs.Smaller.{height_of}
 use Rattle.csp_rules.proofs.rules.+steps.Given as goal
 
@@ -63,7 +64,8 @@ decreases-replicated::Instances::internal g l = 4 + 6 * height_of l.self.now.bod
 
 abbrev pub invariant-replicated::Instances::chain-loop-value : goal.invariant-replicated::Instances::chain-loop-value
 invariant-replicated::Instances::chain-loop-value g l =
-    IsSideOf (script_of_parts l.self.script.now) (left_grouped (looking_process l.operator) (instance_of l.self l.first) (instances_of l.self (take l.value-index l.others))) (Ok l.chain)
+    (p : Process) → IsSideOf (script_of_parts l.self.script.now) p (Ok l.fn.first) →
+    IsSideOf (script_of_parts l.self.script.now) (left_grouped (looking_process l.operator) p (instances_of l.self (take l.value-index l.others))) (Ok l.chain)
 
 abbrev pub decreases-replicated::Instances::chain : goal.decreases-replicated::Instances::chain
 decreases-replicated::Instances::chain g l = 3 + 6 * height_of l.self.now.body.now
