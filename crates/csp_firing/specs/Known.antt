@@ -1,5 +1,6 @@
 -- What is known of parts, and of the shape of a term.
-use Rattle.std.specs.Prelude.{◌≡◌, ⊤, IsTrue, Option, Some, None}
+use Rattle.std.specs.Prelude.{◌≡◌, ◌<◌, ⊤, ℕ, zero, suc, IsTrue, List, [], ◌∷◌, length, Option, Some, None}
+use Rattle.std.specs.List.{AllByRecursion}
 use Rattle.csp_syntax.specs.Process.{Process, Script}
 use Rattle.csp_semantics.specs.Meaning.Limits.{fits}
 use Rattle.csp_alphabet.specs.Alphabet.{alphabet}
@@ -15,6 +16,8 @@ use Rattle.csp_parts.specs.Known.{AreKnown, script_in}
 use Rattle.csp_row_firing.specs.declared.splitting.SplitRow.{SplitRow}
 use Rattle.csp_firing.specs.declared.last_shape.LastShape.{LastShape}
 use Rattle.csp_firing.specs.declared.known_parts.KnownParts.{KnownParts}
+use Rattle.csp_firing.specs.declared.kept_shapes.EarlierRow.{EarlierRow}
+use Rattle.csp_firing.specs.declared.kept_shapes.EarlierShape.{EarlierShape}
 use Rattle.csp_firing.specs.declared.finding.Found.{Found}
 use Rattle.csp_firing.specs.declared.finding.Found.TheVariants as found
 use Rattle.csp_firing.specs.Rows.{IsRowAmong}
@@ -36,12 +39,13 @@ abbrev pub IsShapeAnswered : {A : Type 0} → Script → Process → Option (Las
 IsShapeAnswered script t None = HasValues script (shape_of t) → ⊥
 IsShapeAnswered script t (Some last) = (process_of last.term ≡ t) × IsShapeKept script last
 
--- The events and the parts are those of the script, and so is the last shape.
+-- The events and the parts are those of the script, and so are the last shape and the earlier ones.
 pub record AreKnownOf {A : Type 0} (script : Script) (k : KnownParts A) : Type 0 where
   pub alphabet : k.alphabet ≡ alphabet script
   pub of_script : script_in k.parts ≡ script
   pub parts : AreKnown k.parts
   pub last : IsLastKept script k.last
+  pub earlier : AllByRecursion (λ e. IsLastKept script e.shape) k.earlier.items
 
 abbrev pub IsKnownOf : {A : Type 0} → Script → Option (KnownParts A) → Type 0
 IsKnownOf script None = ⊤
@@ -55,6 +59,16 @@ shape_in (Some last) = shape_of (process_of last.term)
 -- the term is a row of known parts in the last shape
 abbrev pub IsRowOf : {A : Type 0} → KnownParts A → Process → SplitRow A → Type 0
 IsRowOf k t row = IsRowAmong k.parts (shape_in k.last) t row
+
+-- the earlier shape of a place, none beyond them
+abbrev pub earlier_at : {A : Type 0} → List (EarlierShape A) → ℕ → Option (LastShape A)
+earlier_at [] place = None
+earlier_at (e ∷ es) zero = e.shape
+earlier_at (e ∷ es) (suc place) = earlier_at es place
+
+-- the term is a row of known parts in one of the earlier shapes
+abbrev pub IsEarlierRowOf : {A : Type 0} → KnownParts A → Process → EarlierRow A → Type 0
+IsEarlierRowOf k t found = (found.place < length k.earlier.items) × IsRowAmong k.parts (shape_in (earlier_at k.earlier.items found.place)) t found.row
 
 -- it is found as such a row, or as a whole
 abbrev pub IsFound : {A : Type 0} → KnownParts A → Process → Found A → Type 0

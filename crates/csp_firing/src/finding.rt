@@ -6,7 +6,7 @@ ghost use Rattle.csp_semantics.specs.Meaning.Limits.{fits};
 ghost use Rattle.csp_spelling.specs.Spellable.{IsSpellable};
 ghost use Rattle.csp_shapes.specs.Parts.{parts_of as parts_of_process};
 ghost use Rattle.csp_packed.specs.Packed.{packed_process};
-ghost use Rattle.csp_parts.specs.Known.{processes_of, script_in};
+ghost use Rattle.csp_parts.specs.Known.{processes_of};
 ghost use Rattle.csp_term.specs.Script.{script_of};
 ghost use Rattle.csp_term.specs.Term.{process_of};
 ghost use Rattle.csp_firing.specs.Known.{AreKnownOf, IsFound, IsRowOf};
@@ -18,7 +18,7 @@ use crate::numbering::number_all;
 use crate::tried::Tried;
 use csp_changes::PartId;
 use csp_packed::PackedTerm;
-use csp_row_firing::{SplitRow, split};
+use csp_row_firing::SplitRow;
 use csp_shaping::{own_size_of, parts_of, places_of};
 use csp_spell::{UnpackFault, unpack};
 use csp_term::{AllocHandle, Memory, Script, Term};
@@ -58,28 +58,13 @@ impl<'s, A: AllocHandle> KnownParts<'s, A> {
         ensures known { AreKnownOf (script_of script.now) self.new }
         ensures found { IfOk result (IsFound self.new (packed_process packed.now)) }
     {
-        if let Some(row) = self.split(alloc, packed)? {
+        if let Some(row) = self.look_up(alloc, packed, &Tried::new(alloc))? {
             return Ok(Found::Row(row));
         }
         let term = unpacked(alloc, packed)?;
         match self.take_apart(alloc, script, packed, &term)? {
             Some(row) => Ok(Found::Row(row)),
             None => Ok(Found::Whole(term)),
-        }
-    }
-
-    /// The row of parts that are tried in the last shape, where the term is spelled so.
-    fn split(&self, alloc: A, term: &PackedTerm<A>) -> Result<Option<SplitRow<A>>, Memory>
-        requires { AreKnownOf (script_in self.now.parts) self.now }
-        ensures { IfOk result (λ found. IfSome found (IsRowOf self.now (packed_process term.now))) }
-    {
-        match &self.last {
-            Some(last) => {
-                let tried = self.tried.in_holes();
-                let row = split(alloc, term.bytes(), &last.pieces, tried, self.parts.all())?;
-                Ok(row)
-            }
-            None => Ok(None),
         }
     }
 
@@ -105,9 +90,12 @@ impl<'s, A: AllocHandle> KnownParts<'s, A> {
         }
         let parts = parts_of(alloc, term)?;
         let numbers = number_all(&mut self.parts, alloc, &parts)?;
-        self.tried.add_row(&numbers)?;
-        match self.split(alloc, packed)? {
-            Some(row) => Ok(Some(row)),
+        let only = Tried::of_row(alloc, &numbers)?;
+        match self.look_up(alloc, packed, &only)? {
+            Some(row) => {
+                self.tried.add_row(&row.numbers)?;
+                Ok(Some(row))
+            }
             None => self.keep_shape(alloc, script, term, numbers),
         }
     }
@@ -132,8 +120,7 @@ impl<'s, A: AllocHandle> KnownParts<'s, A> {
             Some(shape) => {
                 let places = places_of(alloc, term)?;
                 let tried = Tried::of_row(alloc, &numbers)?;
-                self.tried = tried;
-                self.last = Some(shape);
+                self.turn_to_new(shape, tried)?;
                 Ok(Some(SplitRow { numbers, places }))
             }
             None => Ok(None),

@@ -7,6 +7,7 @@ ghost use Rattle.csp_term.specs.Script.{script_of};
 ghost use Rattle.csp_firing.specs.Known.{AreKnownOf, IsKnownOf};
 
 use crate::finding::Found;
+use crate::kept_shapes::EarlierShape;
 use crate::last_shape::LastShape;
 use crate::tried::Tried;
 use crate::whole::expand_whole;
@@ -22,17 +23,19 @@ const MOST_EVENTS: u32 = 65_536;
 // Where there are more parts than these, all are let go.
 const MOST_PARTS: usize = 4096;
 
-/// The parts of terms of a script that are known, with the shape of the last term that was taken apart.
+/// The parts of terms of a script that are known, with the shapes of terms that were taken apart.
 #[derive(Drop)]
 pub(crate) struct KnownParts<'s, A: AllocHandle> {
     /// The events of the script.
     pub(crate) alphabet: Alphabet<A>,
     /// The parts, by their numbers.
     pub(crate) parts: Parts<'s, A>,
-    /// The shape of the term that was taken apart last.
+    /// The shape that was met last.
     pub(crate) last: Option<LastShape<A>>,
     /// The parts that are tried in its holes.
     pub(crate) tried: Tried<A>,
+    /// Shapes that were met before it.
+    pub(crate) earlier: Vec<EarlierShape<A>, A>,
 }
 
 impl<'s, A: AllocHandle> KnownParts<'s, A> {
@@ -48,11 +51,13 @@ impl<'s, A: AllocHandle> KnownParts<'s, A> {
                 let parts = Parts::new(alloc, script)?;
                 let last = None;
                 let tried = Tried::new(alloc);
+                let earlier = Vec::new(alloc);
                 Ok(Some(KnownParts {
                     alphabet,
                     parts,
                     last,
                     tried,
+                    earlier,
                 }))
             }
             None => Ok(None),
@@ -87,6 +92,8 @@ impl<'s, A: AllocHandle> KnownParts<'s, A> {
         if self.parts.all().len() > MOST_PARTS {
             self.parts = Parts::new(alloc, script)?;
             self.last = None;
+            self.tried = Tried::new(alloc);
+            self.earlier = Vec::new(alloc);
         }
         Ok(())
     }

@@ -9,6 +9,7 @@
 mod by_process;
 mod finding;
 mod firing;
+mod kept_shapes;
 mod known_parts;
 mod last_shape;
 mod nodes;

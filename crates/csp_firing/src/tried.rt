@@ -101,6 +101,11 @@ impl<A: Allocator + Copy> Tried<A> {
         self.holes.as_slice()
     }
 
+    /// These, or the others where these have no hole.
+    pub(crate) fn or_else<'t>(&'t self, others: &'t Tried<A>) -> &'t Tried<A> {
+        if self.holes.is_empty() { others } else { self }
+    }
+
     /// Tries each part of a row in its hole.
     pub(crate) fn add_row(&mut self, row: &[PartId]) -> Result<(), Memory> {
         for (hole, part) in row.iter().enumerate() {

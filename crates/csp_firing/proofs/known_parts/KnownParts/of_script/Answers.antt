@@ -1,8 +1,11 @@
-use Rattle.std.proofs.Common.{List, Option, subst, inl, inr, lit<}
+use Rattle.std.proofs.Common.{List, Option, sym, subst, inl, inr, lit<}
+use Rattle.std.specs.List.{AllByRecursion}
 use Rattle.csp_syntax.specs.Value.{Event}
 use Rattle.csp_alphabet.specs.Alphabet.{alphabet}
 use Rattle.csp_term.specs.Script.{script_of}
 use Rattle.alphabet.specs.Numbers.{AreWithin}
+use Rattle.csp_firing.specs.declared.kept_shapes.EarlierShape.{EarlierShape}
+use Rattle.csp_firing.specs.Known.{IsLastKept}
 use Rattle.csp_firing.proofs.known_parts.KnownParts.of_script.Goals as goal
 
 pub drop-alphabet-inside-requires-room-T-Destruct : goal.drop-alphabet-inside-requires-room-T-Destruct
@@ -20,4 +23,5 @@ returns-in_ok-parts-in-Some g c =
       of_script = c.in_ok-parts-in-Some.ensures.script;
       parts = c.in_ok-parts-in-Some.ensures.known;
       last = tt;
+      earlier = subst (AllByRecursion (λ (e : EarlierShape g.row.A.Denot). IsLastKept (script_of c.args.script.now) e.shape)) (sym c.new-earlier.ensures.items) tt;
     }

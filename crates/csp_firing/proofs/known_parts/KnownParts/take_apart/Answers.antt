@@ -25,8 +25,8 @@ number_all-requires-clause-parts g c =
 
 pub returns-in-Some-clause-row : goal.returns-in-Some-clause-row
 returns-in-Some-clause-row g c =
-    let k = c.number_all.new.known in
-    let s = shape_in c.args.self.now.last in
+    let k = c.look_up.new.self.parts in
+    let s = shape_in c.look_up.new.self.last in
     let P : Option (SplitRow g.row.A.Denot) → Type 0 = λ o. IfSome o (IsRowAmong k s (packed_process c.args.packed.now)) in
-    let row = subst P c.in-Some.is c.in_ok-row.ensures in
+    let row = subst P c.in-Some.is c.in_ok-row.ensures.row in
     subst (λ (p : Process). IsRowAmong k s p c.in-Some.row) (sym c.requires.same) row
