@@ -26,6 +26,12 @@ const IN_TWO_BATCHES: &str = "channel d, e : {0..39}
 assert d?x -> e!x -> STOP :[deadlock free]
 ";
 
+/// 33 rows in the second level, of which a worker draws 32, and then the last one. Each leads to `STOP` by a tau.
+const IN_TWO_DRAWS: &str = "channel d : {0..32}
+P(x) = STOP
+assert d?x -> P(x) :[deadlock free]
+";
+
 /// A search for a violation, which there is.
 pub(crate) struct Row {
     pub(crate) text: &'static str,
@@ -66,5 +72,35 @@ pub(crate) static ROWS: [Row; 5] = [
         way: Way::Rounds,
         place: 41,
         step: 20,
+    },
+];
+
+/// A search whose second level a worker draws.
+pub(crate) struct Drawn {
+    pub(crate) text: &'static str,
+    /// How many rows that level has.
+    pub(crate) rows: usize,
+    /// How many requests of the worker cannot be refused without an end: at least 3 for each row. What a row shows is
+    /// kept until it is posted, and for that three blocks of memory of its own, of which none is empty: the bytes of
+    /// its term, the list of its steps, and the bytes of a term that they lead to. Each block is first got by a request
+    /// without which there is none, and a worker that lacks one has nothing to post.
+    pub(crate) needed: u64,
+}
+
+pub(crate) static DRAWN: [Drawn; 3] = [
+    Drawn {
+        text: LACKING,
+        rows: 2,
+        needed: 6,
+    },
+    Drawn {
+        text: DIVERGING,
+        rows: 1,
+        needed: 3,
+    },
+    Drawn {
+        text: IN_TWO_DRAWS,
+        rows: 33,
+        needed: 99,
     },
 ];

@@ -10,9 +10,7 @@ use crate::memories::{Memories, OneRefused};
 use crate::opened::{is_for, open, opened};
 use crate::rounds::go_by_round;
 use crate::rows::{ROWS, Row, Way};
-use csp_kinds::check;
-use csp_lex::tokens;
-use csp_parse::parse;
+use crate::scripts::script;
 use csp_term::{Assertion, Script};
 use pair_store::{Store, Verdict};
 use std::alloc::Global;
@@ -23,18 +21,6 @@ const MANY: u64 = 10_000;
 
 /// More levels than a search has.
 const LEVELS: u32 = 10;
-
-/// The script of the text.
-fn script<'m>(memory: OneRefused<'m>, text: &str) -> Result<Script<OneRefused<'m>>, Fail> {
-    let list = tokens(memory, text.as_bytes())?;
-    let Ok(raw) = parse(memory, &list) else {
-        return Err(Fail::new("no tree"));
-    };
-    match check(memory, &raw) {
-        Ok(script) => Ok(script),
-        Err(_) => Err(Fail::new("no script")),
-    }
-}
 
 /// Goes through a level of both searches.
 fn go_on<'s, 'm>(
