@@ -18,5 +18,7 @@ mod large;
 mod met;
 #[cfg(test)]
 mod operators;
+#[cfg(test)]
+mod random;
 mod script;
 mod ways;
