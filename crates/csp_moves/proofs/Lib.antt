@@ -1,0 +1,16 @@
+pub mod Found
+pub mod Chosen
+pub mod Picked
+pub mod Parallel
+pub mod Looked
+pub mod Decided
+pub mod Stepped
+pub mod Pushed
+pub mod Events
+pub mod Pairs
+pub mod Bodies
+pub mod Chains
+pub mod Making
+pub mod Apart
+pub mod Along
+pub mod Origins

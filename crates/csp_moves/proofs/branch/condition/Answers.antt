@@ -1,0 +1,12 @@
+-- The condition is the truth of its value.
+use Rattle.std.proofs.Common.{Bool, Result, sym, ap, subst}
+use Rattle.csp_semantics.specs.Meaning.Evaluation.{Cause, ◌and_then◌}
+use Rattle.csp_semantics.specs.Meaning.Events.{truth_of}
+use Rattle.csp_expression.specs.Agreement.{AgreesWith}
+use Rattle.csp_moves.proofs.branch.condition.Goals as goal
+
+pub returns : goal.returns
+returns g c =
+    let is = ap (λ r. r and_then λ v. truth_of v) c.in_ok-value.ensures in
+    let P : Result Bool Cause → Type 0 = λ r. AgreesWith (λ b. b) c.truth_of.result r in
+    subst P (sym is) c.truth_of.ensures

@@ -1,0 +1,12 @@
+-- The law of the operator, with what is found of the target.
+use Rattle.csp_syntax.specs.Value.{Tick}
+use Rattle.csp_syntax.specs.Process.{Interrupt}
+use Rattle.csp_term.specs.Term.{process_of}
+use Rattle.csp_origins.proofs.OperandWays.{interrupt_tick_ways}
+use Rattle.csp_moves.proofs.Found.{found_all, two_same}
+use Rattle.csp_moves.proofs.interrupt.by_tick.Goals as goal
+
+pub returns : goal.returns
+returns g c =
+    found_all (Interrupt (process_of c.args.left.now) (process_of c.args.right.now)) Tick (process_of c.args.target.now) c.two_ways.result _ _ c.two_ways.ensures (two_same _ _ _ _ c.to_side-by_left.ensures c.to_side-by_right.ensures)
+    (λ s. interrupt_tick_ways s (process_of c.args.left.now) (process_of c.args.right.now) (process_of c.args.target.now))

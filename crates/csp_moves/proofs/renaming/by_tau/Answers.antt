@@ -1,0 +1,17 @@
+-- The law of the operator, with what is found of the target.
+use Rattle.csp_syntax.specs.Value.{Tau}
+use Rattle.csp_syntax.specs.Process.{Renaming}
+use Rattle.csp_event_sets.specs.Events.{renaming_pairs_of}
+use Rattle.csp_term.specs.Term.{process_of}
+use Rattle.csp_origins.proofs.BodyWays as law
+use Rattle.csp_moves.specs.Way.{lent_process}
+use Rattle.csp_moves.proofs.Found.{found_all, one_same}
+use Rattle.csp_moves.proofs.renaming.by_tau.Goals as goal
+
+pub returns : goal.returns
+returns g c =
+    let p = process_of c.args.process.body.now in
+    let rs = renaming_pairs_of c.args.process.pairs.now.items in
+    let t = process_of c.args.target.now in
+    found_all (Renaming p rs) Tau t c.one_way.result _ _ c.one_way.ensures (one_same _ _ c.to_body.ensures)
+    (λ s. law.renamed_tau_ways s p rs t (lent_process c.body_of-body_target.result) c.body_of-body_target.ensures)

@@ -1,0 +1,14 @@
+-- The law of the operator, with what is found of the target.
+use Rattle.csp_syntax.specs.Value.{Ev}
+use Rattle.csp_syntax.specs.Process.{Sequential}
+use Rattle.csp_value.specs.Action.{event_of}
+use Rattle.csp_term.specs.Term.{process_of}
+use Rattle.csp_origins.proofs.OperandWays.{sequential_event_ways}
+use Rattle.csp_moves.specs.Way.{lent_process}
+use Rattle.csp_moves.proofs.Found.{found_all, one_same}
+use Rattle.csp_moves.proofs.sequential.by_event.Goals as goal
+
+pub returns : goal.returns
+returns g c =
+    found_all (Sequential (process_of c.args.left.now) (process_of c.args.right.now)) (Ev (event_of c.args.event.now)) (process_of c.args.target.now) c.one_way.result _ _ c.one_way.ensures (one_same _ _ c.to_side.ensures)
+    (λ s. sequential_event_ways s (process_of c.args.left.now) (process_of c.args.right.now) (process_of c.args.target.now) (event_of c.args.event.now) (lent_process c.left_of-left_target.result) c.left_of-left_target.ensures)

@@ -1,0 +1,10 @@
+-- No tick is seen.
+use Rattle.std.proofs.Common.{[], refl}
+use Rattle.csp_syntax.specs.Value.{Tick}
+use Rattle.csp_syntax.specs.Process.{Sequential}
+use Rattle.csp_origins.proofs.OperandWays.{sequential_tick_ways}
+use Rattle.csp_moves.proofs.Found.{found_all}
+use Rattle.csp_moves.proofs.sequential.by_tick.Goals as goal
+
+pub returns : goal.returns
+returns g c = λ p q t. found_all (Sequential p q) Tick t c.no_ways.result _ [] c.no_ways.ensures refl (λ s. sequential_tick_ways s p q t)

@@ -1,0 +1,17 @@
+pub mod Passage
+pub mod Origin
+pub mod Sides
+pub mod Way
+pub mod Choice
+pub mod Branch
+pub mod Tested
+pub mod Parallel
+pub mod Deciding
+pub mod Leaves
+pub mod Frames
+pub mod Passing
+pub mod Bodies
+pub mod Chains
+pub mod Made
+pub mod Along
+pub mod Finding
