@@ -2,3 +2,4 @@ pub mod Acceptances
 pub mod Cuts
 pub mod Parts
 pub mod Putting
+pub mod Sizes

@@ -6,11 +6,11 @@ use Rattle.csp_semantics.specs.Meaning.Violations.{Violation}
 use Rattle.csp_runs.specs.States.{AreReached, IsReplay, Visits}
 use Rattle.csp_runs.proofs.Visiting.{reached}
 
-visits_length : (script : Script) (path : List Action) (t u : Process) (states : List Process) → Visits script t path states u → length states ≡ suc (length path)
+-- one state before each action of a path, and one at its end
+pub visits_length : (script : Script) (path : List Action) (t u : Process) (states : List Process) → Visits script t path states u → length states ≡ suc (length path)
 visits_length script [] t u states visits = ap length visits.0
 visits_length script (x ∷ path) t u states visits = ap length visits.2 ∙ ap suc (visits_length script path visits.0 u visits.1 visits.4)
 
--- one state before each action, and one at the end
 pub replay_length : (script : Script) (p : Process) (v : Violation) (states : List Process) → IsReplay script p v states → length states ≡ suc (length v.path)
 replay_length script p v states replay = visits_length script v.path p replay.end states replay.visits
 

@@ -1,8 +1,11 @@
--- A violation with what leads to it: the states of the implementation, and what the specification has beside them.
-use Rattle.std.specs.Prelude.{◌≡◌, ◌≢◌, ℕ, List, [], length, slice_get, Option, Some, None, Contains, ⊤}
+-- A violation with what leads to it: the states of the implementation, where each step comes from, and what the
+-- specification has beside them.
+use Rattle.std.specs.Prelude.{◌≡◌, ◌≢◌, ℕ, suc, List, [], ◌∷◌, length, slice_get, Option, Some, None, Contains, ⊤}
 use Rattle.csp_syntax.specs.Value.{Action}
 use Rattle.csp_syntax.specs.Process.{Process, Assertion, specification_of, Script}
 use Rattle.csp_semantics.specs.Meaning.Violations.{Evidence, ByEvent, ByOffers, Violation}
+use Rattle.csp_origins.specs.Origin.{Origin, ComesFrom}
+use Rattle.csp_origins.specs.Telling.{Tells}
 use Rattle.csp_runs.specs.Acceptances.{AreLeastAcceptances}
 use Rattle.csp_runs.specs.Initials.{AreInitials}
 use Rattle.csp_runs.specs.States.{AreStatesAlong, AreSmall, AreMoreAlong, IsReplay}
@@ -14,9 +17,10 @@ pub data Counterpart : Type 0 where
   Along : (states : List (List Process)) (initials : List Action) (acceptances : List (List Action)) → Counterpart
   TooManyStates : Counterpart
 
--- the states of the implementation, and what the specification has along the path, if there is one
+-- the states of the implementation, the origin of each step, and what the specification has along the path, if there is one
 pub record Counterexample : Type 0 where
   pub states : List Process
+  pub origins : List (Option Origin)
   pub counterpart : Option Counterpart
 
 -- the states along the path are at most n each time, and the last ones have these initials and least acceptances
@@ -40,10 +44,25 @@ IsCounterpartFor script (Some spec) path n None = ⊥
 IsCounterpartFor script None path n (Some c) = ⊥
 IsCounterpartFor script None path n None = ⊤
 
--- the states of a replay of the violation, and what the specification has along its path
+-- what is told of each step of the path, by the states before and behind it
+abbrev pub AreOriginsAlong : Script → List Action → List Process → List (Option Origin) → Type 0
+AreOriginsAlong script [] states [] = ⊤
+AreOriginsAlong script [] states (o ∷ origins) = ⊥
+AreOriginsAlong script (x ∷ path) (before ∷ t ∷ states) (o ∷ origins) = Tells script before x t o × AreOriginsAlong script path (t ∷ states) origins
+AreOriginsAlong script (x ∷ path) (before ∷ t ∷ states) [] = ⊥
+AreOriginsAlong script (x ∷ path) (before ∷ []) origins = ⊥
+AreOriginsAlong script (x ∷ path) [] origins = ⊥
+
+-- the states of a replay of the violation, where its steps come from, and what the specification has along its path
 pub record IsCounterexample (script : Script) (a : Assertion) (v : Violation) (n : ℕ) (c : Counterexample) : Type 0 where
   pub replay : IsReplay script a.implementation v c.states
+  pub origins : AreOriginsAlong script v.path c.states c.origins
   pub counterpart : IsCounterpartFor script (specification_of a.property) v.path n c.counterpart
+
+-- the step by x from the state at the place to the next one comes from the origin that is told
+abbrev pub HasOriginAt : Script → List Process → List (Option Origin) → ℕ → Action → Type 0
+HasOriginAt script states origins i x =
+    (s t : Process) × (o : Origin) × (slice_get states i ≡ Some s) × (slice_get states (suc i) ≡ Some t) × (slice_get origins i ≡ Some (Some o)) × ComesFrom script s x t o
 
 -- the event is none of the initials, or each of the acceptances has something that is not offered
 abbrev pub ShowsLack : Evidence → Counterpart → Type 0

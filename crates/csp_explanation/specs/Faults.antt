@@ -3,8 +3,10 @@ use Rattle.std.specs.Prelude.{◌≡◌, ℕ, List, [], ◌++◌, codes, Option,
 use Rattle.csp_syntax.specs.Value.{Action}
 use Rattle.csp_syntax.specs.Process.{Process, Assertion, specification_of, Script}
 use Rattle.csp_answers.specs.Outcome.{Why, TooManyPairs, TooManyNodes, LargeTerm, Fault, NoMemory}
+use Rattle.csp_origins.specs.Origin.{Origin}
 use Rattle.csp_stuck_runs.specs.Stuck.{Hindrance, ByCause, BySize}
 use Rattle.csp_stuck_runs.specs.Runs.{HasNoneWithin, IsStuckRun}
+use Rattle.csp_explanation.specs.Counterexamples.{AreOriginsAlong}
 use Rattle.csp_explanation.specs.Paths.{path_text}
 use Rattle.csp_explanation.specs.Styles.{Style}
 
@@ -16,17 +18,22 @@ hindrance LargeTerm = Some BySize
 hindrance (Fault c) = Some (ByCause c)
 hindrance NoMemory = None
 
--- a path of a side, with the states on its way
+-- a path of a side, with the states on its way, and where its steps come from
 pub data SideRun : Type 0 where
-  OfImplementation : (path : List Action) (states : List Process) → SideRun
-  OfSpecification : (path : List Action) (states : List Process) → SideRun
+  OfImplementation : (path : List Action) (states : List Process) (origins : List (Option Origin)) → SideRun
+  OfSpecification : (path : List Action) (states : List Process) (origins : List (Option Origin)) → SideRun
+
+-- the path leads from the process to a state that is stuck so, by these states and steps from there
+pub record IsToldRun (script : Script) (t : Process) (h : Hindrance) (path : List Action) (states : List Process) (origins : List (Option Origin)) : Type 0 where
+  pub run : IsStuckRun script t h path states
+  pub told : AreOriginsAlong script path states origins
 
 -- The run is one of the implementation to a state that is stuck so; or one of the specification, where none of the
 -- implementation is found among n states. Where there is none, none of either is found among so many.
 abbrev pub IsFound : Script → Assertion → Hindrance → ℕ → Option SideRun → Type 0
-IsFound script a h n (Some (OfImplementation path states)) = IsStuckRun script a.implementation h path states
-IsFound script a h n (Some (OfSpecification path states)) =
-    HasNoneWithin script a.implementation h n × ((spec : Process) × (specification_of a.property ≡ Some spec) × IsStuckRun script spec h path states)
+IsFound script a h n (Some (OfImplementation path states origins)) = IsToldRun script a.implementation h path states origins
+IsFound script a h n (Some (OfSpecification path states origins)) =
+    HasNoneWithin script a.implementation h n × ((spec : Process) × (specification_of a.property ≡ Some spec) × IsToldRun script spec h path states origins)
 IsFound script a h n None = HasNoneWithin script a.implementation h n × ((spec : Process) → specification_of a.property ≡ Some spec → HasNoneWithin script spec h n)
 
 -- ---- the text
@@ -38,8 +45,8 @@ stuck_line BySize = codes "  there it is too large, or what a step leads to\n"
 
 -- the side, its run state by state, and what is wrong at the end
 abbrev pub fault_run_text : Style → Hindrance → SideRun → List ℕ
-fault_run_text style h (OfImplementation path states) = codes "  the implementation comes there by\n" ++ (path_text style path states ++ stuck_line h)
-fault_run_text style h (OfSpecification path states) = codes "  the specification comes there by\n" ++ (path_text style path states ++ stuck_line h)
+fault_run_text style h (OfImplementation path states origins) = codes "  the implementation comes there by\n" ++ (path_text style path states origins ++ stuck_line h)
+fault_run_text style h (OfSpecification path states origins) = codes "  the specification comes there by\n" ++ (path_text style path states origins ++ stuck_line h)
 
 -- of no run nothing is told
 abbrev pub found_text : Style → Hindrance → Option SideRun → List ℕ

@@ -1,12 +1,20 @@
--- Actions and a style for the samples of texts, over the names of the notation's samples: the event `c.n`.
+-- Actions, origins and a style for the samples of texts, over the names of the notation's samples: the event `c.n`.
 use Rattle.std.specs.Prelude.{ℕ, [], ◌∷◌, pos}
-use Rattle.csp_syntax.specs.Value.{Action, Ev, Integer}
+use Rattle.csp_syntax.specs.Value.{Action, Ev, Event, Integer}
+use Rattle.csp_origins.specs.Origin.{Below, OnSide, Origin, Side}
 use Rattle.csp_notation.specs.Samples.{names}
 use Rattle.csp_explanation.specs.Cutting.{Whole}
 use Rattle.csp_explanation.specs.Styles.{Style}
 
+abbrev pub event : ℕ → Event
+event n = record { channel = 0; fields = Integer (pos n) ∷ [] }
+
 abbrev pub c : ℕ → Action
-c n = Ev (record { channel = 0; fields = Integer (pos n) ∷ [] })
+c n = Ev (event n)
+
+-- a part of this side moves
+abbrev pub below : Side → Origin → Origin
+below side part = Below (OnSide side) part
 
 -- states are told whole, and one of a specification at a time
 abbrev pub told : Style

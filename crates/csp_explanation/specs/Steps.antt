@@ -1,8 +1,9 @@
 -- The states of a path, one after each of its actions, and those of a specification beside them.
-use Rattle.std.specs.Prelude.{ℕ, suc, List, [], ◌∷◌, ◌++◌, drop, codes, decimal}
+use Rattle.std.specs.Prelude.{ℕ, suc, List, [], ◌∷◌, ◌++◌, drop, codes, decimal, Option}
 use Rattle.csp_syntax.specs.Value.{Action, Tau, Tick, Ev}
 use Rattle.csp_syntax.specs.Process.{Process}
 use Rattle.csp_semantics.specs.Meaning.Violations.{Violation}
+use Rattle.csp_origins.specs.Origin.{Origin}
 use Rattle.csp_notation.specs.Names.{Names}
 use Rattle.csp_notation.specs.Processes.{process_text}
 use Rattle.csp_explanation.specs.Actions.{action_text}
@@ -10,6 +11,7 @@ use Rattle.csp_explanation.specs.Changing.{change_text}
 use Rattle.csp_explanation.specs.Counterparts.{specification_text}
 use Rattle.csp_explanation.specs.Cutting.{Width, Whole, UpTo, cut, cut_after}
 use Rattle.csp_explanation.specs.Ends.{end_text}
+use Rattle.csp_explanation.specs.Origins.{source_text}
 use Rattle.csp_explanation.specs.Styles.{Style}
 
 -- ---- a state
@@ -41,25 +43,27 @@ beside_text style (Ev e) along = first_text style along
 
 -- ---- a path
 
--- the number of a step, and its action
-abbrev pub step_line : Names → ℕ → Action → List ℕ
-step_line names n x = codes "  " ++ (decimal n ++ (codes " " ++ (action_text names x ++ codes "\n")))
+-- the number of a step, its action, and where a tau comes from
+abbrev pub step_line : Names → ℕ → Action → Option Origin → List ℕ
+step_line names n x o = codes "  " ++ (decimal n ++ (codes " " ++ (action_text names x ++ (source_text names x o ++ codes "\n"))))
 
 -- the state that a step leads to from another one
 abbrev pub behind_line : Names → Width → Process → Process → List ℕ
 behind_line names width before t = state_line (told_behind width (process_text names before) (process_text names t))
 
--- the steps of a path, numbered from n, with the states on it, and those of the specification behind each action
-abbrev pub steps_text : Style → ℕ → List Action → List Process → List (List Process) → List ℕ
-steps_text style n [] states along = []
-steps_text style n (x ∷ path) [] along = []
-steps_text style n (x ∷ path) (before ∷ []) along = []
-steps_text style n (x ∷ path) (before ∷ t ∷ states) along =
-    step_line style.names n x ++ (behind_line style.names (width_before style.width path) before t ++ (beside_text style x along ++ steps_text style (suc n) path (t ∷ states) (drop 1 along)))
+-- the steps of a path, numbered from n, with the states and origins on it, and the states of the specification behind each
+abbrev pub steps_text : Style → ℕ → List Action → List Process → List (Option Origin) → List (List Process) → List ℕ
+steps_text style n [] states origins along = []
+steps_text style n (x ∷ path) [] origins along = []
+steps_text style n (x ∷ path) (before ∷ []) origins along = []
+steps_text style n (x ∷ path) (before ∷ t ∷ states) [] along = []
+steps_text style n (x ∷ path) (before ∷ t ∷ states) (o ∷ origins) along =
+    step_line style.names n x o ++ (behind_line style.names (width_before style.width path) before t
+    ++ (beside_text style x along ++ steps_text style (suc n) path (t ∷ states) origins (drop 1 along)))
 
 -- the states at the start, the steps, and what is wrong at the end
-abbrev pub run_text : Style → Violation → List Process → List (List Process) → List ℕ
-run_text style v [] along = []
-run_text style v (t ∷ states) along =
+abbrev pub run_text : Style → Violation → List Process → List (Option Origin) → List (List Process) → List ℕ
+run_text style v [] origins along = []
+run_text style v (t ∷ states) origins along =
     codes "  0 start\n" ++ (state_line (cut (width_before style.width v.path) (process_text style.names t))
-    ++ (first_text style along ++ (steps_text style 1 v.path (t ∷ states) (drop 1 along) ++ end_text style.names v.evidence)))
+    ++ (first_text style along ++ (steps_text style 1 v.path (t ∷ states) origins (drop 1 along) ++ end_text style.names v.evidence)))

@@ -1,19 +1,27 @@
 -- The runs of sides that those of the code stand for.
-use Rattle.std.specs.Prelude.{◌≡◌, ℕ, Option, Some, None, map}
+use Rattle.std.specs.Prelude.{◌≡◌, ℕ, List, Option, Some, None, map}
 use Rattle.csp_syntax.specs.Process.{Process, Script}
-use Rattle.csp_stuck_runs.specs.Runs.{HasNoneWithin, IsStuckRun}
+use Rattle.csp_stuck_runs.specs.Runs.{HasNoneWithin}
 use Rattle.csp_stuck_runs.specs.Stuck.{Hindrance}
 use Rattle.csp_value.specs.Action.{action_of}
 use Rattle.csp_term.specs.Term.{process_of}
 use Rattle.csp_explanation.specs.Faults as pure
+use Rattle.csp_explanation.specs.Paths.{path_text}
+use Rattle.csp_explanation.specs.Styles.{Style}
+use Rattle.counterexample.specs.Counterexample.{origins_listed}
 use Rattle.stuck_runs.specs.Running.{IsRunTo}
 use Rattle.stuck_runs.specs.declared.way.StuckRun.{StuckRun}
 use Rattle.explanation.specs.declared.sides.SideRun.{SideRun}
+use Rattle.explanation.specs.declared.told_run.ToldRun.{ToldRun}
 use Rattle.explanation.specs.declared.sides.SideRun.TheVariants as variant
 
 abbrev pub side_run_of : {A : Type 0} → SideRun A → pure.SideRun
-side_run_of (variant.Implementation run) = pure.OfImplementation (map action_of run.path.items) (map process_of run.states.items)
-side_run_of (variant.Specification run) = pure.OfSpecification (map action_of run.path.items) (map process_of run.states.items)
+side_run_of (variant.Implementation told) = pure.OfImplementation (map action_of told.run.path.items) (map process_of told.run.states.items) (origins_listed told.origins.items)
+side_run_of (variant.Specification told) = pure.OfSpecification (map action_of told.run.path.items) (map process_of told.run.states.items) (origins_listed told.origins.items)
+
+-- the text of the run
+abbrev pub told_text : {A : Type 0} → Style → ToldRun A → List ℕ
+told_text style told = path_text style (map action_of told.run.path.items) (map process_of told.run.states.items) (origins_listed told.origins.items)
 
 -- a run of the specification to a state that is stuck so; or where there is a specification, none is found among n states
 abbrev pub IsSpecificationRun : {A : Type 0} → Script → Option Process → Hindrance → ℕ → Option (StuckRun A) → Type 0
@@ -22,6 +30,6 @@ IsSpecificationRun script spec h n None = (p : Process) → spec ≡ Some p → 
 
 -- the same of a run that is told with its side
 abbrev pub IsSpecificationSide : Script → Option Process → Hindrance → ℕ → Option pure.SideRun → Type 0
-IsSpecificationSide script spec h n (Some (pure.OfImplementation path states)) = ⊥
-IsSpecificationSide script spec h n (Some (pure.OfSpecification path states)) = (p : Process) × (spec ≡ Some p) × IsStuckRun script p h path states
+IsSpecificationSide script spec h n (Some (pure.OfImplementation path states origins)) = ⊥
+IsSpecificationSide script spec h n (Some (pure.OfSpecification path states origins)) = (p : Process) × (spec ≡ Some p) × pure.IsToldRun script p h path states origins
 IsSpecificationSide script spec h n None = (p : Process) → spec ≡ Some p → HasNoneWithin script p h n

@@ -1,27 +1,25 @@
 //! Why an assertion has no answer, with a run to the state for which it has none.
 
-ghost use Rattle.std.specs.Prelude.{◌≡◌, ◌++◌, map, OnOk, Some};
+ghost use Rattle.std.specs.Prelude.{◌≡◌, ◌++◌, OnOk, Some};
 ghost use Rattle.std.specs.Option.{option_map};
 ghost use Rattle.std.specs.String.{string_bytes};
 ghost use Rattle.csp_answers.specs.Terms.{IsAssertionOf};
-ghost use Rattle.csp_value.specs.Action.{action_of};
 ghost use Rattle.csp_term.specs.Script.{assertion_of, script_of};
-ghost use Rattle.csp_term.specs.Term.{process_of};
-ghost use Rattle.csp_explanation.specs.Faults as told;
-ghost use Rattle.csp_explanation.specs.Paths.{path_text};
+ghost use Rattle.csp_explanation.specs.Faults as faults;
 ghost use Rattle.csp_explanation.specs.Telling.{TellsFound, TellsUnknown};
 ghost use Rattle.csp_print.specs.Writing.{Writes};
 ghost use Rattle.counterexample_text.specs.Styles.{style_of};
 ghost use Rattle.stuck_runs.specs.Hindrance.{hindrance_of};
 ghost use Rattle.verdict.specs.Outcome.{why_of};
-ghost use Rattle.explanation.specs.Sides.{side_run_of};
+ghost use Rattle.explanation.specs.Sides.{side_run_of, told_text};
 
 use crate::reasons::reason;
 use crate::sides::{SideRun, side_run};
-use counterexample_text::{Style, push_mark, push_path};
+use crate::told_run::ToldRun;
+use counterexample_text::{Run, Style, push_mark, push_path};
 use csp_term::{AllocHandle, Assertion, Memory, Script};
 use std::alloc::AllocError;
-use stuck_runs::{Hindrance, StuckRun};
+use stuck_runs::Hindrance;
 use verdict::Why;
 
 /// Why there is no answer, and a run to a state that is faulty or large, where that is why.
@@ -46,7 +44,7 @@ pub(crate) fn push_unknown<A: AllocHandle>(
 
 // What a state of a side is stuck by, where there is no answer for that.
 fn hindrance(why: Why) -> Option<Hindrance>
-    ensures { option_map hindrance_of result ≡ told.hindrance (why_of why) }
+    ensures { option_map hindrance_of result ≡ faults.hindrance (why_of why) }
 {
     match why {
         Why::Pairs => None,
@@ -85,16 +83,16 @@ fn push_side_run<A: AllocHandle>(
     run: &SideRun<A>,
     text: &mut String<A>,
 ) -> Result<(), AllocError>
-    ensures { Writes result text.old text.new (told.fault_run_text (style_of style.now) (hindrance_of hindrance) (side_run_of run.now)) }
+    ensures { Writes result text.old text.new (faults.fault_run_text (style_of style.now) (hindrance_of hindrance) (side_run_of run.now)) }
 {
     match run {
-        SideRun::Implementation(run) => {
+        SideRun::Implementation(told) => {
             push_mark("  the implementation comes there by\n", text)?;
-            push_run(alloc, style, hindrance, run, text)
+            push_run(alloc, style, hindrance, told, text)
         }
-        SideRun::Specification(run) => {
+        SideRun::Specification(told) => {
             push_mark("  the specification comes there by\n", text)?;
-            push_run(alloc, style, hindrance, run, text)
+            push_run(alloc, style, hindrance, told, text)
         }
     }
 }
@@ -104,18 +102,22 @@ fn push_run<A: AllocHandle>(
     alloc: A,
     style: &Style<'_, '_, A>,
     hindrance: Hindrance,
-    run: &StuckRun<A>,
+    told: &ToldRun<A>,
     text: &mut String<A>,
 ) -> Result<(), AllocError>
-    ensures { Writes result text.old text.new (path_text (style_of style.now) (map action_of run.now.path.items) (map process_of run.now.states.items) ++ told.stuck_line (hindrance_of hindrance)) }
+    ensures { Writes result text.old text.new (told_text (style_of style.now) told.now ++ faults.stuck_line (hindrance_of hindrance)) }
 {
-    push_path(alloc, style, &run.path, &run.states, text)?;
+    let run = Run {
+        states: &told.run.states,
+        origins: &told.origins,
+    };
+    push_path(alloc, style, &told.run.path, &run, text)?;
     push_mark(stuck_line(hindrance), text)
 }
 
 // What the last state of the run is stuck by.
 fn stuck_line(hindrance: Hindrance) -> &'static str
-    ensures { result.now ≡ told.stuck_line (hindrance_of hindrance) }
+    ensures { result.now ≡ faults.stuck_line (hindrance_of hindrance) }
 {
     match hindrance {
         Hindrance::Fault(_) => "  there a rule lacks a value\n",

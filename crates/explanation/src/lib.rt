@@ -1,10 +1,10 @@
 //! What is told of an answered assertion: its headline, and why it has its outcome.
 //!
-//! `tell` makes the text of one assertion. By its contract it is what the definitions tell: the number, the answer and the
-//! assertion; behind them, where it fails, a run by the path of the violation, state by state, beside what the
-//! specification has along it, what is wrong at its end, and what the specification has there; and where it has no answer,
-//! the reason, and where a state that is faulty or large is why, a run of a side to such a state. The text is made whole or
-//! not at all.
+//! `tell` makes the text of one assertion. By its contract it is what the definitions tell: the number, the answer and
+//! the assertion; behind them, where it fails, a run by the path of the violation, state by state, with where its steps
+//! come from, beside what the specification has along it, what is wrong at its end, and what the specification has
+//! there; and where it has no answer, the reason, and where a state that is faulty or large is why, a run of a side to
+//! such a state, told in the same way. The text is made whole or not at all.
 #![tactic(auto)]
 
 mod faults;
@@ -12,5 +12,6 @@ mod headline;
 mod reasons;
 mod sides;
 mod telling;
+mod told_run;
 
 pub use telling::tell;

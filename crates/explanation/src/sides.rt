@@ -10,6 +10,7 @@ ghost use Rattle.csp_explanation.specs.Faults.{IsFound};
 ghost use Rattle.stuck_runs.specs.Hindrance.{hindrance_of};
 ghost use Rattle.explanation.specs.Sides.{IsSpecificationRun, IsSpecificationSide, side_run_of};
 
+use crate::told_run::{ToldRun, told_run};
 use csp_term::{AllocHandle, Assertion, Memory, Property, Script};
 use stuck_runs::{Hindrance, StuckRun, run_to_stuck};
 
@@ -17,9 +18,9 @@ use stuck_runs::{Hindrance, StuckRun, run_to_stuck};
 #[derive(Drop)]
 pub(crate) enum SideRun<A: AllocHandle> {
     /// One of the implementation.
-    Implementation(StuckRun<A>),
+    Implementation(ToldRun<A>),
     /// One of the specification.
-    Specification(StuckRun<A>),
+    Specification(ToldRun<A>),
 }
 
 /// A run of the implementation to a state that is stuck by this, or where none is found among `most` states one of the
@@ -38,7 +39,8 @@ pub(crate) fn side_run<A: AllocHandle>(
     let Some(run) = found else {
         return specification_side(alloc, script, &assertion.property, hindrance, most);
     };
-    Ok(Some(SideRun::Implementation(run)))
+    let told = told_run(alloc, script, run)?;
+    Ok(Some(SideRun::Implementation(told)))
 }
 
 // The same of the specification alone.
@@ -56,7 +58,8 @@ fn specification_side<A: AllocHandle>(
     let Some(run) = found else {
         return Ok(None);
     };
-    Ok(Some(SideRun::Specification(run)))
+    let told = told_run(alloc, script, run)?;
+    Ok(Some(SideRun::Specification(told)))
 }
 
 // A run of the specification, where there is one.

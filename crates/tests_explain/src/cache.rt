@@ -53,35 +53,35 @@ assert ONE(0) [T= MENDED
       FAULTY
       specification: ONE(0)
       specification: ([] i:Cpu @ read!i!0 -> ONE(0)) [] ([] i:Cpu @ write!i?w -> ONE(w))
-  1 tau
+  1 tau: unfolds FAULTY
       ((LAZY(0) [| {|forget|} |] LAZY(1)) [| {|read, write, fetch, store, done|} |] MEMORY(0)) \ {|fetch, store, forget, done|}
-  2 tau
+  2 tau: right: unfolds MEMORY
       .. store, done|} |] (([] i:Cpu @ fetch!i!0 -> MEMORY(0)) [] ([] i:Cpu @ read!i?w -> MEMORY(0)) [] ([] i:Cpu @ write!i?w -> store!i!w -> done!i -> MEMORY(w)))) \ {|fetch, store, ..
-  3 tau
+  3 tau: left, right: unfolds LAZY
       .. [| {|forget|} |] (fetch!1?v -> KEEPING(1,v) [] write!1?v -> KEPT(1,v) [] forget!1 -> LAZY(1))) [| {|read, write, ..
-  4 tau
+  4 tau: hidden fetch.1.0 by both sides
       .. [| {|forget|} |] KEEPING(1,0)) [| {|read, write, fetch, store, done|} |] MEMORY(0)) \ {|fetch, store, ..
-  5 tau
+  5 tau: right: unfolds MEMORY
       .. store, done|} |] (([] i:Cpu @ fetch!i!0 -> MEMORY(0)) [] ([] i:Cpu @ read!i?w -> MEMORY(0)) [] ([] i:Cpu @ write!i?w -> store!i!w -> done!i -> MEMORY(w)))) \ {|fetch, store, ..
-  6 tau
+  6 tau: left, right: unfolds KEEPING
       .. [| {|forget|} |] (read!1!0 -> KEEPING(1,0) [] write!1?w -> KEPT(1,w) [] forget!1 -> KEEPING(1,0))) [| {|read, write, ..
-  7 tau
+  7 tau: left, left: unfolds LAZY
       (((fetch!0?v -> KEEPING(0,v) [] write!0?v -> KEPT(0,v) [] forget!0 -> LAZY(0)) [| {|forget|} |] ..
   8 write.0.1
       ((KEPT(0,1) [| {|forget|} |] (read!1!0 -> KEEPING(1,0) [] write!1?w -> KEPT(1,w) [] forget!1 -> KEEPING(1,0))) [| {|read, write, fetch, store, done|} |] store!0!1 -> done!0 -> MEMORY(1)) \ {|fetch, st .. 7 more characters
       specification: ONE(1)
       specification: ([] i:Cpu @ read!i!1 -> ONE(1)) [] ([] i:Cpu @ write!i?w -> ONE(w))
-  9 tau
+  9 tau: left, left: unfolds KEPT
       ((store!0!1 -> forget!(1 - 0) -> done!0 -> KEEPING(0,1) [| {|forget|} |] ..
-  10 tau
+  10 tau: hidden store.0.1 by both sides
       ((forget!(1 - 0) -> done!0 -> KEEPING(0,1) [| {|forget|} |] (read!1!0 -> KEEPING(1,0) [] write!1?w -> KEPT(1,w) [] forget!1 -> KEEPING(1,0))) [| {|read, write, fetch, store, done|} |] done!0 -> MEMORY .. 7 more characters
-  11 tau
+  11 tau: hidden forget.1 by left, both sides
       ((done!0 -> KEEPING(0,1) [| {|forget|} |] KEEPING(1,0)) [| {|read, write, ..
-  12 tau
+  12 tau: hidden done.0 by both sides
       ((KEEPING(0,1) [| {|forget|} |] KEEPING(1,0)) [| {|read, write, fetch, store, done|} |] MEMORY(1)) \ {|fetch, ..
-  13 tau
+  13 tau: right: unfolds MEMORY
       .. store, done|} |] (([] i:Cpu @ fetch!i!1 -> MEMORY(1)) [] ([] i:Cpu @ read!i?w -> MEMORY(1)) [] ([] i:Cpu @ write!i?w -> store!i!w -> done!i -> MEMORY(w)))) \ {|fetch, store, ..
-  14 tau
+  14 tau: left, right: unfolds KEEPING
       ((KEEPING(0,1) [| {|forget|} |] (read!1!0 -> KEEPING(1,0) [] write!1?w -> KEPT(1,w) [] forget!1 -> KEEPING(1,0))) [| {|read, write, fetch, store, done|} |] (([] i:Cpu @ fetch!i!1 -> MEMORY(1)) [] ([] i:Cpu @ read!i?w -> MEMORY(1)) [] ([] i:Cpu @ write!i?w -> store!i!w -> done!i -> MEMORY(w)))) \ {|fetch, store, forget, done|}
   then it does read.1.0, and the specification cannot
   there the specification can do no more than {read.0.1,read.1.1,write.0.0,write.0.1,write.1.0,write.1.1}

@@ -40,21 +40,21 @@ assert BUFFER(<>) [F= MENDED
       FAULTY
       specification: BUFFER(<>)
       specification: #<> < 2 & put?x -> BUFFER(<> ^ <x>) [] #<> > 0 & get!head(<>) -> BUFFER(tail(<>))
-  1 tau
+  1 tau: unfolds FAULTY
       (DROPPING(<>) [| {|pass|} |] CELL) \ {|pass|}
-  2 tau
+  2 tau: left: unfolds DROPPING
       ((#<> < 1 & put?x -> DROPPING(<> ^ <x>) [] #<> > 0 & pass!head(<>) -> DROPPING(tail(<>)) [] #<> == 1 & put?x -> DROPPING(tail(<>) ^ <x>)) [| {|pass|} |] ..
   3 put.0
       (DROPPING(<> ^ <0>) [| {|pass|} |] ..
       specification: BUFFER(<> ^ <0>)
       specification: #<0> < 2 & put?x -> BUFFER(<0> ^ <x>) [] #<0> > 0 & get!head(<0>) -> BUFFER(tail(<0>))
-  4 tau
+  4 tau: left: unfolds DROPPING
       ((#<0> < 1 & put?x -> DROPPING(<0> ^ <x>) [] #<0> > 0 & pass!head(<0>) -> DROPPING(tail(<0>)) [] #<0> == 1 & put?x -> DROPPING(tail(<0>) ^ <x>)) [| {|pass|} |] ..
   5 put.0
       (DROPPING(tail(<0>) ^ <0>) [| {|pass|} |] ..
       specification: BUFFER(<0> ^ <0>)
       specification: #<0,0> < 2 & put?x -> BUFFER(<0,0> ^ <x>) [] #<0,0> > 0 & get!head(<0,0>) -> BUFFER(tail(<0,0>))
-  6 tau
+  6 tau: left: unfolds DROPPING
       ((#<0> < 1 & put?x -> DROPPING(<0> ^ <x>) [] #<0> > 0 & pass!head(<0>) -> DROPPING(tail(<0>)) [] #<0> == 1 & put?x -> DROPPING(tail(<0>) ^ <x>)) [| {|pass|} |] CELL) \ {|pass|}
   then it does put.0, and the specification cannot
   there the specification can do no more than {get.0}

@@ -54,67 +54,67 @@ assert MENDED :[deadlock free]
     told: r"1 fails  assert FAULTY :[deadlock free]
   0 start
       FAULTY
-  1 tau
+  1 tau: unfolds FAULTY
       ((PRODUCER ||| CONSUMER) [| {|lock, unlock, full, empty, put, get, sleep, bell, awake|} |] MONITOR) \ {|lock, unlock, full, empty, sleep, bell, awake|}
-  2 tau
+  2 tau: right: unfolds MONITOR
       .. bell, awake|} |] (LOCK ||| (PLACE(0) ||| BEDS))) \ {|lock, unlock, ..
-  3 tau
+  3 tau: right, right, right: unfolds BEDS
       .. ||| (PLACE(0) ||| (BED(0) ||| BED(1))))) \ {|lock, unlock, ..
-  4 tau
+  4 tau: right, right, right, right: unfolds BED
       .. ||| (BED(0) ||| (sleep!1 -> bell!1 -> awake!1 -> BED(1) [] bell!1 -> BED(1)))))) \ {|lock, unlock, ..
-  5 tau
+  5 tau: right, right, right, left: unfolds BED
       .. ||| (PLACE(0) ||| ((sleep!0 -> bell!0 -> awake!0 -> BED(0) [] bell!0 -> BED(0)) ||| (sleep!1 -> ..
-  6 tau
+  6 tau: right, right, left: unfolds PLACE
       .. |] (LOCK ||| ((full!(0 == 1) -> PLACE(0) [] empty!(0 == 0) -> PLACE(0) [] 0 == 0 & put -> PLACE(1) [] 0 == 1 & get -> PLACE(0)) ||| ((sleep!0 -> ..
-  7 tau
+  7 tau: right, left: unfolds LOCK
       .. bell, awake|} |] (([] i:Who @ lock!i -> unlock!i -> LOCK) ||| ((full!(0 == ..
-  8 tau
+  8 tau: left, right: unfolds CONSUMER
       ((PRODUCER ||| lock!1 -> empty?e -> (if e then unlock!1 -> sleep!1 -> awake!1 -> CONSUMER else get -> bell!0 -> unlock!1 -> CONSUMER)) [| {|lock, unlock, ..
-  9 tau
+  9 tau: hidden lock.1 by both sides
       ((PRODUCER ||| empty?e -> (if e then unlock!1 -> sleep!1 -> awake!1 -> CONSUMER else get -> bell!0 -> unlock!1 -> CONSUMER)) [| {|lock, unlock, full, empty, put, get, sleep, bell, awake|} |] (unlock!1 .. 28 more characters
-  10 tau
+  10 tau: hidden empty.true by both sides
       ((PRODUCER ||| (if true then unlock!1 -> sleep!1 -> awake!1 -> CONSUMER else get -> bell!0 -> unlock!1 -> CONSUMER)) [| {|lock, unlock, full, empty, put, get, sleep, bell, awake|} |] (unlock!1 -> LOCK .. 34 more characters
-  11 tau
+  11 tau: hidden unlock.1 by both sides
       ((PRODUCER ||| sleep!1 -> awake!1 -> CONSUMER) [| {|lock, unlock, full, empty, put, get, sleep, bell, awake|} |] (LOCK ||| (PLACE(0) ||| ..
-  12 tau
+  12 tau: right, right, left: unfolds PLACE
       .. |] (LOCK ||| ((full!(0 == 1) -> PLACE(0) [] empty!(0 == 0) -> PLACE(0) [] 0 == 0 & put -> PLACE(1) [] 0 == 1 & get -> PLACE(0)) ||| ((sleep!0 -> ..
-  13 tau
+  13 tau: right, left: unfolds LOCK
       .. bell, awake|} |] (([] i:Who @ lock!i -> unlock!i -> LOCK) ||| ((full!(0 == ..
-  14 tau
+  14 tau: left, left: unfolds PRODUCER
       ((lock!0 -> full?f -> (if f then unlock!0 -> sleep!0 -> awake!0 -> PRODUCER else put -> bell!1 -> unlock!0 -> PRODUCER) ||| sleep!1 -> ..
-  15 tau
+  15 tau: hidden lock.0 by both sides
       ((full?f -> (if f then unlock!0 -> sleep!0 -> awake!0 -> PRODUCER else put -> bell!1 -> unlock!0 -> PRODUCER) ||| sleep!1 -> awake!1 -> CONSUMER) [| {|lock, unlock, full, empty, put, get, sleep, bell, .. 49 more characters
-  16 tau
+  16 tau: hidden full.false by both sides
       (((if false then unlock!0 -> sleep!0 -> awake!0 -> PRODUCER else put -> bell!1 -> unlock!0 -> PRODUCER) ||| sleep!1 -> awake!1 -> CONSUMER) [| {|lock, unlock, full, empty, put, get, sleep, bell, awake .. 57 more characters
-  17 tau
+  17 tau: right, right, left: unfolds PLACE
       .. -> LOCK ||| ((full!(0 == 1) -> PLACE(0) [] empty!(0 == 0) -> PLACE(0) [] 0 == 0 & put -> PLACE(1) [] 0 == 1 & get -> PLACE(0)) ||| ((sleep!0 -> ..
   18 put
       ((bell!1 -> unlock!0 -> PRODUCER ||| sleep!1 -> awake!1 -> CONSUMER) [| {|lock, unlock, full, empty, put, get, sleep, bell, awake|} |] (unlock!0 -> LOCK ||| (PLACE(1) ||| ((sleep!0 -> ..
-  19 tau
+  19 tau: hidden bell.1 by both sides
       ((unlock!0 -> PRODUCER ||| sleep!1 -> awake!1 -> CONSUMER) [| {|lock, unlock, full, empty, put, get, sleep, bell, awake|} |] (unlock!0 -> LOCK ||| (PLACE(1) ||| ((sleep!0 -> bell!0 -> awake!0 -> BED(0 .. 58 more characters
-  20 tau
+  20 tau: hidden unlock.0 by both sides
       ((PRODUCER ||| sleep!1 -> awake!1 -> CONSUMER) [| {|lock, unlock, full, empty, put, get, sleep, bell, awake|} |] (LOCK ||| (PLACE(1) ||| ..
-  21 tau
+  21 tau: right, right, right, right: unfolds BED
       .. -> BED(0)) ||| (sleep!1 -> bell!1 -> awake!1 -> BED(1) [] bell!1 -> BED(1)))))) \ {|lock, unlock, ..
-  22 tau
+  22 tau: right, right, left: unfolds PLACE
       .. |] (LOCK ||| ((full!(1 == 1) -> PLACE(1) [] empty!(1 == 0) -> PLACE(1) [] 1 == 0 & put -> PLACE(1) [] 1 == 1 & get -> PLACE(0)) ||| ((sleep!0 -> ..
-  23 tau
+  23 tau: right, left: unfolds LOCK
       .. bell, awake|} |] (([] i:Who @ lock!i -> unlock!i -> LOCK) ||| ((full!(1 == ..
-  24 tau
+  24 tau: hidden sleep.1 by both sides
       ((PRODUCER ||| awake!1 -> CONSUMER) [| {|lock, unlock, full, empty, put, get, sleep, bell, awake|} |] (([] i:Who @ lock!i -> unlock!i -> LOCK) ||| ((full!(1 == 1) -> PLACE(1) [] empty!(1 == 0) -> PLAC .. 184 more characters
-  25 tau
+  25 tau: left, left: unfolds PRODUCER
       ((lock!0 -> full?f -> (if f then unlock!0 -> sleep!0 -> awake!0 -> PRODUCER else put -> bell!1 -> unlock!0 -> PRODUCER) ||| awake!1 -> ..
-  26 tau
+  26 tau: hidden lock.0 by both sides
       ((full?f -> (if f then unlock!0 -> sleep!0 -> awake!0 -> PRODUCER else put -> bell!1 -> unlock!0 -> PRODUCER) ||| awake!1 -> CONSUMER) [| {|lock, unlock, full, empty, put, get, sleep, bell, awake|} |] .. 38 more characters
-  27 tau
+  27 tau: hidden full.true by both sides
       (((if true then unlock!0 -> sleep!0 -> awake!0 -> PRODUCER else put -> bell!1 -> unlock!0 -> PRODUCER) ||| awake!1 -> CONSUMER) [| {|lock, unlock, full, empty, put, get, sleep, bell, awake|} |] (unloc .. 45 more characters
-  28 tau
+  28 tau: hidden unlock.0 by both sides
       ((sleep!0 -> awake!0 -> PRODUCER ||| awake!1 -> CONSUMER) [| {|lock, unlock, full, empty, put, get, sleep, bell, awake|} |] (LOCK ||| (PLACE(1) ||| ..
-  29 tau
+  29 tau: right, right, left: unfolds PLACE
       .. |] (LOCK ||| ((full!(1 == 1) -> PLACE(1) [] empty!(1 == 0) -> PLACE(1) [] 1 == 0 & put -> PLACE(1) [] 1 == 1 & get -> PLACE(0)) ||| ((sleep!0 -> ..
-  30 tau
+  30 tau: right, left: unfolds LOCK
       .. bell, awake|} |] (([] i:Who @ lock!i -> unlock!i -> LOCK) ||| ((full!(1 == ..
-  31 tau
+  31 tau: hidden sleep.0 by both sides
       ((awake!0 -> PRODUCER ||| awake!1 -> CONSUMER) [| {|lock, unlock, full, empty, put, get, sleep, bell, awake|} |] (([] i:Who @ lock!i -> unlock!i -> LOCK) ||| ((full!(1 == 1) -> PLACE(1) [] empty!(1 == 0) -> PLACE(1) [] 1 == 0 & put -> PLACE(1) [] 1 == 1 & get -> PLACE(0)) ||| (bell!0 -> awake!0 -> BED(0) ||| bell!1 -> awake!1 -> BED(1))))) \ {|lock, unlock, full, empty, sleep, bell, awake|}
   then it can do nothing
 ",

@@ -40,11 +40,11 @@ assert STORE(0) [T= MENDED
       FAULTY
       specification: STORE(0)
       specification: read!0 -> STORE(0) [] write?w -> CHANGING(0,w)
-  1 tau
+  1 tau: unfolds FAULTY
       (HASTY [| {|copy, confirm|} |] SECOND(0)) \ {|copy, confirm|}
-  2 tau
+  2 tau: right: unfolds SECOND
       .. {|copy, confirm|} |] (copy?w -> confirm -> SECOND(w) [] read!0 -> SECOND(0))) \ {|copy, confirm|}
-  3 tau
+  3 tau: left: unfolds HASTY
       (write?v -> written -> copy!v -> confirm -> HASTY [| {|copy, confirm|} ..
   4 write.1
       (written -> copy!1 -> confirm -> ..

@@ -2,7 +2,7 @@
 
 use crate::rows::Row;
 
-static SMALL: [Row; 13] = [
+static SMALL: [Row; 19] = [
     Row {
         words: &["script"],
         status: 0,
@@ -50,10 +50,90 @@ static SMALL: [Row; 13] = [
 1 fails  assert P :[deadlock free]
   0 start
       P
-  1 tau
+  1 tau: unfolds P
       a -> STOP
   2 a
       STOP
+  then it can do nothing
+",
+    },
+    // Where taus come from: the end of a side, a choice that is left, and hidden events.
+    Row {
+        words: &["script"],
+        status: 1,
+        text: "assert SKIP ; STOP :[deadlock free]\n",
+        told: "\
+1 fails  assert SKIP ; STOP :[deadlock free]
+  0 start
+      SKIP ; STOP
+  1 tau: left: ends
+      STOP
+  then it can do nothing
+",
+    },
+    Row {
+        words: &["script"],
+        status: 1,
+        text: "channel a\nassert a -> a -> STOP [> STOP :[deadlock free]\n",
+        told: "\
+1 fails  assert a -> a -> STOP [> STOP :[deadlock free]
+  0 start
+      a -> a -> STOP [> STOP
+  1 tau: slides to its right side
+      STOP
+  then it can do nothing
+",
+    },
+    Row {
+        words: &["script"],
+        status: 1,
+        text: "channel a\nassert (STOP ||| a -> STOP) \\ {a} :[deadlock free]\n",
+        told: "\
+1 fails  assert (STOP ||| a -> STOP) \\ {a} :[deadlock free]
+  0 start
+      (STOP ||| a -> STOP) \\ {a}
+  1 tau: hidden a by right
+      (STOP ||| STOP) \\ {a}
+  then it can do nothing
+",
+    },
+    Row {
+        words: &["script"],
+        status: 1,
+        text: "channel a, b\nassert (a -> STOP)[[a <- b]] \\ {b} :[deadlock free]\n",
+        told: "\
+1 fails  assert (a -> STOP)[[a <- b]] \\ {b} :[deadlock free]
+  0 start
+      (a -> STOP)[[a <- b]] \\ {b}
+  1 tau: hidden b
+      STOP[[a <- b]] \\ {b}
+  then it can do nothing
+",
+    },
+    // The branch of a condition is a side; the chain of the instances is not told.
+    Row {
+        words: &["script"],
+        status: 1,
+        text: "channel a\nassert if true then STOP |~| a -> STOP else STOP :[deadlock free]\n",
+        told: "\
+1 fails  assert if true then STOP |~| a -> STOP else STOP :[deadlock free]
+  0 start
+      if true then STOP |~| a -> STOP else STOP
+  1 tau: left: chooses its left side
+      STOP
+  then it can do nothing
+",
+    },
+    Row {
+        words: &["script"],
+        status: 1,
+        text: "channel c : {0..1}\nassert ||| x:{0..1} @ if x == 0 then STOP else STOP |~| c!x -> STOP :[deadlock free]\n",
+        told: "\
+1 fails  assert ||| x:{0..1} @ if x == 0 then STOP else STOP |~| c!x -> STOP :[deadlock free]
+  0 start
+      ||| x:{0..1} @ if x == 0 then STOP else STOP |~| c!x -> STOP
+  1 tau: right, right: chooses its left side
+      (if 0 == 0 then STOP else STOP |~| c!0 -> STOP) ||| STOP
   then it can do nothing
 ",
     },
@@ -78,7 +158,7 @@ static SMALL: [Row; 13] = [
   0 start
       a -> STOP |~| b -> STOP
       specification: a -> STOP [] b -> STOP
-  1 tau
+  1 tau: chooses its left side
       a -> STOP
   then it may refuse all but {a}, and the specification may not
   there the specification may offer {a,b}, of which {b} is lacking
@@ -93,7 +173,7 @@ static SMALL: [Row; 13] = [
   0 start
       (a -> STOP [] b -> STOP) |~| SKIP
       specification: a -> STOP [] b -> STOP [] SKIP
-  1 tau
+  1 tau: chooses its left side
       a -> STOP [] b -> STOP
   then it may refuse all but {a,b}, and the specification may not
   there the specification may offer {tick}, of which {tick} is lacking

@@ -32,7 +32,7 @@ static UNKNOWNS: [Row; 11] = [
   the implementation comes there by
   0 start
       P
-  1 tau
+  1 tau: unfolds P
       a -> (||| x:{0..63} @ c!x -> c!x -> c!x -> c!x -> c!x -> c!x -> c!x -> c!x -> c!x -> c!x -> STOP)
   2 a
       ||| x:{0..63} @ c!x -> c!x -> c!x -> c!x -> c!x -> c!x -> c!x -> c!x -> c!x -> c!x -> STOP
@@ -62,7 +62,7 @@ static UNKNOWNS: [Row; 11] = [
   the implementation comes there by
   0 start
       P(2147483647)
-  1 tau
+  1 tau: unfolds P
       P(2147483647 + 1)
   there a rule lacks a value
 ",
@@ -86,7 +86,7 @@ static UNKNOWNS: [Row; 11] = [
   the implementation comes there by
   0 start
       P(<>)
-  1 tau
+  1 tau: unfolds P
       c!head(<>) -> STOP
   there a rule lacks a value
 ",
@@ -114,7 +114,7 @@ static UNKNOWNS: [Row; 11] = [
   the implementation comes there by
   0 start
       Q(0)
-  1 tau
+  1 tau: unfolds Q
       a -> c!(1 % 0) -> STOP
   2 a
       c!(1 % 0) -> STOP

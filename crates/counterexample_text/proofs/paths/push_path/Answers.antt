@@ -11,6 +11,7 @@ use Rattle.csp_explanation.specs.Cutting.{cut}
 use Rattle.csp_explanation.specs.Steps.{state_line, steps_text, width_before}
 use Rattle.csp_explanation.proofs.Paths.{path_first, path_none}
 use Rattle.csp_print.proofs.Writing.{alike, behind}
+use Rattle.counterexample.specs.Counterexample.{origins_listed}
 use Rattle.counterexample_text.specs.Styles.{style_of}
 use Rattle.counterexample_text.proofs.paths.push_path.Goals as goal
 
@@ -18,26 +19,28 @@ pub returns-in_default : goal.returns-in_default
 returns-in_default g c =
     let style = style_of c.args.style.now in
     let path = map action_of c.args.path.now in
-    let states = map process_of c.args.states.now in
+    let states = map process_of c.args.run.now.states.now in
+    let origins = origins_listed c.args.run.now.origins.now in
     let start = string_bytes c.args.text.now in
-    let none = slice_get-map process_of c.args.states.now 0 ∙ ap (option_map process_of) (sym c.in_default.ensures.value) in
-    sym (append-nil start) ∙ ap (λ ts. start ++ ts) (sym (path_none style path states none))
+    let none = slice_get-map process_of c.args.run.now.states.now 0 ∙ ap (option_map process_of) (sym c.in_default.ensures.value) in
+    sym (append-nil start) ∙ ap (λ ts. start ++ ts) (sym (path_none style path origins states none))
 
 pub returns : goal.returns
 returns g c =
     let style = style_of c.args.style.now in
     let path = map action_of c.args.path.now in
-    let states = map process_of c.args.states.now in
+    let states = map process_of c.args.run.now.states.now in
     let t = process_of c.in-Some.first.now in
     let r = c.push_steps_alone.result in
+    let origins = origins_listed c.args.run.now.origins.now in
     let start = string_bytes c.args.text.now in
     let one = string_bytes c.push_mark.new.text in
     let two = string_bytes c.push_state.new.text in
     let all = string_bytes c.push_steps_alone.new.text in
     let line = state_line (cut (width_before style.width path) (process_text style.names t)) in
-    let steps = steps_text style 1 path states [] in
-    let at = get_some process_of c.args.states.now 0 c.in-Some.first.now (sym c.in-Some.ensures.value) in
+    let steps = steps_text style 1 path states origins [] in
+    let at = get_some process_of c.args.run.now.states.now 0 c.in-Some.first.now (sym c.in-Some.ensures.value) in
     let wide : two ≡ one ++ line = c.in_ok-push_state.ensures ∙ ap (λ w. one ++ state_line (cut w (process_text style.names t))) c.width_before-width.ensures in
-    alike r start all _ _ (sym (path_first style path t states at))
+    alike r start all _ _ (sym (path_first style path origins t states at))
     (behind r start one all (codes "  0 start\n") (line ++ steps) c.in_ok-push_mark.ensures
     (behind r one two all line steps wide c.push_steps_alone.ensures))

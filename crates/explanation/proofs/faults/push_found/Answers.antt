@@ -47,3 +47,31 @@ drop-run-requires-in_ok-push_side_run-3-room-T-Destruct g c κs within =
       | inl e ↦ rw (e.0, e.1) (lit< tt)
       | inr e ↦ rw (e.0, e.1) (lit< tt)
     ]
+
+pub drop-run-requires-in_err-push_side_run-3-room-T-Destruct : goal.drop-run-requires-in_err-push_side_run-3-room-T-Destruct
+drop-run-requires-in_err-push_side_run-3-room-T-Destruct g c κs within =
+    elim g.met.A.AllocHandle.small [
+      | inl e ↦ rw (e.0, e.1) (lit< tt)
+      | inr e ↦ rw (e.0, e.1) (lit< tt)
+    ]
+
+pub drop-run-requires-in_err-push_side_run-2-3-room-T-Destruct : goal.drop-run-requires-in_err-push_side_run-2-3-room-T-Destruct
+drop-run-requires-in_err-push_side_run-2-3-room-T-Destruct g c κs within =
+    elim g.met.A.AllocHandle.small [
+      | inl e ↦ rw (e.0, e.1) (lit< tt)
+      | inr e ↦ rw (e.0, e.1) (lit< tt)
+    ]
+
+pub drop-run-requires-in_ok-push_side_run-4-room-T-Destruct : goal.drop-run-requires-in_ok-push_side_run-4-room-T-Destruct
+drop-run-requires-in_ok-push_side_run-4-room-T-Destruct g c κs within =
+    elim g.met.A.AllocHandle.small [
+      | inl e ↦ rw (e.0, e.1) (lit< tt)
+      | inr e ↦ rw (e.0, e.1) (lit< tt)
+    ]
+
+pub drop-run-requires-in_ok-push_side_run-2-3-room-T-Destruct : goal.drop-run-requires-in_ok-push_side_run-2-3-room-T-Destruct
+drop-run-requires-in_ok-push_side_run-2-3-room-T-Destruct g c κs within =
+    elim g.met.A.AllocHandle.small [
+      | inl e ↦ rw (e.0, e.1) (lit< tt)
+      | inr e ↦ rw (e.0, e.1) (lit< tt)
+    ]

@@ -12,11 +12,12 @@ use Rattle.stuck_runs.specs.Running.{IsRunTo}
 use Rattle.stuck_runs.specs.declared.way.StuckRun.{StuckRun}
 use Rattle.explanation.specs.Sides.{IsSpecificationSide, side_run_of}
 use Rattle.explanation.specs.declared.sides.SideRun.{SideRun}
+use Rattle.explanation.proofs.ToldRuns.{one_state_more, told_of}
 use Rattle.explanation.proofs.sides.side_run.Goals as goal
 
 found_behind : (script : Script) (a : Assertion) (h : Hindrance) (n : ℕ) (found : Option pure.SideRun) → HasNoneWithin script a.implementation h n → IsSpecificationSide script (specification_of a.property) h n found → pure.IsFound script a h n found
-found_behind script a h n (Some (pure.OfImplementation path states)) none is = absurd is
-found_behind script a h n (Some (pure.OfSpecification path states)) none is = (none, is)
+found_behind script a h n (Some (pure.OfImplementation path states origins)) none is = absurd is
+found_behind script a h n (Some (pure.OfSpecification path states origins)) none is = (none, is)
 found_behind script a h n None none is = (none, is)
 
 all_found : {T A : Type 0} (script : Script) (a : Assertion) (h : Hindrance) (n : ℕ) (r : Result (Option (SideRun A)) T) → HasNoneWithin script a.implementation h n →
@@ -33,7 +34,18 @@ returns-in_default g c =
     let none = subst N (sym c.in_default.is) refl in
     all_found script a h c.args.most c.specification_side.result (c.in_ok-found.ensures.none none) c.specification_side.ensures
 
+pub told_run-requires : goal.told_run-requires
+told_run-requires g c =
+    let script = script_of c.args.script.now in
+    let p = process_of c.args.assertion.now.implementation in
+    let h = hindrance_of c.args.hindrance in
+    let F : Option (StuckRun g.row.A.Denot) → Type 0 = λ found. IfSome found (IsRunTo script p h) in
+    one_state_more script p h c.in-Some.run' (subst F c.in-Some.is c.in_ok-found.ensures.found)
+
 pub returns : goal.returns
 returns g c =
-    let F : Option (StuckRun g.row.A.Denot) → Type 0 = λ found. IfSome found (IsRunTo (script_of c.args.script.now) (process_of c.args.assertion.now.implementation) (hindrance_of c.args.hindrance)) in
-    subst F c.in-Some.is c.in_ok-found.ensures.found
+    let script = script_of c.args.script.now in
+    let p = process_of c.args.assertion.now.implementation in
+    let h = hindrance_of c.args.hindrance in
+    let F : Option (StuckRun g.row.A.Denot) → Type 0 = λ found. IfSome found (IsRunTo script p h) in
+    told_of script p h c.in-Some.run' (subst F c.in-Some.is c.in_ok-found.ensures.found) c.in_ok-told.told c.in_ok-told.ensures

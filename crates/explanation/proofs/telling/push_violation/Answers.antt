@@ -50,3 +50,10 @@ drop-counterexample-requires-in_ok-found-3-room-T-Destruct g c κs within =
       | inl e ↦ rw (e.0, e.1) (lit< tt)
       | inr e ↦ rw (e.0, e.1) (lit< tt)
     ]
+
+pub drop-counterexample-requires-2-room-T-Destruct : goal.drop-counterexample-requires-2-room-T-Destruct
+drop-counterexample-requires-2-room-T-Destruct g c κs within =
+    elim g.met.A.AllocHandle.small [
+      | inl e ↦ rw (e.0, e.1) (lit< tt)
+      | inr e ↦ rw (e.0, e.1) (lit< tt)
+    ]
