@@ -2,7 +2,7 @@
 //! which has 2,401 nodes.
 
 ghost use Rattle.std.specs.Prelude.{IfOk};
-ghost use Rattle.csp_semantics.specs.Kinds.Scripts.{IsTermOf};
+ghost use Rattle.theory_semantics.specs.Kinds.Scripts.{IsTermOf};
 ghost use Rattle.csp_term.specs.Script.{script_of};
 ghost use Rattle.csp_term.specs.Term.{process_of};
 

@@ -2,14 +2,14 @@
 use Rattle.std.proofs.Common.{◌≡◌, ◌<◌, List, Vec, Some, length, get_or, slice_get, map, sym, ◌∙◌, ap, subst, arith}
 use Rattle.std.proofs.lemmas.List.{length-map}
 use Rattle.std.proofs.lemmas.Option.{slice_get-get_or}
-use Rattle.csp_syntax.specs.Process.{Process, Script}
-use Rattle.csp_syntax.proofs.Places.{get_some}
-use Rattle.csp_semantics.specs.Kinds.Scripts.{IsTermOf}
-use Rattle.csp_semantics.specs.Meaning.Runs.{trace}
-use Rattle.csp_runs.specs.Layers.{AreTermsOf}
-use Rattle.csp_runs.specs.States.{AreStatesAlong}
-use Rattle.csp_runs.proofs.Along.{along_last}
-use Rattle.csp_runs.proofs.Closing.{after_closed}
+use Rattle.theory_syntax.specs.Process.{Process, Script}
+use Rattle.theory_syntax.proofs.Places.{get_some}
+use Rattle.theory_semantics.specs.Kinds.Scripts.{IsTermOf}
+use Rattle.theory_semantics.specs.Meaning.Runs.{trace}
+use Rattle.theory_runs.specs.Layers.{AreTermsOf}
+use Rattle.theory_runs.specs.States.{AreStatesAlong}
+use Rattle.theory_runs.proofs.Along.{along_last}
+use Rattle.theory_runs.proofs.Closing.{after_closed}
 use Rattle.csp_value.specs.Action.{action_of}
 use Rattle.csp_value.specs.declared.action.Action.{Action}
 use Rattle.csp_term.specs.Term.{process_of}

@@ -1,12 +1,12 @@
 -- The origins of the steps so far, and one more.
 use Rattle.std.proofs.Common.{◌≡◌, ℕ, suc, ◌+◌, ◌<◌, List, [], ◌∷◌, ◌++◌, Option, length, take, get_or, map, sym, ◌∙◌, ap, subst, append_assoc, arith}
 use Rattle.std.proofs.lemmas.List.{length-map, length-take-le}
-use Rattle.csp_syntax.specs.Value as pure
-use Rattle.csp_syntax.specs.Process.{Process, Script}
-use Rattle.csp_answers.proofs.Adding.{take_next}
-use Rattle.csp_origins.specs.Origin.{Origin}
-use Rattle.csp_origins.specs.Telling.{Tells}
-use Rattle.csp_explanation.specs.Counterexamples.{AreOriginsAlong}
+use Rattle.theory_syntax.specs.Value as pure
+use Rattle.theory_syntax.specs.Process.{Process, Script}
+use Rattle.theory_search.proofs.Adding.{take_next}
+use Rattle.theory_origins.specs.Origin.{Origin}
+use Rattle.theory_origins.specs.Telling.{Tells}
+use Rattle.theory_explanation.specs.Counterexamples.{AreOriginsAlong}
 use Rattle.csp_value.specs.Action.{action_of}
 use Rattle.csp_value.specs.declared.action.Action.{Action}
 use Rattle.csp_term.specs.Term.{process_of}

@@ -1,9 +1,9 @@
 -- The counterexample that one of the code stands for.
 use Rattle.std.specs.Prelude.{List, Option, map, option_map}
 use Rattle.std.specs.Borrow.{Bor}
-use Rattle.csp_syntax.specs.Process.{Process}
-use Rattle.csp_origins.specs.Origin as origin
-use Rattle.csp_explanation.specs.Counterexamples as pure
+use Rattle.theory_syntax.specs.Process.{Process}
+use Rattle.theory_origins.specs.Origin as origin
+use Rattle.theory_explanation.specs.Counterexamples as pure
 use Rattle.csp_value.specs.Action.{action_of}
 use Rattle.csp_term.specs.Term.{process_of}
 use Rattle.csp_term.specs.declared.term.Term.{Term}

@@ -1,1 +1,4 @@
 pub mod Counterexample
+pub mod Styles
+pub mod Texts
+pub mod Widths

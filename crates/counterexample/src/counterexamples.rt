@@ -1,9 +1,9 @@
 //! Violations with the states that lead to them.
 
 ghost use Rattle.std.specs.Prelude.{map, IfOk, IfSome, IsNone};
-ghost use Rattle.csp_answers.specs.Terms.{IsAssertionOf};
-ghost use Rattle.csp_runs.specs.States.{HasNoReplay};
-ghost use Rattle.csp_explanation.specs.Counterexamples.{IsCounterexample};
+ghost use Rattle.theory_search.specs.Terms.{IsAssertionOf};
+ghost use Rattle.theory_runs.specs.States.{HasNoReplay};
+ghost use Rattle.theory_explanation.specs.Counterexamples.{IsCounterexample};
 ghost use Rattle.csp_term.specs.Script.{assertion_of, script_of};
 ghost use Rattle.csp_term.specs.Term.{process_of};
 ghost use Rattle.verdict.specs.Outcome.{violation_of};

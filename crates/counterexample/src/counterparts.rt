@@ -1,8 +1,8 @@
 //! What specifications have along paths.
 
 ghost use Rattle.std.specs.Prelude.{map, IfOk, IfSome, option_map};
-ghost use Rattle.csp_semantics.specs.Kinds.Scripts.{IsTermOf};
-ghost use Rattle.csp_explanation.specs.Counterexamples.{IsCounterpart, IsCounterpartFor};
+ghost use Rattle.theory_semantics.specs.Kinds.Scripts.{IsTermOf};
+ghost use Rattle.theory_explanation.specs.Counterexamples.{IsCounterpart, IsCounterpartFor};
 ghost use Rattle.csp_value.specs.Action.{action_of};
 ghost use Rattle.csp_term.specs.Script.{script_of};
 ghost use Rattle.csp_term.specs.Term.{process_of};

@@ -1,16 +1,43 @@
-//! Counterexamples: what the two sides of a refinement have on the way of a violation.
+//! Counterexamples: what the two sides of a refinement have on the way of a violation, and its text.
 //!
 //! `counterexample_of` tells the states that the implementation comes through on the path of a violation, where each
 //! step between them comes from, and beside them the states of the specification after each beginning of the path, with
 //! all that the last ones can do and the least that they offer: each exactly, by the relations of the definitions. It
 //! answers that no run by the path ends so, where that is so, and that the specification has too many states along the
 //! path, where they are more than were asked for.
+//!
+//! `push_counterexample` puts behind a string, by its contract, the text that the definitions give of one: the run of
+//! the implementation, state by state, with where each tau comes from and the first few states of the specification
+//! beside each of its own, what is wrong at its end, and what the specification has there, its initials or its least
+//! acceptances with what is lacking of each. `push_path` puts a path there alone, with the states on its way and where
+//! its steps come from. Where memory is refused, a beginning of the text may have been put there.
 #![tactic(auto)]
 
+mod actions;
+mod changes;
 mod counterexamples;
 mod counterparts;
+mod doers;
+mod ends;
+mod lacks;
+mod marks;
+mod origin_text;
 mod origins;
+mod paths;
+mod run;
+mod runs;
+mod specification;
+mod states;
+mod style;
+mod text;
+mod width;
 
 pub use counterexamples::{Counterexample, counterexample_of};
 pub use counterparts::Counterpart;
+pub use marks::{push_mark, push_number};
 pub use origins::origins_along;
+pub use paths::push_path;
+pub use run::Run;
+pub use style::Style;
+pub use text::push_counterexample;
+pub use width::Width;

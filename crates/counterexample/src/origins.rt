@@ -1,7 +1,7 @@
 //! Where the steps along paths come from.
 
 ghost use Rattle.std.specs.Prelude.{◌≡◌, length, map, suc, IfOk};
-ghost use Rattle.csp_explanation.specs.Counterexamples.{AreOriginsAlong};
+ghost use Rattle.theory_explanation.specs.Counterexamples.{AreOriginsAlong};
 ghost use Rattle.csp_moves.specs.Way.{lent_action};
 ghost use Rattle.csp_value.specs.Action.{action_of};
 ghost use Rattle.csp_term.specs.Script.{script_of};

@@ -1,8 +1,8 @@
 -- The orders of the definitions go by places where those differ.
 use Rattle.std.proofs.Common.{◌≡◌, refl}
 use Rattle.std.specs.Ordering.{nat_cmp}
-use Rattle.csp_syntax.specs.Process.{EventSet, Enumeration, Productions, EventUnion, EventIntersection, EventDifference, Process, Stop, Skip, Omega, Call, Prefix, Guard, If, ExternalChoice, InternalChoice, Sequential, Interleaving, Interrupt, GeneralisedParallel, AlphabetisedParallel, Hiding, Renaming, ReplicatedExternalChoice, ReplicatedInternalChoice, ReplicatedInterleaving, SlidingChoice}
-use Rattle.csp_syntax.specs.Order.{event_set_cmp, event_set_place, process_cmp, process_place}
+use Rattle.theory_syntax.specs.Process.{EventSet, Enumeration, Productions, EventUnion, EventIntersection, EventDifference, Process, Stop, Skip, Omega, Call, Prefix, Guard, If, ExternalChoice, InternalChoice, Sequential, Interleaving, Interrupt, GeneralisedParallel, AlphabetisedParallel, Hiding, Renaming, ReplicatedExternalChoice, ReplicatedInternalChoice, ReplicatedInterleaving, SlidingChoice}
+use Rattle.theory_syntax.specs.Order.{event_set_cmp, event_set_place, process_cmp, process_place}
 use Rattle.csp_expression.proofs.Variants.{Places}
 
 pub event_sets_apart : (a b : EventSet) → ¬ (event_set_place a ≡ event_set_place b) → event_set_cmp a b ≡ nat_cmp (event_set_place a) (event_set_place b)

@@ -4,9 +4,9 @@ use mir.Syntax
 use Rattle.std.proofs.Common.{Bool, sym, ap, ◌∙◌}
 use Rattle.std.specs.declared.alloc.Allocator as allocator
 use Rattle.std.specs.Ordering.{is_eq}
-use Rattle.csp_syntax.specs.Order.{event_set_cmp}
-use Rattle.csp_syntax.proofs.Equalities.{is_eq-Equal}
-use Rattle.csp_syntax.proofs.ProcessOrder.{event_set_same, event_set_refl}
+use Rattle.theory_syntax.specs.Order.{event_set_cmp}
+use Rattle.theory_syntax.proofs.Equalities.{is_eq-Equal}
+use Rattle.theory_syntax.proofs.ProcessOrder.{event_set_same, event_set_refl}
 use Rattle.csp_event_sets.specs.declared.event_set.EventSet.{EventSet}
 use Rattle.csp_event_sets.specs.contracts.event_set.EventSetPartialEq.TheImpl as impl
 use Rattle.csp_event_sets.specs.contracts.event_set.EventSetOrd.TheImpl.Laws as laws

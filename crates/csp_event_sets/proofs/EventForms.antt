@@ -2,9 +2,9 @@
 use Rattle.std.proofs.Common.{◌≡◌, sym, ◌∙◌, ap}
 use Rattle.std.specs.declared.boxed.Box.{Box}
 use Rattle.std.specs.declared.vec.Vec.{Vec}
-use Rattle.csp_syntax.specs.Process as pure
-use Rattle.csp_syntax.specs.declared.event_set_operator.EventSetOperator.{EventSetOperator}
-use Rattle.csp_syntax.specs.Operators.{combined}
+use Rattle.theory_syntax.specs.Process as pure
+use Rattle.theory_syntax.specs.declared.event_set_operator.EventSetOperator.{EventSetOperator}
+use Rattle.theory_syntax.specs.Operators.{combined}
 use Rattle.csp_event_sets.specs.declared.event_expression.EventExpression.{EventExpression}
 use Rattle.csp_event_sets.specs.declared.event_set.EventSet.{EventSet, fold-roll-EventSet}
 use Rattle.csp_event_sets.specs.declared.event_set.EventSet.TheVariants as views

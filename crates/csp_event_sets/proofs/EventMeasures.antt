@@ -1,11 +1,11 @@
 -- The sizes and the depths of events, of sets of events and of renaming pairs.
 use Rattle.std.proofs.Common.{◌≡◌, ℕ, ◌+◌, max, List, [], ◌∷◌, refl, sym, ap, arith}
 use Rattle.std.proofs.Math.Nat.{max-eq_left}
-use Rattle.csp_syntax.specs.Process as pure
-use Rattle.csp_syntax.specs.declared.event_set_operator.EventSetOperator.{EventSetOperator}
-use Rattle.csp_syntax.specs.declared.event_set_operator.EventSetOperator.TheVariants as operator
-use Rattle.csp_syntax.specs.Operators.{combined}
-use Rattle.csp_semantics.specs.Meaning.Limits.{events_depth, events_size, event_set_depth, event_set_size, pairs_depth, pairs_size}
+use Rattle.theory_syntax.specs.Process as pure
+use Rattle.theory_syntax.specs.declared.event_set_operator.EventSetOperator.{EventSetOperator}
+use Rattle.theory_syntax.specs.declared.event_set_operator.EventSetOperator.TheVariants as operator
+use Rattle.theory_syntax.specs.Operators.{combined}
+use Rattle.theory_semantics.specs.Meaning.Limits.{events_depth, events_size, event_set_depth, event_set_size, pairs_depth, pairs_size}
 use Rattle.csp_event_sets.specs.declared.event_expression.EventExpression.{EventExpression}
 use Rattle.csp_event_sets.specs.declared.renaming_pair.RenamingPair.{RenamingPair}
 use Rattle.csp_event_sets.specs.Events.{event_expression_of, event_expressions_of, renaming_pair_of, renaming_pairs_of}

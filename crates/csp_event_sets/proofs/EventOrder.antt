@@ -11,12 +11,12 @@ use Rattle.std.specs.declared.vec.Vec.{Vec}
 use Rattle.std.specs.declared.cmp.Ordering.{Ordering}
 use Rattle.std.specs.Ordering.{nat_cmp, ordering_then}
 use Rattle.std.specs.Cmp.Lexicographic.{slice_cmp}
-use Rattle.csp_syntax.specs.Process as pure
-use Rattle.csp_syntax.specs.Order.{event_expression_cmp, event_set_cmp, event_set_place, pair_cmp}
-use Rattle.csp_syntax.specs.declared.event_set_operator.EventSetOperator.{EventSetOperator}
-use Rattle.csp_syntax.specs.declared.event_set_operator.EventSetOperator.TheVariants as operator
-use Rattle.csp_syntax.specs.contracts.event_set_operator.EventSetOperatorOrd.TheImpl as operator_impl
-use Rattle.csp_syntax.specs.Operators.{combined}
+use Rattle.theory_syntax.specs.Process as pure
+use Rattle.theory_syntax.specs.Order.{event_expression_cmp, event_set_cmp, event_set_place, pair_cmp}
+use Rattle.theory_syntax.specs.declared.event_set_operator.EventSetOperator.{EventSetOperator}
+use Rattle.theory_syntax.specs.declared.event_set_operator.EventSetOperator.TheVariants as operator
+use Rattle.theory_syntax.specs.contracts.event_set_operator.EventSetOperatorOrd.TheImpl as operator_impl
+use Rattle.theory_syntax.specs.Operators.{combined}
 use Rattle.csp_event_sets.specs.declared.event_expression.EventExpression.{EventExpression}
 use Rattle.csp_event_sets.specs.declared.renaming_pair.RenamingPair.{RenamingPair}
 use Rattle.csp_event_sets.specs.declared.event_set.EventSet.{EventSet, roll-EventSet, map-EventSet, ind-EventSet}

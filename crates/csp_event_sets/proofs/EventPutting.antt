@@ -2,12 +2,12 @@
 use Rattle.std.proofs.Common.{◌≡◌, List, [], ◌∷◌, map, refl, sym, ◌∙◌, ap, ap₂}
 use Rattle.std.specs.declared.boxed.Box.{Box}
 use Rattle.std.specs.declared.vec.Vec.{Vec}
-use Rattle.csp_syntax.specs.Expression.{to_expressions}
-use Rattle.csp_syntax.specs.Process as pure
-use Rattle.csp_syntax.specs.declared.event_set_operator.EventSetOperator.{EventSetOperator}
-use Rattle.csp_syntax.specs.declared.event_set_operator.EventSetOperator.TheVariants as operator
-use Rattle.csp_syntax.specs.Operators.{combined}
-use Rattle.csp_semantics.specs.Meaning.Substitution.{Bindings, put_event, put_event_set, put_events, put_pairs}
+use Rattle.theory_syntax.specs.Expression.{to_expressions}
+use Rattle.theory_syntax.specs.Process as pure
+use Rattle.theory_syntax.specs.declared.event_set_operator.EventSetOperator.{EventSetOperator}
+use Rattle.theory_syntax.specs.declared.event_set_operator.EventSetOperator.TheVariants as operator
+use Rattle.theory_syntax.specs.Operators.{combined}
+use Rattle.theory_semantics.specs.Meaning.Substitution.{Bindings, put_event, put_event_set, put_events, put_pairs}
 use Rattle.csp_value.specs.declared.name.ChannelId.{ChannelId}
 use Rattle.csp_expression.specs.declared.expr.Expr.{Expr}
 use Rattle.csp_event_sets.specs.declared.event_expression.EventExpression.{EventExpression}
@@ -19,7 +19,7 @@ use Rattle.csp_event_sets.specs.Events.{put_pair, event_expression_of, event_exp
 use Rattle.csp_expression.specs.Expression.{expressions_of}
 use Rattle.csp_event_sets.proofs.EventForms.{of_combined, of_enumeration, of_productions}
 use Rattle.csp_expression.proofs.ExpressionPutting.{put_list}
-use Rattle.csp_semantics.proofs.Putting.{put_nothing_in_event}
+use Rattle.theory_semantics.proofs.Putting.{put_nothing_in_event}
 
 pub put_fields_of : {A : Type 0} (bs : Bindings) (c : ChannelId) (es all : Vec (Expr A) A) (read : List (Expr A)) → read ≡ es.items → expressions_of all.items ≡ puts bs read →
     event_expression_of {A = A} (record { channel = c; fields = all }) ≡ put_event bs (event_expression_of {A = A} (record { channel = c; fields = es }))

@@ -1,10 +1,10 @@
 -- The events, the sets of events and the renamings that those of the code stand for.
 use Rattle.std.specs.Prelude.{List, map}
 use Rattle.std.specs.Box.{box_value}
-use Rattle.csp_syntax.specs.Expression.{to_expressions}
-use Rattle.csp_syntax.specs.Process as pure
-use Rattle.csp_syntax.specs.Operators.{combined}
-use Rattle.csp_semantics.specs.Meaning.Substitution.{Bindings, put_event}
+use Rattle.theory_syntax.specs.Expression.{to_expressions}
+use Rattle.theory_syntax.specs.Process as pure
+use Rattle.theory_syntax.specs.Operators.{combined}
+use Rattle.theory_semantics.specs.Meaning.Substitution.{Bindings, put_event}
 use Rattle.csp_event_sets.specs.declared.event_expression.EventExpression.{EventExpression}
 use Rattle.csp_event_sets.specs.declared.renaming_pair.RenamingPair.{RenamingPair}
 use Rattle.csp_event_sets.specs.declared.event_set.EventSet.{EventSet}

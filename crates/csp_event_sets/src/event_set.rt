@@ -4,9 +4,9 @@ ghost use Rattle.std.specs.Prelude.{◌≡◌, IfOk};
 ghost use Rattle.csp_event_sets.specs.Events.{event_set_of};
 
 use crate::event_expression::EventExpression;
-use csp_syntax::EventSetOperator;
 use csp_value::{Memory, TryCopy};
 use std::alloc::Allocator;
+use theory_syntax::EventSetOperator;
 
 /// A set of events as it is written. The order is that of the forms, then of the parts in turn.
 #[derive(Drop)]
@@ -22,7 +22,7 @@ pub enum EventSet<A: Allocator> {
 
 impl<A: Allocator + Copy> EventSet<A> {
     /// An equal set in the given allocator, or `Memory` where that has no room: the set with no value put in.
-    #[tactic(auto, using(csp_semantics::proofs::Putting::put_nothing_in_set))]
+    #[tactic(auto, using(theory_semantics::proofs::Putting::put_nothing_in_set))]
     pub fn try_copy(&self, alloc: A) -> Result<EventSet<A>, Memory>
         ensures { IfOk result (λ copy. event_set_of copy ≡ event_set_of self.now) }
     {

@@ -3,7 +3,7 @@
 
 ghost use Rattle.std.specs.Prelude.{◌≡◌, ◌↔◌, IsTrue};
 ghost use Rattle.std.specs.List.{fold};
-ghost use Rattle.csp_syntax.specs.Order.{event_set_cmp};
+ghost use Rattle.theory_syntax.specs.Order.{event_set_cmp};
 ghost use Rattle.csp_event_sets.specs.Events.{event_set_of};
 
 use crate::event_set::EventSet;

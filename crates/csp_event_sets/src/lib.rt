@@ -12,9 +12,9 @@ mod limits;
 mod renaming_pair;
 mod substitution;
 
-pub use csp_syntax::EventSetOperator;
 pub use event_expression::EventExpression;
 pub use event_set::EventSet;
 pub use limits::{are_pairs_within_depth, room_left_by_pairs};
 pub use renaming_pair::RenamingPair;
 pub use substitution::put_in_pairs;
+pub use theory_syntax::EventSetOperator;

@@ -2,7 +2,7 @@
 
 ghost use Rattle.std.specs.Prelude.{◌∷◌, [], ◌≤◌, ◌-◌, ◌↔◌, IsTrue};
 ghost use Rattle.std.specs.Option.{SomeIff};
-ghost use Rattle.csp_semantics.specs.Meaning.Limits.{event_set_depth, event_set_size, events_depth, events_size, pairs_depth, pairs_size};
+ghost use Rattle.theory_semantics.specs.Meaning.Limits.{event_set_depth, event_set_size, events_depth, events_size, pairs_depth, pairs_size};
 ghost use Rattle.csp_event_sets.specs.Events.{event_expression_of, event_expressions_of, event_set_of, renaming_pair_of, renaming_pairs_of};
 
 use crate::event_expression::EventExpression;

@@ -1,7 +1,7 @@
 //! Values put into sets of events and renamings.
 
 ghost use Rattle.std.specs.Prelude.{◌≡◌, IfOk};
-ghost use Rattle.csp_semantics.specs.Meaning.Substitution.{put_event, put_event_set, put_events, put_pairs};
+ghost use Rattle.theory_semantics.specs.Meaning.Substitution.{put_event, put_event_set, put_events, put_pairs};
 ghost use Rattle.csp_expression.specs.Bindings.{bindings_of};
 ghost use Rattle.csp_event_sets.specs.Events.{put_pair, event_expression_of, event_expressions_of, event_set_of, renaming_pair_of, renaming_pairs_of};
 

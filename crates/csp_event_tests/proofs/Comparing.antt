@@ -9,10 +9,10 @@ use Rattle.std.specs.Cmp.Lexicographic.{slice_cmp}
 use Rattle.std.specs.FinMap.{slice_cmp-IsAntisymmetric}
 use Rattle.std.specs.Ordering.{is_eq}
 use Rattle.std.specs.Cmp.{both_ways}
-use Rattle.csp_syntax.specs.Value as pure
-use Rattle.csp_semantics.specs.Meaning.Events.{same_sets}
-use Rattle.csp_syntax.proofs.Equalities.{is_eq-Equal, value_same}
-use Rattle.csp_syntax.proofs.Orders.{value_total}
+use Rattle.theory_syntax.specs.Value as pure
+use Rattle.theory_semantics.specs.Meaning.Events.{same_sets}
+use Rattle.theory_syntax.proofs.Equalities.{is_eq-Equal, value_same}
+use Rattle.theory_syntax.proofs.Orders.{value_total}
 use Rattle.csp_value.specs.declared.field_set.FieldSet.{FieldSet}
 use Rattle.csp_value.specs.contracts.field_set.FieldSetPartialEq.TheImpl as field_impl
 use Rattle.csp_value.specs.Value.{members_of}

@@ -3,8 +3,8 @@ use Rattle.std.proofs.Common.{◌≡◌, ℕ, ◌+◌, ◌<◌, length, take, dr
 use Rattle.std.proofs.lemmas.List.{drop_more, map-append, take-append-drop, take_more}
 use Rattle.std.proofs.lemmas.Bool.{or_cases, or_left, or_right}
 use Rattle.std.specs.List.{list_any}
-use Rattle.csp_semantics.specs.Meaning.Evaluation.{Cause, ◌and_then◌}
-use Rattle.csp_semantics.specs.Meaning.Events.{each}
+use Rattle.theory_semantics.specs.Meaning.Evaluation.{Cause, ◌and_then◌}
+use Rattle.theory_semantics.specs.Meaning.Events.{each}
 
 module _ {A B : Type 0} (f : A → Result B Cause) where
   each_both : (xs zs : List A) → each f (xs ++ zs) ≡ (each f xs and_then λ ys. each f zs and_then λ ws. Ok (ys ++ ws))

@@ -6,14 +6,14 @@ use Rattle.std.specs.List.{list_any}
 use Rattle.std.specs.List.Sorted.{IsPermutation, IsSortedBy}
 use Rattle.std.specs.Ordering.{is_lt}
 use Rattle.std.proofs.lemmas.List.Sorted.{IsPermutation-map, list_any-IsPermutation}
-use Rattle.csp_syntax.specs.Value as pure
-use Rattle.csp_syntax.specs.Process as process
-use Rattle.csp_syntax.specs.declared.event_set_operator.EventSetOperator.{EventSetOperator}
-use Rattle.csp_syntax.specs.declared.event_set_operator.EventSetOperator.TheVariants as operator
-use Rattle.csp_syntax.specs.Operators.{combined}
-use Rattle.csp_semantics.specs.Meaning.Evaluation.{Cause, ◌and_then◌}
-use Rattle.csp_semantics.specs.Meaning.Events.{begins_with, beginning_of, each, event_test}
-use Rattle.csp_semantics.specs.Meaning.Events as events
+use Rattle.theory_syntax.specs.Value as pure
+use Rattle.theory_syntax.specs.Process as process
+use Rattle.theory_syntax.specs.declared.event_set_operator.EventSetOperator.{EventSetOperator}
+use Rattle.theory_syntax.specs.declared.event_set_operator.EventSetOperator.TheVariants as operator
+use Rattle.theory_syntax.specs.Operators.{combined}
+use Rattle.theory_semantics.specs.Meaning.Evaluation.{Cause, ◌and_then◌}
+use Rattle.theory_semantics.specs.Meaning.Events.{begins_with, beginning_of, each, event_test}
+use Rattle.theory_semantics.specs.Meaning.Events as events
 use Rattle.csp_value.specs.declared.action.Event.{Event}
 use Rattle.csp_value.specs.Action.{event_of}
 use Rattle.csp_expression.specs.Cause.{cause_of}

@@ -7,10 +7,10 @@ use Rattle.std.specs.List.{list_any, starts_with}
 use Rattle.std.specs.Ordering.{is_eq, ordering_then}
 use Rattle.std.specs.Cmp.{both_ways}
 use Rattle.std.proofs.lemmas.Bool.{eq-eqb, eqb-true, and_parts, cases_lt}
-use Rattle.csp_syntax.specs.Value as pure
-use Rattle.csp_syntax.specs.Value.{Event, event_eq, value_cmp, value_eq}
-use Rattle.csp_semantics.specs.Meaning.Events.{begins_with}
-use Rattle.csp_syntax.proofs.Equalities.{event_refl, event_same, is_eq-Equal, value_refl, value_same}
+use Rattle.theory_syntax.specs.Value as pure
+use Rattle.theory_syntax.specs.Value.{Event, event_eq, value_cmp, value_eq}
+use Rattle.theory_semantics.specs.Meaning.Events.{begins_with}
+use Rattle.theory_syntax.proofs.Equalities.{event_refl, event_same, is_eq-Equal, value_refl, value_same}
 use Rattle.csp_value.specs.declared.action.Event.{Event as CodeEvent}
 use Rattle.csp_value.specs.declared.value.Value.{Value}
 use Rattle.csp_value.specs.Action.{event_of}

@@ -2,10 +2,10 @@
 use Rattle.std.proofs.Common.{◌≡◌, ℕ, nat_eq, Bool, true, false, cond, List, length, Some, Result, Ok, Err, sym, ◌∙◌, ap, refl}
 use Rattle.std.proofs.lemmas.Bool.{eq-eqb, eqb-true}
 use Rattle.std.specs.Result.{result_err, result_ok}
-use Rattle.csp_syntax.specs.Value.{Event, Value}
-use Rattle.csp_syntax.specs.Process.{EventExpression, Script}
-use Rattle.csp_semantics.specs.Meaning.Evaluation.{Cause, IllKinded, ◌and_then◌, given_values}
-use Rattle.csp_semantics.specs.Meaning.Events.{beginning_of, event_of, field_sets}
+use Rattle.theory_syntax.specs.Value.{Event, Value}
+use Rattle.theory_syntax.specs.Process.{EventExpression, Script}
+use Rattle.theory_semantics.specs.Meaning.Evaluation.{Cause, IllKinded, ◌and_then◌, given_values}
+use Rattle.theory_semantics.specs.Meaning.Events.{beginning_of, event_of, field_sets}
 use Rattle.csp_expression.specs.Cause.{cause_of}
 use Rattle.csp_expression.specs.declared.no_value.NoValue.{NoValue}
 use Rattle.csp_expression.specs.declared.no_value.NoValue.TheVariants as eval

@@ -10,7 +10,7 @@ use Rattle.std.specs.List.Sorted.{IsBinarySearchResult, IsNonDecreasingBy, IsSea
 use Rattle.std.proofs.lemmas.List.Sorted.{searchable_from_sorted}
 use Rattle.std.proofs.lemmas.Option.{slice_get-get_or, slice_get_within, get_or_from_slice_get}
 use Rattle.std.proofs.lemmas.Bool.{or_cases, or_left, or_right, cases_lt}
-use Rattle.csp_syntax.proofs.Equalities.{is_eq-Equal}
+use Rattle.theory_syntax.proofs.Equalities.{is_eq-Equal}
 
 module _ {K X : Type 0} {R : K → K → Ordering} (total : IsTotalOrder R) (key : X → K) (wanted : K) where
   abbrev ties : K → Bool

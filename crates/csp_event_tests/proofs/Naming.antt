@@ -11,17 +11,17 @@ use Rattle.std.proofs.Math.Dec.{eqb-suc-zero}
 use Rattle.std.proofs.lemmas.Bool.{eq-eqb, eqb-true}
 use Rattle.std.proofs.lemmas.Grind.{flat_map-append}
 use Rattle.std.proofs.lemmas.List.{append-nil, append_assoc, drop_more, map-append, take-append-drop, take_more}
-use Rattle.csp_syntax.specs.Value as pure
-use Rattle.csp_syntax.specs.Process as process
-use Rattle.csp_semantics.specs.Meaning.Evaluation.{Cause, IllKinded, ◌and_then◌}
-use Rattle.csp_semantics.specs.Meaning.Events.{channel_images, event_images, field_sets, is_bare, or_itself, pair_images, renaming, same_sets}
-use Rattle.csp_semantics.specs.Meaning.Events as events
-use Rattle.csp_syntax.proofs.Equalities.{is_eq-Equal, is_eq-reverse}
-use Rattle.csp_syntax.proofs.Orders.{event_total}
+use Rattle.theory_syntax.specs.Value as pure
+use Rattle.theory_syntax.specs.Process as process
+use Rattle.theory_semantics.specs.Meaning.Evaluation.{Cause, IllKinded, ◌and_then◌}
+use Rattle.theory_semantics.specs.Meaning.Events.{channel_images, event_images, field_sets, is_bare, or_itself, pair_images, renaming, same_sets}
+use Rattle.theory_semantics.specs.Meaning.Events as events
+use Rattle.theory_syntax.proofs.Equalities.{is_eq-Equal, is_eq-reverse}
+use Rattle.theory_syntax.proofs.Orders.{event_total}
 use Rattle.csp_value.specs.declared.action.Event.{Event}
 use Rattle.csp_value.specs.declared.name.ChannelId.{ChannelId}
 use Rattle.csp_value.specs.Action.{event_of}
-use Rattle.csp_syntax.specs.Expression.{to_expressions}
+use Rattle.theory_syntax.specs.Expression.{to_expressions}
 use Rattle.csp_expression.specs.declared.expr.Expr.{Expr}
 use Rattle.csp_expression.specs.Expression.{expressions_of}
 use Rattle.csp_expression.specs.Cause.{cause_of}

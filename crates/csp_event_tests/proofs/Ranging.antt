@@ -9,7 +9,7 @@ use Rattle.std.specs.Cmp.{IsTotalOrder}
 use Rattle.std.specs.Ordering.{is_eq, is_lt, ordering_index}
 use Rattle.std.specs.List.{AllWithin}
 use Rattle.std.specs.List.Sorted.{IsNonDecreasingBy, IsPartitionPoint, IsPartitionedBy, IsSortedBy}
-use Rattle.csp_syntax.proofs.Equalities.{is_lt-Less}
+use Rattle.theory_syntax.proofs.Equalities.{is_lt-Less}
 
 -- ---- one more item of which something is made
 

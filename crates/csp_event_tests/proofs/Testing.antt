@@ -6,9 +6,9 @@ use Rattle.std.specs.declared.vec.Vec.{Vec}
 use Rattle.std.specs.List.{list_any}
 use Rattle.std.specs.List.Sorted.{IsSortedBy}
 use Rattle.std.specs.Ordering.{is_lt}
-use Rattle.csp_syntax.specs.Value as pure
-use Rattle.csp_syntax.specs.declared.event_set_operator.EventSetOperator.{EventSetOperator}
-use Rattle.csp_semantics.specs.Meaning.Events.{begins_with}
+use Rattle.theory_syntax.specs.Value as pure
+use Rattle.theory_syntax.specs.declared.event_set_operator.EventSetOperator.{EventSetOperator}
+use Rattle.theory_semantics.specs.Meaning.Events.{begins_with}
 use Rattle.csp_value.specs.declared.action.Event.{Event}
 use Rattle.csp_value.specs.Action.{event_of}
 use Rattle.csp_event_tests.specs.declared.event_test.EventTest.{EventTest}

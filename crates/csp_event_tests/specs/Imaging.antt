@@ -3,8 +3,8 @@ use Rattle.std.specs.Prelude.{◌≡◌, ◌↔◌, nat_eq, Contains, List, [], 
 use Rattle.std.specs.List.{flat_map}
 use Rattle.std.specs.List.Sorted.{IsSortedBy}
 use Rattle.std.specs.Ordering.{is_lt, nat_cmp}
-use Rattle.csp_syntax.specs.Value as pure
-use Rattle.csp_semantics.specs.Meaning.Evaluation.{Cause}
+use Rattle.theory_syntax.specs.Value as pure
+use Rattle.theory_semantics.specs.Meaning.Evaluation.{Cause}
 use Rattle.csp_value.specs.declared.action.Event.{Event}
 use Rattle.csp_value.specs.declared.name.ChannelId.{ChannelId}
 use Rattle.csp_value.specs.Action.{event_of}

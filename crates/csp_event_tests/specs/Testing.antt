@@ -7,11 +7,11 @@ use Rattle.std.specs.List.Sorted.{IsSortedBy}
 use Rattle.std.specs.Ordering.{is_lt}
 use Rattle.smallvec.specs.SmallVec.{SmallVec}
 use denote.Ref.{Bor}
-use Rattle.csp_syntax.specs.Value as pure
-use Rattle.csp_syntax.specs.declared.event_set_operator.EventSetOperator.{EventSetOperator}
-use Rattle.csp_syntax.specs.declared.event_set_operator.EventSetOperator.TheVariants as operator
-use Rattle.csp_semantics.specs.Meaning.Evaluation.{Cause}
-use Rattle.csp_semantics.specs.Meaning.Events.{begins_with}
+use Rattle.theory_syntax.specs.Value as pure
+use Rattle.theory_syntax.specs.declared.event_set_operator.EventSetOperator.{EventSetOperator}
+use Rattle.theory_syntax.specs.declared.event_set_operator.EventSetOperator.TheVariants as operator
+use Rattle.theory_semantics.specs.Meaning.Evaluation.{Cause}
+use Rattle.theory_semantics.specs.Meaning.Events.{begins_with}
 use Rattle.csp_value.specs.declared.action.Event.{Event}
 use Rattle.csp_value.specs.declared.field_set.FieldSet.{FieldSet}
 use Rattle.csp_value.specs.declared.name.ChannelId.{ChannelId}

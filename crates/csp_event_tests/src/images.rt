@@ -3,8 +3,8 @@
 ghost use Rattle.std.specs.Prelude.{◌≡◌, ◌&&◌, ◌++◌, IfOk, OnOk, map, nat_eq};
 ghost use Rattle.std.specs.List.{flat_map};
 ghost use Rattle.std.specs.Ordering.{is_lt, nat_cmp};
-ghost use Rattle.csp_syntax.specs.Value.{event_cmp, event_eq};
-ghost use Rattle.csp_semantics.specs.Meaning.Events.{channel_images, event_images, is_bare, or_itself, pair_images, renaming, same_sets};
+ghost use Rattle.theory_syntax.specs.Value.{event_cmp, event_eq};
+ghost use Rattle.theory_semantics.specs.Meaning.Events.{channel_images, event_images, is_bare, or_itself, pair_images, renaming, same_sets};
 ghost use Rattle.csp_value.specs.Action.{event_of};
 ghost use Rattle.csp_event_sets.specs.Events.{event_expression_of, renaming_pair_of, renaming_pairs_of};
 ghost use Rattle.csp_term.specs.Script.{script_of_parts};

@@ -1,8 +1,8 @@
 -- The order of expressions goes by their places where those differ.
 use Rattle.std.proofs.Common.{◌≡◌, refl}
 use Rattle.std.specs.Ordering.{nat_cmp}
-use Rattle.csp_syntax.specs.Expression.{Expression, Literal, Name, Apply, Combine, SequenceOf, SetOf, Range, Datatype, Nametype, ConstructorOf}
-use Rattle.csp_syntax.specs.Order.{expression_cmp, expression_place}
+use Rattle.theory_syntax.specs.Expression.{Expression, Literal, Name, Apply, Combine, SequenceOf, SetOf, Range, Datatype, Nametype, ConstructorOf}
+use Rattle.theory_syntax.specs.Order.{expression_cmp, expression_place}
 use Rattle.csp_expression.proofs.Variants.{Places}
 
 pub expressions_apart : (e f : Expression) → ¬ (expression_place e ≡ expression_place f) → expression_cmp e f ≡ nat_cmp (expression_place e) (expression_place f)

@@ -5,8 +5,8 @@ use Rattle.std.proofs.lemmas.Bool.{eqb-true}
 use Rattle.std.proofs.lemmas.Grind.{flat_map-append}
 use Rattle.std.proofs.lemmas.List.{append_assoc, drop_more, length-append, length-map, map-append, take-append-drop, take_more}
 use Rattle.std.specs.declared.vec.Vec.{Vec}
-use Rattle.csp_syntax.specs.Value.{Value}
-use Rattle.csp_semantics.specs.Meaning.Evaluation.{choices, max_members}
+use Rattle.theory_syntax.specs.Value.{Value}
+use Rattle.theory_semantics.specs.Meaning.Evaluation.{choices, max_members}
 use Rattle.csp_value.specs.declared.field_set.FieldSet.{FieldSet}
 use Rattle.csp_value.specs.declared.value.Value as code
 use Rattle.csp_value.specs.Fields.{field_values, sets_of}

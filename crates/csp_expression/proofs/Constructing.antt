@@ -7,13 +7,13 @@ use Rattle.std.specs.declared.cmp.Ordering.TheVariants.{Less}
 use Rattle.std.specs.Ordering.{is_lt, nat_cmp}
 use Rattle.std.specs.Cmp.{nat_cmp_is}
 use Rattle.std.specs.declared.vec.Vec.{Vec}
-use Rattle.csp_syntax.specs.Value.{Value, Constructor, sorted_values, to_values, value_cmp}
-use Rattle.csp_syntax.specs.Types.{Types}
-use Rattle.csp_syntax.proofs.Places.{drop_at, get_map}
-use Rattle.csp_semantics.specs.Kinds.Kind.{Each}
-use Rattle.csp_semantics.specs.Meaning.Evaluation.{IllKinded, ◌and_then◌, constructor_sets, constructors, datatype_set, max_members, set_of, with_all_fields}
-use Rattle.csp_semantics.specs.Meaning.Offers.{RisesBy}
-use Rattle.csp_semantics.proofs.RisingChoices.{constructors_rise}
+use Rattle.theory_syntax.specs.Value.{Value, Constructor, sorted_values, to_values, value_cmp}
+use Rattle.theory_syntax.specs.Types.{Types}
+use Rattle.theory_syntax.proofs.Places.{drop_at, get_map}
+use Rattle.theory_semantics.specs.Kinds.Kind.{Each}
+use Rattle.theory_semantics.specs.Meaning.Evaluation.{IllKinded, ◌and_then◌, constructor_sets, constructors, datatype_set, max_members, set_of, with_all_fields}
+use Rattle.theory_semantics.specs.Meaning.Offers.{RisesBy}
+use Rattle.theory_semantics.proofs.RisingChoices.{constructors_rise}
 use Rattle.csp_value.specs.declared.field_set.FieldSet.{FieldSet}
 use Rattle.csp_value.specs.declared.name.ConId.{ConId}
 use Rattle.csp_value.specs.declared.value.Value as code

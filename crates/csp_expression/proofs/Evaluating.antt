@@ -3,10 +3,10 @@ use denote.Param.Weighed.{most}
 use Rattle.std.proofs.Common.{◌≡◌, ℕ, ◌+◌, ◌<◌, List, [], ◌∷◌, ◌++◌, length, take, drop, get_or, Result, Ok, Err, refl, sym, ◌∙◌, ap, max, arith}
 use Rattle.std.proofs.lemmas.List.{take_more, drop_more, take-append-drop, map-append}
 use Rattle.std.specs.declared.vec.Vec.{Vec}
-use Rattle.csp_syntax.specs.Value as pure
-use Rattle.csp_syntax.specs.Expression.{Expression, ConstructorOf, SequenceOf, SetOf, to_expressions}
-use Rattle.csp_syntax.specs.Types.{Types}
-use Rattle.csp_semantics.specs.Meaning.Evaluation.{Cause, ◌and_then◌, in_field_set, sequence, set_of, value, values}
+use Rattle.theory_syntax.specs.Value as pure
+use Rattle.theory_syntax.specs.Expression.{Expression, ConstructorOf, SequenceOf, SetOf, to_expressions}
+use Rattle.theory_syntax.specs.Types.{Types}
+use Rattle.theory_semantics.specs.Meaning.Evaluation.{Cause, ◌and_then◌, in_field_set, sequence, set_of, value, values}
 use Rattle.csp_value.specs.declared.name.ConId.{ConId}
 use Rattle.csp_value.specs.declared.value.Value.{Value}
 use Rattle.csp_value.specs.Value.{value_of, values_of}
@@ -16,7 +16,7 @@ use Rattle.csp_expression.specs.declared.expr.Expr.TheVariants as views
 use Rattle.csp_expression.specs.declared.no_value.NoValue.{NoValue}
 use Rattle.csp_expression.specs.declared.no_value.NoValue.TheVariants as variant
 use Rattle.csp_expression.specs.Evaluation.{GivesAll, Sees}
-use Rattle.csp_semantics.specs.Meaning.Substitution.{Bindings, put_expression}
+use Rattle.theory_semantics.specs.Meaning.Substitution.{Bindings, put_expression}
 use Rattle.csp_expression.specs.Bindings.{puts}
 use Rattle.csp_expression.specs.Expression.{expression_of}
 use Rattle.csp_expression.specs.Agreement.{AgreesWith}

@@ -4,9 +4,9 @@ use mir.Syntax
 use Rattle.std.proofs.Common.{Bool, sym, ap, ◌∙◌}
 use Rattle.std.specs.declared.alloc.Allocator as allocator
 use Rattle.std.specs.Ordering.{is_eq}
-use Rattle.csp_syntax.specs.Order.{expression_cmp}
-use Rattle.csp_syntax.proofs.Equalities.{is_eq-Equal}
-use Rattle.csp_syntax.proofs.ProcessOrder.{expression_same, expression_refl}
+use Rattle.theory_syntax.specs.Order.{expression_cmp}
+use Rattle.theory_syntax.proofs.Equalities.{is_eq-Equal}
+use Rattle.theory_syntax.proofs.ProcessOrder.{expression_same, expression_refl}
 use Rattle.csp_expression.specs.declared.expr.Expr.{Expr}
 use Rattle.csp_expression.specs.contracts.expr.ExprPartialEq.TheImpl as impl
 use Rattle.csp_expression.specs.contracts.expr.ExprOrd.TheImpl.Laws as laws

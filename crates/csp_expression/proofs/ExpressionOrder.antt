@@ -10,13 +10,13 @@ use Rattle.std.specs.declared.vec.Vec.{Vec}
 use Rattle.std.specs.declared.cmp.Ordering.{Ordering}
 use Rattle.std.specs.Ordering.{nat_cmp, ordering_then}
 use Rattle.std.specs.Cmp.Lexicographic.{slice_cmp}
-use Rattle.csp_syntax.specs.Expression as pure
-use Rattle.csp_syntax.specs.Order.{expression_cmp, expressions_cmp}
-use Rattle.csp_syntax.specs.declared.operator.UnaryOperator.{UnaryOperator}
-use Rattle.csp_syntax.specs.declared.operator.BinaryOperator.{BinaryOperator}
-use Rattle.csp_syntax.specs.Operators.{binary_of, unary_of}
-use Rattle.csp_syntax.specs.contracts.operator.UnaryOperatorOrd.TheImpl as unary_impl
-use Rattle.csp_syntax.specs.contracts.operator.BinaryOperatorOrd.TheImpl as binary_impl
+use Rattle.theory_syntax.specs.Expression as pure
+use Rattle.theory_syntax.specs.Order.{expression_cmp, expressions_cmp}
+use Rattle.theory_syntax.specs.declared.operator.UnaryOperator.{UnaryOperator}
+use Rattle.theory_syntax.specs.declared.operator.BinaryOperator.{BinaryOperator}
+use Rattle.theory_syntax.specs.Operators.{binary_of, unary_of}
+use Rattle.theory_syntax.specs.contracts.operator.UnaryOperatorOrd.TheImpl as unary_impl
+use Rattle.theory_syntax.specs.contracts.operator.BinaryOperatorOrd.TheImpl as binary_impl
 use Rattle.csp_value.specs.declared.name.ConId.{ConId}
 use Rattle.csp_value.specs.declared.value.Value.{Value}
 use Rattle.csp_value.proofs.ValueOrder.{cmp as value_order, ordered as values_ordered}

@@ -1,7 +1,7 @@
 -- Values put into each expression of a list.
 use Rattle.std.proofs.Common.{◌≡◌, List, [], ◌∷◌, refl, ap}
-use Rattle.csp_syntax.specs.Expression.{to_expressions, expression_and}
-use Rattle.csp_semantics.specs.Meaning.Substitution.{Bindings, put_expression, put_expressions}
+use Rattle.theory_syntax.specs.Expression.{to_expressions, expression_and}
+use Rattle.theory_semantics.specs.Meaning.Substitution.{Bindings, put_expression, put_expressions}
 use Rattle.csp_expression.specs.declared.expr.Expr.{Expr}
 use Rattle.csp_expression.specs.Bindings.{puts}
 use Rattle.csp_expression.specs.Expression.{expression_of, expressions_of}

@@ -4,9 +4,9 @@ use Rattle.std.proofs.lemmas.Bool.{eqb-true}
 use Rattle.std.proofs.lemmas.List.{map-append, length-map}
 use Rattle.std.specs.List.{remove}
 use Rattle.std.specs.declared.vec.Vec.{Vec}
-use Rattle.csp_syntax.specs.Value as pure
-use Rattle.csp_syntax.specs.Expression as operator
-use Rattle.csp_semantics.specs.Meaning.Evaluation.{Overflow, apply, combine, integer, is_empty, max_members, sequence, set_of, tail_of}
+use Rattle.theory_syntax.specs.Value as pure
+use Rattle.theory_syntax.specs.Expression as operator
+use Rattle.theory_semantics.specs.Meaning.Evaluation.{Overflow, apply, combine, integer, is_empty, max_members, sequence, set_of, tail_of}
 use Rattle.csp_value.specs.declared.value.Value.{Value}
 use Rattle.csp_value.specs.declared.value.Value.TheVariants as views
 use Rattle.csp_value.specs.declared.set.SetOf.{SetOf}

@@ -1,11 +1,11 @@
 -- Given fields one after the other, each evaluated and then compared with its set.
 use Rattle.std.proofs.Common.{◌≡◌, ℕ, zero, suc, ◌+◌, ◌<◌, Bool, true, false, cond, List, [], ◌∷◌, ◌++◌, length, map, take, drop, get_or, slice_get, Some, None, Result, Ok, Err, refl, sym, ◌∙◌, ap, arith}
 use Rattle.std.proofs.lemmas.List.{drop_more, length-map, length-take-le, map-append, take-append-drop, take_more}
-use Rattle.csp_syntax.specs.Value.{Value, has_value}
-use Rattle.csp_syntax.specs.Expression.{Expression, Expressions, expression_and, to_expressions}
-use Rattle.csp_syntax.specs.Types.{Types}
-use Rattle.csp_syntax.proofs.Places.{get_some, drop_at}
-use Rattle.csp_semantics.specs.Meaning.Evaluation.{Cause, IllKinded, OutOfRange, ◌and_then◌, given_values, in_field_set, value}
+use Rattle.theory_syntax.specs.Value.{Value, has_value}
+use Rattle.theory_syntax.specs.Expression.{Expression, Expressions, expression_and, to_expressions}
+use Rattle.theory_syntax.specs.Types.{Types}
+use Rattle.theory_syntax.proofs.Places.{get_some, drop_at}
+use Rattle.theory_semantics.specs.Meaning.Evaluation.{Cause, IllKinded, OutOfRange, ◌and_then◌, given_values, in_field_set, value}
 use Rattle.csp_value.specs.declared.field_set.FieldSet.{FieldSet}
 use Rattle.csp_value.specs.declared.value.Value as code
 use Rattle.csp_value.specs.Fields.{field_values, sets_of}

@@ -1,8 +1,8 @@
 -- Looking a name up in a list of bindings.
 use Rattle.std.proofs.Common.{◌≡◌, ℕ, ◌+◌, ◌<◌, nat_eq, cond, true, false, List, length, map, drop, get_or, Some, sym, ◌∙◌, ap}
-use Rattle.csp_syntax.specs.Value.{Value}
-use Rattle.csp_syntax.proofs.Places.{cut}
-use Rattle.csp_semantics.specs.Meaning.Substitution.{bound}
+use Rattle.theory_syntax.specs.Value.{Value}
+use Rattle.theory_syntax.proofs.Places.{cut}
+use Rattle.theory_semantics.specs.Meaning.Substitution.{bound}
 
 module _ {X : Type 0} (name : X → ℕ) (value : X → Value) (n : ℕ) (xs : List X) (i : ℕ) (x : X) where
   abbrev binding : X → ℕ × Value

@@ -2,8 +2,8 @@
 use Rattle.std.proofs.Common.{◌≡◌, ℕ, ◌+◌, ◌-◌, ◌<◌, ◌≤◌, max, Bool, false, IsTrue, ◌↔◌, Option, Some, None, List, sym, ◌∙◌, arith}
 use Rattle.std.specs.Option.{SomeIff}
 use Rattle.std.proofs.Math.Nat.{max-le, le-max_left, le-max_right}
-use Rattle.csp_syntax.specs.Expression.{to_expressions}
-use Rattle.csp_semantics.specs.Meaning.Limits.{expression_depth, expression_size, expressions_depth, expressions_size}
+use Rattle.theory_syntax.specs.Expression.{to_expressions}
+use Rattle.theory_semantics.specs.Meaning.Limits.{expression_depth, expression_size, expressions_depth, expressions_size}
 use Rattle.csp_expression.specs.declared.expr.Expr.{Expr}
 use Rattle.csp_expression.specs.Expression.{expression_of, expressions_of}
 

@@ -9,8 +9,8 @@ use Rattle.std.proofs.lemmas.Int.{ints}
 use Rattle.std.specs.declared.cmp.Ordering.TheVariants.{Less}
 use Rattle.std.specs.Ordering.{is_lt}
 use Rattle.std.specs.Cmp.{int_cmp_is}
-use Rattle.csp_syntax.specs.Value.{Value, Integer, Set, to_values, sorted_values}
-use Rattle.csp_semantics.specs.Meaning.Evaluation.{Cause, Overflow, count_between, max_members, numbers_from, range, set_of}
+use Rattle.theory_syntax.specs.Value.{Value, Integer, Set, to_values, sorted_values}
+use Rattle.theory_semantics.specs.Meaning.Evaluation.{Cause, Overflow, count_between, max_members, numbers_from, range, set_of}
 use Rattle.csp_value.proofs.Sets.{Rises, rising_alike, sorted_rise, sorted_have}
 
 -- what rises is sorted

@@ -5,16 +5,16 @@ use Rattle.std.specs.declared.cmp.Ordering.{Ordering}
 use Rattle.std.specs.declared.cmp.Ordering.TheVariants.{Less, Equal, Greater}
 use Rattle.std.specs.Ordering.{MatchOrdering, nat_cmp}
 use Rattle.std.specs.Cmp.{nat_cmp_is, ranks}
-use Rattle.csp_syntax.specs.Order.{unary_place, binary_place}
-use Rattle.csp_syntax.specs.declared.operator.UnaryOperator.{UnaryOperator}
-use Rattle.csp_syntax.specs.declared.operator.UnaryOperator.TheVariants as unary
-use Rattle.csp_syntax.specs.declared.operator.BinaryOperator.{BinaryOperator}
-use Rattle.csp_syntax.specs.declared.operator.BinaryOperator.TheVariants as binary
-use Rattle.csp_syntax.specs.contracts.operator.UnaryOperator as unary_contract
-use Rattle.csp_syntax.specs.contracts.operator.BinaryOperator as binary_contract
-use Rattle.csp_syntax.specs.contracts.operator.UnaryOperatorOrd.TheImpl as unary_impl
-use Rattle.csp_syntax.specs.contracts.operator.BinaryOperatorOrd.TheImpl as binary_impl
-use Rattle.csp_syntax.specs.Operators.{unary_of, binary_of}
+use Rattle.theory_syntax.specs.Order.{unary_place, binary_place}
+use Rattle.theory_syntax.specs.declared.operator.UnaryOperator.{UnaryOperator}
+use Rattle.theory_syntax.specs.declared.operator.UnaryOperator.TheVariants as unary
+use Rattle.theory_syntax.specs.declared.operator.BinaryOperator.{BinaryOperator}
+use Rattle.theory_syntax.specs.declared.operator.BinaryOperator.TheVariants as binary
+use Rattle.theory_syntax.specs.contracts.operator.UnaryOperator as unary_contract
+use Rattle.theory_syntax.specs.contracts.operator.BinaryOperator as binary_contract
+use Rattle.theory_syntax.specs.contracts.operator.UnaryOperatorOrd.TheImpl as unary_impl
+use Rattle.theory_syntax.specs.contracts.operator.BinaryOperatorOrd.TheImpl as binary_impl
+use Rattle.theory_syntax.specs.Operators.{unary_of, binary_of}
 
 -- one of so many variants without parts
 abbrev Variant : ℕ → Type 0

@@ -4,8 +4,8 @@ use denote.Enum.Declared
 use Rattle.std.proofs.Common.{◌≡◌, ℕ, ℤ, Bool, Result, Err, refl, ◌∙◌, ap, subst, inl, inr}
 use Rattle.std.specs.declared.alloc.Allocator as allocator
 use Rattle.std.specs.declared.vec.Vec.{Vec}
-use Rattle.csp_syntax.specs.Value as pure
-use Rattle.csp_semantics.specs.Meaning.Evaluation.{Cause, IllKinded}
+use Rattle.theory_syntax.specs.Value as pure
+use Rattle.theory_semantics.specs.Meaning.Evaluation.{Cause, IllKinded}
 use Rattle.csp_value.specs.contracts.value.Value as contract
 use Rattle.csp_value.specs.declared.set.SetOf.{SetOf}
 use Rattle.csp_value.specs.declared.value.Value.{Value}

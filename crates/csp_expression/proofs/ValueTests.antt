@@ -4,7 +4,7 @@ use mir.Syntax
 use Rattle.std.proofs.Common.{◌≡◌, ◌∙◌, ap}
 use Rattle.std.specs.declared.alloc.Allocator as allocator
 use Rattle.std.specs.Ordering.{is_eq}
-use Rattle.csp_syntax.specs.Value as pure
+use Rattle.theory_syntax.specs.Value as pure
 use Rattle.csp_value.specs.declared.value.Value.{Value}
 use Rattle.csp_value.specs.contracts.value.ValueOrd.TheImpl.Laws as laws
 use Rattle.csp_value.specs.Value.{value_of}

@@ -1,9 +1,9 @@
 -- Names with the values that they stand for.
 use Rattle.std.specs.Prelude.{List, map, Option, Some, None}
 use denote.Ref.{Bor}
-use Rattle.csp_syntax.specs.Value as pure
-use Rattle.csp_syntax.specs.Expression.{Expression}
-use Rattle.csp_semantics.specs.Meaning.Substitution.{Bindings, put_expression}
+use Rattle.theory_syntax.specs.Value as pure
+use Rattle.theory_syntax.specs.Expression.{Expression}
+use Rattle.theory_semantics.specs.Meaning.Substitution.{Bindings, put_expression}
 use Rattle.csp_value.specs.declared.value.Value.{Value}
 use Rattle.csp_value.specs.Value.{value_of}
 use Rattle.csp_expression.specs.declared.expr.Expr.{Expr}

@@ -1,5 +1,5 @@
 -- The cause of the definitions that one of the code stands for.
-use Rattle.csp_semantics.specs.Meaning.Evaluation as pure
+use Rattle.theory_semantics.specs.Meaning.Evaluation as pure
 use Rattle.csp_expression.specs.declared.cause.Cause.{Cause}
 use Rattle.csp_expression.specs.declared.cause.Cause.TheVariants as variant
 

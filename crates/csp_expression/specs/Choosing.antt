@@ -2,8 +2,8 @@
 use Rattle.std.specs.Prelude.{◌≡◌, ◌<◌, List, [], ◌∷◌, flat_map, length, map, Result, ◌⊎◌}
 use Rattle.std.specs.declared.vec.Vec.{Vec}
 use denote.Ref.{Bor}
-use Rattle.csp_syntax.specs.Value as pure
-use Rattle.csp_semantics.specs.Meaning.Evaluation.{Cause, Overflow, max_members}
+use Rattle.theory_syntax.specs.Value as pure
+use Rattle.theory_semantics.specs.Meaning.Evaluation.{Cause, Overflow, max_members}
 use Rattle.csp_value.specs.declared.field_set.FieldSet.{FieldSet}
 use Rattle.csp_value.specs.declared.value.Value.{Value}
 use Rattle.csp_value.specs.Fields.{sets_of}

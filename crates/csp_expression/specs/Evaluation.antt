@@ -1,10 +1,10 @@
 -- What an answer of an evaluation says, and what the types of the code stand for.
 use Rattle.std.specs.Prelude.{◌≡◌, ⊤, Bool, true, false, ℕ, zero, suc, List, [], ◌∷◌, map, Result, Ok, Err}
 use Rattle.std.specs.declared.vec.Vec.{Vec}
-use Rattle.csp_syntax.specs.Value as pure
-use Rattle.csp_syntax.specs.Expression as expression
-use Rattle.csp_syntax.specs.Types.{Types}
-use Rattle.csp_semantics.specs.Meaning.Evaluation.{Cause}
+use Rattle.theory_syntax.specs.Value as pure
+use Rattle.theory_syntax.specs.Expression as expression
+use Rattle.theory_syntax.specs.Types.{Types}
+use Rattle.theory_semantics.specs.Meaning.Evaluation.{Cause}
 use Rattle.csp_value.specs.declared.set.SetOf.{SetOf}
 use Rattle.csp_value.specs.declared.value.Value.{Value}
 use Rattle.csp_value.specs.Value.{value_of, values_of, members_of}

@@ -1,8 +1,8 @@
 -- The expression that one of the code stands for.
 use Rattle.std.specs.Prelude.{List, map}
 use Rattle.std.specs.Box.{box_value}
-use Rattle.csp_syntax.specs.Expression as pure
-use Rattle.csp_syntax.specs.Operators.{unary_of, binary_of}
+use Rattle.theory_syntax.specs.Expression as pure
+use Rattle.theory_syntax.specs.Operators.{unary_of, binary_of}
 use Rattle.csp_value.specs.Value.{value_of}
 use Rattle.csp_expression.specs.declared.expr.Expr.{Expr}
 use Rattle.csp_expression.specs.declared.expr.Expr.TheOpen as layer

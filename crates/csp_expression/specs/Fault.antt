@@ -1,6 +1,6 @@
 -- The cause that a fault stands for.
 use Rattle.std.specs.Prelude.{◌≡◌, Option, Some, None}
-use Rattle.csp_semantics.specs.Meaning.Evaluation.{Cause, OutOfRange, Overflow, EmptySequence, BadModulus, EmptyChoice, IllKinded}
+use Rattle.theory_semantics.specs.Meaning.Evaluation.{Cause, OutOfRange, Overflow, EmptySequence, BadModulus, EmptyChoice, IllKinded}
 use Rattle.csp_expression.specs.declared.fault.Fault.{Fault}
 use Rattle.csp_expression.specs.declared.fault.Fault.TheVariants as variant
 

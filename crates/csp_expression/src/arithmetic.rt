@@ -3,8 +3,8 @@
 ghost use Rattle.std.specs.Prelude.{ℤ, FitsSigned};
 ghost use Rattle.std.specs.Int.{w32};
 ghost use Rattle.std.specs.Option.{SomeIff};
-ghost use Rattle.csp_syntax.specs.Expression as pure;
-ghost use Rattle.csp_semantics.specs.Meaning.Evaluation.{apply, combine, integer};
+ghost use Rattle.theory_syntax.specs.Expression as pure;
+ghost use Rattle.theory_semantics.specs.Meaning.Evaluation.{apply, combine, integer};
 ghost use Rattle.csp_value.specs.Value.{value_of};
 ghost use Rattle.csp_expression.specs.Evaluation.{IsAnswer};
 

@@ -1,7 +1,7 @@
 //! Comparisons: equality of any two values, and the order of numbers.
 
-ghost use Rattle.csp_syntax.specs.Expression as pure;
-ghost use Rattle.csp_semantics.specs.Meaning.Evaluation.{combine};
+ghost use Rattle.theory_syntax.specs.Expression as pure;
+ghost use Rattle.theory_semantics.specs.Meaning.Evaluation.{combine};
 ghost use Rattle.csp_value.specs.Value.{value_of};
 ghost use Rattle.csp_expression.specs.Evaluation.{IsAnswer};
 

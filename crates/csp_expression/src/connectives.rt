@@ -1,16 +1,16 @@
 //! Truth values and what connects them.
 
 ghost use Rattle.std.specs.Prelude.{◌≡◌};
-ghost use Rattle.csp_syntax.specs.Expression as pure;
-ghost use Rattle.csp_syntax.specs.Operators.{binary_of};
-ghost use Rattle.csp_semantics.specs.Meaning.Evaluation.{apply, combine, decides};
+ghost use Rattle.theory_syntax.specs.Expression as pure;
+ghost use Rattle.theory_syntax.specs.Operators.{binary_of};
+ghost use Rattle.theory_semantics.specs.Meaning.Evaluation.{apply, combine, decides};
 ghost use Rattle.csp_value.specs.Value.{value_of};
 ghost use Rattle.csp_expression.specs.Evaluation.{IsAnswer};
 
 use crate::cause::Cause;
-use csp_syntax::BinaryOperator;
 use csp_value::Value;
 use std::alloc::Allocator;
+use theory_syntax::BinaryOperator;
 
 /// `not e`
 pub(crate) fn negation<A: Allocator>(operand: &Value<A>) -> Result<Value<A>, Cause>

@@ -1,7 +1,7 @@
 //! Constructors with their fields, and all of a datatype.
 
 ghost use Rattle.std.specs.Prelude.{◌≡◌, ◌++◌, ◌∷◌, ◌↔◌, IfOk, IsTrue, Some};
-ghost use Rattle.csp_semantics.specs.Meaning.Evaluation.{choices, constructed, constructor_sets, datatype_set, with_all_fields};
+ghost use Rattle.theory_semantics.specs.Meaning.Evaluation.{choices, constructed, constructor_sets, datatype_set, with_all_fields};
 ghost use Rattle.csp_value.specs.Fields.{field_values, sets_of};
 ghost use Rattle.csp_value.specs.Value.{value_of, values_of};
 ghost use Rattle.csp_expression.specs.Choosing.{AreFieldSets, HasAll, HasEmptySet, lists_of, with_each, with_first};

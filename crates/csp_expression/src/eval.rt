@@ -1,10 +1,10 @@
 //! The value of an expression.
 
-ghost use Rattle.csp_syntax.specs.Expression as pure;
-ghost use Rattle.csp_syntax.specs.Expression.{ConstructorOf, to_expressions};
-ghost use Rattle.csp_syntax.specs.Operators.{binary_of, unary_of};
-ghost use Rattle.csp_semantics.specs.Meaning.Evaluation.{apply, combine, given_values, in_field_set, range_of, value, values};
-ghost use Rattle.csp_semantics.specs.Meaning.Substitution.{put_expression};
+ghost use Rattle.theory_syntax.specs.Expression as pure;
+ghost use Rattle.theory_syntax.specs.Expression.{ConstructorOf, to_expressions};
+ghost use Rattle.theory_syntax.specs.Operators.{binary_of, unary_of};
+ghost use Rattle.theory_semantics.specs.Meaning.Evaluation.{apply, combine, given_values, in_field_set, range_of, value, values};
+ghost use Rattle.theory_semantics.specs.Meaning.Substitution.{put_expression};
 ghost use Rattle.csp_expression.specs.Closed.{IsClosedExpression};
 ghost use Rattle.csp_expression.specs.Bindings.{bindings_of, puts};
 ghost use Rattle.std.specs.Prelude.{◌≡◌, true};
@@ -22,9 +22,9 @@ use crate::seen::Seen;
 use crate::substitution::{Binding, bound};
 use crate::types::TypeTable;
 use crate::{arithmetic, comparison, connectives, constructors, ranges, sequences, sets};
-use csp_syntax::{BinaryOperator, UnaryOperator};
 use csp_value::{ConId, FieldSet, Value};
 use std::alloc::Allocator;
+use theory_syntax::{BinaryOperator, UnaryOperator};
 
 impl<A: Allocator + Copy> Expr<A> {
     /// The value of the closed, well-kinded expression in the given allocator, or the first fault from left to right
@@ -46,7 +46,7 @@ impl<A: Allocator + Copy> Expr<A> {
 
     /// The same for any expression: a name that no value was put in for, and an operand of the wrong kind, are the
     /// cause `Kind`. `Memory` says nothing of the value.
-    #[tactic(auto, using(csp_semantics::proofs::Putting::put_nothing_in_expression))]
+    #[tactic(auto, using(theory_semantics::proofs::Putting::put_nothing_in_expression))]
     pub fn find_value(&self, alloc: A, types: &TypeTable<A>) -> Result<Value<A>, NoValue>
         ensures { Gives result (value (table_of types.now) (expression_of self.now)) }
     {
@@ -119,7 +119,7 @@ impl<A: Allocator + Copy> Expr<A> {
     }
 
     /// The value of a given field, which has to lie in its set: one that does not is the cause `Range`.
-    #[tactic(auto, using(csp_semantics::proofs::Putting::put_nothing_in_expression))]
+    #[tactic(auto, using(theory_semantics::proofs::Putting::put_nothing_in_expression))]
     pub fn find_within(
         &self,
         alloc: A,

@@ -4,9 +4,9 @@ ghost use Rattle.std.specs.Prelude.{◌≡◌, IfOk};
 ghost use Rattle.csp_expression.specs.Expression.{expression_of};
 
 use crate::name::{DatatypeId, Name, NametypeId};
-use csp_syntax::{BinaryOperator, UnaryOperator};
 use csp_value::{ConId, Memory, TryCopy, Value};
 use std::alloc::Allocator;
+use theory_syntax::{BinaryOperator, UnaryOperator};
 
 /// An expression as it is written. The order is that of the forms, then of the parts in turn.
 #[derive(Drop)]
@@ -38,7 +38,7 @@ pub enum Expr<A: Allocator> {
 
 impl<A: Allocator + Copy> Expr<A> {
     /// An equal expression in the given allocator, or `Memory` where that has no room.
-    #[tactic(auto, using(csp_semantics::proofs::Putting::put_nothing_in_expression))]
+    #[tactic(auto, using(theory_semantics::proofs::Putting::put_nothing_in_expression))]
     pub fn try_copy(&self, alloc: A) -> Result<Expr<A>, Memory>
         ensures { IfOk result (λ copy. expression_of copy ≡ expression_of self.now) }
     {

@@ -1,7 +1,7 @@
 //! Why a rule of a checked script has no value.
 
 ghost use Rattle.std.specs.Prelude.{◌≡◌};
-ghost use Rattle.csp_semantics.specs.Meaning.Causes.{cause_number, cause_word};
+ghost use Rattle.theory_semantics.specs.Meaning.Causes.{cause_number, cause_word};
 ghost use Rattle.csp_expression.specs.Fault.{cause_of};
 
 /// A cause for which a rule of a closed, well-kinded term needs a value that does not exist (this profile).

@@ -3,7 +3,7 @@
 
 ghost use Rattle.std.specs.Prelude.{◌≡◌, ◌↔◌, IsTrue};
 ghost use Rattle.std.specs.List.{fold};
-ghost use Rattle.csp_syntax.specs.Order.{expression_cmp};
+ghost use Rattle.theory_syntax.specs.Order.{expression_cmp};
 ghost use Rattle.csp_expression.specs.Expression.{expression_of};
 
 use crate::expr::Expr;

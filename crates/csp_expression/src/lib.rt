@@ -28,7 +28,6 @@ mod substitution;
 mod types;
 
 pub use cause::Cause;
-pub use csp_syntax::{BinaryOperator, UnaryOperator};
 pub use eval_fault::EvalFault;
 pub use expr::Expr;
 pub use fault::Fault;
@@ -37,4 +36,5 @@ pub use name::{DatatypeId, Name, NametypeId};
 pub use no_value::NoValue;
 pub use seen::Seen;
 pub use substitution::{Binding, put_in_all};
+pub use theory_syntax::{BinaryOperator, UnaryOperator};
 pub use types::{ConstructorFields, Constructors, TypeTable};

@@ -2,8 +2,8 @@
 
 ghost use Rattle.std.specs.Prelude.{◌≤◌, ◌-◌, ◌↔◌, IsTrue};
 ghost use Rattle.std.specs.Option.{SomeIff};
-ghost use Rattle.csp_syntax.specs.Expression.{to_expressions};
-ghost use Rattle.csp_semantics.specs.Meaning.Limits.{expression_depth, expression_size, expressions_depth, expressions_size};
+ghost use Rattle.theory_syntax.specs.Expression.{to_expressions};
+ghost use Rattle.theory_semantics.specs.Meaning.Limits.{expression_depth, expression_size, expressions_depth, expressions_size};
 ghost use Rattle.csp_expression.specs.Expression.{expression_of, expressions_of};
 
 use crate::expr::Expr;

@@ -1,8 +1,8 @@
 //! Sets that are named: ranges of numbers, both truth values, datatypes and nametypes.
 
 ghost use Rattle.std.specs.Prelude.{◌≡◌, ◌≤◌, ◌∷◌, [], true, false, map, slice_get};
-ghost use Rattle.csp_syntax.specs.Value.{Truth};
-ghost use Rattle.csp_semantics.specs.Meaning.Evaluation.{count_between, datatype_set, numbers_from, range, range_of, set_at, set_of};
+ghost use Rattle.theory_syntax.specs.Value.{Truth};
+ghost use Rattle.theory_semantics.specs.Meaning.Evaluation.{count_between, datatype_set, numbers_from, range, range_of, set_at, set_of};
 ghost use Rattle.csp_value.specs.Value.{value_of};
 ghost use Rattle.csp_expression.specs.Evaluation.{Gives, members_listed, table_of};
 

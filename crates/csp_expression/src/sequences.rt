@@ -1,8 +1,8 @@
 //! Sequences.
 
 ghost use Rattle.std.specs.Prelude.{◌≡◌, ◌++◌, pos, IfOk};
-ghost use Rattle.csp_syntax.specs.Expression as pure;
-ghost use Rattle.csp_semantics.specs.Meaning.Evaluation.{apply, combine, integer, sequence};
+ghost use Rattle.theory_syntax.specs.Expression as pure;
+ghost use Rattle.theory_semantics.specs.Meaning.Evaluation.{apply, combine, integer, sequence};
 ghost use Rattle.csp_value.specs.Value.{value_of, values_of};
 ghost use Rattle.csp_expression.specs.Evaluation.{Gives, IsAnswer, IsSeen, seen_value};
 

@@ -1,8 +1,8 @@
 //! Sets.
 
-ghost use Rattle.csp_syntax.specs.Expression as pure;
-ghost use Rattle.csp_syntax.specs.Value.{sorted_values, values_list};
-ghost use Rattle.csp_semantics.specs.Meaning.Evaluation.{apply, combine, set_of};
+ghost use Rattle.theory_syntax.specs.Expression as pure;
+ghost use Rattle.theory_syntax.specs.Value.{sorted_values, values_list};
+ghost use Rattle.theory_semantics.specs.Meaning.Evaluation.{apply, combine, set_of};
 ghost use Rattle.csp_value.specs.Value.{members_of, value_of, values_of};
 ghost use Rattle.csp_expression.specs.Evaluation.{Gives, IsAnswer};
 

@@ -1,17 +1,17 @@
 //! Values put in for names.
 
 ghost use Rattle.std.specs.Prelude.{◌≡◌, IfOk};
-ghost use Rattle.csp_syntax.specs.Expression as pure;
-ghost use Rattle.csp_syntax.specs.Operators.{binary_of, unary_of};
-ghost use Rattle.csp_semantics.specs.Meaning.Substitution.{bound, put_expression};
+ghost use Rattle.theory_syntax.specs.Expression as pure;
+ghost use Rattle.theory_syntax.specs.Operators.{binary_of, unary_of};
+ghost use Rattle.theory_semantics.specs.Meaning.Substitution.{bound, put_expression};
 ghost use Rattle.csp_expression.specs.Expression.{expression_of, expressions_of};
 ghost use Rattle.csp_expression.specs.Bindings.{bindings_of, found_of, puts};
 
 use crate::expr::Expr;
 use crate::name::Name;
-use csp_syntax::{BinaryOperator, UnaryOperator};
 use csp_value::{Memory, Value};
 use std::alloc::Allocator;
+use theory_syntax::{BinaryOperator, UnaryOperator};
 
 /// A name with the value that it stands for.
 #[derive(Clone, Copy)]

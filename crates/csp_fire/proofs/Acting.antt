@@ -5,14 +5,14 @@ use Rattle.std.specs.Prelude.{⊤}
 use Rattle.std.specs.declared.cmp.Ordering.{Ordering}
 use Rattle.std.specs.declared.cmp.Ordering.TheVariants.{Less, Equal, Greater}
 use Rattle.std.specs.Ordering.{is_eq, is_lt, ordering_then}
-use Rattle.csp_syntax.specs.Value.{Action, action_cmp, action_eq, has_action}
-use Rattle.csp_syntax.specs.Order.{process_cmp}
-use Rattle.csp_syntax.specs.Process.{Process}
-use Rattle.csp_semantics.specs.Meaning.Expansions.{step_cmp}
-use Rattle.csp_semantics.specs.Meaning.Offers.{IsRising, RisesBy}
-use Rattle.csp_semantics.specs.Meaning.Stepping.{Steps}
-use Rattle.csp_semantics.specs.Laws.Statements.{IsOneOf}
-use Rattle.csp_semantics.proofs.Offering.{action_refl, action_same}
+use Rattle.theory_syntax.specs.Value.{Action, action_cmp, action_eq, has_action}
+use Rattle.theory_syntax.specs.Order.{process_cmp}
+use Rattle.theory_syntax.specs.Process.{Process}
+use Rattle.theory_semantics.specs.Meaning.Expansions.{step_cmp}
+use Rattle.theory_semantics.specs.Meaning.Offers.{IsRising, RisesBy}
+use Rattle.theory_semantics.specs.Meaning.Stepping.{Steps}
+use Rattle.theory_semantics.specs.Laws.Statements.{IsOneOf}
+use Rattle.theory_semantics.proofs.Offering.{action_refl, action_same}
 use Rattle.csp_fire.specs.Offering.{actions_of, actions_once, behind_action}
 
 -- ---- each action once

@@ -2,10 +2,10 @@
 use Rattle.std.proofs.Common.{◌≡◌, ℕ, ◌+◌, ◌-◌, ◌<◌, suc, Bool, true, false, cond, List, [], ◌∷◌, ◌++◌, length, map, take, get_or, Some, None, refl, sym, ◌∙◌, ap, arith}
 use Rattle.std.proofs.lemmas.List.{take_more, map-append}
 use Rattle.std.specs.List.{slice_get}
-use Rattle.csp_syntax.specs.Value.{Action, action_eq}
-use Rattle.csp_syntax.specs.Process.{Process}
+use Rattle.theory_syntax.specs.Value.{Action, action_eq}
+use Rattle.theory_syntax.specs.Process.{Process}
 use Rattle.csp_value.proofs.Sameness.{Tells}
-use Rattle.csp_operators.proofs.Telling.{eq_of}
+use Rattle.csp_steps.proofs.Telling.{eq_of}
 use Rattle.csp_fire.specs.Offering.{actions_of, actions_once, behind_action}
 
 abbrev last_from : Action → List Action → Action

@@ -4,20 +4,20 @@ use Rattle.std.proofs.lemmas.Bool.{eqb-true, or_cases, or_left, or_right}
 use Rattle.std.specs.List.{list_any}
 use Rattle.std.specs.Option.{option_map}
 use Rattle.std.specs.Ordering.{is_lt}
-use Rattle.csp_syntax.specs.Value.{Action, Tau, Tick, Ev, Event, action_eq, has_action}
-use Rattle.csp_syntax.specs.Process.{Process, Script}
-use Rattle.csp_syntax.proofs.Members.{contains_none, contains_here, contains_one}
-use Rattle.csp_semantics.specs.Meaning.Limits.{fits}
-use Rattle.csp_semantics.specs.Meaning.Expansions.{Form, IsFired, IsFormOf, offers_cmp, step_cmp}
-use Rattle.csp_semantics.specs.Meaning.Faults.{cause_in}
-use Rattle.csp_semantics.specs.Meaning.Offers.{IsRising, RisesBy, CanDo, IsAllThat, IsAcceptance, of_stable, of_tick}
-use Rattle.csp_semantics.specs.Meaning.Stepping.{Steps}
-use Rattle.csp_semantics.specs.Meaning.Transitions.{IsNotStuck, RuleStep, by_step}
-use Rattle.csp_semantics.specs.Laws.Statements.{IsOneOf, StepsAre}
-use Rattle.csp_semantics.proofs.Rising.{all_that_is_one}
-use Rattle.csp_operators.specs.Answering.{Answered, IsAnswered, all_within, within_limits}
+use Rattle.theory_syntax.specs.Value.{Action, Tau, Tick, Ev, Event, action_eq, has_action}
+use Rattle.theory_syntax.specs.Process.{Process, Script}
+use Rattle.theory_syntax.proofs.Members.{contains_none, contains_here, contains_one}
+use Rattle.theory_semantics.specs.Meaning.Limits.{fits}
+use Rattle.theory_semantics.specs.Meaning.Expansions.{Form, IsFired, IsFormOf, offers_cmp, step_cmp}
+use Rattle.theory_semantics.specs.Meaning.Faults.{cause_in}
+use Rattle.theory_semantics.specs.Meaning.Offers.{IsRising, RisesBy, CanDo, IsAllThat, IsAcceptance, of_stable, of_tick}
+use Rattle.theory_semantics.specs.Meaning.Stepping.{Steps}
+use Rattle.theory_semantics.specs.Meaning.Transitions.{IsNotStuck, RuleStep, by_step}
+use Rattle.theory_semantics.specs.Laws.Statements.{IsOneOf, StepsAre}
+use Rattle.theory_semantics.proofs.Rising.{all_that_is_one}
+use Rattle.csp_steps.specs.Answering.{Answered, IsAnswered, all_within, within_limits}
 use Rattle.csp_fire.specs.Offering.{IsFormByAnswer, IsFormBySteps, IsFormWithin, actions_of, has_tau, has_tick, is_tau, is_tick, offers_of}
-use Rattle.csp_operators.proofs.Answered.{among_steps, contains_one_of, one_of_contains, step_among}
+use Rattle.csp_steps.proofs.Answered.{among_steps, contains_one_of, one_of_contains, step_among}
 use Rattle.csp_fire.proofs.Acting.{acts_from, acts_has, acts_rise}
 
 -- ---- steps by one action

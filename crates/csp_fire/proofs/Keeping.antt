@@ -10,12 +10,12 @@ use Rattle.std.specs.List.{dedup, dedup_from}
 use Rattle.std.specs.List.Sorted.{IsPermutation, IsSorted, IsStrictlySortedBy}
 use Rattle.std.proofs.lemmas.List.Kept.{IsStrictlySortedBy-dedup}
 use Rattle.std.proofs.lemmas.List.Sorted.{Contains-permutation, IsPermutation-map, IsPermutation-sym}
-use Rattle.csp_syntax.specs.Value as pure
-use Rattle.csp_syntax.specs.Process.{Process}
-use Rattle.csp_syntax.proofs.Truths.{and_first, and_second}
-use Rattle.csp_semantics.specs.Meaning.Expansions.{step_cmp}
-use Rattle.csp_semantics.specs.Meaning.Offers.{RisesBy}
-use Rattle.csp_semantics.specs.Laws.Statements.{IsOneOf}
+use Rattle.theory_syntax.specs.Value as pure
+use Rattle.theory_syntax.specs.Process.{Process}
+use Rattle.theory_syntax.proofs.Truths.{and_first, and_second}
+use Rattle.theory_semantics.specs.Meaning.Expansions.{step_cmp}
+use Rattle.theory_semantics.specs.Meaning.Offers.{RisesBy}
+use Rattle.theory_semantics.specs.Laws.Statements.{IsOneOf}
 use Rattle.csp_value.specs.contracts.handle.AllocHandle.TheBound.{Lawful}
 use Rattle.csp_value.specs.declared.handle.AllocHandle as handle
 use Rattle.csp_value.proofs.ActionOrder.{action_ordered}
@@ -27,7 +27,7 @@ use Rattle.csp_fire.specs.contracts.form.StepOrd.TheImpl as impl
 use Rattle.csp_fire.specs.contracts.form.StepPartialEq.TheImpl as equality
 use Rattle.csp_fire.specs.contracts.form.StepOrd.TheImpl.Laws as laws
 use Rattle.csp_fire.specs.Form.{step_of}
-use Rattle.csp_operators.proofs.Answered.{contains_one_of, one_of_contains}
+use Rattle.csp_steps.proofs.Answered.{contains_one_of, one_of_contains}
 
 -- ---- keeping each once, by what it stands for
 

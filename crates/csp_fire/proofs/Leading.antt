@@ -1,8 +1,8 @@
 -- The steps of a term of a script lead to terms of it.
-use Rattle.csp_syntax.specs.Process.{Process, Script}
-use Rattle.csp_semantics.specs.Kinds.Scripts.{IsTermOf}
-use Rattle.csp_semantics.specs.Meaning.Expansions.{Form, Fired, FiredFaulty, FiredLarge, IsFormOf}
-use Rattle.csp_semantics.proofs.KindedSteps.{step_closed}
+use Rattle.theory_syntax.specs.Process.{Process, Script}
+use Rattle.theory_semantics.specs.Kinds.Scripts.{IsTermOf}
+use Rattle.theory_semantics.specs.Meaning.Expansions.{Form, Fired, FiredFaulty, FiredLarge, IsFormOf}
+use Rattle.theory_semantics.proofs.KindedSteps.{step_closed}
 use Rattle.csp_fire.specs.Targets.{LeadsToTermsOf}
 
 pub leads : (s : Script) (t : Process) (form : Form) → IsTermOf s t → IsFormOf s t form → LeadsToTermsOf s form

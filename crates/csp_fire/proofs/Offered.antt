@@ -1,8 +1,8 @@
 -- The acceptances of steps by the answers to three questions: is there a tick, is there a tau, is there one action.
 use Rattle.std.proofs.Common.{◌≡◌, nat_eq, Bool, true, false, ◌&&◌, ◌||◌, cond, List, [], ◌∷◌, ◌++◌, length, map, sym, ◌∙◌, ap, ap₂}
 use Rattle.std.proofs.lemmas.List.{append-nil, map-append}
-use Rattle.csp_syntax.specs.Value.{Action, Tick}
-use Rattle.csp_semantics.specs.Meaning.Stepping.{Steps}
+use Rattle.theory_syntax.specs.Value.{Action, Tick}
+use Rattle.theory_semantics.specs.Meaning.Stepping.{Steps}
 use Rattle.csp_fire.specs.Offering.{actions_of, has_tau, has_tick, offers_of, tick_offer}
 
 module _ {V : Type 0} (acts : V → List Action) (ss : Steps) (offers : List V) where

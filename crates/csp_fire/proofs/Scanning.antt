@@ -5,7 +5,7 @@ use Rattle.csp_value.specs.declared.action.Action.{Action}
 use Rattle.csp_value.specs.declared.action.Action.TheVariants as variant
 use Rattle.csp_value.specs.Action.{action_of}
 use Rattle.csp_fire.specs.Offering.{is_tau, is_tick}
-use Rattle.csp_syntax.proofs.Places.{cut}
+use Rattle.theory_syntax.proofs.Places.{cut}
 
 module _ {X Y : Type 0} (meaning : X → Y) (test : Y → Bool) (xs : List X) (i : ℕ) (x : X) where
   -- what is left decides

@@ -2,11 +2,11 @@
 use Rattle.std.proofs.Common.{◌≡◌, ℕ, ◌+◌, ◌<◌, List, [], ◌∷◌, ◌++◌, length, map, drop, get_or, Option, Some, None, refl, sym, ◌∙◌, ap}
 use Rattle.std.proofs.lemmas.List.{append-nil, append_assoc, drop_more, map-append}
 use Rattle.std.specs.Option.{option_map}
-use Rattle.csp_semantics.specs.Meaning.Stepping.{Steps}
+use Rattle.theory_semantics.specs.Meaning.Stepping.{Steps}
 use Rattle.csp_value.specs.Action.{action_of}
 use Rattle.csp_fire.specs.declared.form.Step.{Step}
-use Rattle.csp_operators.specs.declared.rule_step.RuleStep.{RuleStep}
-use Rattle.csp_operators.specs.Answering.{all_within, answered_of, target_of}
+use Rattle.csp_steps.specs.declared.rule_step.RuleStep.{RuleStep}
+use Rattle.csp_steps.specs.Answering.{all_within, answered_of, target_of}
 use Rattle.csp_fire.specs.Form.{step_of}
 
 -- the steps so far and those of what is left are all

@@ -1,7 +1,7 @@
 -- The expansion that one of the code stands for.
-use Rattle.csp_semantics.specs.Kinds.Scripts.{IsTermOf}
-use Rattle.csp_semantics.specs.Meaning.Expansions as meaning
-use Rattle.csp_semantics.specs.Meaning.Expansions.{IsExpansion}
+use Rattle.theory_semantics.specs.Kinds.Scripts.{IsTermOf}
+use Rattle.theory_semantics.specs.Meaning.Expansions as meaning
+use Rattle.theory_semantics.specs.Meaning.Expansions.{IsExpansion}
 use Rattle.csp_term.specs.Term.{process_of}
 use Rattle.csp_term.specs.Script.{script_of}
 use Rattle.csp_fire.specs.declared.expansion.Expansion.TheInside.{Inside}

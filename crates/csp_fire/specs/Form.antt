@@ -1,8 +1,8 @@
 -- The form that a form of the code stands for.
 use Rattle.std.specs.Prelude.{map}
-use Rattle.csp_syntax.specs.Value as pure
-use Rattle.csp_syntax.specs.Process.{Process}
-use Rattle.csp_semantics.specs.Meaning.Expansions as meaning
+use Rattle.theory_syntax.specs.Value as pure
+use Rattle.theory_syntax.specs.Process.{Process}
+use Rattle.theory_semantics.specs.Meaning.Expansions as meaning
 use Rattle.csp_value.specs.Action.{action_of}
 use Rattle.csp_expression.specs.Fault.{cause_of}
 use Rattle.csp_term.specs.Term.{process_of}

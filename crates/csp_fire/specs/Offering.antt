@@ -1,12 +1,12 @@
 -- The acceptances of a term by its steps, which are sorted, each once.
 use Rattle.std.specs.Prelude.{◌≡◌, ◌↔◌, Contains, Bool, true, false, ◌&&◌, ◌||◌, nat_eq, cond, List, [], ◌∷◌, ◌++◌, length, map, Option, Some, None}
 use Rattle.std.specs.List.{list_any}
-use Rattle.csp_syntax.specs.Value.{Action, Tau, Tick, action_eq}
-use Rattle.csp_syntax.specs.Process.{Process}
-use Rattle.csp_semantics.specs.Meaning.Expansions.{Form, Fired, FiredLarge, step_cmp}
-use Rattle.csp_semantics.specs.Meaning.Offers.{RisesBy}
-use Rattle.csp_semantics.specs.Meaning.Stepping.{Steps}
-use Rattle.csp_operators.specs.Answering.{Answered, all_within}
+use Rattle.theory_syntax.specs.Value.{Action, Tau, Tick, action_eq}
+use Rattle.theory_syntax.specs.Process.{Process}
+use Rattle.theory_semantics.specs.Meaning.Expansions.{Form, Fired, FiredLarge, step_cmp}
+use Rattle.theory_semantics.specs.Meaning.Offers.{RisesBy}
+use Rattle.theory_semantics.specs.Meaning.Stepping.{Steps}
+use Rattle.csp_steps.specs.Answering.{Answered, all_within}
 
 abbrev pub is_tau : Action → Bool
 is_tau Tau = true

@@ -1,9 +1,9 @@
 -- What the targets of steps are.
 use Rattle.std.specs.Prelude.{⊤, Contains}
-use Rattle.csp_syntax.specs.Value.{Action}
-use Rattle.csp_syntax.specs.Process.{Process, Script}
-use Rattle.csp_semantics.specs.Kinds.Scripts.{IsTermOf}
-use Rattle.csp_semantics.specs.Meaning.Expansions.{Form, Fired, FiredFaulty, FiredLarge}
+use Rattle.theory_syntax.specs.Value.{Action}
+use Rattle.theory_syntax.specs.Process.{Process, Script}
+use Rattle.theory_semantics.specs.Kinds.Scripts.{IsTermOf}
+use Rattle.theory_semantics.specs.Meaning.Expansions.{Form, Fired, FiredFaulty, FiredLarge}
 
 -- the steps of the form, if it has any, lead to terms of the script
 abbrev pub LeadsToTermsOf : Script → Form → Type 0

@@ -1,8 +1,8 @@
 //! Expansions: a term of a script with its form.
 
 ghost use Rattle.std.specs.Prelude.{◌≡◌};
-ghost use Rattle.csp_semantics.specs.Kinds.Scripts.{IsTermOf};
-ghost use Rattle.csp_semantics.specs.Meaning.Expansions.{IsExpansion};
+ghost use Rattle.theory_semantics.specs.Kinds.Scripts.{IsTermOf};
+ghost use Rattle.theory_semantics.specs.Meaning.Expansions.{IsExpansion};
 ghost use Rattle.csp_term.specs.Term.{process_of};
 ghost use Rattle.csp_term.specs.Script.{script_of};
 ghost use Rattle.csp_fire.specs.Form.{form_of};
@@ -21,9 +21,9 @@ pub struct Expansion<'s, A: AllocHandle> {
 }
 
 impl<'s, A: AllocHandle> Model for Expansion<'s, A> {
-    ghost use Rattle.csp_semantics.specs.Meaning.Expansions as meaning;
-    ghost use Rattle.csp_syntax.specs.Codes.Coding.{coded};
-    ghost use Rattle.csp_semantics.specs.Codes.Expansions.{coding_expansion};
+    ghost use Rattle.theory_semantics.specs.Meaning.Expansions as meaning;
+    ghost use Rattle.theory_syntax.specs.Codes.Coding.{coded};
+    ghost use Rattle.theory_semantics.specs.Codes.Expansions.{coding_expansion};
 
     ghost Value = { meaning.Expansion };
 

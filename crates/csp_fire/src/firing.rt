@@ -1,20 +1,20 @@
 //! Firing a term.
 
 ghost use Rattle.std.specs.Prelude.{◌≡◌, IfOk, map};
-ghost use Rattle.csp_semantics.specs.Kinds.Scripts.{IsTermOf};
-ghost use Rattle.csp_semantics.specs.Meaning.Expansions.{IsFormOf, IsExpansion};
+ghost use Rattle.theory_semantics.specs.Kinds.Scripts.{IsTermOf};
+ghost use Rattle.theory_semantics.specs.Meaning.Expansions.{IsFormOf, IsExpansion};
 ghost use Rattle.csp_term.specs.Term.{process_of};
 ghost use Rattle.csp_term.specs.Script.{script_of, script_of_parts};
 ghost use Rattle.csp_fire.specs.Form.{form_of, step_of};
 ghost use Rattle.std.specs.Option.{option_map};
-ghost use Rattle.csp_operators.specs.Answering.{all_within, answered_of};
+ghost use Rattle.csp_steps.specs.Answering.{all_within, answered_of};
 ghost use Rattle.csp_fire.specs.Targets.{LeadsToTermsOf};
 ghost use Rattle.csp_fire.specs.Offering.{IsFormByAnswer, IsFormBySteps};
 
 use crate::expansion::Expansion;
 use crate::form::{Form, Step};
 use crate::offers::offers;
-use csp_rules::{NoValue, RuleStep, Target, steps};
+use csp_steps::{NoValue, RuleStep, Target, steps};
 use csp_term::{AllocHandle, Memory, Script, ScriptParts, Term};
 
 /// Fires a term of the script, which is closed and well-kinded. The expansion names the script and the term that were
@@ -36,7 +36,7 @@ pub fn fire<'s, A: AllocHandle>(
 }
 
 /// The form of a term of the script that has these parts. No operand in it is of the wrong kind.
-#[tactic(auto, using(csp_semantics::proofs::Putting::put_nothing))]
+#[tactic(auto, using(theory_semantics::proofs::Putting::put_nothing))]
 fn form_of_term<A: AllocHandle>(
     alloc: A,
     script: &ScriptParts<A>,

@@ -1,7 +1,7 @@
 //! The acceptances of a term by its steps.
 
 ghost use Rattle.std.specs.Prelude.{◌≡◌, ◌++◌, ◌∷◌, [], IfOk, map};
-ghost use Rattle.csp_syntax.specs.Value.{Tick};
+ghost use Rattle.theory_syntax.specs.Value.{Tick};
 ghost use Rattle.csp_value.specs.Action.{action_of};
 ghost use Rattle.csp_fire.specs.Form.{step_of};
 ghost use Rattle.csp_fire.specs.Offering.{actions_of, has_tau, has_tick, offers_of};

@@ -1,27 +1,27 @@
 -- Terms that are taken apart, and terms that are split by their bytes.
 use Rattle.std.proofs.Common.{◌≡◌, ◌<◌, ℕ, List, Some, sym, ◌∙◌, ap, subst}
 use Rattle.std.specs.List.{AllByRecursion}
-use Rattle.csp_syntax.specs.Process.{Process}
-use Rattle.csp_spelling.specs.Reading.{term_of}
-use Rattle.csp_spelling.specs.Spelling.{spelling}
-use Rattle.csp_shapes.specs.Parts.{parts_of, shape_of}
-use Rattle.csp_shapes.specs.Pieces.{pieces}
-use Rattle.csp_shapes.specs.Shape.{fill}
-use Rattle.csp_changes.specs.declared.numbers.PartId.{PartId}
-use Rattle.csp_changes.specs.Places.{AreRunsOf}
-use Rattle.csp_changes.specs.Rows.{row_parts}
-use Rattle.csp_rows.proofs.Apart.{runs_there, shape_spellable, taken_apart}
+use Rattle.theory_syntax.specs.Process.{Process}
+use Rattle.theory_spelling.specs.Reading.{term_of}
+use Rattle.theory_spelling.specs.Spelling.{spelling}
+use Rattle.theory_shapes.specs.Parts.{parts_of, shape_of}
+use Rattle.theory_shapes.specs.Pieces.{pieces}
+use Rattle.theory_shapes.specs.Shape.{fill}
+use Rattle.csp_rows.specs.declared.numbers.PartId.{PartId}
+use Rattle.csp_rows.specs.Places.{AreRunsOf}
+use Rattle.csp_rows.specs.Rows.{row_parts}
+use Rattle.csp_rows.proofs.RowsOfParts.{runs_there, shape_spellable, taken_apart}
 use Rattle.csp_packed.specs.Packed.{packed_process}
 use Rattle.csp_packed.specs.Within.{or_stop}
 use Rattle.csp_packed.specs.declared.packed_term.PackedTerm.{PackedTerm}
 use Rattle.csp_term.specs.Term.{process_of}
-use Rattle.csp_shaping.specs.Lists.{items_of}
-use Rattle.csp_parts.specs.declared.parts.Parts.{Parts}
-use Rattle.csp_parts.specs.Known.{AreKnown, processes_of, script_in}
-use Rattle.csp_parts.specs.Serving.{ServeShapes}
-use Rattle.csp_row_firing.specs.declared.splitting.SplitRow.{SplitRow}
-use Rattle.csp_row_firing.specs.Split.{IsSplit}
-use Rattle.csp_row_firing.proofs.Apart.{split_terms}
+use Rattle.csp_numbers.specs.Lists.{items_of}
+use Rattle.csp_firing.specs.declared.parts.Parts.{Parts}
+use Rattle.csp_firing.specs.KnownSteps.{AreKnown, processes_of, script_in}
+use Rattle.csp_firing.specs.Serving.{ServeShapes}
+use Rattle.csp_rows.specs.declared.splitting.SplitRow.{SplitRow}
+use Rattle.csp_rows.specs.Split.{IsSplit}
+use Rattle.csp_rows.proofs.Apart.{split_terms}
 use Rattle.csp_firing.specs.declared.last_shape.LastShape.{LastShape}
 use Rattle.csp_firing.specs.Known.{IsShapeKept}
 use Rattle.csp_firing.specs.Rows.{AreNumbersOf, IsRowAmong}

@@ -1,7 +1,7 @@
 -- Items of a list, one after the other.
 use Rattle.std.proofs.Common.{◌≡◌, ◌<◌, ◌+◌, ℕ, zero, suc, List, [], ◌∷◌, ◌++◌, length, get_or, map, take, refl, sym, ◌∙◌, ap, ap₂, subst, arith}
 use Rattle.std.proofs.lemmas.List.{map-append}
-use Rattle.csp_answers.proofs.Adding.{take_next}
+use Rattle.theory_search.proofs.Adding.{take_next}
 use Rattle.std.specs.List.{AllByRecursion}
 
 any_default : {Y : Type 0} (ys : List Y) (i : ℕ) (d e : Y) → i < length ys → get_or ys i d ≡ get_or ys i e

@@ -4,26 +4,26 @@ use Rattle.std.specs.Prelude.{IfSome}
 use Rattle.std.specs.List.{AllByRecursion}
 use Rattle.std.specs.declared.vec.Vec.{Vec}
 use Rattle.std.proofs.lemmas.Option.{get_or_from_slice_get}
-use Rattle.csp_syntax.specs.Value.{Action, Ev, Event}
-use Rattle.csp_syntax.specs.Process.{Process, Script}
-use Rattle.csp_semantics.specs.Meaning.Expansions.{Form, Fired, IsFormOf}
-use Rattle.csp_spelling.specs.Spelling.{spelling}
-use Rattle.csp_changes.specs.declared.numbers.ActionId.{ActionId}
-use Rattle.csp_changes.specs.declared.numbers.ActionId.TheVariants as by_number
-use Rattle.csp_changes.specs.Numbering.{IsNumbered, Numbering, action_at}
-use Rattle.csp_orders.specs.InOrder.{offers_in}
-use Rattle.csp_orders.specs.Numbers.{AreAllNumbered}
+use Rattle.theory_syntax.specs.Value.{Action, Ev, Event}
+use Rattle.theory_syntax.specs.Process.{Process, Script}
+use Rattle.theory_semantics.specs.Meaning.Expansions.{Form, Fired, IsFormOf}
+use Rattle.theory_spelling.specs.Spelling.{spelling}
+use Rattle.csp_rows.specs.declared.numbers.ActionId.{ActionId}
+use Rattle.csp_rows.specs.declared.numbers.ActionId.TheVariants as by_number
+use Rattle.csp_rows.specs.Numbering.{IsNumbered, Numbering, action_at}
+use Rattle.csp_rows.specs.InOrder.{offers_in}
+use Rattle.csp_rows.specs.Numbers.{AreAllNumbered}
 use Rattle.csp_rows.specs.Row.{Row}
 use Rattle.csp_rows.specs.Targets.{SpellsTerm}
-use Rattle.alphabet.specs.Numbers.{NumbersEvents, no_event}
+use Rattle.csp_numbers.specs.Numbers.{NumbersEvents, no_event}
 use Rattle.csp_packed.specs.Within.{SpellsWithin, is_within, or_stop, term_spelled}
-use Rattle.csp_packed_expansion.specs.declared.packed_form.PackedForm.{PackedForm}
-use Rattle.csp_packed_expansion.specs.PackedForm.{form_of}
-use Rattle.csp_parts.specs.Places.{action_in}
-use Rattle.csp_row_firing.specs.declared.row.RowForm.{RowForm}
-use Rattle.csp_row_firing.specs.declared.row.RowForm.TheVariants as row_form
-use Rattle.csp_row_firing.specs.declared.row.RowStep.{RowStep}
-use Rattle.csp_row_firing.specs.Told.{Tells, items_of, steps_read, term_read}
+use Rattle.csp_packed.specs.declared.packed_form.PackedForm.{PackedForm}
+use Rattle.csp_packed.specs.PackedForm.{form_of}
+use Rattle.csp_firing.specs.Places.{action_in}
+use Rattle.csp_rows.specs.declared.row.RowForm.{RowForm}
+use Rattle.csp_rows.specs.declared.row.RowForm.TheVariants as row_form
+use Rattle.csp_rows.specs.declared.row.RowStep.{RowStep}
+use Rattle.csp_rows.specs.Told.{Tells, items_of, steps_read, term_read}
 use Rattle.csp_firing.specs.Forms.{IsPackedAs, IsPackedFormOf, IsReadable, IsStepReadable, step_in}
 
 module _ (es : List Event) (z : Numbering) (events : NumbersEvents es z) where

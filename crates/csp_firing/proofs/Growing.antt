@@ -4,20 +4,20 @@ use Rattle.std.proofs.lemmas.List.{take_more}
 use Rattle.std.specs.List.{AllByRecursion}
 use Rattle.std.specs.Option.{is_some}
 use Rattle.std.proofs.lemmas.Option.{slice_get-get_or, slice_get_within}
-use Rattle.csp_syntax.specs.Process.{Process, Script, Stop}
-use Rattle.csp_syntax.proofs.Places.{same_at}
-use Rattle.csp_alphabet.specs.Alphabet.{alphabet}
-use Rattle.csp_answers.specs.Growth.{StaysIn}
-use Rattle.csp_shapes.specs.Shape.{Shape}
-use Rattle.csp_changes.specs.declared.numbers.PartId.{PartId}
-use Rattle.csp_changes.specs.Numbering.{Numbering}
-use Rattle.alphabet.specs.Numbers.{NumbersEvents}
-use Rattle.csp_parts.specs.declared.parts.Parts.{Parts}
-use Rattle.csp_parts.specs.Changed.{Grows, IsFiredAt}
-use Rattle.csp_parts.specs.Known.{processes_of, script_in}
-use Rattle.csp_parts.specs.Places.{NumbersParts}
-use Rattle.csp_parts.specs.Serving.{AreRowFired}
-use Rattle.csp_row_firing.specs.declared.splitting.SplitRow.{SplitRow}
+use Rattle.theory_syntax.specs.Process.{Process, Script, Stop}
+use Rattle.theory_syntax.proofs.Places.{same_at}
+use Rattle.theory_shapes.specs.Alphabet.{alphabet}
+use Rattle.theory_search.specs.Growth.{StaysIn}
+use Rattle.theory_shapes.specs.Shape.{Shape}
+use Rattle.csp_rows.specs.declared.numbers.PartId.{PartId}
+use Rattle.csp_rows.specs.Numbering.{Numbering}
+use Rattle.csp_numbers.specs.Numbers.{NumbersEvents}
+use Rattle.csp_firing.specs.declared.parts.Parts.{Parts}
+use Rattle.csp_firing.specs.Changed.{Grows, IsFiredAt}
+use Rattle.csp_firing.specs.KnownSteps.{processes_of, script_in}
+use Rattle.csp_firing.specs.Places.{NumbersParts}
+use Rattle.csp_firing.specs.Serving.{AreRowFired}
+use Rattle.csp_rows.specs.declared.splitting.SplitRow.{SplitRow}
 use Rattle.csp_firing.proofs.Counting.{holds_at}
 use Rattle.csp_firing.specs.Rows.{IsRowAmong, IsTakenApart}
 

@@ -2,25 +2,25 @@
 use Rattle.std.proofs.Common.{◌≡◌, ◌<◌, ℕ, zero, suc, List, [], ◌∷◌, ◌++◌, length, get_or, set, Option, Some, None, refl, sym, ◌∙◌, ap, subst, arith}
 use Rattle.std.specs.Prelude.{IfSome}
 use Rattle.std.specs.List.{AllByRecursion}
-use Rattle.csp_syntax.specs.Process.{Process, Script}
-use Rattle.csp_changes.specs.declared.part.Part.{Part}
+use Rattle.theory_syntax.specs.Process.{Process, Script}
+use Rattle.csp_rows.specs.declared.part.Part.{Part}
 use Rattle.std.specs.declared.vec.Vec.{Vec}
-use Rattle.csp_spelling.specs.Spelling.{spelling}
+use Rattle.theory_spelling.specs.Spelling.{spelling}
 use Rattle.csp_packed.specs.Packed.{packed_process}
 use Rattle.csp_packed.specs.declared.packed_term.PackedTerm.{PackedTerm}
-use Rattle.csp_parts.specs.Known.{AreKnown, script_in}
-use Rattle.csp_parts.specs.declared.parts.Parts.{Parts}
-use Rattle.csp_parts.specs.Serving.{ServeShapes}
-use Rattle.csp_row_firing.specs.declared.splitting.SplitRow.{SplitRow}
-use Rattle.csp_row_firing.specs.Split.{IsSplitAnswer}
-use Rattle.csp_row_firing.specs.Told.{items_of}
+use Rattle.csp_firing.specs.KnownSteps.{AreKnown, script_in}
+use Rattle.csp_firing.specs.declared.parts.Parts.{Parts}
+use Rattle.csp_firing.specs.Serving.{ServeShapes}
+use Rattle.csp_rows.specs.declared.splitting.SplitRow.{SplitRow}
+use Rattle.csp_rows.specs.Split.{IsSplitAnswer}
+use Rattle.csp_rows.specs.Told.{items_of}
 use Rattle.csp_firing.specs.declared.known_parts.KnownParts.{KnownParts}
 use Rattle.csp_firing.specs.declared.kept_shapes.EarlierShape.{EarlierShape}
 use Rattle.csp_firing.specs.declared.last_shape.LastShape.{LastShape}
 use Rattle.csp_firing.specs.Known.{AreKnownOf, IsLastKept, IsRowOf, IsShapeKept, earlier_at, shape_in}
 use Rattle.csp_firing.specs.Rows.{IsRowAmong}
 use Rattle.csp_firing.proofs.Apart.{split_row}
-use Rattle.csp_changes.specs.declared.numbers.PartId.{PartId}
+use Rattle.csp_rows.specs.declared.numbers.PartId.{PartId}
 
 -- what is known is of its own script
 pub of_its_own : {A : Type 0} (script : Script) (k : KnownParts A) → AreKnownOf script k → AreKnownOf (script_in k.parts) k

@@ -2,40 +2,40 @@
 use Rattle.std.proofs.Common.{◌≡◌, ◌<◌, ◌+◌, ℕ, List, length, Option, refl, sym, ◌∙◌, ap, ap₂, subst}
 use Rattle.std.specs.Prelude.{IfSome}
 use Rattle.std.specs.List.{AllByRecursion, sum_by}
-use Rattle.csp_syntax.specs.Process.{Process, Script}
-use Rattle.csp_syntax.specs.Value.{event_cmp}
-use Rattle.csp_semantics.specs.Kinds.Scripts.{IsTermOf}
-use Rattle.csp_semantics.specs.Meaning.Limits.{size}
-use Rattle.csp_semantics.specs.Meaning.Offers.{RisesBy}
-use Rattle.csp_alphabet.specs.Alphabet.{alphabet}
-use Rattle.csp_alphabet.proofs.Numbered.{checked_rises}
-use Rattle.csp_spelling.specs.Spelling.{spelling}
-use Rattle.csp_shapes.specs.Parts.{shape_of}
-use Rattle.csp_shapes.specs.Shape.{Shape}
-use Rattle.csp_changes.specs.declared.numbers.PartId.{PartId}
-use Rattle.csp_changes.specs.declared.part.Part.{Part}
-use Rattle.csp_changes.specs.Numbering.{Numbering}
-use Rattle.csp_changes.specs.Rows.{size_at}
-use Rattle.csp_changes.specs.Shapes.{tree_of}
-use Rattle.csp_orders.proofs.Numbers.{events_rise}
-use Rattle.csp_ordering.specs.ByOrder.{IsOrderOf}
+use Rattle.theory_syntax.specs.Process.{Process, Script}
+use Rattle.theory_syntax.specs.Value.{event_cmp}
+use Rattle.theory_semantics.specs.Kinds.Scripts.{IsTermOf}
+use Rattle.theory_semantics.specs.Meaning.Limits.{size}
+use Rattle.theory_semantics.specs.Meaning.Offers.{RisesBy}
+use Rattle.theory_shapes.specs.Alphabet.{alphabet}
+use Rattle.theory_shapes.proofs.Numbered.{checked_rises}
+use Rattle.theory_spelling.specs.Spelling.{spelling}
+use Rattle.theory_shapes.specs.Parts.{shape_of}
+use Rattle.theory_shapes.specs.Shape.{Shape}
+use Rattle.csp_rows.specs.declared.numbers.PartId.{PartId}
+use Rattle.csp_rows.specs.declared.part.Part.{Part}
+use Rattle.csp_rows.specs.Numbering.{Numbering}
+use Rattle.csp_rows.specs.Rows.{size_at}
+use Rattle.csp_rows.specs.Shapes.{tree_of}
+use Rattle.csp_rows.proofs.OrderedNumbers.{events_rise}
+use Rattle.csp_rows.specs.ByOrder.{IsOrderOf}
 use Rattle.csp_rows.specs.ByParts.{IsRowByParts}
 use Rattle.csp_rows.specs.Row.{Row}
-use Rattle.csp_rows.proofs.Apart.{shape_spellable, size_told}
+use Rattle.csp_rows.proofs.RowsOfParts.{shape_spellable, size_told}
 use Rattle.csp_packed.specs.Packed.{packed_process}
 use Rattle.csp_packed.specs.declared.packed_term.PackedTerm.{PackedTerm}
 use Rattle.csp_packed.proofs.Spelled.{within_there}
 use Rattle.csp_term.specs.Term.{process_of}
-use Rattle.csp_parts.specs.declared.parts.Parts.{Parts}
-use Rattle.csp_parts.specs.Known.{AreKnown, found_cmp, processes_of, script_in}
-use Rattle.csp_parts.specs.Serving.{AreRowFired, ServeShapes}
-use Rattle.csp_parts.proofs.Serving.{numbering}
-use Rattle.csp_row_firing.specs.Lent.{StandsFor, StandsForSome, row_with}
-use Rattle.csp_row_firing.specs.Told.{Tells, TellsRow}
-use Rattle.csp_row_firing.specs.declared.row.RowForm.{RowForm}
-use Rattle.csp_row_firing.specs.declared.row.RowByNumbers.{RowByNumbers}
-use Rattle.csp_row_firing.specs.declared.splitting.SplitRow.{SplitRow}
-use Rattle.csp_packed_expansion.specs.declared.packed_form.PackedForm.{PackedForm}
+use Rattle.csp_firing.specs.declared.parts.Parts.{Parts}
+use Rattle.csp_firing.specs.KnownSteps.{AreKnown, found_cmp, processes_of, script_in}
+use Rattle.csp_firing.specs.Serving.{AreRowFired, ServeShapes}
+use Rattle.csp_firing.proofs.Serving.{numbering}
+use Rattle.csp_rows.specs.Lent.{StandsFor, StandsForSome, row_with}
+use Rattle.csp_rows.specs.Told.{Tells, TellsRow}
+use Rattle.csp_rows.specs.declared.row.RowForm.{RowForm}
+use Rattle.csp_rows.specs.declared.row.RowByNumbers.{RowByNumbers}
+use Rattle.csp_rows.specs.declared.splitting.SplitRow.{SplitRow}
+use Rattle.csp_packed.specs.declared.packed_form.PackedForm.{PackedForm}
 use Rattle.csp_firing.specs.Forms.{IsPackedAs, IsPackedFormOf, IsReadable}
 use Rattle.csp_firing.proofs.Forms.{packed, readable}
 use Rattle.csp_firing.specs.ByProcess.{by_process}

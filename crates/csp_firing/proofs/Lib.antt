@@ -1,3 +1,10 @@
+pub mod Stepping
+pub mod Adding
+pub mod FoundOrPut
+pub mod Showing
+pub mod Leading
+pub mod Serving
+pub mod Ordering
 pub mod Counting
 pub mod Numbered
 pub mod Growing

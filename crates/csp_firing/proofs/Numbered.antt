@@ -1,25 +1,25 @@
 -- The parts of a term by their numbers.
 use Rattle.std.proofs.Common.{◌≡◌, ◌<◌, ◌+◌, ℕ, List, [], ◌∷◌, ◌++◌, length, get_or, map, take, slice_get, Some, refl, ap₂}
-use Rattle.csp_answers.proofs.Adding.{take_next}
+use Rattle.theory_search.proofs.Adding.{take_next}
 use Rattle.std.specs.List.{AllByRecursion}
 use Rattle.std.proofs.lemmas.Option.{slice_get_within}
-use Rattle.csp_syntax.specs.Process.{Process, Script}
-use Rattle.csp_syntax.proofs.Places.{same_at}
-use Rattle.csp_semantics.specs.Kinds.Scripts.{IsTermOf}
-use Rattle.csp_semantics.specs.Meaning.Limits.{fits}
+use Rattle.theory_syntax.specs.Process.{Process, Script}
+use Rattle.theory_syntax.proofs.Places.{same_at}
+use Rattle.theory_semantics.specs.Kinds.Scripts.{IsTermOf}
+use Rattle.theory_semantics.specs.Meaning.Limits.{fits}
 use Rattle.std.specs.Prelude.{IsTrue}
-use Rattle.csp_answers.specs.Growth.{StaysIn}
-use Rattle.csp_shapes.specs.Parts.{parts_of, shape_of}
-use Rattle.csp_shapes.specs.Shape.{fill}
-use Rattle.csp_shapes.proofs.Apart.{as_many, filled_again}
-use Rattle.csp_shapes.proofs.ByParts.{parts_are_terms}
-use Rattle.csp_shapes.proofs.Measured.{parts_fit}
+use Rattle.theory_search.specs.Growth.{StaysIn}
+use Rattle.theory_shapes.specs.Parts.{parts_of, shape_of}
+use Rattle.theory_shapes.specs.Shape.{fill}
+use Rattle.theory_shapes.proofs.Apart.{as_many, filled_again}
+use Rattle.theory_shapes.proofs.ByParts.{parts_are_terms}
+use Rattle.theory_shapes.proofs.Measured.{parts_fit}
 use Rattle.std.proofs.Common.{sym, subst}
-use Rattle.csp_changes.specs.declared.numbers.PartId.{PartId}
-use Rattle.csp_changes.specs.Numbering.{Numbering}
-use Rattle.csp_changes.specs.Rows.{row_parts}
-use Rattle.csp_parts.specs.Kept.{IsPartOf}
-use Rattle.csp_parts.specs.Places.{NumbersParts}
+use Rattle.csp_rows.specs.declared.numbers.PartId.{PartId}
+use Rattle.csp_rows.specs.Numbering.{Numbering}
+use Rattle.csp_rows.specs.Rows.{row_parts}
+use Rattle.csp_firing.specs.Kept.{IsPartOf}
+use Rattle.csp_firing.specs.Places.{NumbersParts}
 use Rattle.csp_firing.specs.Rows.{AreNumbersOf}
 use Rattle.csp_firing.proofs.Counting.{stands_at}
 

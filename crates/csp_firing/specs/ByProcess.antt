@@ -5,11 +5,11 @@ use Rattle.std.specs.Ordering.{ordering_reverse}
 use Rattle.std.specs.declared.cmp.Ordering.{Ordering}
 use Rattle.std.specs.declared.cmp.Ordering.TheVariants.{Less, Equal}
 use Rattle.std.proofs.lemmas.Cmp.{on_total}
-use Rattle.csp_syntax.specs.Process.{Process}
-use Rattle.csp_process_order.proofs.Processes.{process_total}
-use Rattle.csp_changes.specs.declared.numbers.PartId.{PartId}
-use Rattle.csp_parts.specs.declared.parts.Parts.{Parts}
-use Rattle.csp_parts.specs.Known.{found_cmp, part_cmp, processes_of}
+use Rattle.theory_syntax.specs.Process.{Process}
+use Rattle.theory_syntax.proofs.Processes.{process_total}
+use Rattle.csp_rows.specs.declared.numbers.PartId.{PartId}
+use Rattle.csp_firing.specs.declared.parts.Parts.{Parts}
+use Rattle.csp_firing.specs.KnownSteps.{found_cmp, part_cmp, processes_of}
 
 abbrev pub by_process : {A : Type 0} → Parts A → PartId → PartId → Ordering
 by_process k p q = part_cmp (processes_of k) p.0 q.0

@@ -1,19 +1,19 @@
 -- What firing a row shows, by the events of these numbers and the terms that bytes spell.
 use Rattle.std.specs.Prelude.{◌≡◌, ⊤, ℕ, List, map, Option, Some, None}
 use Rattle.std.specs.List.{AllByRecursion}
-use Rattle.csp_syntax.specs.Value.{Action, Event}
-use Rattle.csp_syntax.specs.Process.{Process, Script}
-use Rattle.csp_semantics.specs.Meaning.Expansions.{Fired, FiredLarge, IsFormOf}
-use Rattle.csp_changes.specs.Numbering.{IsNumbered}
-use Rattle.csp_orders.specs.Numbers.{AreAllNumbered}
+use Rattle.theory_syntax.specs.Value.{Action, Event}
+use Rattle.theory_syntax.specs.Process.{Process, Script}
+use Rattle.theory_semantics.specs.Meaning.Expansions.{Fired, FiredLarge, IsFormOf}
+use Rattle.csp_rows.specs.Numbering.{IsNumbered}
+use Rattle.csp_rows.specs.Numbers.{AreAllNumbered}
 use Rattle.csp_packed.specs.Within.{SpellsWithin, term_spelled}
-use Rattle.csp_packed_expansion.specs.declared.packed_form.PackedForm.{PackedForm}
-use Rattle.csp_packed_expansion.specs.PackedForm.{form_of}
-use Rattle.csp_parts.specs.Places.{action_in}
-use Rattle.csp_row_firing.specs.declared.row.RowForm.{RowForm}
-use Rattle.csp_row_firing.specs.declared.row.RowForm.TheVariants as row
-use Rattle.csp_row_firing.specs.declared.row.RowStep.{RowStep}
-use Rattle.csp_row_firing.specs.Told.{items_of}
+use Rattle.csp_packed.specs.declared.packed_form.PackedForm.{PackedForm}
+use Rattle.csp_packed.specs.PackedForm.{form_of}
+use Rattle.csp_firing.specs.Places.{action_in}
+use Rattle.csp_rows.specs.declared.row.RowForm.{RowForm}
+use Rattle.csp_rows.specs.declared.row.RowForm.TheVariants as row
+use Rattle.csp_rows.specs.declared.row.RowStep.{RowStep}
+use Rattle.csp_rows.specs.Told.{items_of}
 
 -- the action is none by an event beyond so many, and the bytes spell a term within the limits
 abbrev pub IsStepReadable : {A : Type 0} → ℕ → RowStep A → Type 0

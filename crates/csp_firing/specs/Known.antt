@@ -1,19 +1,19 @@
 -- What is known of parts, and of the shape of a term.
 use Rattle.std.specs.Prelude.{◌≡◌, ◌<◌, ⊤, ℕ, zero, suc, IsTrue, List, [], ◌∷◌, length, Option, Some, None}
 use Rattle.std.specs.List.{AllByRecursion}
-use Rattle.csp_syntax.specs.Process.{Process, Script}
-use Rattle.csp_semantics.specs.Meaning.Limits.{fits}
-use Rattle.csp_alphabet.specs.Alphabet.{alphabet}
-use Rattle.csp_shapes.specs.Operators.{HasValues}
-use Rattle.csp_shapes.specs.Parts.{shape_of}
-use Rattle.csp_shapes.specs.Pieces.{pieces}
-use Rattle.csp_shapes.specs.Shape.{Hole, Shape}
-use Rattle.csp_spelling.specs.Spellable.{IsSpellable}
+use Rattle.theory_syntax.specs.Process.{Process, Script}
+use Rattle.theory_semantics.specs.Meaning.Limits.{fits}
+use Rattle.theory_shapes.specs.Alphabet.{alphabet}
+use Rattle.theory_shapes.specs.Operators.{HasValues}
+use Rattle.theory_shapes.specs.Parts.{shape_of}
+use Rattle.theory_shapes.specs.Pieces.{pieces}
+use Rattle.theory_shapes.specs.Shape.{Hole, Shape}
+use Rattle.theory_spelling.specs.Spellable.{IsSpellable}
 use Rattle.csp_term.specs.Term.{process_of}
-use Rattle.csp_shaping.specs.Lists.{items_of}
-use Rattle.csp_shaping.specs.Shaped.{IsMeasured}
-use Rattle.csp_parts.specs.Known.{AreKnown, script_in}
-use Rattle.csp_row_firing.specs.declared.splitting.SplitRow.{SplitRow}
+use Rattle.csp_numbers.specs.Lists.{items_of}
+use Rattle.csp_numbers.specs.Shaped.{IsMeasured}
+use Rattle.csp_firing.specs.KnownSteps.{AreKnown, script_in}
+use Rattle.csp_rows.specs.declared.splitting.SplitRow.{SplitRow}
 use Rattle.csp_firing.specs.declared.last_shape.LastShape.{LastShape}
 use Rattle.csp_firing.specs.declared.known_parts.KnownParts.{KnownParts}
 use Rattle.csp_firing.specs.declared.kept_shapes.EarlierRow.{EarlierRow}

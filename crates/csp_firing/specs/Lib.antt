@@ -1,3 +1,9 @@
+pub mod Places
+pub mod Kept
+pub mod KnownSteps
+pub mod Changed
+pub mod Fired
+pub mod Serving
 pub mod ByProcess
 pub mod Rows
 pub mod Known

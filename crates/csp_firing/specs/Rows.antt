@@ -1,18 +1,18 @@
 -- Rows of parts, as terms are known by them.
 use Rattle.std.specs.Prelude.{◌≡◌, ◌<◌, ⊤, ℕ, List, [], ◌∷◌, length, slice_get, Some}
 use Rattle.std.specs.List.{AllByRecursion}
-use Rattle.csp_syntax.specs.Process.{Process}
-use Rattle.csp_alphabet.specs.Alphabet.{alphabet}
-use Rattle.csp_shapes.specs.Shape.{Shape, fill, holes}
-use Rattle.csp_changes.specs.declared.numbers.PartId.{PartId}
-use Rattle.csp_changes.specs.Numbering.{Numbering}
-use Rattle.csp_changes.specs.Places.{AreRunsOf}
-use Rattle.csp_changes.specs.Rows.{row_parts}
-use Rattle.alphabet.specs.Numbers.{NumbersEvents}
-use Rattle.csp_parts.specs.declared.parts.Parts.{Parts}
-use Rattle.csp_parts.specs.Known.{processes_of, script_in}
-use Rattle.csp_parts.specs.Places.{NumbersParts}
-use Rattle.csp_row_firing.specs.declared.splitting.SplitRow.{SplitRow}
+use Rattle.theory_syntax.specs.Process.{Process}
+use Rattle.theory_shapes.specs.Alphabet.{alphabet}
+use Rattle.theory_shapes.specs.Shape.{Shape, fill, holes}
+use Rattle.csp_rows.specs.declared.numbers.PartId.{PartId}
+use Rattle.csp_rows.specs.Numbering.{Numbering}
+use Rattle.csp_rows.specs.Places.{AreRunsOf}
+use Rattle.csp_rows.specs.Rows.{row_parts}
+use Rattle.csp_numbers.specs.Numbers.{NumbersEvents}
+use Rattle.csp_firing.specs.declared.parts.Parts.{Parts}
+use Rattle.csp_firing.specs.KnownSteps.{processes_of, script_in}
+use Rattle.csp_firing.specs.Places.{NumbersParts}
+use Rattle.csp_rows.specs.declared.splitting.SplitRow.{SplitRow}
 
 -- The numbers of events and of parts are their places.
 pub record NumbersAll {A : Type 0} (k : Parts A) (z : Numbering) : Type 0 where

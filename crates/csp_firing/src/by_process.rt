@@ -1,8 +1,7 @@
 //! The order of parts by their processes.
 
-use csp_changes::PartId;
-use csp_ordering::PartOrder;
-use csp_parts::Parts;
+use crate::parts::Parts;
+use csp_rows::{PartId, PartOrder};
 use csp_term::AllocHandle;
 use std::cmp::Ordering;
 

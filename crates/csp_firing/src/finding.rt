@@ -1,12 +1,12 @@
 //! Terms found as rows of known parts.
 
 ghost use Rattle.std.specs.Prelude.{◌≡◌, IfOk, IfSome, IsTrue};
-ghost use Rattle.csp_semantics.specs.Kinds.Scripts.{IsTermOf};
-ghost use Rattle.csp_semantics.specs.Meaning.Limits.{fits};
-ghost use Rattle.csp_spelling.specs.Spellable.{IsSpellable};
-ghost use Rattle.csp_shapes.specs.Parts.{parts_of as parts_of_process};
+ghost use Rattle.theory_semantics.specs.Kinds.Scripts.{IsTermOf};
+ghost use Rattle.theory_semantics.specs.Meaning.Limits.{fits};
+ghost use Rattle.theory_spelling.specs.Spellable.{IsSpellable};
+ghost use Rattle.theory_shapes.specs.Parts.{parts_of as parts_of_process};
 ghost use Rattle.csp_packed.specs.Packed.{packed_process};
-ghost use Rattle.csp_parts.specs.Known.{processes_of};
+ghost use Rattle.csp_firing.specs.KnownSteps.{processes_of};
 ghost use Rattle.csp_term.specs.Script.{script_of};
 ghost use Rattle.csp_term.specs.Term.{process_of};
 ghost use Rattle.csp_firing.specs.Known.{AreKnownOf, IsFound, IsRowOf};
@@ -16,10 +16,9 @@ use crate::known_parts::KnownParts;
 use crate::last_shape::LastShape;
 use crate::numbering::number_all;
 use crate::tried::Tried;
-use csp_changes::PartId;
+use csp_numbers::{own_size_of, parts_of, places_of};
 use csp_packed::PackedTerm;
-use csp_row_firing::SplitRow;
-use csp_shaping::{own_size_of, parts_of, places_of};
+use csp_rows::{PartId, SplitRow};
 use csp_spell::{UnpackFault, unpack};
 use csp_term::{AllocHandle, Memory, Script, Term};
 

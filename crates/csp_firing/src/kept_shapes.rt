@@ -2,7 +2,7 @@
 
 ghost use Rattle.std.specs.Prelude.{◌≡◌, ◌<◌, IfOk, IfSome, Some, length};
 ghost use Rattle.csp_packed.specs.Packed.{packed_process};
-ghost use Rattle.csp_parts.specs.Known.{script_in};
+ghost use Rattle.csp_firing.specs.KnownSteps.{script_in};
 ghost use Rattle.csp_firing.specs.Known.{AreKnownOf, IsEarlierRowOf, IsLastKept, IsRowOf, IsShapeKept, earlier_at, shape_in};
 ghost use Rattle.csp_firing.specs.Rows.{IsRowAmong};
 
@@ -10,7 +10,7 @@ use crate::known_parts::KnownParts;
 use crate::last_shape::LastShape;
 use crate::tried::Tried;
 use csp_packed::PackedTerm;
-use csp_row_firing::{SplitRow, split};
+use csp_rows::{SplitRow, split};
 use csp_term::{AllocHandle, Memory};
 use std::mem::{replace, swap};
 

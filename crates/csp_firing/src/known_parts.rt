@@ -1,7 +1,7 @@
 //! What is known of the parts of terms.
 
 ghost use Rattle.std.specs.Prelude.{◌≡◌, IfOk};
-ghost use Rattle.csp_semantics.specs.Kinds.Scripts.{IsTermOf};
+ghost use Rattle.theory_semantics.specs.Kinds.Scripts.{IsTermOf};
 ghost use Rattle.csp_packed.specs.Packed.{packed_process};
 ghost use Rattle.csp_term.specs.Script.{script_of};
 ghost use Rattle.csp_firing.specs.Known.{AreKnownOf, IsKnownOf};
@@ -9,12 +9,11 @@ ghost use Rattle.csp_firing.specs.Known.{AreKnownOf, IsKnownOf};
 use crate::finding::Found;
 use crate::kept_shapes::EarlierShape;
 use crate::last_shape::LastShape;
+use crate::parts::Parts;
 use crate::tried::Tried;
 use crate::whole::expand_whole;
-use alphabet::Alphabet;
-use csp_packed::PackedTerm;
-use csp_packed_expansion::PackedExpansion;
-use csp_parts::Parts;
+use csp_numbers::Alphabet;
+use csp_packed::{PackedExpansion, PackedTerm};
 use csp_term::{AllocHandle, Memory, Script};
 
 // The most events that are numbered.

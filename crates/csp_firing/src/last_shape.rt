@@ -1,15 +1,14 @@
 //! The shape of a term that was taken apart.
 
 ghost use Rattle.std.specs.Prelude.{◌≡◌, IfOk, IsTrue};
-ghost use Rattle.csp_alphabet.specs.Alphabet.{alphabet as events_of_script};
-ghost use Rattle.csp_semantics.specs.Meaning.Limits.{fits};
-ghost use Rattle.csp_spelling.specs.Spellable.{IsSpellable};
+ghost use Rattle.theory_shapes.specs.Alphabet.{alphabet as events_of_script};
+ghost use Rattle.theory_semantics.specs.Meaning.Limits.{fits};
+ghost use Rattle.theory_spelling.specs.Spellable.{IsSpellable};
 ghost use Rattle.csp_term.specs.Script.{script_of};
 ghost use Rattle.csp_term.specs.Term.{process_of};
 ghost use Rattle.csp_firing.specs.Known.{IsShapeAnswered};
 
-use alphabet::Alphabet;
-use csp_shaping::{MeasuredShape, pieces_of, shape_of};
+use csp_numbers::{Alphabet, MeasuredShape, pieces_of, shape_of};
 use csp_term::{AllocHandle, Memory, Script, Term, TryCopy};
 
 /// The shape of a term, with what tells its rows.

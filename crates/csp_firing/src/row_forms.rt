@@ -1,10 +1,10 @@
 //! What firing shows of rows of known parts.
 
 ghost use Rattle.std.specs.Prelude.{◌≡◌, IfOk, IfSome};
-ghost use Rattle.csp_semantics.specs.Kinds.Scripts.{IsTermOf};
+ghost use Rattle.theory_semantics.specs.Kinds.Scripts.{IsTermOf};
 ghost use Rattle.csp_packed.specs.Packed.{packed_process};
-ghost use Rattle.csp_parts.specs.Known.{script_in};
-ghost use Rattle.csp_parts.specs.Serving.{AreRowFired};
+ghost use Rattle.csp_firing.specs.KnownSteps.{script_in};
+ghost use Rattle.csp_firing.specs.Serving.{AreRowFired};
 ghost use Rattle.csp_term.specs.Script.{script_of};
 ghost use Rattle.csp_firing.specs.Forms.{IsPackedFormOf};
 ghost use Rattle.csp_firing.specs.Known.{AreKnownOf, IsRowOf};
@@ -15,9 +15,8 @@ use crate::nodes::nodes_of;
 use crate::numbering::fire_all;
 use crate::packing::packed_form;
 use crate::whole::expand_whole;
-use csp_packed::{KeptTerm, PackedTerm};
-use csp_packed_expansion::{PackedExpansion, PackedForm};
-use csp_row_firing::{RowByNumbers, SplitRow, fire_row};
+use csp_packed::{KeptTerm, PackedExpansion, PackedForm, PackedTerm};
+use csp_rows::{RowByNumbers, SplitRow, fire_row};
 use csp_term::{AllocHandle, Memory, Script, TryCopy};
 
 impl<'s, A: AllocHandle> KnownParts<'s, A> {

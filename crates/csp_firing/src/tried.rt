@@ -1,6 +1,6 @@
 //! The parts that are tried in the holes of a shape.
 
-use csp_changes::{Part, PartId, PartStep};
+use csp_rows::{Part, PartId, PartStep};
 use csp_term::Memory;
 use std::alloc::Allocator;
 

@@ -1,12 +1,12 @@
 //! Terms that are fired as a whole.
 
 ghost use Rattle.std.specs.Prelude.{◌≡◌, IfOk};
-ghost use Rattle.csp_semantics.specs.Kinds.Scripts.{IsTermOf};
+ghost use Rattle.theory_semantics.specs.Kinds.Scripts.{IsTermOf};
 ghost use Rattle.csp_term.specs.Script.{script_of};
 ghost use Rattle.csp_term.specs.Term.{process_of};
 
 use csp_fire::fire;
-use csp_packed_expansion::PackedExpansion;
+use csp_packed::PackedExpansion;
 use csp_term::{AllocHandle, Memory, Script, Term};
 
 /// The expansion of a term of the script by its rules alone, packed.

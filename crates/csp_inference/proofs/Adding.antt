@@ -1,7 +1,7 @@
 -- Equations are added part by part.
 use Rattle.std.proofs.Common.{◌≡◌, ℕ, List, [], ◌∷◌, ◌++◌, refl, ◌∙◌, ap, append_assoc, Result, Ok, Err}
 use Rattle.std.specs.Prelude.{IfOk}
-use Rattle.csp_checking.specs.Inference.State as pure
+use Rattle.theory_checking.specs.Inference.State as pure
 use Rattle.csp_inference.specs.declared.equations.Equations.{Equations}
 use Rattle.csp_inference.specs.Equations.{Adds, KnowsTheSame, equations_of}
 

@@ -3,15 +3,15 @@ use Rattle.std.proofs.Common.{◌≡◌, ◌≢◌, ℕ, suc, ◌+◌, ◌<◌, 
 use Rattle.std.specs.Prelude.{slice_get, option_map}
 use Rattle.std.proofs.lemmas.List.{drop_more, drop_all}
 use Rattle.std.proofs.lemmas.Option.{slice_get-get_or, slice_get-map, slice_get_past}
-use Rattle.csp_syntax.specs.Expression as expression
-use Rattle.csp_syntax.specs.Expression.{to_expressions}
-use Rattle.csp_syntax.specs.Types.{Types}
-use Rattle.csp_checking.specs.Inference.Chain as chain
-use Rattle.csp_checking.specs.Inference.State as pure
-use Rattle.csp_checking.specs.Inference.Equations as numbers
-use Rattle.csp_checking.specs.Inference.Equations.{never, when}
-use Rattle.csp_checking.specs.Inference.Expressions.{behind_expression, of_expression, of_all, of_first}
-use Rattle.csp_checking.proofs.Unifying.{solves_back, solves_front}
+use Rattle.theory_syntax.specs.Expression as expression
+use Rattle.theory_syntax.specs.Expression.{to_expressions}
+use Rattle.theory_syntax.specs.Types.{Types}
+use Rattle.theory_checking.specs.Inference.Chain as chain
+use Rattle.theory_checking.specs.Inference.State as pure
+use Rattle.theory_checking.specs.Inference.Equations as numbers
+use Rattle.theory_checking.specs.Inference.Equations.{never, when}
+use Rattle.theory_checking.specs.Inference.Expressions.{behind_expression, of_expression, of_all, of_first}
+use Rattle.theory_checking.proofs.Unifying.{solves_back, solves_front}
 use Rattle.csp_inference.specs.declared.equations.Equations.{Equations}
 use Rattle.csp_inference.specs.Equations.{Adds, AreHopeless, Asks, KnowsTheSame, exactly, hopelessly, equations_of}
 use Rattle.csp_inference.proofs.Adding.{adds_then, adds_same, knows_then}

@@ -3,22 +3,22 @@ use Rattle.std.proofs.Common.{◌≡◌, ℕ, List, ◌++◌, map, Some, refl, s
 use Rattle.std.specs.Prelude.{slice_get, option_map}
 use Rattle.std.specs.declared.boxed.Box.{Box}
 use Rattle.std.specs.declared.vec.Vec.{Vec}
-use Rattle.csp_syntax.specs.Process as pure
-use Rattle.csp_syntax.specs.Types.{Types}
-use Rattle.csp_checking.specs.Inference.State.{KindEquation}
-use Rattle.csp_checking.specs.Inference.Equations as numbers
-use Rattle.csp_checking.specs.Inference.Equations.{when}
-use Rattle.csp_checking.specs.Inference.Expressions.{behind_expressions, of_all, of_first}
-use Rattle.csp_checking.specs.Inference.Processes.{behind_event, behind_event_set, behind_events, of_beginning, of_beginnings, of_event, of_event_set, of_events}
+use Rattle.theory_syntax.specs.Process as pure
+use Rattle.theory_syntax.specs.Types.{Types}
+use Rattle.theory_checking.specs.Inference.State.{KindEquation}
+use Rattle.theory_checking.specs.Inference.Equations as numbers
+use Rattle.theory_checking.specs.Inference.Equations.{when}
+use Rattle.theory_checking.specs.Inference.Expressions.{behind_expressions, of_all, of_first}
+use Rattle.theory_checking.specs.Inference.Processes.{behind_event, behind_event_set, behind_events, of_beginning, of_beginnings, of_event, of_event_set, of_events}
 use Rattle.csp_event_sets.specs.declared.event_expression.EventExpression.{EventExpression}
 use Rattle.csp_event_sets.specs.declared.event_set.EventSet.{EventSet}
 use Rattle.csp_event_sets.specs.declared.event_set.EventSet.TheVariants as views
-use Rattle.csp_syntax.specs.declared.event_set_operator.EventSetOperator.{EventSetOperator}
-use Rattle.csp_syntax.specs.declared.event_set_operator.EventSetOperator.TheVariants as operator
+use Rattle.theory_syntax.specs.declared.event_set_operator.EventSetOperator.{EventSetOperator}
+use Rattle.theory_syntax.specs.declared.event_set_operator.EventSetOperator.TheVariants as operator
 use Rattle.csp_event_sets.specs.Events.{event_expression_of, event_expressions_of, event_set_of}
-use Rattle.csp_syntax.specs.Operators.{combined}
+use Rattle.theory_syntax.specs.Operators.{combined}
 use Rattle.csp_event_sets.proofs.EventForms as forms
-use Rattle.csp_syntax.specs.Expression.{to_expressions}
+use Rattle.theory_syntax.specs.Expression.{to_expressions}
 use Rattle.std.proofs.lemmas.Option.{slice_get-map}
 use Rattle.csp_expression.specs.declared.expr.Expr.{Expr}
 use Rattle.csp_expression.specs.Expression.{expressions_of}

@@ -1,20 +1,20 @@
 -- Fields of prefixes ask in turn.
 use Rattle.std.proofs.Common.{◌≡◌, ◌≢◌, ℕ, suc, ◌+◌, ◌<◌, ◌≤◌, List, [], ◌∷◌, ◌++◌, length, map, drop, get_or, refl, sym, subst, inr, ◌∙◌, ap, ap₂, append-nil, arith}
 use Rattle.std.proofs.lemmas.List.{drop_more, drop_all, drop-map, get_or_default}
-use Rattle.csp_syntax.specs.Process.{Field, Given, Input, InputFrom}
-use Rattle.csp_syntax.specs.Types.{Types}
-use Rattle.csp_checking.specs.Inference.Chain as chain
-use Rattle.csp_checking.specs.Inference.Equations as numbers
-use Rattle.csp_checking.specs.Inference.Expressions.{behind_expression, of_expression}
-use Rattle.csp_checking.specs.Inference.Processes.{behind_fields, names_behind, of_fields}
+use Rattle.theory_syntax.specs.Process.{Field, Given, Input, InputFrom}
+use Rattle.theory_syntax.specs.Types.{Types}
+use Rattle.theory_checking.specs.Inference.Chain as chain
+use Rattle.theory_checking.specs.Inference.Equations as numbers
+use Rattle.theory_checking.specs.Inference.Expressions.{behind_expression, of_expression}
+use Rattle.theory_checking.specs.Inference.Processes.{behind_fields, names_behind, of_fields}
 use Rattle.csp_inference.specs.declared.chain.KindNumber.{KindNumber}
 use Rattle.csp_inference.specs.declared.equations.Equations.{Equations}
 use Rattle.csp_inference.specs.Equations.{Adds, AreHopeless, Asks, HasNames, equations_of, exactly, names_behind_prefix}
 use Rattle.csp_inference.specs.declared.numbering.Numbering.{Numbering}
 use Rattle.csp_inference.specs.Numbering.{numbering_of}
-use Rattle.csp_checking.specs.Inference.Equations.{never, when}
-use Rattle.csp_checking.specs.Inference.Expressions.{behind_expressions, of_all}
-use Rattle.csp_syntax.specs.Expression.{Expression, to_expressions}
+use Rattle.theory_checking.specs.Inference.Equations.{never, when}
+use Rattle.theory_checking.specs.Inference.Expressions.{behind_expressions, of_all}
+use Rattle.theory_syntax.specs.Expression.{Expression, to_expressions}
 use Rattle.csp_expression.specs.declared.expr.Expr.{Expr}
 use Rattle.csp_expression.specs.Expression.{expressions_of}
 use Rattle.std.specs.declared.vec.Vec.{Vec}

@@ -1,19 +1,19 @@
 -- Processes ask part by part.
 use Rattle.std.proofs.Common.{◌≡◌, ℕ, suc, List, [], ◌∷◌, ◌++◌, Option, Some, None, refl, sym, inl, inr, ◌∙◌, ap, append_assoc}
 use Rattle.std.specs.Prelude.{slice_get}
-use Rattle.csp_syntax.specs.Expression.{Expression}
-use Rattle.csp_syntax.specs.Process.{Field, EventSet, RenamingPair, Script, Process, Prefix, Guard, If, GeneralisedParallel, AlphabetisedParallel, Hiding, Renaming, SlidingChoice}
-use Rattle.csp_checking.specs.Inference.Chain as chain
-use Rattle.csp_checking.specs.Inference.State.{KindEquation}
-use Rattle.csp_checking.specs.Inference.Equations as numbers
-use Rattle.csp_checking.specs.Inference.Equations.{never, when}
-use Rattle.csp_checking.specs.Inference.Expressions.{behind_expression, of_expression}
-use Rattle.csp_checking.specs.Inference.Processes.{behind_event_set, behind_fields, behind_pairs, behind_process, names_behind, of_event_set, of_fields, of_pairs, of_process}
-use Rattle.csp_syntax.specs.declared.process_operator.ProcessOperator.{ProcessOperator}
-use Rattle.csp_syntax.specs.declared.process_operator.ProcessOperator.TheVariants as binary
-use Rattle.csp_syntax.specs.declared.process_operator.ReplicatedOperator.{ReplicatedOperator}
-use Rattle.csp_syntax.specs.declared.process_operator.ReplicatedOperator.TheVariants as replicated
-use Rattle.csp_syntax.specs.Operators.{binary_process, replicated_process}
+use Rattle.theory_syntax.specs.Expression.{Expression}
+use Rattle.theory_syntax.specs.Process.{Field, EventSet, RenamingPair, Script, Process, Prefix, Guard, If, GeneralisedParallel, AlphabetisedParallel, Hiding, Renaming, SlidingChoice}
+use Rattle.theory_checking.specs.Inference.Chain as chain
+use Rattle.theory_checking.specs.Inference.State.{KindEquation}
+use Rattle.theory_checking.specs.Inference.Equations as numbers
+use Rattle.theory_checking.specs.Inference.Equations.{never, when}
+use Rattle.theory_checking.specs.Inference.Expressions.{behind_expression, of_expression}
+use Rattle.theory_checking.specs.Inference.Processes.{behind_event_set, behind_fields, behind_pairs, behind_process, names_behind, of_event_set, of_fields, of_pairs, of_process}
+use Rattle.theory_syntax.specs.declared.process_operator.ProcessOperator.{ProcessOperator}
+use Rattle.theory_syntax.specs.declared.process_operator.ProcessOperator.TheVariants as binary
+use Rattle.theory_syntax.specs.declared.process_operator.ReplicatedOperator.{ReplicatedOperator}
+use Rattle.theory_syntax.specs.declared.process_operator.ReplicatedOperator.TheVariants as replicated
+use Rattle.theory_syntax.specs.Operators.{binary_process, replicated_process}
 use Rattle.csp_inference.specs.declared.equations.Equations.{Equations}
 use Rattle.csp_inference.specs.Equations.{Adds, AreHopeless, Asks, HasNames, equations_of, exactly, hopelessly, names_behind_prefix}
 use Rattle.csp_inference.proofs.Adding.{knows_then}

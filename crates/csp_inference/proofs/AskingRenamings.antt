@@ -11,15 +11,15 @@ use Rattle.std.specs.declared.alloc.Allocator as allocator
 use Rattle.std.specs.Cmp.Lexicographic.{slice_cmp}
 use Rattle.std.specs.FinMap.{slice_cmp-IsAntisymmetric}
 use Rattle.std.specs.Ordering.{is_eq}
-use Rattle.csp_syntax.specs.Value as pure
-use Rattle.csp_syntax.specs.Expression.{to_expressions}
-use Rattle.csp_syntax.specs.Process as process
-use Rattle.csp_semantics.specs.Meaning.Events.{is_bare, same_sets}
-use Rattle.csp_syntax.proofs.Equalities.{is_eq-Equal, value_same}
-use Rattle.csp_syntax.proofs.Orders.{value_total}
-use Rattle.csp_checking.specs.Inference.State.{KindEquation}
-use Rattle.csp_checking.specs.Inference.Equations as numbers
-use Rattle.csp_checking.specs.Inference.Processes.{are_bare_alike, are_same_sets, behind_event, behind_pairs, of_event, of_pair, of_pairs}
+use Rattle.theory_syntax.specs.Value as pure
+use Rattle.theory_syntax.specs.Expression.{to_expressions}
+use Rattle.theory_syntax.specs.Process as process
+use Rattle.theory_semantics.specs.Meaning.Events.{is_bare, same_sets}
+use Rattle.theory_syntax.proofs.Equalities.{is_eq-Equal, value_same}
+use Rattle.theory_syntax.proofs.Orders.{value_total}
+use Rattle.theory_checking.specs.Inference.State.{KindEquation}
+use Rattle.theory_checking.specs.Inference.Equations as numbers
+use Rattle.theory_checking.specs.Inference.Processes.{are_bare_alike, are_same_sets, behind_event, behind_pairs, of_event, of_pair, of_pairs}
 use Rattle.csp_value.specs.declared.field_set.FieldSet.{FieldSet}
 use Rattle.csp_value.specs.contracts.field_set.FieldSetPartialEq.TheImpl as field_impl
 use Rattle.csp_value.specs.Value.{members_of}

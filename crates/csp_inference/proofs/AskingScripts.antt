@@ -2,11 +2,11 @@
 use Rattle.std.proofs.Common.{Option, Some, None, subst, ◌≡◌, ◌≢◌, ℕ, ◌+◌, ◌<◌, ◌≤◌, nat_eq, List, [], ◌∷◌, ◌++◌, length, map, drop, get_or, refl, sym, ◌∙◌, ap, ap₂, append_assoc, append-nil, arith}
 use Rattle.std.proofs.lemmas.Bool.{cond-true, cond-false, eq-eqb, ne_eqb}
 use Rattle.std.proofs.lemmas.List.{drop_more, drop_all, map-append}
-use Rattle.csp_syntax.specs.Process.{Script, Process, Equation, Assertion, specification_of}
-use Rattle.csp_checking.specs.Inference.Equations as numbers
-use Rattle.csp_checking.specs.Inference.Equations.{never}
-use Rattle.csp_checking.specs.Inference.Items.{numbered, of_assertion, of_equation, of_specification, behind_assertion, behind_specification}
-use Rattle.csp_checking.specs.Inference.Processes.{behind_process, of_process}
+use Rattle.theory_syntax.specs.Process.{Script, Process, Equation, Assertion, specification_of}
+use Rattle.theory_checking.specs.Inference.Equations as numbers
+use Rattle.theory_checking.specs.Inference.Equations.{never}
+use Rattle.theory_checking.specs.Inference.Items.{numbered, of_assertion, of_equation, of_specification, behind_assertion, behind_specification}
+use Rattle.theory_checking.specs.Inference.Processes.{behind_process, of_process}
 use Rattle.csp_expression.specs.declared.name.Name.{Name}
 use Rattle.csp_inference.specs.declared.chain.KindNumber.{KindNumber}
 use Rattle.csp_inference.specs.declared.numbering.NumberedName.{NumberedName}

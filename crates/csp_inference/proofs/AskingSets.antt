@@ -2,11 +2,11 @@
 use Rattle.std.proofs.Common.{ℕ, ◌+◌, ◌<◌, List, length, map, get_or, refl}
 use Rattle.std.specs.Prelude.{Some}
 use Rattle.std.proofs.lemmas.List.{get_or_default}
-use Rattle.csp_syntax.specs.Expression.{Expression}
-use Rattle.csp_syntax.specs.Types.{Types}
-use Rattle.csp_checking.specs.Inference.State.{KindEquation}
-use Rattle.csp_checking.specs.Inference.Equations as numbers
-use Rattle.csp_checking.specs.Inference.Items.{behind_copies, behind_set, of_copies, of_set}
+use Rattle.theory_syntax.specs.Expression.{Expression}
+use Rattle.theory_syntax.specs.Types.{Types}
+use Rattle.theory_checking.specs.Inference.State.{KindEquation}
+use Rattle.theory_checking.specs.Inference.Equations as numbers
+use Rattle.theory_checking.specs.Inference.Items.{behind_copies, behind_set, of_copies, of_set}
 use Rattle.csp_inference.specs.declared.chain.KindNumber.{KindNumber}
 use Rattle.csp_inference.specs.declared.equations.Equations.{Equations}
 use Rattle.csp_inference.specs.Equations.{Asks}

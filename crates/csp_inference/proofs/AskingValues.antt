@@ -2,15 +2,15 @@
 use Rattle.std.proofs.Common.{◌≡◌, ◌≢◌, ℕ, zero, suc, ◌+◌, ◌<◌, ◌≤◌, true, false, cond, List, [], ◌∷◌, ◌++◌, append-nil, length, map, drop, get_or, refl, sym, ◌∙◌, ap, ap₂, arith}
 use Rattle.std.proofs.lemmas.List.{drop_all, get_or_default, length-map}
 use Rattle.std.specs.declared.vec.Vec.{Vec}
-use Rattle.csp_syntax.specs.Value as pure
-use Rattle.csp_syntax.specs.Value.{to_values}
-use Rattle.csp_semantics.specs.Meaning.Limits.{value_size, values_size}
-use Rattle.csp_semantics.specs.Meaning.Offers.{rises}
-use Rattle.csp_checking.specs.Inference.Chain as chain
-use Rattle.csp_checking.specs.Inference.State as state
-use Rattle.csp_checking.specs.Inference.Equations as numbers
-use Rattle.csp_checking.specs.Inference.Equations.{never}
-use Rattle.csp_checking.specs.Inference.Expressions.{behind_value, behind_values, of_rising, of_value, of_values, of_values_in_turn}
+use Rattle.theory_syntax.specs.Value as pure
+use Rattle.theory_syntax.specs.Value.{to_values}
+use Rattle.theory_semantics.specs.Meaning.Limits.{value_size, values_size}
+use Rattle.theory_semantics.specs.Meaning.Offers.{rises}
+use Rattle.theory_checking.specs.Inference.Chain as chain
+use Rattle.theory_checking.specs.Inference.State as state
+use Rattle.theory_checking.specs.Inference.Equations as numbers
+use Rattle.theory_checking.specs.Inference.Equations.{never}
+use Rattle.theory_checking.specs.Inference.Expressions.{behind_value, behind_values, of_rising, of_value, of_values, of_values_in_turn}
 use Rattle.csp_value.specs.declared.name.ConId.{ConId}
 use Rattle.csp_value.specs.declared.value.Value.{Value}
 use Rattle.csp_value.specs.declared.value.Value.TheVariants as views

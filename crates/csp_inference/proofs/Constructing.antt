@@ -3,9 +3,9 @@ use Rattle.std.proofs.Common.{◌≡◌, ℕ, List, [], ◌∷◌, map, Some, No
 use Rattle.std.specs.Prelude.{slice_get, option_map}
 use Rattle.std.specs.declared.vec.Vec.{Vec}
 use Rattle.std.proofs.lemmas.Option.{slice_get-map}
-use Rattle.csp_checking.specs.Inference.Chain.{Chain, DatatypeEnd}
-use Rattle.csp_checking.specs.Inference.State.{KindEquation}
-use Rattle.csp_checking.specs.Inference.Equations.{never, when}
+use Rattle.theory_checking.specs.Inference.Chain.{Chain, DatatypeEnd}
+use Rattle.theory_checking.specs.Inference.State.{KindEquation}
+use Rattle.theory_checking.specs.Inference.Equations.{never, when}
 use Rattle.csp_expression.specs.declared.name.DatatypeId.{DatatypeId}
 use Rattle.csp_inference.specs.declared.chain.KindNumber.{KindNumber}
 use Rattle.csp_inference.specs.declared.equations.Equations.{Equations}

@@ -3,9 +3,9 @@ use Rattle.std.proofs.Common.{◌≡◌, ◌≢◌, ℕ, ◌+◌, ◌<◌, List,
 use Rattle.std.specs.Prelude.{option_map, unwrap_or}
 use Rattle.std.proofs.lemmas.List.{map-set, get_or-map, length-map}
 use Rattle.std.proofs.lemmas.List.Edits.{map_over_more}
-use Rattle.csp_checking.specs.Inference.Chain as pure
-use Rattle.csp_checking.specs.Inference.Chain.{with_ends}
-use Rattle.csp_checking.specs.Inference.State.{state_of, looked_up}
+use Rattle.theory_checking.specs.Inference.Chain as pure
+use Rattle.theory_checking.specs.Inference.Chain.{with_ends}
+use Rattle.theory_checking.specs.Inference.State.{state_of, looked_up}
 use Rattle.csp_inference.specs.declared.chain.KindNumber.{KindNumber}
 use Rattle.csp_inference.specs.declared.chain.End.{End}
 use Rattle.csp_inference.specs.declared.chain.End.TheVariants as ending

@@ -3,8 +3,8 @@ use Rattle.std.proofs.Common.{◌≡◌, ◌≢◌, ℕ, ◌+◌, ◌-◌, ◌<�
 use Rattle.std.proofs.lemmas.List.{drop_more, take_rest}
 use Rattle.std.proofs.Math.ListN.{drop_of_length-le}
 use Rattle.std.proofs.lemmas.Bool.{cond-true, cond-false, eqb-true, eq-eqb}
-use Rattle.csp_checking.specs.Inference.Chain as pure
-use Rattle.csp_checking.specs.Inference.Chain.{with_ends, in_place_of}
+use Rattle.theory_checking.specs.Inference.Chain as pure
+use Rattle.theory_checking.specs.Inference.Chain.{with_ends, in_place_of}
 use Rattle.csp_inference.specs.declared.chain.KindNumber.{KindNumber}
 use Rattle.csp_inference.specs.declared.chain.End.{End}
 use Rattle.csp_inference.specs.declared.chain.End.TheVariants as ending

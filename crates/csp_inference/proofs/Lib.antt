@@ -14,3 +14,14 @@ pub mod AskingProcesses
 pub mod AskingRenamings
 pub mod AskingScripts
 pub mod AskingSets
+pub mod AskingItems
+pub mod Columns
+pub mod Copying
+pub mod Counting
+pub mod Fitting
+pub mod ItemsInTurn
+pub mod Listing
+pub mod OneMore
+pub mod Rowing
+pub mod SetsInTurn
+pub mod SolvedInTurn

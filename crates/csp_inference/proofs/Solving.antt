@@ -1,9 +1,9 @@
 -- Equations are solved one after the other.
 use Rattle.std.proofs.Common.{ℕ, ◌+◌, ◌<◌, List, [], ◌∷◌, ◌++◌, length, map, take, drop, get_or, Err, sym, subst, ◌∙◌, ap}
 use Rattle.std.proofs.lemmas.List.{take_more, drop_more, take-append-drop, map-append}
-use Rattle.csp_checking.specs.Inference.State as pure
-use Rattle.csp_checking.specs.Inference.State.{State, IsSolved, HasNoSolution}
-use Rattle.csp_checking.proofs.Unifying.{solved_then, unsolved_then, unsolved_first}
+use Rattle.theory_checking.specs.Inference.State as pure
+use Rattle.theory_checking.specs.Inference.State.{State, IsSolved, HasNoSolution}
+use Rattle.theory_checking.proofs.Unifying.{solved_then, unsolved_then, unsolved_first}
 use Rattle.csp_inference.specs.declared.equations.KindEquation.{KindEquation}
 use Rattle.csp_inference.specs.declared.misfit.Misfit.{Misfit}
 use Rattle.csp_inference.specs.declared.misfit.Misfit.TheVariants as misfit

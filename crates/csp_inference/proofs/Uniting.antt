@@ -2,10 +2,10 @@
 use Rattle.std.proofs.Common.{◌≡◌, ◌≢◌, ℕ, ◌<◌, nat_eq, true, false, cond, List, [], ◌∷◌, length, map, set, Option, Some, None, Result, Ok, Err, refl, sym, subst, ◌∙◌, ap, arith}
 use Rattle.std.specs.Prelude.{option_map}
 use Rattle.std.proofs.lemmas.Bool.{cond-true, cond-false, eq-eqb, ne_eqb}
-use Rattle.csp_checking.specs.Inference.Chain as pure
-use Rattle.csp_checking.specs.Inference.Chain.{open_end, with_ends, in_place_of}
-use Rattle.csp_checking.specs.Inference.State.{State, state_of, bound_to, ends_in, bind_open, unify_resolved, unify, IsResolved}
-use Rattle.csp_checking.proofs.Unifying as unifying
+use Rattle.theory_checking.specs.Inference.Chain as pure
+use Rattle.theory_checking.specs.Inference.Chain.{open_end, with_ends, in_place_of}
+use Rattle.theory_checking.specs.Inference.State.{State, state_of, bound_to, ends_in, bind_open, unify_resolved, unify, IsResolved}
+use Rattle.theory_checking.proofs.Unifying as unifying
 use Rattle.csp_inference.specs.declared.chain.KindNumber.{KindNumber}
 use Rattle.csp_inference.specs.declared.chain.End.{End}
 use Rattle.csp_inference.specs.declared.chain.End.TheVariants as ending

@@ -1,6 +1,6 @@
 -- The kind with an open end that one of the code stands for.
 use Rattle.std.specs.Prelude.{List, [], ◌∷◌}
-use Rattle.csp_checking.specs.Inference.Chain as pure
+use Rattle.theory_checking.specs.Inference.Chain as pure
 use Rattle.csp_inference.specs.declared.chain.End.{End}
 use Rattle.csp_inference.specs.declared.chain.End.TheVariants as ending
 use Rattle.csp_inference.specs.declared.chain.KindNumber.{KindNumber}

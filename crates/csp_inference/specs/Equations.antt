@@ -1,10 +1,10 @@
 -- Equations that are met one after the other.
 use Rattle.std.specs.Prelude.{◌≡◌, ◌⊎◌, ℕ, List, ◌++◌, map, slice_get, Some, None}
-use Rattle.csp_checking.specs.Inference.Chain.{Assignment}
-use Rattle.csp_checking.specs.Inference.State as pure
-use Rattle.csp_checking.specs.Inference.Equations.{Numbered, Numbering}
-use Rattle.csp_checking.specs.Inference.Processes.{names_behind}
-use Rattle.csp_syntax.specs.Process.{Field}
+use Rattle.theory_checking.specs.Inference.Chain.{Assignment}
+use Rattle.theory_checking.specs.Inference.State as pure
+use Rattle.theory_checking.specs.Inference.Equations.{Numbered, Numbering}
+use Rattle.theory_checking.specs.Inference.Processes.{names_behind}
+use Rattle.theory_syntax.specs.Process.{Field}
 use Rattle.csp_inference.specs.declared.equations.KindEquation.{KindEquation}
 use Rattle.csp_inference.specs.declared.equations.Equations.{Equations}
 use Rattle.csp_inference.specs.Chain.{demand_of}

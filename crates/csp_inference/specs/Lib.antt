@@ -5,3 +5,9 @@ pub mod Question
 pub mod Questions
 pub mod Renamings
 pub mod State
+pub mod Counts
+pub mod Items
+pub mod Known
+pub mod KnownKinds
+pub mod TreeNumbers
+pub mod Solving

@@ -1,6 +1,6 @@
 -- The numbers that those of the code stand for.
 use Rattle.std.specs.Prelude.{List, map}
-use Rattle.csp_checking.specs.Inference.Equations as pure
+use Rattle.theory_checking.specs.Inference.Equations as pure
 use Rattle.csp_inference.specs.declared.numbering.Numbering.{Numbering}
 use Rattle.csp_inference.specs.declared.numbering.NumberedName.{NumberedName}
 

@@ -1,6 +1,6 @@
 -- What parts of a script ask of kinds.
 use Rattle.std.specs.Prelude.{ℕ, List}
-use Rattle.csp_checking.specs.Inference.State.{KindEquation}
+use Rattle.theory_checking.specs.Inference.State.{KindEquation}
 use Rattle.csp_inference.specs.declared.equations.Equations.{Equations}
 use Rattle.csp_inference.specs.Equations.{Adds, Asks}
 

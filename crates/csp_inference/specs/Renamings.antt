@@ -1,6 +1,6 @@
 -- The channels that the pairs of renamings name.
 use Rattle.std.specs.Prelude.{List, Option, slice_get}
-use Rattle.csp_syntax.specs.Value.{Value}
+use Rattle.theory_syntax.specs.Value.{Value}
 use Rattle.csp_value.specs.declared.name.ChannelId.{ChannelId}
 use Rattle.csp_term.specs.declared.script.ScriptParts.{ScriptParts}
 use Rattle.csp_term.specs.Script.{script_of_parts}

@@ -1,8 +1,8 @@
 -- What is known of the kinds, and what one equation more makes of it.
 use Rattle.std.specs.Prelude.{◌≡◌, ⊤, ℕ, Bool, cond, true, false, List, [], ◌∷◌, map, Option, Some, None, option_map, Result, Ok, Err}
 use denote.Ref.{Bor}
-use Rattle.csp_checking.specs.Inference.Chain as pure
-use Rattle.csp_checking.specs.Inference.State as pure_state
+use Rattle.theory_checking.specs.Inference.Chain as pure
+use Rattle.theory_checking.specs.Inference.State as pure_state
 use Rattle.csp_inference.specs.declared.chain.KindNumber.{KindNumber}
 use Rattle.csp_inference.specs.declared.chain.End.{End}
 use Rattle.csp_inference.specs.declared.chain.End.TheVariants as ending

@@ -1,8 +1,8 @@
 //! Equations between kinds, as terms ask for them, over what is known of kinds.
 
 ghost use Rattle.std.specs.Prelude.{◌≡◌, ◌∷◌, [], suc, IfOk};
-ghost use Rattle.csp_checking.specs.Inference.Equations.{never};
-ghost use Rattle.csp_checking.specs.Inference.State.{IsResolved, nothing_known};
+ghost use Rattle.theory_checking.specs.Inference.Equations.{never};
+ghost use Rattle.theory_checking.specs.Inference.State.{IsResolved, nothing_known};
 ghost use Rattle.csp_inference.specs.Chain.{demand_of};
 ghost use Rattle.csp_inference.specs.Equations.{Adds, equations_of};
 ghost use Rattle.csp_inference.specs.Question.{AddsQuestion};

@@ -1,7 +1,7 @@
 //! What the equations and the assertions of a script ask for.
 
 ghost use Rattle.std.specs.Prelude.{◌≡◌, IfOk, length, map};
-ghost use Rattle.csp_checking.specs.Inference.Items.{numbered};
+ghost use Rattle.theory_checking.specs.Inference.Items.{numbered};
 ghost use Rattle.csp_inference.specs.Numbering.{names_of};
 ghost use Rattle.csp_inference.specs.Question.{AsksQuestion};
 ghost use Rattle.csp_inference.specs.Questions.Items.{assertion_question, equation_question, specification_question};

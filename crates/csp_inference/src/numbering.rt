@@ -1,7 +1,7 @@
 //! The numbers of the kinds of a script's parts.
 
 ghost use Rattle.std.specs.Prelude.{◌≡◌, option_map};
-ghost use Rattle.csp_checking.specs.Inference.Equations.{number_of_name};
+ghost use Rattle.theory_checking.specs.Inference.Equations.{number_of_name};
 ghost use Rattle.csp_inference.specs.Numbering.{names_of};
 
 use crate::chain::KindNumber;

@@ -1,8 +1,8 @@
 //! The kinds of operators' operands and values, where a kind that is left open has a number.
 
 ghost use Rattle.std.specs.Prelude.{◌≡◌, [], IfOk};
-ghost use Rattle.csp_checking.specs.Inference.Expressions.{behind_binary, behind_unary, binary_value, left_operand, operand, right_operand, unary_value};
-ghost use Rattle.csp_syntax.specs.Operators.{binary_of, unary_of};
+ghost use Rattle.theory_checking.specs.Inference.Expressions.{behind_binary, behind_unary, binary_value, left_operand, operand, right_operand, unary_value};
+ghost use Rattle.theory_syntax.specs.Operators.{binary_of, unary_of};
 ghost use Rattle.csp_inference.specs.Chain.{demand_of};
 ghost use Rattle.csp_inference.specs.Equations.{Adds};
 ghost use Rattle.csp_inference.specs.Question.{AddsQuestion};

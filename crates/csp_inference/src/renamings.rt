@@ -1,8 +1,8 @@
 //! What renamings ask for.
 
 ghost use Rattle.std.specs.Prelude.{◌≡◌, IfOk, map};
-ghost use Rattle.csp_semantics.specs.Meaning.Events.{is_bare, same_sets};
-ghost use Rattle.csp_checking.specs.Inference.Processes.{are_bare_alike, are_same_sets};
+ghost use Rattle.theory_semantics.specs.Meaning.Events.{is_bare, same_sets};
+ghost use Rattle.theory_checking.specs.Inference.Processes.{are_bare_alike, are_same_sets};
 ghost use Rattle.csp_event_sets.specs.Events.{event_expression_of, renaming_pair_of};
 ghost use Rattle.csp_value.specs.Fields.{field_values};
 ghost use Rattle.csp_term.specs.Script.{script_of_parts};

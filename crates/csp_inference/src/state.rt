@@ -1,7 +1,7 @@
 //! What is known of the kinds so far.
 
 ghost use Rattle.std.specs.Prelude.{◌≡◌, ◌<◌, ◌^◌, ◌∷◌, [], suc, map, option_map, IfOk, length};
-ghost use Rattle.csp_checking.specs.Inference.State.{IsResolved, bind_open, bound_to, nothing_known, state_of, unify_resolved};
+ghost use Rattle.theory_checking.specs.Inference.State.{IsResolved, bind_open, bound_to, nothing_known, state_of, unify_resolved};
 ghost use Rattle.csp_inference.specs.Chain.{chain_of, chain_over, demand_of, going_on_at};
 ghost use Rattle.csp_inference.specs.Equations.{equation_of};
 ghost use Rattle.csp_inference.specs.State.{AreUnlike, SaysTheSame, Solved, Tells, chains_in, chains_of, found_at, lent_chain, open_alone, state_in, taken_off};

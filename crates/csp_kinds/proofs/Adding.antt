@@ -4,9 +4,9 @@ use Rattle.std.specs.Box.{box_value}
 use Rattle.std.specs.declared.boxed.Box.{Box}
 use Rattle.std.specs.declared.vec.Vec.{Vec}
 use Rattle.std.proofs.Common.{◌≡◌, Bool, List, [], ◌∷◌, ◌++◌, append-nil, Some, Ok, Err, sym, ap, ◌∙◌, subst}
-use Rattle.csp_text.specs.Place.{Place}
-use Rattle.csp_text.specs.Raw.{RawName, RawProcess, RawProperty, RawDeclaration, RawEquation, RawAssertion}
-use Rattle.csp_checking.specs.Names.{environment_of}
+use Rattle.theory_text.specs.Place.{Place}
+use Rattle.theory_text.specs.Raw.{RawName, RawProcess, RawProperty, RawDeclaration, RawEquation, RawAssertion}
+use Rattle.theory_checking.specs.Names.{environment_of}
 use Rattle.csp_lex.specs.declared.places.Place as placed
 use Rattle.csp_lex.specs.Places.{place_of}
 use Rattle.csp_parse.specs.declared.declarations.Declaration.{Declaration}

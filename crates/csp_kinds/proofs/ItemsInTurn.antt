@@ -1,13 +1,13 @@
 -- Equations and assertions, declaration by declaration.
 use Rattle.std.proofs.Common.{◌≡◌, ℕ, ◌+◌, ◌<◌, List, [], ◌∷◌, ◌++◌, length, take, drop, get_or, map, Some, sym, ap, ◌∙◌}
 use Rattle.std.proofs.lemmas.List.{drop_more, map-append, take_more, take-append-drop}
-use Rattle.csp_text.specs.Raw.{RawDeclaration, RawDatatype, RawNametype, RawChannels, RawEquation, RawAssertion, RawScript}
-use Rattle.csp_checking.specs.Scripts.{assertion_declared, equation_declared}
-use Rattle.csp_checking.specs.Sets.{in_order}
-use Rattle.csp_checking.specs.Sites.{in_declaration, sites}
-use Rattle.csp_checking.specs.Walks.{AllFine}
-use Rattle.csp_checking.proofs.OneMore.{flat_map_one_more}
-use Rattle.csp_checking.proofs.Walking.{fine_next, stopped_in_declaration, stopped_is_not_fine}
+use Rattle.theory_text.specs.Raw.{RawDeclaration, RawDatatype, RawNametype, RawChannels, RawEquation, RawAssertion, RawScript}
+use Rattle.theory_checking.specs.Scripts.{assertion_declared, equation_declared}
+use Rattle.theory_checking.specs.Sets.{in_order}
+use Rattle.theory_checking.specs.Sites.{in_declaration, sites}
+use Rattle.theory_checking.specs.Walks.{AllFine}
+use Rattle.theory_checking.proofs.OneMore.{flat_map_one_more}
+use Rattle.theory_checking.proofs.Walking.{fine_next, stopped_in_declaration, stopped_is_not_fine}
 use Rattle.csp_term.specs.Script.{assertion_of, equation_of}
 use Rattle.csp_names.specs.declared.refusals.Refused.{Refused}
 use Rattle.csp_names.specs.declared.refusals.Refused.TheVariants as refused

@@ -6,12 +6,12 @@ use Rattle.std.specs.declared.vec.Vec.{Vec}
 use Rattle.std.proofs.lemmas.List.Elements.{All-from_recursion}
 use Rattle.std.proofs.lemmas.List.{length-map}
 use Rattle.std.proofs.Common.{◌≡◌, ℕ, List, [], ◌∷◌, length, map, Option, Some, None, refl, sym, ap, ◌∙◌}
-use Rattle.csp_syntax.specs.Value.{Value}
-use Rattle.csp_text.specs.Raw.{RawScript}
-use Rattle.csp_checking.specs.Names.{ChannelName, ConstructorName, declared_as, names_of, spellings}
-use Rattle.csp_checking.specs.Scripts.{IsScriptOf}
-use Rattle.csp_checking.specs.Sets.{channel_members, channel_sets}
-use Rattle.csp_checking.proofs.Counts.{channels_counted, sizes_of_channels}
+use Rattle.theory_syntax.specs.Value.{Value}
+use Rattle.theory_text.specs.Raw.{RawScript}
+use Rattle.theory_checking.specs.Names.{ChannelName, ConstructorName, declared_as, names_of, spellings}
+use Rattle.theory_checking.specs.Scripts.{IsScriptOf}
+use Rattle.theory_checking.specs.Sets.{channel_members, channel_sets}
+use Rattle.theory_checking.proofs.Counts.{channels_counted, sizes_of_channels}
 use Rattle.csp_value.specs.declared.field_set.FieldSet.{FieldSet}
 use Rattle.csp_expression.specs.declared.types.TypeTable.{TypeTable}
 use Rattle.csp_parse.specs.declared.names.Name.{Name}
@@ -20,8 +20,8 @@ use Rattle.csp_term.specs.declared.script.Channel.{Channel}
 use Rattle.csp_term.specs.declared.script.Constructor.{Constructor}
 use Rattle.csp_term.specs.Script.{script_of_parts}
 use Rattle.csp_names.specs.Scopes.{known_sets}
-use Rattle.csp_sets.specs.declared.sets.Sets.{Sets}
-use Rattle.csp_sets.specs.Sets.{AreSetsOf, AreUnrefused}
+use Rattle.csp_kinds.specs.declared.sets.Sets.{Sets}
+use Rattle.csp_kinds.specs.Sets.{AreSetsOf, AreUnrefused}
 use Rattle.csp_kinds.specs.declared.items.Items.{Items}
 use Rattle.csp_kinds.specs.Items.{AreItemsOf}
 use Rattle.csp_kinds.specs.Spellings.{AreFieldSetsOf, AreTypesOf, channel_spellings, constructor_spellings, encoded, sets_listed}

@@ -3,11 +3,11 @@ use Rattle.std.specs.Prelude.{◌↔◌, map, slice_get, take}
 use Rattle.std.specs.declared.vec.Vec.{Vec}
 use Rattle.std.proofs.lemmas.List.{get_or-map, length-map, length-take-le, take_all}
 use Rattle.std.proofs.Common.{◌≡◌, ◌+◌, ◌<◌, ◌≤◌, ℕ, List, [], ◌∷◌, ◌++◌, length, drop, get_or, Option, Some, Ok, Err, refl, sym, ap, ◌∙◌, subst, arith}
-use Rattle.csp_syntax.specs.Value.{Value}
-use Rattle.csp_text.specs.Raw.{RawDeclaration, RawDatatype, RawNametype, RawChannels, RawEquation, RawAssertion, RawScript}
-use Rattle.csp_checking.specs.Rules.{HasFieldSets}
-use Rattle.csp_checking.specs.Sites.{in_declaration, sites}
-use Rattle.csp_checking.specs.Walks.{AllFine}
+use Rattle.theory_syntax.specs.Value.{Value}
+use Rattle.theory_text.specs.Raw.{RawDeclaration, RawDatatype, RawNametype, RawChannels, RawEquation, RawAssertion, RawScript}
+use Rattle.theory_checking.specs.Rules.{HasFieldSets}
+use Rattle.theory_checking.specs.Sites.{in_declaration, sites}
+use Rattle.theory_checking.specs.Walks.{AllFine}
 use Rattle.csp_value.specs.declared.field_set.FieldSet.{FieldSet}
 use Rattle.csp_parse.specs.declared.declarations.Declaration.{Declaration}
 use Rattle.csp_parse.specs.Declarations.{declaration_of}
@@ -19,9 +19,9 @@ use Rattle.csp_names.specs.FirstPass.{AreNamesOf}
 use Rattle.csp_names.specs.Scopes.{IsBetween, KnowsScript, known_sets}
 use Rattle.csp_names.specs.Walks.{Stops}
 use Rattle.csp_names.proofs.Standing.{between_next, between_start, knows_script, serves_between}
-use Rattle.csp_sets.specs.declared.sets.RefusedSet.{RefusedSet}
-use Rattle.csp_sets.specs.declared.sets.Sets.{Sets}
-use Rattle.csp_sets.specs.Sets.{AreSetsOf}
+use Rattle.csp_kinds.specs.declared.sets.RefusedSet.{RefusedSet}
+use Rattle.csp_kinds.specs.declared.sets.Sets.{Sets}
+use Rattle.csp_kinds.specs.Sets.{AreSetsOf}
 use Rattle.csp_kinds.specs.declared.items.Items.{Items}
 use Rattle.csp_kinds.specs.Items.{Adds, AddsItem, AreItemsOf, in_processes}
 use Rattle.csp_kinds.specs.Refusals.{PassesSets}

@@ -1,23 +1,23 @@
 -- What refuses a tree in one of the passes is its refusal.
 use Rattle.std.proofs.Common.{Err, sym, subst}
-use Rattle.csp_syntax.specs.Process.{Script}
-use Rattle.csp_text.specs.Place.{Place}
-use Rattle.csp_text.specs.Raw.{RawScript}
-use Rattle.csp_checking.specs.Faults as faults
-use Rattle.csp_checking.specs.Faults.{NoneRefused}
-use Rattle.csp_checking.specs.Refusals.{IsKindRefusal, PassesNames, in_first_pass, in_third_pass}
-use Rattle.csp_checking.specs.Rules.{IsRedeclared, all_declared}
-use Rattle.csp_checking.specs.Scripts.{IsScriptOf}
-use Rattle.csp_checking.specs.Sites.{sites}
-use Rattle.csp_checking.proofs.Walking.{stopped_is_refusal}
+use Rattle.theory_syntax.specs.Process.{Script}
+use Rattle.theory_text.specs.Place.{Place}
+use Rattle.theory_text.specs.Raw.{RawScript}
+use Rattle.theory_checking.specs.Faults as faults
+use Rattle.theory_checking.specs.Faults.{NoneRefused}
+use Rattle.theory_checking.specs.Refusals.{IsKindRefusal, PassesNames, in_first_pass, in_third_pass}
+use Rattle.theory_checking.specs.Rules.{IsRedeclared, all_declared}
+use Rattle.theory_checking.specs.Scripts.{IsScriptOf}
+use Rattle.theory_checking.specs.Sites.{sites}
+use Rattle.theory_checking.proofs.Walking.{stopped_is_refusal}
 use Rattle.csp_names.specs.declared.refusals.Refused.{Refused}
 use Rattle.csp_names.specs.declared.refusals.Refused.TheVariants as refused
 use Rattle.csp_names.specs.FirstPass.{IsFirstPassRefusal}
 use Rattle.csp_names.specs.Refusals.{fault_of}
 use Rattle.csp_names.specs.Walks.{Stops}
-use Rattle.csp_fitting.specs.declared.fit_fault.FitFault.{FitFault}
-use Rattle.csp_fitting.specs.declared.fit_fault.FitFault.TheVariants as fault
-use Rattle.csp_fitting.specs.Items.{FitsItems}
+use Rattle.csp_inference.specs.declared.fit_fault.FitFault.{FitFault}
+use Rattle.csp_inference.specs.declared.fit_fault.FitFault.TheVariants as fault
+use Rattle.csp_inference.specs.Items.{FitsItems}
 use Rattle.csp_kinds.specs.Refusals.{IsRefusalOf, item_refusal_of}
 
 pub refused_in_first_pass : (raw : RawScript) (r : Refused) → IsFirstPassRefusal raw r → IsRefusalOf raw r

@@ -1,19 +1,19 @@
 -- The declarations of sets that the walk passes, and the one at which it stops.
 use Rattle.std.proofs.Common.{◌≡◌, ◌≢◌, ◌+◌, ℕ, ◌≤◌, true, List, [], ◌∷◌, ◌++◌, length, take, Option, Some, None, Err, refl, sym, ap, ◌∙◌, subst, arith}
 use Rattle.std.proofs.lemmas.List.{take-append-le, take_all}
-use Rattle.csp_text.specs.Raw.{RawDeclaration, RawScript}
-use Rattle.csp_checking.specs.Sets.{behind_each, in_order}
-use Rattle.csp_checking.specs.Sites.{Site, in_declaration, sites}
-use Rattle.csp_checking.specs.Walks.{AllFine}
-use Rattle.csp_checking.proofs.Resolving.{fine_left}
-use Rattle.csp_checking.proofs.ScriptThere.{behind-append}
-use Rattle.csp_checking.proofs.Walking.{stopped_in_declaration, stopped_is_not_fine}
+use Rattle.theory_text.specs.Raw.{RawDeclaration, RawScript}
+use Rattle.theory_checking.specs.Sets.{behind_each, in_order}
+use Rattle.theory_checking.specs.Sites.{Site, in_declaration, sites}
+use Rattle.theory_checking.specs.Walks.{AllFine}
+use Rattle.theory_checking.proofs.Resolving.{fine_left}
+use Rattle.theory_checking.proofs.ScriptThere.{behind-append}
+use Rattle.theory_checking.proofs.Walking.{stopped_in_declaration, stopped_is_not_fine}
 use Rattle.csp_names.specs.declared.refusals.Refused.{Refused}
 use Rattle.csp_names.specs.declared.refusals.Refused.TheVariants as refused
 use Rattle.csp_names.specs.Walks.{Stops}
-use Rattle.csp_sets.specs.declared.sets.RefusedSet.{RefusedSet}
-use Rattle.csp_sets.specs.declared.sets.Sets.{Sets}
-use Rattle.csp_sets.specs.Sets.{AreSetsOf, AreUnrefused, IsFirstRefusedSet, IsSetRefusal, declares_sets}
+use Rattle.csp_kinds.specs.declared.sets.RefusedSet.{RefusedSet}
+use Rattle.csp_kinds.specs.declared.sets.Sets.{Sets}
+use Rattle.csp_kinds.specs.Sets.{AreSetsOf, AreUnrefused, IsFirstRefusedSet, IsSetRefusal, declares_sets}
 use Rattle.csp_kinds.specs.Refusals.{PassesSets}
 
 -- The first declaration of sets that is refused stands behind so many others, if there is one.

@@ -7,9 +7,9 @@ use Rattle.std.specs.declared.vec.Vec.{Vec}
 use Rattle.std.proofs.lemmas.List.{append_assoc, map-append, take_more, take_all}
 use Rattle.std.proofs.lemmas.Str.{encodes-chars, IsUtf8-had}
 use Rattle.std.proofs.Common.{◌≡◌, ◌+◌, ◌<◌, ◌≤◌, ℕ, List, [], ◌∷◌, ◌++◌, length, get_or, map, Result, Ok, Err, refl, sym, ap, ◌∙◌}
-use Rattle.csp_text.specs.Raw.{RawName, RawDeclaration}
-use Rattle.csp_checking.specs.Names.{ChannelName, ConstructorName, clause_names, declared_as, spellings}
-use Rattle.csp_checking.proofs.OneMore.{flat_map_one_more}
+use Rattle.theory_text.specs.Raw.{RawName, RawDeclaration}
+use Rattle.theory_checking.specs.Names.{ChannelName, ConstructorName, clause_names, declared_as, spellings}
+use Rattle.theory_checking.proofs.OneMore.{flat_map_one_more}
 use Rattle.csp_parse.specs.declared.declarations.Declaration.{Declaration}
 use Rattle.csp_parse.specs.declared.names.Name.{Name}
 use Rattle.csp_parse.specs.declared.declarations.Clause.{Clause}

@@ -1,12 +1,12 @@
 -- The equations and assertions of a tree.
 use Rattle.std.specs.Prelude.{◌≡◌, List, [], ◌++◌, map, flat_map, Option, Some, Result, Ok, Err}
-use Rattle.csp_syntax.specs.Process as pure
-use Rattle.csp_text.specs.Raw.{RawDeclaration, RawEquation, RawAssertion, RawScript}
-use Rattle.csp_checking.specs.Names.{binding, bound_in_declaration, environment_of, spellings}
-use Rattle.csp_checking.specs.Scripts.{assertion_declared, equation_declared}
-use Rattle.csp_checking.specs.Sets.{in_order}
-use Rattle.csp_checking.specs.Sites.{Site, in_declaration, in_parameters, in_process, in_property}
-use Rattle.csp_checking.specs.Walks.{AllFine}
+use Rattle.theory_syntax.specs.Process as pure
+use Rattle.theory_text.specs.Raw.{RawDeclaration, RawEquation, RawAssertion, RawScript}
+use Rattle.theory_checking.specs.Names.{binding, bound_in_declaration, environment_of, spellings}
+use Rattle.theory_checking.specs.Scripts.{assertion_declared, equation_declared}
+use Rattle.theory_checking.specs.Sets.{in_order}
+use Rattle.theory_checking.specs.Sites.{Site, in_declaration, in_parameters, in_process, in_property}
+use Rattle.theory_checking.specs.Walks.{AllFine}
 use Rattle.csp_term.specs.Script.{assertion_of, equation_of}
 use Rattle.csp_names.specs.declared.bound_names.BoundNames.{BoundNames}
 use Rattle.csp_names.specs.declared.refusals.Refused.{Refused}

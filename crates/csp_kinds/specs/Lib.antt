@@ -1,3 +1,13 @@
+pub mod Channels
+pub mod Faults
+pub mod Clauses
+pub mod Fields
+pub mod Fit
+pub mod Looking
+pub mod Members
+pub mod Pass
+pub mod Passing
+pub mod Sets
 pub mod Refusals
 pub mod Items
 pub mod Spellings

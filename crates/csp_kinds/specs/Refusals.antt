@@ -1,15 +1,15 @@
 -- Refusals of trees, as the definitions have them.
 use Rattle.std.specs.Prelude.{◌≡◌, ◌≢◌, ℕ, Option, Some, Result, Ok, Err, ⊤}
-use Rattle.csp_text.specs.Raw.{RawScript}
-use Rattle.csp_checking.specs.Refusals.{IsKindRefusal}
+use Rattle.theory_text.specs.Raw.{RawScript}
+use Rattle.theory_checking.specs.Refusals.{IsKindRefusal}
 use Rattle.csp_lex.specs.Places.{place_of}
 use Rattle.csp_names.specs.declared.refusals.KindFault.TheVariants.{WrongKind}
 use Rattle.csp_names.specs.declared.refusals.Refused.{Refused}
 use Rattle.csp_names.specs.declared.refusals.Refused.TheVariants as refused
 use Rattle.csp_names.specs.Refusals.{fault_of}
-use Rattle.csp_fitting.specs.declared.fit_fault.FitFault.{FitFault}
-use Rattle.csp_fitting.specs.declared.fit_fault.FitFault.TheVariants as fault
-use Rattle.csp_sets.specs.declared.sets.RefusedSet.{RefusedSet}
+use Rattle.csp_inference.specs.declared.fit_fault.FitFault.{FitFault}
+use Rattle.csp_inference.specs.declared.fit_fault.FitFault.TheVariants as fault
+use Rattle.csp_kinds.specs.declared.sets.RefusedSet.{RefusedSet}
 
 -- The tree is refused, by this fault at this place. Where there is no room, nothing is said.
 abbrev pub IsRefusalOf : RawScript → Refused → Type 0

@@ -4,10 +4,10 @@ use Rattle.std.specs.List.{All}
 use Rattle.std.specs.Str.{encode_utf8_all}
 use Rattle.std.specs.String.{string_bytes}
 use Rattle.std.specs.declared.vec.Vec.{Vec}
-use Rattle.csp_syntax.specs.Value.{Value}
-use Rattle.csp_text.specs.Raw.{RawScript}
-use Rattle.csp_checking.specs.Names.{spellings}
-use Rattle.csp_checking.specs.Sets.{channel_members, constructor_members, datatypes_of, nametype_members}
+use Rattle.theory_syntax.specs.Value.{Value}
+use Rattle.theory_text.specs.Raw.{RawScript}
+use Rattle.theory_checking.specs.Names.{spellings}
+use Rattle.theory_checking.specs.Sets.{channel_members, constructor_members, datatypes_of, nametype_members}
 use Rattle.csp_value.specs.declared.field_set.FieldSet.{FieldSet}
 use Rattle.csp_expression.specs.declared.types.TypeTable.{TypeTable}
 use Rattle.csp_expression.specs.Evaluation.{constructors_of, members_listed, table_of}

@@ -1,17 +1,17 @@
 //! The second pass: the sites of a tree in turn, and the equations and assertions that are made at them.
 
 ghost use Rattle.std.specs.Prelude.{IfErr, IfOk};
-ghost use Rattle.csp_checking.specs.Sites.{sites};
+ghost use Rattle.theory_checking.specs.Sites.{sites};
 ghost use Rattle.csp_names.specs.FirstPass.{AreNamesOf};
 ghost use Rattle.csp_names.specs.Walks.{Stops};
 ghost use Rattle.csp_parse.specs.Declarations.{declaration_of, script_of};
-ghost use Rattle.csp_sets.specs.Sets.{AreSetsOf};
+ghost use Rattle.csp_kinds.specs.Sets.{AreSetsOf};
 ghost use Rattle.csp_kinds.specs.Items.{AddsItem, AreItemsOf};
 
 use crate::set_refusals::pass_sets;
+use crate::sets::Sets;
 use csp_names::{BoundNames, Names, Refused, Scope};
 use csp_parse::{Declaration, Raw};
-use csp_sets::Sets;
 use csp_term::{Assertion, Equation};
 use std::alloc::Allocator;
 

@@ -1,7 +1,7 @@
 //! The names of the channels and of the constructors of a tree, in the order of the text.
 
 ghost use Rattle.std.specs.Prelude.{◌≡◌, ◌++◌, IfOk, OnOk, flat_map, map};
-ghost use Rattle.csp_checking.specs.Names.{ChannelName, ConstructorName, clause_names, declared_as};
+ghost use Rattle.theory_checking.specs.Names.{ChannelName, ConstructorName, clause_names, declared_as};
 ghost use Rattle.csp_parse.specs.Declarations.{clause_of, script_of};
 ghost use Rattle.csp_parse.specs.Names.{name_of};
 

@@ -1,7 +1,7 @@
 //! The parts of the script.
 
 ghost use Rattle.std.specs.Prelude.{IfOk};
-ghost use Rattle.csp_checking.specs.Scripts.{IsScriptOf};
+ghost use Rattle.theory_checking.specs.Scripts.{IsScriptOf};
 ghost use Rattle.csp_parse.specs.Declarations as tree;
 ghost use Rattle.csp_term.specs.Script.{script_of_parts};
 ghost use Rattle.csp_kinds.specs.Items.{AreItemsOf};

@@ -1,17 +1,17 @@
 //! The three passes.
 
 ghost use Rattle.std.specs.Prelude.{◌≡◌, IfErr, IfOk};
-ghost use Rattle.csp_checking.specs.Checked.{IsCheckedTree};
+ghost use Rattle.theory_checking.specs.Checked.{IsCheckedTree};
 ghost use Rattle.csp_parse.specs.Declarations as tree;
 ghost use Rattle.csp_term.specs.Script.{script_of};
 ghost use Rattle.csp_kinds.specs.Refusals.{IsRefusalOf, item_refusal_of};
 
 use crate::items::resolve_items;
 use crate::parts::make_parts;
-use csp_fitting::FitFault;
+use crate::sets::{Sets, sets_of};
+use csp_inference::FitFault;
 use csp_names::{KindFault, Refused, names_of};
 use csp_parse::Raw;
-use csp_sets::{Sets, sets_of};
 use csp_term::Script;
 use std::alloc::Allocator;
 

@@ -2,8 +2,8 @@
 
 ghost use Rattle.csp_kinds.specs.Refusals.{PassesSets};
 
+use crate::sets::RefusedSet;
 use csp_names::Refused;
-use csp_sets::RefusedSet;
 
 /// The refusal of the declaration with this number, if it is the first one that is refused for a set, or for a name in
 /// one.

@@ -4,7 +4,7 @@ ghost use Rattle.std.specs.Prelude.{◌≡◌, IfOk, IsSome, length, map};
 ghost use Rattle.std.specs.List.{All};
 ghost use Rattle.std.specs.Str.{encode_utf8_all};
 ghost use Rattle.std.specs.String.{string_bytes};
-ghost use Rattle.csp_checking.specs.Names.{spellings};
+ghost use Rattle.theory_checking.specs.Names.{spellings};
 ghost use Rattle.csp_parse.specs.Names.{name_of};
 ghost use Rattle.csp_kinds.specs.Spellings.{channel_spellings, constructor_spellings, encoded, sets_listed};
 ghost use Rattle.csp_names.specs.Scopes.{known_sets};

@@ -2,8 +2,8 @@
 use Rattle.std.proofs.Common.{◌≡◌, ℕ, ◌<◌, false, List, [], ◌∷◌, ◌++◌, length, drop, refl, sym, ap, inl, inr, ◌∙◌, arith, nat_eq, length-append}
 use Rattle.std.proofs.lemmas.Bool.{cases_lt, eqb-false, ne_eqb}
 use Rattle.std.proofs.Math.Seq.{drop-append_seam}
-use Rattle.csp_text.specs.Fronts.{StopsAt}
-use Rattle.csp_text.specs.Token.{is_at_mark}
+use Rattle.theory_text.specs.Fronts.{StopsAt}
+use Rattle.theory_text.specs.Token.{is_at_mark}
 use Rattle.csp_lex.specs.declared.cursors.Cursor.{Cursor}
 use Rattle.csp_lex.specs.Cursors.{left_of, Passes, EndsComment}
 use Rattle.csp_lex.proofs.Steps.{passes_then}

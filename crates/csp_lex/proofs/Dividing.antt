@@ -6,11 +6,11 @@ use Rattle.std.proofs.lemmas.List.{map-append}
 use Rattle.std.specs.List.{slice_range}
 use Rattle.std.specs.Option.{option_map}
 use Rattle.std.specs.Str.{IsUtf8, chars, encode_utf8_all}
-use Rattle.csp_text.specs.Place.{first_place, place_after, bytes_of}
-use Rattle.csp_text.specs.Token as spelled
-use Rattle.csp_text.specs.Token.{PlacedToken, placed, IsPiece, IsDivided, AreCharacters, AreTokens, longest_text, TextFault, IsRefusedHere, IsTextRefusal}
-use Rattle.csp_text.proofs.Pieces.{divided_front, piece_is_some}
-use Rattle.csp_text.proofs.TextPlaces.{place_after-append, bytes_of-append}
+use Rattle.theory_text.specs.Place.{first_place, place_after, bytes_of}
+use Rattle.theory_text.specs.Token as spelled
+use Rattle.theory_text.specs.Token.{PlacedToken, placed, IsPiece, IsDivided, AreCharacters, AreTokens, longest_text, TextFault, IsRefusedHere, IsTextRefusal}
+use Rattle.theory_text.proofs.Pieces.{divided_front, piece_is_some}
+use Rattle.theory_text.proofs.TextPlaces.{place_after-append, bytes_of-append}
 use Rattle.csp_lex.specs.declared.cursors.Cursor.{Cursor}
 use Rattle.csp_lex.specs.declared.kinds.Token.{Token}
 use Rattle.csp_lex.specs.declared.kinds.TokenKind.{TokenKind}

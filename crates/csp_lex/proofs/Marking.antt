@@ -2,10 +2,10 @@
 use Rattle.std.proofs.Common.{◌≡◌, ℕ, ◌<◌, ◌≤◌, List, length, take, sym, ap, subst, inl, inr, ◌∙◌, Some, None, Option, IfNone, arith, length-append}
 use Rattle.std.proofs.lemmas.Bool.{cases_lt}
 use Rattle.std.proofs.Math.Seq.{take-append_seam}
-use Rattle.csp_text.specs.Spelling.{mark_of}
-use Rattle.csp_text.specs.Token.{StartsWithNoLexeme}
-use Rattle.csp_text.specs.Fronts.{StartsPlainly}
-use Rattle.csp_text.proofs.Fronts.{mark_longest, no_mark_begins}
+use Rattle.theory_text.specs.Spelling.{mark_of}
+use Rattle.theory_text.specs.Token.{StartsWithNoLexeme}
+use Rattle.theory_text.specs.Fronts.{StartsPlainly}
+use Rattle.theory_text.proofs.Fronts.{mark_longest, no_mark_begins}
 use Rattle.csp_lex.specs.declared.cursors.Cursor.{Cursor}
 use Rattle.csp_lex.specs.declared.marks.Mark.{Mark}
 use Rattle.csp_lex.specs.Cursors.{left_of, Passes, Begins}

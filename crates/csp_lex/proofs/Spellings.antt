@@ -8,7 +8,7 @@ use Rattle.std.proofs.lemmas.Str.{encodes-chars}
 use Rattle.std.specs.Char.{encode_utf8}
 use Rattle.std.specs.List.{list_any}
 use Rattle.std.specs.Str.{IsUtf8, chars, bytes_eq, encode_utf8_all}
-use Rattle.csp_text.specs.Token.{Keyword, keyword_spelling, DatatypeWord, NametypeWord, ChannelWord, AssertWord, IfWord, ThenWord, ElseWord, AndWord, OrWord, NotWord, TrueWord, FalseWord, BoolWord, StopWord, SkipWord, HeadWord, TailWord, NullWord, ElemWord, MemberWord, UnionWord, InterWord, DiffWord, CardWord}
+use Rattle.theory_text.specs.Token.{Keyword, keyword_spelling, DatatypeWord, NametypeWord, ChannelWord, AssertWord, IfWord, ThenWord, ElseWord, AndWord, OrWord, NotWord, TrueWord, FalseWord, BoolWord, StopWord, SkipWord, HeadWord, TailWord, NullWord, ElemWord, MemberWord, UnionWord, InterWord, DiffWord, CardWord}
 
 -- a keyword's characters are its bytes
 spelling_in_ascii : (k : Keyword) → (chars (keyword_spelling k) ≡ keyword_spelling k) × (encode_utf8_all (keyword_spelling k) ≡ keyword_spelling k)

@@ -5,8 +5,8 @@ use Rattle.std.specs.Str.{encode_utf8_all, all_scalars}
 use Rattle.std.proofs.lemmas.Str.{encodes-append, encodes-chars, scalars-chars, IsUtf8-had}
 use Rattle.std.proofs.lemmas.Bool.{and_parts}
 use lib.Utf8.{scalar}
-use Rattle.csp_text.proofs.TextPlaces.{place_after-append, bytes_of-append}
-use Rattle.csp_text.specs.Place.{place_after}
+use Rattle.theory_text.proofs.TextPlaces.{place_after-append, bytes_of-append}
+use Rattle.theory_text.specs.Place.{place_after}
 use Rattle.csp_lex.specs.declared.cursors.Cursor.{Cursor}
 use Rattle.csp_lex.specs.Places.{place_of}
 use Rattle.csp_lex.specs.Cursors.{left_of, Passes}

@@ -6,9 +6,9 @@ use Rattle.std.specs.List.{list_all}
 use Rattle.std.specs.Str.{encode_utf8_all, all_ascii_digits}
 use Rattle.std.specs.Char.{is_ascii_digit}
 use Rattle.unicode_ident.specs.Ident.{is_xid_start, is_xid_continue}
-use Rattle.csp_text.specs.Fronts.{StartsWith, StopsAt}
-use Rattle.csp_text.specs.Token.{Keyword, KeywordToken, keyword_spelling, is_keyword, NameToken, NumberToken, digits_value, Token, TokenLexeme, Spells, IsLongest, IsInRange, IsPiece, greatest_number, IsRefusedHere, LargeNumber}
-use Rattle.csp_text.proofs.Fronts.{IsWord, word_longest, word_spells, run_longest}
+use Rattle.theory_text.specs.Fronts.{StartsWith, StopsAt}
+use Rattle.theory_text.specs.Token.{Keyword, KeywordToken, keyword_spelling, is_keyword, NameToken, NumberToken, digits_value, Token, TokenLexeme, Spells, IsLongest, IsInRange, IsPiece, greatest_number, IsRefusedHere, LargeNumber}
+use Rattle.theory_text.proofs.Fronts.{IsWord, word_longest, word_spells, run_longest}
 use Rattle.csp_lex.specs.declared.cursors.Cursor.{Cursor}
 use Rattle.csp_lex.specs.Cursors.{left_of, RunsOver}
 use Rattle.csp_lex.proofs.Steps.{passes_then}

@@ -2,7 +2,7 @@
 use Rattle.std.specs.Prelude.{ℕ, Bool, true, not, nat_eq}
 use Rattle.std.specs.Char.{is_ascii_digit}
 use Rattle.unicode_ident.specs.Ident.{is_xid_continue}
-use Rattle.csp_text.specs.Place.{line_feed}
+use Rattle.theory_text.specs.Place.{line_feed}
 use Rattle.csp_lex.specs.declared.classes.Class.{Class}
 use Rattle.csp_lex.specs.declared.classes.Class.TheVariants.{Continuing, Prime, Digit, WithinLine, Any}
 

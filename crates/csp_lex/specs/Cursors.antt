@@ -2,9 +2,9 @@
 use Rattle.std.specs.Prelude.{◌≡◌, ℕ, ◌+◌, Bool, true, List, ◌++◌, length, codes}
 use Rattle.std.specs.List.{list_all}
 use Rattle.std.specs.Str.{chars}
-use Rattle.csp_text.specs.Fronts.{StopsAt}
-use Rattle.csp_text.specs.Place.{place_after, bytes_of}
-use Rattle.csp_text.specs.Token.{Lexeme, IsLongest, IsFirstMark}
+use Rattle.theory_text.specs.Fronts.{StopsAt}
+use Rattle.theory_text.specs.Place.{place_after, bytes_of}
+use Rattle.theory_text.specs.Token.{Lexeme, IsLongest, IsFirstMark}
 use Rattle.csp_lex.specs.declared.cursors.Cursor.{Cursor}
 use Rattle.csp_lex.specs.Places.{place_of}
 

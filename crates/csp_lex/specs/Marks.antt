@@ -1,7 +1,7 @@
 -- Signs and beginnings of comments, as the definitions have them.
 use Rattle.std.specs.Prelude.{◌≡◌, ℕ, ◌≤◌, List, length, take, Some, None}
-use Rattle.csp_text.specs.Spelling.{mark_of}
-use Rattle.csp_text.specs.Token.{Lexeme, TokenLexeme, SignToken, ToLineEnd, ToMark}
+use Rattle.theory_text.specs.Spelling.{mark_of}
+use Rattle.theory_text.specs.Token.{Lexeme, TokenLexeme, SignToken, ToLineEnd, ToMark}
 use Rattle.csp_lex.specs.declared.marks.Mark.{Mark}
 use Rattle.csp_lex.specs.declared.marks.Mark.TheVariants as mark
 use Rattle.csp_lex.specs.declared.cursors.Cursor.{Cursor}

@@ -1,7 +1,7 @@
 -- Pieces of a text, as the reader finds them.
 use Rattle.std.specs.Prelude.{ℕ, List, length, Option}
 use Rattle.std.specs.Option.{option_map}
-use Rattle.csp_text.specs.Token.{IsPiece}
+use Rattle.theory_text.specs.Token.{IsPiece}
 use Rattle.csp_lex.specs.declared.cursors.Cursor.{Cursor}
 use Rattle.csp_lex.specs.declared.kinds.TokenKind.{TokenKind}
 use Rattle.csp_lex.specs.Cursors.{left_of, Passes}

@@ -1,5 +1,5 @@
 -- Places, as the definitions have them.
-use Rattle.csp_text.specs.Place as text
+use Rattle.theory_text.specs.Place as text
 use Rattle.csp_lex.specs.declared.places.Place.{Place}
 
 abbrev pub place_of : Place → text.Place

@@ -1,7 +1,7 @@
 -- Refusals, as the definitions have them.
 use Rattle.std.specs.Prelude.{ℕ, List, ⊤}
-use Rattle.csp_text.specs.Token as text
-use Rattle.csp_text.specs.Token.{IsTextRefusal}
+use Rattle.theory_text.specs.Token as text
+use Rattle.theory_text.specs.Token.{IsTextRefusal}
 use Rattle.csp_lex.specs.declared.refusals.TextFault.{TextFault}
 use Rattle.csp_lex.specs.declared.refusals.TextFault.TheVariants as fault
 use Rattle.csp_lex.specs.declared.refusals.Refused.{Refused}

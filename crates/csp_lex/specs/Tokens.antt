@@ -1,7 +1,7 @@
 -- Tokens, as the definitions have them.
 use Rattle.std.specs.Prelude.{◌≡◌, ℕ, List, [], ◌∷◌, ⊤, slice_range}
 use Rattle.std.specs.Str.{chars}
-use Rattle.csp_text.specs.Token as text
+use Rattle.theory_text.specs.Token as text
 use Rattle.csp_lex.specs.declared.keywords.Keyword.{Keyword}
 use Rattle.csp_lex.specs.declared.keywords.Keyword.TheVariants as keyword
 use Rattle.csp_lex.specs.declared.kinds.TokenKind.{TokenKind}

@@ -1,8 +1,8 @@
 //! Comments over several lines.
 
 ghost use Rattle.std.specs.Prelude.{IfSome, IfNone, [], ◌∷◌, nat_eq};
-ghost use Rattle.csp_text.specs.Fronts.{StopsAt};
-ghost use Rattle.csp_text.specs.Token.{HasNoMark};
+ghost use Rattle.theory_text.specs.Fronts.{StopsAt};
+ghost use Rattle.theory_text.specs.Token.{HasNoMark};
 ghost use Rattle.csp_lex.specs.Cursors.{left_of, Passes, EndsComment};
 
 use crate::cursors::Cursor;

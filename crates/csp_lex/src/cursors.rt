@@ -18,7 +18,7 @@ pub(crate) struct Cursor<'a> {
 }
 
 impl<'a> Cursor<'a> {
-    ghost use Rattle.csp_text.specs.Place.{first_place};
+    ghost use Rattle.theory_text.specs.Place.{first_place};
     ghost use Rattle.csp_lex.specs.Places.{place_of};
     ghost use Rattle.csp_lex.specs.Cursors.{Passes};
 

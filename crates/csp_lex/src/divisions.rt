@@ -1,8 +1,8 @@
 //! A text divided into its tokens.
 
 ghost use Rattle.std.specs.Prelude.{◌≤◌, IfOk, IfErr, length, map};
-ghost use Rattle.csp_text.specs.Spans.{RiseBetween, AreInRange};
-ghost use Rattle.csp_text.specs.Token.{AreTokens, longest_text};
+ghost use Rattle.theory_text.specs.Spans.{RiseBetween, AreInRange};
+ghost use Rattle.theory_text.specs.Token.{AreTokens, longest_text};
 ghost use Rattle.csp_lex.specs.Places.{place_of};
 ghost use Rattle.csp_lex.specs.Refusals.{IsRefusalOf};
 ghost use Rattle.csp_lex.specs.Tokens.{placed_token, AreSlices};

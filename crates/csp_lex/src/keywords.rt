@@ -35,7 +35,7 @@ pub enum Keyword {
 }
 
 impl Keyword {
-    ghost use Rattle.csp_text.specs.Token.{keyword_spelling, is_keyword};
+    ghost use Rattle.theory_text.specs.Token.{keyword_spelling, is_keyword};
     ghost use Rattle.csp_lex.specs.Tokens.{keyword_of};
 
     /// All keywords.
@@ -114,7 +114,7 @@ impl Keyword {
 
 impl fmt::Display for Keyword {
     ghost use Rattle.std.specs.Prelude.{Some};
-    ghost use Rattle.csp_text.specs.Token.{keyword_spelling};
+    ghost use Rattle.theory_text.specs.Token.{keyword_spelling};
     ghost use Rattle.csp_lex.specs.Tokens.{keyword_of};
 
     ghost output = { λ keyword. Some (keyword_spelling (keyword_of keyword)) };

@@ -2,9 +2,9 @@
 
 ghost use Rattle.std.specs.Prelude.{◌≡◌, [], ◌∷◌, IfSome, IfNone, None};
 ghost use Rattle.std.specs.Option.{option_map};
-ghost use Rattle.csp_text.specs.Fronts.{StartsPlainly};
-ghost use Rattle.csp_text.specs.Spelling.{mark_of};
-ghost use Rattle.csp_text.specs.Token.{StartsWithNoLexeme};
+ghost use Rattle.theory_text.specs.Fronts.{StartsPlainly};
+ghost use Rattle.theory_text.specs.Spelling.{mark_of};
+ghost use Rattle.theory_text.specs.Token.{StartsWithNoLexeme};
 ghost use Rattle.csp_lex.specs.Cursors.{left_of, Begins};
 ghost use Rattle.csp_lex.specs.Marks.{lexeme_of, ReadsMark, HasNoMarkOf};
 

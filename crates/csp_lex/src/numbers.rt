@@ -3,8 +3,8 @@
 ghost use Rattle.std.specs.Prelude.{◌≡◌, ◌<◌, ◌≤◌, Some, IfSome, IfNone, MatchOption, IsTrue};
 ghost use Rattle.std.specs.Char.{is_ascii_digit};
 ghost use Rattle.std.specs.Str.{all_ascii_digits};
-ghost use Rattle.csp_text.specs.Fronts.{StartsWith};
-ghost use Rattle.csp_text.specs.Token.{digits_value, greatest_number, IsRefusedHere, LargeNumber};
+ghost use Rattle.theory_text.specs.Fronts.{StartsWith};
+ghost use Rattle.theory_text.specs.Token.{digits_value, greatest_number, IsRefusedHere, LargeNumber};
 ghost use Rattle.csp_lex.specs.Cursors.{left_of};
 ghost use Rattle.csp_lex.specs.Pieces.{ReadsPiece};
 

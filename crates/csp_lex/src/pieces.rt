@@ -1,8 +1,8 @@
 //! The pieces of a text: its tokens, and what stands between them.
 
 ghost use Rattle.std.specs.Prelude.{◌≡◌, ◌<◌, ◌||◌, ◌==◌, [], IfOk, IfErr, IfSome, IfNone, length};
-ghost use Rattle.csp_text.specs.Fronts.{StartsPlainly};
-ghost use Rattle.csp_text.specs.Token.{is_white, IsRefusedHere};
+ghost use Rattle.theory_text.specs.Fronts.{StartsPlainly};
+ghost use Rattle.theory_text.specs.Token.{is_white, IsRefusedHere};
 ghost use Rattle.csp_lex.specs.Cursors.{left_of};
 ghost use Rattle.csp_lex.specs.Pieces.{ReadsPiece};
 ghost use Rattle.csp_lex.specs.Refusals.{fault_of};

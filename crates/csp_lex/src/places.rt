@@ -14,7 +14,7 @@ pub struct Place {
 }
 
 impl Place {
-    ghost use Rattle.csp_text.specs.Place.{first_place, next_place};
+    ghost use Rattle.theory_text.specs.Place.{first_place, next_place};
     ghost use Rattle.csp_lex.specs.Places.{place_of};
 
     /// The place of a text's first character.

@@ -24,7 +24,7 @@ pub enum TextFault {
 }
 
 impl TextFault {
-    ghost use Rattle.csp_text.specs.Reading.{text_fault_spelling};
+    ghost use Rattle.theory_text.specs.Reading.{text_fault_spelling};
     ghost use Rattle.csp_lex.specs.Refusals.{fault_of};
 
     /// The number of the refusal, as it is printed.
@@ -43,7 +43,7 @@ impl TextFault {
 
 impl fmt::Display for TextFault {
     ghost use Rattle.std.specs.Prelude.{Some};
-    ghost use Rattle.csp_text.specs.Reading.{text_fault_spelling};
+    ghost use Rattle.theory_text.specs.Reading.{text_fault_spelling};
     ghost use Rattle.csp_lex.specs.Refusals.{fault_of};
 
     ghost output = { λ fault. Some (text_fault_spelling (fault_of fault)) };

@@ -102,7 +102,7 @@ pub enum Sign {
 }
 
 impl Sign {
-    ghost use Rattle.csp_text.specs.Token.{sign_spelling};
+    ghost use Rattle.theory_text.specs.Token.{sign_spelling};
     ghost use Rattle.csp_lex.specs.Tokens.{sign_of};
 
     /// How the sign is written.
@@ -162,7 +162,7 @@ impl Sign {
 
 impl fmt::Display for Sign {
     ghost use Rattle.std.specs.Prelude.{Some};
-    ghost use Rattle.csp_text.specs.Token.{sign_spelling};
+    ghost use Rattle.theory_text.specs.Token.{sign_spelling};
     ghost use Rattle.csp_lex.specs.Tokens.{sign_of};
 
     ghost output = { λ sign. Some (sign_spelling (sign_of sign)) };

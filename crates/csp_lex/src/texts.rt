@@ -1,9 +1,9 @@
 //! Which bytes are a text.
 
 ghost use Rattle.std.specs.Prelude.{◌≡◌, ◌≤◌, IfOk, IfErr, length};
-ghost use Rattle.csp_text.specs.Token.{longest_text};
+ghost use Rattle.theory_text.specs.Token.{longest_text};
 ghost use Rattle.std.specs.Str.{IsUtf8, chars};
-ghost use Rattle.csp_text.specs.Place.{place_after, first_place};
+ghost use Rattle.theory_text.specs.Place.{place_after, first_place};
 ghost use Rattle.csp_lex.specs.Places.{place_of};
 ghost use Rattle.csp_lex.specs.Refusals.{IsRefusalOf};
 

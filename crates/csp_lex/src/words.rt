@@ -2,7 +2,7 @@
 
 ghost use Rattle.std.specs.Prelude.{Some};
 ghost use Rattle.unicode_ident.specs.Ident.{is_xid_start};
-ghost use Rattle.csp_text.specs.Fronts.{StartsWith};
+ghost use Rattle.theory_text.specs.Fronts.{StartsWith};
 ghost use Rattle.csp_lex.specs.Cursors.{left_of};
 ghost use Rattle.csp_lex.specs.Pieces.{ReadsPiece};
 

@@ -3,11 +3,11 @@ use Rattle.std.proofs.Common.{◌≡◌, ℕ, zero, suc, ◌≤◌, ◌<◌, max
 use Rattle.std.specs.List.{AllByRecursion}
 use Rattle.std.specs.Option.{option_map}
 use Rattle.std.proofs.Math.Nat.{le-max_left, le-max_right}
-use Rattle.csp_syntax.specs.Value.{Action}
-use Rattle.csp_syntax.specs.Process.{Process, Script}
-use Rattle.csp_origins.specs.Origin.{Below, Origin, Passage, Together}
-use Rattle.csp_origins.specs.Telling.{Tells}
-use Rattle.csp_origins.specs.Ways.{AreWays, Both, Part, TellsBy, TellsOf, Through, Way, way_weight}
+use Rattle.theory_syntax.specs.Value.{Action}
+use Rattle.theory_syntax.specs.Process.{Process, Script}
+use Rattle.theory_origins.specs.Origin.{Below, Origin, Passage, Together}
+use Rattle.theory_origins.specs.Telling.{Tells}
+use Rattle.theory_origins.specs.Ways.{AreWays, Both, Part, TellsBy, TellsOf, Through, Way, way_weight}
 use Rattle.csp_moves.specs.Along.{TellsAlong}
 
 -- ---- lists

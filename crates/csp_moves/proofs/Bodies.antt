@@ -1,14 +1,14 @@
 -- The ways of hiding and of renaming, by what is found of the target and of the events of the body.
 use Rattle.std.proofs.Common.{◌≡◌, Bool, true, false, not, Contains, IsTrue, List, [], ◌∷◌, map, sym, ◌∙◌, ap, subst, Option, Some, None, Ok, Err}
-use Rattle.csp_syntax.specs.Value.{Action, Ev, Event, Tau}
-use Rattle.csp_syntax.specs.Process.{EventSet, Hiding, Process, Renaming, RenamingPair, Script}
-use Rattle.csp_syntax.proofs.Members.{contains_none}
-use Rattle.csp_semantics.specs.Meaning.Evaluation.{Cause}
-use Rattle.csp_semantics.specs.Meaning.Events.{event_test, images, images_by, renaming}
-use Rattle.csp_origins.specs.Origin.{Hides, InBody, Renames}
-use Rattle.csp_origins.specs.Telling.{IsBody}
-use Rattle.csp_origins.specs.Ways.{AreEventsTo, AreWays, IsBodyWhere, Through, part}
-use Rattle.csp_origins.proofs.BodyWays as law
+use Rattle.theory_syntax.specs.Value.{Action, Ev, Event, Tau}
+use Rattle.theory_syntax.specs.Process.{EventSet, Hiding, Process, Renaming, RenamingPair, Script}
+use Rattle.theory_syntax.proofs.Members.{contains_none}
+use Rattle.theory_semantics.specs.Meaning.Evaluation.{Cause}
+use Rattle.theory_semantics.specs.Meaning.Events.{event_test, images, images_by, renaming}
+use Rattle.theory_origins.specs.Origin.{Hides, InBody, Renames}
+use Rattle.theory_origins.specs.Telling.{IsBody}
+use Rattle.theory_origins.specs.Ways.{AreEventsTo, AreWays, IsBodyWhere, Through, part}
+use Rattle.theory_origins.proofs.BodyWays as law
 use Rattle.csp_moves.specs.Bodies.{AreHiddenEvents, AreRenamedEvents}
 
 module _ (s : Script) (p : Process) (a : EventSet) (t : Process) where

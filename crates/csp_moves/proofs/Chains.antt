@@ -1,18 +1,18 @@
 -- The ways of a replicated form, by the chain of its instances.
 use Rattle.std.proofs.Common.{◌≡◌, ℕ, List, [], ◌∷◌, ◌++◌, refl, sym, ap, subst, Some, None}
-use Rattle.csp_syntax.specs.Value.{Action, Value}
-use Rattle.csp_syntax.specs.Expression.{Expression}
-use Rattle.csp_syntax.specs.Operators.{replicated_process}
-use Rattle.csp_syntax.specs.Process.{Process, Script}
-use Rattle.csp_syntax.specs.declared.process_operator.ReplicatedOperator.{ReplicatedOperator}
-use Rattle.csp_syntax.specs.declared.process_operator.ReplicatedOperator.TheVariants as operator
-use Rattle.csp_semantics.specs.Meaning.Events.{elements, instances}
-use Rattle.csp_semantics.specs.Meaning.Substitution.{put}
-use Rattle.csp_semantics.specs.Meaning.Transitions.{left_grouped}
-use Rattle.csp_origins.specs.Origin.{InChain}
-use Rattle.csp_origins.specs.Telling.{instance_chain}
-use Rattle.csp_origins.specs.Ways.{AreWays, Through, part}
-use Rattle.csp_origins.proofs.LeafWays.{instance_ways, no_instance_ways}
+use Rattle.theory_syntax.specs.Value.{Action, Value}
+use Rattle.theory_syntax.specs.Expression.{Expression}
+use Rattle.theory_syntax.specs.Operators.{replicated_process}
+use Rattle.theory_syntax.specs.Process.{Process, Script}
+use Rattle.theory_syntax.specs.declared.process_operator.ReplicatedOperator.{ReplicatedOperator}
+use Rattle.theory_syntax.specs.declared.process_operator.ReplicatedOperator.TheVariants as operator
+use Rattle.theory_semantics.specs.Meaning.Events.{elements, instances}
+use Rattle.theory_semantics.specs.Meaning.Substitution.{put}
+use Rattle.theory_semantics.specs.Meaning.Transitions.{left_grouped}
+use Rattle.theory_origins.specs.Origin.{InChain}
+use Rattle.theory_origins.specs.Telling.{instance_chain}
+use Rattle.theory_origins.specs.Ways.{AreWays, Through, part}
+use Rattle.theory_origins.proofs.LeafWays.{instance_ways, no_instance_ways}
 use Rattle.csp_moves.specs.Chains.{IsChainOf, linked}
 
 module _ (s : Script) (op : ReplicatedOperator) (n : ℕ) (e : Expression) (p : Process) (x : Action) (t : Process) where

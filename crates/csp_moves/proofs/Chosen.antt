@@ -1,11 +1,11 @@
 -- The ways of an internal choice, by the side that it takes.
 use Rattle.std.proofs.Common.{◌≡◌, IfOk, [], ◌∷◌, refl, Some, None, Result}
 use Rattle.std.specs.declared.vec.Vec.{Vec}
-use Rattle.csp_syntax.specs.Value.{Tau}
-use Rattle.csp_syntax.specs.Process.{Process, InternalChoice}
-use Rattle.csp_origins.specs.Origin.{Chooses, Left, Right}
-use Rattle.csp_origins.specs.Ways.{Here}
-use Rattle.csp_origins.proofs.OperandWays.{left_choice_ways, no_choice_ways, right_choice_ways}
+use Rattle.theory_syntax.specs.Value.{Tau}
+use Rattle.theory_syntax.specs.Process.{Process, InternalChoice}
+use Rattle.theory_origins.specs.Origin.{Chooses, Left, Right}
+use Rattle.theory_origins.specs.Ways.{Here}
+use Rattle.theory_origins.proofs.OperandWays.{left_choice_ways, no_choice_ways, right_choice_ways}
 use Rattle.csp_moves.specs.declared.passage.Side.{Side}
 use Rattle.csp_moves.specs.declared.passage.Side.TheVariants as side
 use Rattle.csp_moves.specs.declared.way.Way.{Way}

@@ -1,13 +1,13 @@
 -- Whether a term does a step, by all steps that are answered of it.
 use Rattle.std.proofs.Common.{◌≡◌, ◌↔◌, Bool, true, false, cond, IsTrue, Contains, List, refl, sym, ◌∙◌, ap, subst, Option, Some, None}
-use Rattle.csp_syntax.specs.Value.{Action}
-use Rattle.csp_syntax.specs.Process.{Process, Script}
-use Rattle.csp_semantics.specs.Meaning.Evaluation.{Cause}
-use Rattle.csp_semantics.specs.Meaning.Faults.{cause_in}
-use Rattle.csp_semantics.specs.Meaning.Limits.{fits}
-use Rattle.csp_semantics.specs.Meaning.Transitions as rule
-use Rattle.csp_origins.specs.Telling.{Tells}
-use Rattle.csp_operators.specs.Answering.{Answered, IsAnswered, within_limits}
+use Rattle.theory_syntax.specs.Value.{Action}
+use Rattle.theory_syntax.specs.Process.{Process, Script}
+use Rattle.theory_semantics.specs.Meaning.Evaluation.{Cause}
+use Rattle.theory_semantics.specs.Meaning.Faults.{cause_in}
+use Rattle.theory_semantics.specs.Meaning.Limits.{fits}
+use Rattle.theory_semantics.specs.Meaning.Transitions as rule
+use Rattle.theory_origins.specs.Telling.{Tells}
+use Rattle.csp_steps.specs.Answering.{Answered, IsAnswered, within_limits}
 use Rattle.csp_moves.specs.Deciding.{IsDecided}
 
 kept_as : (b : Bool) (t u : Process) → Some t ≡ cond b (Some u) None → t ≡ u

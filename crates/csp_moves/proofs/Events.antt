@@ -2,14 +2,14 @@
 use Rattle.std.proofs.Common.{◌≡◌, ◌↔◌, ⊎_elim, ℕ, ◌+◌, ◌<◌, ◌≤◌, cond, Contains, List, [], ◌∷◌, ◌++◌, length, map, take, get_or, sym, ◌∙◌, ap, subst, inl, inr, Option, Some, None, Ok, Err}
 use Rattle.std.proofs.lemmas.List.{map-append, take_all, take_more}
 use Rattle.std.proofs.lemmas.List.Elements.{Contains-append_cases, Contains-append_left, Contains-append_right}
-use Rattle.csp_syntax.specs.Value.{Ev, Event}
-use Rattle.csp_syntax.specs.Process.{Process, RenamingPair, Script}
-use Rattle.csp_syntax.proofs.Members.{contains_here, contains_none, contains_one}
-use Rattle.csp_semantics.specs.Meaning.Evaluation.{Cause}
-use Rattle.csp_semantics.specs.Meaning.Events.{images, images_by, or_itself, renaming}
-use Rattle.csp_semantics.specs.Meaning.Faults.{cause_in}
-use Rattle.csp_origins.specs.Ways.{AreEventsTo}
-use Rattle.csp_operators.specs.Answering.{Answered, IsAnswered, within_limits}
+use Rattle.theory_syntax.specs.Value.{Ev, Event}
+use Rattle.theory_syntax.specs.Process.{Process, RenamingPair, Script}
+use Rattle.theory_syntax.proofs.Members.{contains_here, contains_none, contains_one}
+use Rattle.theory_semantics.specs.Meaning.Evaluation.{Cause}
+use Rattle.theory_semantics.specs.Meaning.Events.{images, images_by, or_itself, renaming}
+use Rattle.theory_semantics.specs.Meaning.Faults.{cause_in}
+use Rattle.theory_origins.specs.Ways.{AreEventsTo}
+use Rattle.csp_steps.specs.Answering.{Answered, IsAnswered, within_limits}
 use Rattle.csp_moves.specs.Passing.{AddsPassing, ArePassing}
 
 -- ---- one step

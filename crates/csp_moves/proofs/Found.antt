@@ -1,10 +1,10 @@
 -- Ways that are found, by those that they stand for.
 use Rattle.std.proofs.Common.{◌≡◌, IfOk, List, [], ◌∷◌, sym, ◌∙◌, ap, ap₂, subst, Result, Ok, Err}
 use Rattle.std.specs.declared.vec.Vec.{Vec}
-use Rattle.csp_syntax.specs.Value.{Action}
-use Rattle.csp_syntax.specs.Process.{Process, Script}
-use Rattle.csp_origins.specs.Ways as meaning
-use Rattle.csp_origins.specs.Ways.{AreWays}
+use Rattle.theory_syntax.specs.Value.{Action}
+use Rattle.theory_syntax.specs.Process.{Process, Script}
+use Rattle.theory_origins.specs.Ways as meaning
+use Rattle.theory_origins.specs.Ways.{AreWays}
 use Rattle.csp_moves.specs.declared.way.Way.{Way}
 use Rattle.csp_moves.specs.Way.{AreFound, AreFoundIn, ways_of}
 

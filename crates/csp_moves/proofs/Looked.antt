@@ -3,9 +3,9 @@ use Rattle.std.proofs.Common.{◌≡◌, ℕ, ◌+◌, ◌<◌, ◌≤◌, ⊎_e
 use Rattle.std.proofs.lemmas.List.{map-append, take_all, take_more}
 use Rattle.std.proofs.lemmas.List.Elements.{Contains-append_cases}
 use Rattle.std.proofs.lemmas.Option.{slice_get-get_or}
-use Rattle.csp_syntax.proofs.Members.{contains_none, contains_one}
-use Rattle.csp_syntax.proofs.Places.{get_some}
-use Rattle.csp_semantics.proofs.Rising.{Contains-from_stands}
+use Rattle.theory_syntax.proofs.Members.{contains_none, contains_one}
+use Rattle.theory_syntax.proofs.Places.{get_some}
+use Rattle.theory_semantics.proofs.Rising.{Contains-from_stands}
 
 module _ {X Y : Type 0} (f : X → Y) (y : Y) (xs : List X) where
   pub none_before : ¬ Contains (map f (take 0 xs)) y

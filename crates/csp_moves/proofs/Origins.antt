@@ -2,12 +2,12 @@
 use Rattle.std.proofs.Common.{◌≡◌, Bool, true, false, Contains, List, sym, ◌∙◌, ap, Option, Some, None}
 use Rattle.std.specs.Option.{is_some}
 use Rattle.std.specs.declared.boxed.Box.{Box}
-use Rattle.csp_syntax.specs.Process.{Script}
+use Rattle.theory_syntax.specs.Process.{Script}
 use Rattle.csp_value.specs.Action.{event_of}
 use Rattle.csp_value.specs.declared.action.Event.{Event}
 use Rattle.csp_term.specs.declared.name.EquationId.{EquationId}
-use Rattle.csp_origins.specs.Origin as pure
-use Rattle.csp_origins.specs.Ways.{TellsBy, Way}
+use Rattle.theory_origins.specs.Origin as pure
+use Rattle.theory_origins.specs.Ways.{TellsBy, Way}
 use Rattle.csp_moves.specs.declared.origin.Origin.{Origin}
 use Rattle.csp_moves.specs.declared.origin.Origin.TheFolds.{fold-roll-Origin}
 use Rattle.csp_moves.specs.declared.origin.Origin.TheOpen as layer

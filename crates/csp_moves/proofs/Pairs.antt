@@ -2,10 +2,10 @@
 use Rattle.std.proofs.Common.{◌≡◌, Bool, List, sym, ◌∙◌, ap, IsTrue, ◌↔◌}
 use Rattle.std.specs.Cmp.Lexicographic.{slice_cmp}
 use Rattle.std.specs.Ordering.{is_eq}
-use Rattle.csp_syntax.specs.Order.{pair_cmp}
-use Rattle.csp_syntax.specs.Process.{Renaming, RenamingPair, Stop}
-use Rattle.csp_syntax.proofs.Equalities.{is_eq-Equal}
-use Rattle.csp_syntax.proofs.ProcessOrder.{process_refl, process_same}
+use Rattle.theory_syntax.specs.Order.{pair_cmp}
+use Rattle.theory_syntax.specs.Process.{Renaming, RenamingPair, Stop}
+use Rattle.theory_syntax.proofs.Equalities.{is_eq-Equal}
+use Rattle.theory_syntax.proofs.ProcessOrder.{process_refl, process_same}
 
 pub pairs_decided : (rs ss : List RenamingPair) (r : Bool) → r ≡ is_eq (slice_cmp pair_cmp rs ss) → IsTrue r ↔ (rs ≡ ss)
 pairs_decided rs ss r is = (

@@ -1,20 +1,20 @@
 -- The ways of a parallel composition are those of its step.
 use Rattle.std.proofs.Common.{◌≡◌, suc, ◌+◌, Bool, true, false, not, ◌&&◌, [], List, refl, sym, subst, inl, inr, IfOk, Result, Ok, Err}
 use Rattle.std.specs.declared.vec.Vec.{Vec}
-use Rattle.csp_syntax.specs.Value.{Event, Action, Tau, Tick, Ev}
-use Rattle.csp_syntax.specs.Process.{EventSet, Process, AlphabetisedParallel, GeneralisedParallel, Interleaving, Script}
-use Rattle.csp_syntax.specs.declared.process_operator.ProcessOperator.TheVariants as binary
-use Rattle.csp_semantics.specs.Meaning.Evaluation.{Cause}
-use Rattle.csp_semantics.specs.Meaning.Events.{event_test}
-use Rattle.csp_semantics.specs.Meaning.Stepping.{always, never}
-use Rattle.csp_origins.specs.Telling.{IsParallel}
-use Rattle.csp_origins.specs.Ways.{AreWays, IsBodyWhere, IsSplitWhere}
-use Rattle.csp_origins.specs.Ways as meaning
-use Rattle.csp_origins.specs.Weight.{weight}
-use Rattle.csp_origins.proofs.ParallelWays.{parallel_ended_ways, parallel_event_ways, parallel_running_ways, parallel_tau_ways}
-use Rattle.csp_origins.proofs.TellingTogether.{alphabetised_rules, alphabetised_stuck_left, alphabetised_stuck_right, generalised_rules, generalised_stuck, interleaving_rules}
-use Rattle.csp_origins.proofs.Ways.{no_ways}
-use Rattle.csp_origins.proofs.Weighing.{alphabetised_weight, binary_weight, generalised_weight}
+use Rattle.theory_syntax.specs.Value.{Event, Action, Tau, Tick, Ev}
+use Rattle.theory_syntax.specs.Process.{EventSet, Process, AlphabetisedParallel, GeneralisedParallel, Interleaving, Script}
+use Rattle.theory_syntax.specs.declared.process_operator.ProcessOperator.TheVariants as binary
+use Rattle.theory_semantics.specs.Meaning.Evaluation.{Cause}
+use Rattle.theory_semantics.specs.Meaning.Events.{event_test}
+use Rattle.theory_semantics.specs.Meaning.Stepping.{always, never}
+use Rattle.theory_origins.specs.Telling.{IsParallel}
+use Rattle.theory_origins.specs.Ways.{AreWays, IsBodyWhere, IsSplitWhere}
+use Rattle.theory_origins.specs.Ways as meaning
+use Rattle.theory_origins.specs.Weight.{weight}
+use Rattle.theory_origins.proofs.ParallelWays.{parallel_ended_ways, parallel_event_ways, parallel_running_ways, parallel_tau_ways}
+use Rattle.theory_origins.proofs.TellingTogether.{alphabetised_rules, alphabetised_stuck_left, alphabetised_stuck_right, generalised_rules, generalised_stuck, interleaving_rules}
+use Rattle.theory_origins.proofs.Ways.{no_ways}
+use Rattle.theory_origins.proofs.Weighing.{alphabetised_weight, binary_weight, generalised_weight}
 use Rattle.csp_moves.specs.declared.together.Freedom.{Freedom}
 use Rattle.csp_moves.specs.declared.way.Way.{Way}
 use Rattle.csp_moves.specs.Parallel.{AreParallelWays, IsFreedom}

@@ -1,15 +1,15 @@
 -- The ways of conditions and guards, by the truth of the condition.
 use Rattle.std.proofs.Common.{◌≡◌, Bool, true, false, cond, IfOk, [], ◌∷◌, refl, sym, ◌∙◌, Some, Result, Ok, Err}
 use Rattle.std.specs.declared.vec.Vec.{Vec}
-use Rattle.csp_syntax.specs.Value.{Action}
-use Rattle.csp_syntax.specs.Expression.{Expression}
-use Rattle.csp_syntax.specs.Process.{Process, Guard, If, Script}
-use Rattle.csp_semantics.specs.Meaning.Evaluation.{Cause}
-use Rattle.csp_semantics.specs.Meaning.Events.{condition}
-use Rattle.csp_origins.specs.Origin.{InBody, Left, OnSide, Right}
-use Rattle.csp_origins.specs.Ways.{Through, part}
-use Rattle.csp_origins.proofs.LeafWays.{guard_shut_ways, no_branch_ways}
-use Rattle.csp_origins.proofs.OperandWays as law
+use Rattle.theory_syntax.specs.Value.{Action}
+use Rattle.theory_syntax.specs.Expression.{Expression}
+use Rattle.theory_syntax.specs.Process.{Process, Guard, If, Script}
+use Rattle.theory_semantics.specs.Meaning.Evaluation.{Cause}
+use Rattle.theory_semantics.specs.Meaning.Events.{condition}
+use Rattle.theory_origins.specs.Origin.{InBody, Left, OnSide, Right}
+use Rattle.theory_origins.specs.Ways.{Through, part}
+use Rattle.theory_origins.proofs.LeafWays.{guard_shut_ways, no_branch_ways}
+use Rattle.theory_origins.proofs.OperandWays as law
 use Rattle.csp_moves.specs.declared.way.Way.{Way}
 use Rattle.csp_moves.specs.Way.{AreFoundIn, ways_of}
 use Rattle.csp_moves.proofs.Found.{found_in}

@@ -1,10 +1,10 @@
 -- Ways that are added one by one, by a list of events.
 use Rattle.std.proofs.Common.{◌≡◌, ℕ, ◌+◌, ◌<◌, ◌≤◌, List, [], ◌∷◌, ◌++◌, length, map, take, get_or, sym, ◌∙◌, ap, ap₂}
 use Rattle.std.proofs.lemmas.List.{append_assoc, map-append, take_all, take_more}
-use Rattle.csp_syntax.specs.Value as pure
+use Rattle.theory_syntax.specs.Value as pure
 use Rattle.csp_value.specs.Action.{event_of}
 use Rattle.csp_value.specs.declared.action.Event.{Event}
-use Rattle.csp_origins.specs.Ways as meaning
+use Rattle.theory_origins.specs.Ways as meaning
 use Rattle.csp_moves.specs.declared.way.Way.{Way}
 use Rattle.csp_moves.specs.Way.{way_of}
 

@@ -1,14 +1,14 @@
 -- The ways of calls and of prefixes, by their steps.
 use Rattle.std.proofs.Common.{◌≡◌, ℕ, IfOk, [], ◌∷◌, refl, sym, subst, None, Result}
 use Rattle.std.specs.declared.vec.Vec.{Vec}
-use Rattle.csp_syntax.specs.Value.{Action, Event, Ev}
-use Rattle.csp_syntax.specs.Process.{Process, Script}
-use Rattle.csp_semantics.specs.Meaning.Transitions.{RuleStep}
-use Rattle.csp_origins.specs.Origin.{Does, Unfolds}
-use Rattle.csp_origins.specs.Telling.{Tells}
-use Rattle.csp_origins.specs.Ways.{AreWays, Here}
-use Rattle.csp_origins.proofs.LeafWays as law
-use Rattle.csp_origins.proofs.Ways as ways
+use Rattle.theory_syntax.specs.Value.{Action, Event, Ev}
+use Rattle.theory_syntax.specs.Process.{Process, Script}
+use Rattle.theory_semantics.specs.Meaning.Transitions.{RuleStep}
+use Rattle.theory_origins.specs.Origin.{Does, Unfolds}
+use Rattle.theory_origins.specs.Telling.{Tells}
+use Rattle.theory_origins.specs.Ways.{AreWays, Here}
+use Rattle.theory_origins.proofs.LeafWays as law
+use Rattle.theory_origins.proofs.Ways as ways
 use Rattle.csp_moves.specs.declared.way.Way.{Way}
 use Rattle.csp_moves.specs.Leaves.{IsCallOf, IsPrefix}
 use Rattle.csp_moves.specs.Way.{AreFoundIn, ways_of}

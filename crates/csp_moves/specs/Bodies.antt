@@ -1,12 +1,12 @@
 -- The events of the body by which hiding and renaming do a step.
 use Rattle.std.specs.Prelude.{◌≡◌, ⊤, Bool, Contains, IsTrue, List, Option, Some, None, Result, Ok, Err}
-use Rattle.csp_syntax.specs.Value.{Action, Ev, Event, Tau, Tick}
-use Rattle.csp_syntax.specs.Process.{EventSet, Hiding, Process, Renaming, RenamingPair, Script}
-use Rattle.csp_semantics.specs.Meaning.Evaluation.{Cause}
-use Rattle.csp_semantics.specs.Meaning.Events.{event_test, images}
+use Rattle.theory_syntax.specs.Value.{Action, Ev, Event, Tau, Tick}
+use Rattle.theory_syntax.specs.Process.{EventSet, Hiding, Process, Renaming, RenamingPair, Script}
+use Rattle.theory_semantics.specs.Meaning.Evaluation.{Cause}
+use Rattle.theory_semantics.specs.Meaning.Events.{event_test, images}
 use Rattle.csp_event_tests.specs.Imaging.{AreMade, PairsRise}
 use Rattle.csp_event_tests.specs.declared.images.Images.{Images}
-use Rattle.csp_origins.specs.Ways.{AreEventsTo}
+use Rattle.theory_origins.specs.Ways.{AreEventsTo}
 
 -- a tau of `P \ A` comes by hidden events of the body, to what is hidden in the target
 abbrev pub AreHiddenEvents : Script → Process → EventSet → Action → Process → List Event → Type 0

@@ -1,6 +1,6 @@
 -- The truth of a condition, if it has one.
 use Rattle.std.specs.Prelude.{◌≡◌, Bool, Option, Some, None, Result, Ok, Err}
-use Rattle.csp_semantics.specs.Meaning.Evaluation.{Cause}
+use Rattle.theory_semantics.specs.Meaning.Evaluation.{Cause}
 
 abbrev pub IsTruthOf : Option Bool → Result Bool Cause → Type 0
 IsTruthOf (Some b) r = r ≡ Ok b

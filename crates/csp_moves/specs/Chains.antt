@@ -1,17 +1,17 @@
 -- The chain of the instances of a replicated form.
 use Rattle.std.specs.Prelude.{◌≡◌, ℕ, List, Option, Some, None, Result, Ok, Err}
 use Rattle.std.specs.Option.{option_map}
-use Rattle.csp_syntax.specs.Value.{Value, values_list}
-use Rattle.csp_syntax.specs.Process.{ExternalChoice, InternalChoice, Interleaving, Process}
-use Rattle.csp_syntax.specs.declared.process_operator.ReplicatedOperator.{ReplicatedOperator}
-use Rattle.csp_syntax.specs.declared.process_operator.ReplicatedOperator.TheVariants as operator
-use Rattle.csp_semantics.specs.Meaning.Evaluation.{Cause}
-use Rattle.csp_semantics.specs.Meaning.Events.{instances}
+use Rattle.theory_syntax.specs.Value.{Value, values_list}
+use Rattle.theory_syntax.specs.Process.{ExternalChoice, InternalChoice, Interleaving, Process}
+use Rattle.theory_syntax.specs.declared.process_operator.ReplicatedOperator.{ReplicatedOperator}
+use Rattle.theory_syntax.specs.declared.process_operator.ReplicatedOperator.TheVariants as operator
+use Rattle.theory_semantics.specs.Meaning.Evaluation.{Cause}
+use Rattle.theory_semantics.specs.Meaning.Events.{instances}
 use Rattle.csp_value.specs.Value.{members_of}
 use Rattle.csp_value.specs.declared.set.SetOf.{SetOf}
 use Rattle.csp_term.specs.Term.{process_of}
 use Rattle.csp_term.specs.declared.term.Term.{Term}
-use Rattle.csp_origins.specs.Telling.{instance_chain}
+use Rattle.theory_origins.specs.Telling.{instance_chain}
 
 -- the operator between two instances
 abbrev pub linked : ReplicatedOperator → Process → Process → Process

@@ -1,6 +1,6 @@
 -- The side that an internal choice takes.
 use Rattle.std.specs.Prelude.{◌≡◌, Option, Some, None}
-use Rattle.csp_syntax.specs.Process.{Process}
+use Rattle.theory_syntax.specs.Process.{Process}
 use Rattle.csp_moves.specs.declared.passage.Side.{Side}
 use Rattle.csp_moves.specs.declared.passage.Side.TheVariants as side
 

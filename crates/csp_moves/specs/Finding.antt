@@ -1,7 +1,7 @@
 -- The origin that is found.
 use Rattle.std.specs.Prelude.{Option}
 use Rattle.std.specs.Option.{option_map}
-use Rattle.csp_origins.specs.Origin as pure
+use Rattle.theory_origins.specs.Origin as pure
 use Rattle.csp_moves.specs.declared.origin.Origin.{Origin}
 use Rattle.csp_moves.specs.Origin.{origin_of}
 

@@ -1,7 +1,7 @@
 -- Operators of one process, and processes taken apart by them.
 use Rattle.std.specs.Prelude.{List, Option, Some, None}
 use Rattle.std.specs.Option.{option_map}
-use Rattle.csp_syntax.specs.Process.{EventSet, Hiding, Process, Renaming, RenamingPair}
+use Rattle.theory_syntax.specs.Process.{EventSet, Hiding, Process, Renaming, RenamingPair}
 use Rattle.csp_event_sets.specs.Events.{event_set_of, renaming_pairs_of}
 use Rattle.csp_term.specs.Term.{process_of}
 use Rattle.csp_moves.specs.declared.frame.Frame.{Frame}

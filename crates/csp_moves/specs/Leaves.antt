@@ -1,7 +1,7 @@
 -- Calls and prefixes.
 use Rattle.std.specs.Prelude.{◌≡◌, ℕ, List}
-use Rattle.csp_syntax.specs.Expression.{Expressions}
-use Rattle.csp_syntax.specs.Process.{Call, Field, Prefix, Process}
+use Rattle.theory_syntax.specs.Expression.{Expressions}
+use Rattle.theory_syntax.specs.Process.{Call, Field, Prefix, Process}
 
 abbrev pub IsCallOf : ℕ → Process → Type 0
 IsCallOf n p = (es : Expressions) × (p ≡ Call n es)

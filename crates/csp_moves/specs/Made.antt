@@ -1,12 +1,12 @@
 -- What the ways of a step lend beside the step itself.
 use Rattle.std.specs.Prelude.{◌≡◌, ⊤, ℕ, List, map, Option, Some, None}
 use Rattle.std.specs.Option.{option_map}
-use Rattle.csp_syntax.specs.Value.{Action, Event}
-use Rattle.csp_syntax.specs.Expression.{Expression}
-use Rattle.csp_syntax.specs.Process.{Omega, Process, ReplicatedExternalChoice, ReplicatedInterleaving, ReplicatedInternalChoice, Script}
-use Rattle.csp_syntax.specs.declared.process_operator.ReplicatedOperator.{ReplicatedOperator}
-use Rattle.csp_syntax.specs.declared.process_operator.ReplicatedOperator.TheVariants as operator
-use Rattle.csp_semantics.specs.Meaning.Events.{elements}
+use Rattle.theory_syntax.specs.Value.{Action, Event}
+use Rattle.theory_syntax.specs.Expression.{Expression}
+use Rattle.theory_syntax.specs.Process.{Omega, Process, ReplicatedExternalChoice, ReplicatedInterleaving, ReplicatedInternalChoice, Script}
+use Rattle.theory_syntax.specs.declared.process_operator.ReplicatedOperator.{ReplicatedOperator}
+use Rattle.theory_syntax.specs.declared.process_operator.ReplicatedOperator.TheVariants as operator
+use Rattle.theory_semantics.specs.Meaning.Events.{elements}
 use Rattle.csp_value.specs.Action.{event_of}
 use Rattle.csp_expression.specs.Expression.{expression_of}
 use Rattle.csp_term.specs.Term.{process_of}

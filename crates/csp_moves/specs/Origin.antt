@@ -1,6 +1,6 @@
 -- The origin that one of the code stands for.
 use Rattle.std.specs.Box.{box_value}
-use Rattle.csp_origins.specs.Origin as pure
+use Rattle.theory_origins.specs.Origin as pure
 use Rattle.csp_value.specs.Action.{event_of}
 use Rattle.csp_moves.specs.declared.origin.Origin.{Origin}
 use Rattle.csp_moves.specs.declared.origin.Origin.TheOpen as layer

@@ -1,10 +1,10 @@
 -- The ways of two processes side by side, by what each may do alone and what both do together.
 use Rattle.std.specs.Prelude.{◌≡◌, ◌⊎◌, ⊤, Bool, List, [], ◌∷◌, Option}
-use Rattle.csp_syntax.specs.Value.{Event, Action, Tau, Tick, Ev}
-use Rattle.csp_syntax.specs.Process.{Process, Omega}
-use Rattle.csp_origins.specs.Origin.{Left, Right, OnSide, SideEnds, Ends}
-use Rattle.csp_origins.specs.Telling.{IsBody}
-use Rattle.csp_origins.specs.Ways.{Way, Both, Here, IsBodyWhere, IsSplitWhere, Through, first_of, part, second_of}
+use Rattle.theory_syntax.specs.Value.{Event, Action, Tau, Tick, Ev}
+use Rattle.theory_syntax.specs.Process.{Process, Omega}
+use Rattle.theory_origins.specs.Origin.{Left, Right, OnSide, SideEnds, Ends}
+use Rattle.theory_origins.specs.Telling.{IsBody}
+use Rattle.theory_origins.specs.Ways.{Way, Both, Here, IsBodyWhere, IsSplitWhere, Through, first_of, part, second_of}
 use Rattle.csp_moves.specs.declared.together.Freedom.{Freedom}
 
 -- what the freedom says of the event

@@ -1,5 +1,5 @@
 -- The passage that one of the code stands for.
-use Rattle.csp_origins.specs.Origin as pure
+use Rattle.theory_origins.specs.Origin as pure
 use Rattle.csp_value.specs.Action.{event_of}
 use Rattle.csp_moves.specs.declared.passage.Side.{Side}
 use Rattle.csp_moves.specs.declared.passage.Side.TheVariants as side

@@ -1,12 +1,12 @@
 -- The events of a body that pass its operator, of those that lead to a target.
 use Rattle.std.specs.Prelude.{◌≡◌, ◌↔◌, ◌⊎◌, Contains, IsTrue, List, Option, Some, None}
-use Rattle.csp_syntax.specs.Value.{Ev, Event}
-use Rattle.csp_syntax.specs.Process.{Process}
-use Rattle.csp_semantics.specs.Meaning.Events.{or_itself}
+use Rattle.theory_syntax.specs.Value.{Ev, Event}
+use Rattle.theory_syntax.specs.Process.{Process}
+use Rattle.theory_semantics.specs.Meaning.Events.{or_itself}
 use Rattle.csp_value.specs.Action.{event_of}
 use Rattle.csp_event_tests.specs.Imaging.{PairsRise, found_images}
 use Rattle.csp_event_tests.specs.Testing.{AreSorted, listed_in, test_of}
-use Rattle.csp_operators.specs.Answering.{Answered}
+use Rattle.csp_steps.specs.Answering.{Answered}
 use Rattle.csp_moves.specs.declared.passing.Passing.{Passing}
 use Rattle.csp_moves.specs.declared.passing.Passing.TheVariants as variant
 

@@ -1,7 +1,7 @@
 -- The test that a set of events is, if it is one.
 use Rattle.std.specs.Prelude.{◌≡◌, Bool, Option, Some, None, Result, Ok, Err}
-use Rattle.csp_syntax.specs.Value.{Event}
-use Rattle.csp_semantics.specs.Meaning.Evaluation.{Cause}
+use Rattle.theory_syntax.specs.Value.{Event}
+use Rattle.theory_semantics.specs.Meaning.Evaluation.{Cause}
 use Rattle.csp_event_tests.specs.Testing.{AreSorted, listed_in, test_of}
 use Rattle.csp_event_tests.specs.declared.event_test.EventTest.{EventTest}
 

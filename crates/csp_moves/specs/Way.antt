@@ -3,10 +3,10 @@ use Rattle.std.specs.Prelude.{List, map, Option}
 use Rattle.std.specs.Option.{option_map}
 use Rattle.std.specs.declared.vec.Vec.{Vec}
 use denote.Ref.{Bor}
-use Rattle.csp_syntax.specs.Value as value
-use Rattle.csp_syntax.specs.Process.{Process, Script}
-use Rattle.csp_origins.specs.Origin as pure
-use Rattle.csp_origins.specs.Ways as meaning
+use Rattle.theory_syntax.specs.Value as value
+use Rattle.theory_syntax.specs.Process.{Process, Script}
+use Rattle.theory_origins.specs.Origin as pure
+use Rattle.theory_origins.specs.Ways as meaning
 use Rattle.csp_value.specs.Action.{event_of}
 use Rattle.csp_term.specs.declared.term.Term.{Term}
 use Rattle.csp_term.specs.Term.{process_of}

@@ -1,16 +1,16 @@
 //! The ways of conditions and guards.
 
 ghost use Rattle.std.specs.Prelude.{◌≡◌, ◌∷◌, [], IfOk, Some, cond};
-ghost use Rattle.csp_syntax.specs.Process.{Guard, If};
-ghost use Rattle.csp_semantics.specs.Meaning.Events.{condition, truth_of};
+ghost use Rattle.theory_syntax.specs.Process.{Guard, If};
+ghost use Rattle.theory_semantics.specs.Meaning.Events.{condition, truth_of};
 ghost use Rattle.csp_value.specs.Value.{value_of};
 ghost use Rattle.csp_expression.specs.Agreement.{AgreesWith};
 ghost use Rattle.csp_expression.specs.Evaluation.{table_of};
 ghost use Rattle.csp_expression.specs.Expression.{expression_of};
 ghost use Rattle.csp_term.specs.Script.{script_of_parts};
 ghost use Rattle.csp_term.specs.Term.{process_of};
-ghost use Rattle.csp_origins.specs.Origin.{InBody, Left, OnSide, Right};
-ghost use Rattle.csp_origins.specs.Ways.{Through, part};
+ghost use Rattle.theory_origins.specs.Origin.{InBody, Left, OnSide, Right};
+ghost use Rattle.theory_origins.specs.Ways.{Through, part};
 ghost use Rattle.csp_moves.specs.Branch.{IsTruthOf};
 ghost use Rattle.csp_moves.specs.Way.{AreFoundIn, lent_action, ways_of};
 

@@ -4,12 +4,12 @@ ghost use Rattle.std.specs.Prelude.{◌≡◌, ◌↔◌, Contains, IfOk, IsTrue
 ghost use Rattle.csp_value.specs.Action.{action_of};
 ghost use Rattle.csp_term.specs.Script.{script_of_parts};
 ghost use Rattle.csp_term.specs.Term.{process_of};
-ghost use Rattle.csp_operators.specs.Answering.{answered_of, target_of};
+ghost use Rattle.csp_steps.specs.Answering.{answered_of, target_of};
 ghost use Rattle.csp_moves.specs.Deciding.{IsDecided};
 ghost use Rattle.csp_moves.specs.Way.{lent_action};
 
 use crate::way::LentAction;
-use csp_rules::{NoValue, RuleStep, Target, steps};
+use csp_steps::{NoValue, RuleStep, Target, steps};
 use csp_term::laws::equal_terms;
 use csp_term::{Action, AllocHandle, Memory, ScriptParts, Term};
 use csp_value::laws::equal_events;

@@ -3,9 +3,9 @@
 ghost use Rattle.std.specs.Prelude.{◌≡◌, IfOk, map};
 ghost use Rattle.csp_term.specs.Script.{script_of_parts};
 ghost use Rattle.csp_term.specs.Term.{process_of};
-ghost use Rattle.csp_origins.specs.Origin.{Below};
-ghost use Rattle.csp_origins.specs.Telling.{Tells};
-ghost use Rattle.csp_origins.specs.Ways.{Both, TellsBy, TellsOf, Through};
+ghost use Rattle.theory_origins.specs.Origin.{Below};
+ghost use Rattle.theory_origins.specs.Telling.{Tells};
+ghost use Rattle.theory_origins.specs.Ways.{Both, TellsBy, TellsOf, Through};
 ghost use Rattle.csp_moves.specs.Along.{TellsAlong};
 ghost use Rattle.csp_moves.specs.Finding.{origin_found};
 ghost use Rattle.csp_moves.specs.Passage.{passage_of};

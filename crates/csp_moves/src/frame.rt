@@ -3,9 +3,9 @@
 ghost use Rattle.std.specs.Prelude.{◌≡◌, ◌↔◌, IsTrue};
 ghost use Rattle.csp_event_sets.specs.Events.{event_set_of, renaming_pairs_of};
 ghost use Rattle.csp_term.specs.Term.{process_of};
-ghost use Rattle.csp_origins.specs.Origin.{InBody};
-ghost use Rattle.csp_origins.specs.Telling.{IsBody};
-ghost use Rattle.csp_origins.specs.Ways.{Through, part};
+ghost use Rattle.theory_origins.specs.Origin.{InBody};
+ghost use Rattle.theory_origins.specs.Telling.{IsBody};
+ghost use Rattle.theory_origins.specs.Ways.{Through, part};
 ghost use Rattle.csp_moves.specs.Frames.{OfHiding, OfRenaming, frame_of, framed, framed_found, unframed};
 ghost use Rattle.csp_moves.specs.Way.{lent_action, lent_process, way_of};
 

@@ -1,7 +1,7 @@
 //! The ways of `P [| S |] Q`.
 
 ghost use Rattle.std.specs.Prelude.{IfOk, not};
-ghost use Rattle.csp_syntax.specs.Process.{GeneralisedParallel};
+ghost use Rattle.theory_syntax.specs.Process.{GeneralisedParallel};
 ghost use Rattle.csp_event_sets.specs.Events.{event_set_of};
 ghost use Rattle.csp_term.specs.Script.{script_of_parts};
 ghost use Rattle.csp_term.specs.Term.{process_of};

@@ -1,14 +1,14 @@
 //! The ways of `P \ S`.
 
 ghost use Rattle.std.specs.Prelude.{◌≡◌, ◌∷◌, IfOk, Some, map};
-ghost use Rattle.csp_syntax.specs.Process.{Hiding};
-ghost use Rattle.csp_syntax.specs.Value.{Ev, Tau, Tick};
+ghost use Rattle.theory_syntax.specs.Process.{Hiding};
+ghost use Rattle.theory_syntax.specs.Value.{Ev, Tau, Tick};
 ghost use Rattle.csp_value.specs.Action.{event_of};
 ghost use Rattle.csp_event_sets.specs.Events.{event_set_of};
 ghost use Rattle.csp_term.specs.Script.{script_of_parts};
 ghost use Rattle.csp_term.specs.Term.{process_of};
-ghost use Rattle.csp_origins.specs.Origin.{Hides, InBody};
-ghost use Rattle.csp_origins.specs.Ways.{Through, part};
+ghost use Rattle.theory_origins.specs.Origin.{Hides, InBody};
+ghost use Rattle.theory_origins.specs.Ways.{Through, part};
 ghost use Rattle.csp_moves.specs.Bodies.{AreHiddenEvents};
 ghost use Rattle.csp_moves.specs.Way.{AreFound, AreFoundIn, lent_action, ways_of};
 

@@ -1,7 +1,7 @@
 //! The ways of `P ||| Q`.
 
 ghost use Rattle.std.specs.Prelude.{IfOk};
-ghost use Rattle.csp_syntax.specs.Process.{Interleaving};
+ghost use Rattle.theory_syntax.specs.Process.{Interleaving};
 ghost use Rattle.csp_term.specs.Term.{process_of};
 ghost use Rattle.csp_moves.specs.Way.{AreFound, lent_action};
 

@@ -1,8 +1,8 @@
 //! The ways of `P /\ Q`.
 
 ghost use Rattle.std.specs.Prelude.{IfOk};
-ghost use Rattle.csp_syntax.specs.Process.{Interrupt};
-ghost use Rattle.csp_syntax.specs.Value.{Ev, Tau, Tick};
+ghost use Rattle.theory_syntax.specs.Process.{Interrupt};
+ghost use Rattle.theory_syntax.specs.Value.{Ev, Tau, Tick};
 ghost use Rattle.csp_value.specs.Action.{event_of};
 ghost use Rattle.csp_term.specs.Term.{process_of};
 ghost use Rattle.csp_moves.specs.Way.{AreFound, lent_action};

@@ -1,9 +1,9 @@
 //! The ways of `STOP`, of `SKIP` and of what has ended.
 
 ghost use Rattle.std.specs.Prelude.{◌≡◌, ◌↔◌, IfOk, IsTrue};
-ghost use Rattle.csp_syntax.specs.Process.{Omega, Process, Skip, Stop};
-ghost use Rattle.csp_syntax.specs.Value.{Tick};
-ghost use Rattle.csp_syntax.specs.Value as pure;
+ghost use Rattle.theory_syntax.specs.Process.{Omega, Process, Skip, Stop};
+ghost use Rattle.theory_syntax.specs.Value.{Tick};
+ghost use Rattle.theory_syntax.specs.Value as pure;
 ghost use Rattle.csp_term.specs.Term.{process_of};
 ghost use Rattle.csp_moves.specs.Way.{AreFound, lent_action};
 

@@ -5,7 +5,7 @@ ghost use Rattle.csp_event_sets.specs.Events.{event_set_of};
 ghost use Rattle.csp_term.specs.Term.{process_of};
 ghost use Rattle.csp_moves.specs.Sides.{OfAlphabetised, OfBinary, OfGeneralised, OfSliding, joint_of, joined, sides_found, sides_split, taken_apart};
 ghost use Rattle.csp_moves.specs.Way.{lent_process};
-ghost use Rattle.csp_origins.specs.Telling.{IsBody, IsSplit};
+ghost use Rattle.theory_origins.specs.Telling.{IsBody, IsSplit};
 
 use csp_event_sets::EventSet;
 use csp_event_sets::laws::equal_event_sets;

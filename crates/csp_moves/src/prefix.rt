@@ -1,8 +1,8 @@
 //! The ways of `c!e?x -> P`.
 
 ghost use Rattle.std.specs.Prelude.{IfOk};
-ghost use Rattle.csp_syntax.specs.Process.{Process, Script};
-ghost use Rattle.csp_syntax.specs.Value.{Ev, Tau, Tick};
+ghost use Rattle.theory_syntax.specs.Process.{Process, Script};
+ghost use Rattle.theory_syntax.specs.Value.{Ev, Tau, Tick};
 ghost use Rattle.csp_value.specs.Action.{event_of};
 ghost use Rattle.csp_term.specs.Script.{script_of_parts};
 ghost use Rattle.csp_term.specs.Term.{process_of};

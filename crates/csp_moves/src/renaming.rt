@@ -1,15 +1,15 @@
 //! The ways of `P [[from <- to, ..]]`.
 
 ghost use Rattle.std.specs.Prelude.{◌≡◌, IfOk, Some, map};
-ghost use Rattle.csp_syntax.specs.Process.{Renaming, Script};
-ghost use Rattle.csp_syntax.specs.Value.{Ev, Tau, Tick};
-ghost use Rattle.csp_semantics.specs.Meaning.Events.{renaming};
+ghost use Rattle.theory_syntax.specs.Process.{Renaming, Script};
+ghost use Rattle.theory_syntax.specs.Value.{Ev, Tau, Tick};
+ghost use Rattle.theory_semantics.specs.Meaning.Events.{renaming};
 ghost use Rattle.csp_value.specs.Action.{event_of};
 ghost use Rattle.csp_event_sets.specs.Events.{renaming_pairs_of};
 ghost use Rattle.csp_term.specs.Script.{script_of_parts};
 ghost use Rattle.csp_term.specs.Term.{process_of};
-ghost use Rattle.csp_origins.specs.Origin.{Renames};
-ghost use Rattle.csp_origins.specs.Ways.{Through, part};
+ghost use Rattle.theory_origins.specs.Origin.{Renames};
+ghost use Rattle.theory_origins.specs.Ways.{Through, part};
 ghost use Rattle.csp_moves.specs.Bodies.{AreImagesIfAny, AreRenamedEvents};
 ghost use Rattle.csp_moves.specs.Way.{AreFound, AreFoundIn, lent_action, ways_of};
 

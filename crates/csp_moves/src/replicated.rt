@@ -1,17 +1,17 @@
 //! The ways of `[] x:S @ P`, of `|~| x:S @ P` and of `||| x:S @ P`: each step is one of the chain of the instances.
 
 ghost use Rattle.std.specs.Prelude.{◌≡◌, ◌∷◌, ℕ, [], IfOk};
-ghost use Rattle.csp_syntax.specs.Expression.{Expression};
-ghost use Rattle.csp_syntax.specs.Operators.{binary_process, replicated_process};
-ghost use Rattle.csp_syntax.specs.Process.{Process, Script};
-ghost use Rattle.csp_semantics.specs.Meaning.Events.{elements, instances, members_of};
-ghost use Rattle.csp_semantics.specs.Meaning.Substitution.{put};
+ghost use Rattle.theory_syntax.specs.Expression.{Expression};
+ghost use Rattle.theory_syntax.specs.Operators.{binary_process, replicated_process};
+ghost use Rattle.theory_syntax.specs.Process.{Process, Script};
+ghost use Rattle.theory_semantics.specs.Meaning.Events.{elements, instances, members_of};
+ghost use Rattle.theory_semantics.specs.Meaning.Substitution.{put};
 ghost use Rattle.csp_value.specs.Value.{value_of, values_of};
 ghost use Rattle.csp_expression.specs.Evaluation.{table_of};
 ghost use Rattle.csp_expression.specs.Expression.{expression_of};
 ghost use Rattle.csp_term.specs.Script.{script_of_parts};
 ghost use Rattle.csp_term.specs.Term.{process_of};
-ghost use Rattle.csp_origins.specs.Telling.{instance_chain};
+ghost use Rattle.theory_origins.specs.Telling.{instance_chain};
 ghost use Rattle.csp_moves.specs.Chains.{AreMembersIfAny, IsChainOf, chain_process, linked};
 ghost use Rattle.csp_moves.specs.Way.{AreFoundIn, lent_action};
 

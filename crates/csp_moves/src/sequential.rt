@@ -1,11 +1,11 @@
 //! The ways of `P ; Q`.
 
 ghost use Rattle.std.specs.Prelude.{◌≡◌, IfOk};
-ghost use Rattle.csp_syntax.specs.Process.{Omega, Process, Sequential};
-ghost use Rattle.csp_syntax.specs.Value.{Ev, Tau, Tick};
+ghost use Rattle.theory_syntax.specs.Process.{Omega, Process, Sequential};
+ghost use Rattle.theory_syntax.specs.Value.{Ev, Tau, Tick};
 ghost use Rattle.csp_value.specs.Action.{event_of};
 ghost use Rattle.csp_term.specs.Term.{process_of};
-ghost use Rattle.csp_origins.specs.Ways.{IsEndAt};
+ghost use Rattle.theory_origins.specs.Ways.{IsEndAt};
 ghost use Rattle.csp_moves.specs.Way.{AreFound, lent_action, lent_process};
 
 use crate::operator::{Joint, left_of};

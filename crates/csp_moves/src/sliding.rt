@@ -1,9 +1,9 @@
 //! The ways of `P [> Q`.
 
 ghost use Rattle.std.specs.Prelude.{IfOk};
-ghost use Rattle.csp_syntax.specs.Process.{SlidingChoice};
-ghost use Rattle.csp_syntax.specs.Value.{Tau};
-ghost use Rattle.csp_semantics.specs.Meaning.Transitions.{IsVisible};
+ghost use Rattle.theory_syntax.specs.Process.{SlidingChoice};
+ghost use Rattle.theory_syntax.specs.Value.{Tau};
+ghost use Rattle.theory_semantics.specs.Meaning.Transitions.{IsVisible};
 ghost use Rattle.csp_term.specs.Term.{process_of};
 ghost use Rattle.csp_moves.specs.Way.{AreFound, lent_action};
 

@@ -1,7 +1,7 @@
 //! The test that a set of events is.
 
 ghost use Rattle.std.specs.Prelude.{IfOk};
-ghost use Rattle.csp_semantics.specs.Meaning.Events.{event_test};
+ghost use Rattle.theory_semantics.specs.Meaning.Events.{event_test};
 ghost use Rattle.csp_event_sets.specs.Events.{event_set_of};
 ghost use Rattle.csp_term.specs.Script.{script_of_parts};
 ghost use Rattle.csp_moves.specs.Tested.{IsTestIfAny};

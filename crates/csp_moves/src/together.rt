@@ -1,10 +1,10 @@
 //! The ways of two processes side by side, by what each may do alone and what both do together.
 
 ghost use Rattle.std.specs.Prelude.{◌≡◌, ◌↔◌, IfOk, IsTrue};
-ghost use Rattle.csp_syntax.specs.Value.{Ev};
+ghost use Rattle.theory_syntax.specs.Value.{Ev};
 ghost use Rattle.csp_value.specs.Action.{event_of};
 ghost use Rattle.csp_term.specs.Term.{process_of};
-ghost use Rattle.csp_origins.specs.Ways.{Both, IsBodyWhere, IsSplitWhere, first_of, part, second_of};
+ghost use Rattle.theory_origins.specs.Ways.{Both, IsBodyWhere, IsSplitWhere, first_of, part, second_of};
 ghost use Rattle.csp_moves.specs.Parallel.{AreEventWays, AreParallelWays, AreTauWays, AreTickWays, HaveEnded};
 ghost use Rattle.csp_moves.specs.Sides.{joined, joint_of, sides_split};
 ghost use Rattle.csp_moves.specs.Way.{lent_action, lent_process, way_of, ways_of};

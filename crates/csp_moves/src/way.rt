@@ -2,8 +2,8 @@
 
 ghost use Rattle.std.specs.Prelude.{◌≡◌, ◌∷◌, [], IfOk};
 ghost use Rattle.csp_term.specs.Term.{process_of};
-ghost use Rattle.csp_origins.specs.Origin.{OnSide};
-ghost use Rattle.csp_origins.specs.Ways.{Through, part};
+ghost use Rattle.theory_origins.specs.Origin.{OnSide};
+ghost use Rattle.theory_origins.specs.Ways.{Through, part};
 ghost use Rattle.csp_moves.specs.Passage.{side_of};
 ghost use Rattle.csp_moves.specs.Way.{lent_action, lent_process, way_of, ways_of};
 

@@ -1,8 +1,8 @@
 //! The ways of any process.
 
 ghost use Rattle.std.specs.Prelude.{◌≡◌, IfOk, IsSome};
-ghost use Rattle.csp_syntax.specs.Operators.{binary_process};
-ghost use Rattle.csp_syntax.specs.Process.{Omega};
+ghost use Rattle.theory_syntax.specs.Operators.{binary_process};
+ghost use Rattle.theory_syntax.specs.Process.{Omega};
 ghost use Rattle.csp_term.specs.Script.{script_of_parts};
 ghost use Rattle.csp_term.specs.Term.{process_of};
 ghost use Rattle.csp_moves.specs.Frames.{unframed};

@@ -2,15 +2,15 @@
 use Rattle.std.specs.Prelude.{map}
 use Rattle.std.proofs.lemmas.List.{length-map}
 use Rattle.std.proofs.Common.{◌≡◌, ℕ, List, [], ◌∷◌, ◌++◌, length, Option, Some, Result, Ok, Err, sym, ap, ap₂, ◌∙◌, subst}
-use Rattle.csp_syntax.specs.Expression as pure
-use Rattle.csp_syntax.specs.Process as process
-use Rattle.csp_syntax.specs.Process.{Field}
-use Rattle.csp_text.specs.Raw.{RawName, RawExpression, RawField, Replicator, RawProcess, RawPrefix, RawReplicated}
-use Rattle.csp_checking.specs.Names.{Environment, binding, bound_by_fields, bound_in, meaning, number_in, spellings}
-use Rattle.csp_checking.specs.Resolving as resolving
-use Rattle.csp_checking.specs.Resolving.{bound_number, of_two}
-use Rattle.csp_checking.specs.Sites.{AsEvent, BoundThere, Site, Used, in_expression, in_fields, in_process}
-use Rattle.csp_checking.specs.Walks.{IsFine}
+use Rattle.theory_syntax.specs.Expression as pure
+use Rattle.theory_syntax.specs.Process as process
+use Rattle.theory_syntax.specs.Process.{Field}
+use Rattle.theory_text.specs.Raw.{RawName, RawExpression, RawField, Replicator, RawProcess, RawPrefix, RawReplicated}
+use Rattle.theory_checking.specs.Names.{Environment, binding, bound_by_fields, bound_in, meaning, number_in, spellings}
+use Rattle.theory_checking.specs.Resolving as resolving
+use Rattle.theory_checking.specs.Resolving.{bound_number, of_two}
+use Rattle.theory_checking.specs.Sites.{AsEvent, BoundThere, Site, Used, in_expression, in_fields, in_process}
+use Rattle.theory_checking.specs.Walks.{IsFine}
 use Rattle.csp_parse.specs.declared.processes.Field as parsed
 use Rattle.csp_parse.specs.Processes.{field_of}
 use Rattle.csp_value.specs.declared.name.ChannelId.{ChannelId}

@@ -5,8 +5,8 @@ use Rattle.std.specs.Str.{bytes_eq, chars, IsUtf8}
 use Rattle.std.proofs.lemmas.Slice.Eq.{bytes_eq-Decides}
 use Rattle.std.proofs.Common.{◌≡◌, ℕ, suc, ◌+◌, ◌-◌, Bool, true, false, List, [], ◌∷◌, ◌++◌, length, map, Option, Some, None, refl, sym, ap, ◌∙◌, arith}
 use Rattle.indexmap.specs.IndexMap.{insert_entry}
-use Rattle.csp_checking.specs.Names.{number_in, with_spellings}
-use Rattle.csp_checking.proofs.Spellings.{number_of_append, number_stays}
+use Rattle.theory_checking.specs.Names.{number_in, with_spellings}
+use Rattle.theory_checking.proofs.Spellings.{number_of_append, number_stays}
 use Rattle.csp_names.specs.Rows.{AreTexts, put_row, row_at, spelled}
 use Rattle.csp_names.proofs.Rows.{same_spelling}
 use Rattle.std.specs.Option.{option_map_or}

@@ -2,14 +2,14 @@
 use Rattle.std.specs.Prelude.{IfOk, IfErr}
 use Rattle.std.proofs.Common.{◌≡◌, ℕ, List, [], ◌∷◌, length, Option, Result, Ok, Err, subst}
 use Rattle.std.specs.declared.vec.Vec.{Vec}
-use Rattle.csp_syntax.specs.Expression as pure
-use Rattle.csp_syntax.specs.Expression.{to_expressions}
-use Rattle.csp_syntax.specs.Process as process
-use Rattle.csp_text.specs.Raw.{RawName, RawCall}
-use Rattle.csp_checking.specs.Names.{Environment, meaning}
-use Rattle.csp_checking.specs.Resolving as resolving
-use Rattle.csp_checking.specs.Resolving.{number_of}
-use Rattle.csp_checking.specs.Sites.{AsEquation, Site, Used, in_expressions, in_process}
+use Rattle.theory_syntax.specs.Expression as pure
+use Rattle.theory_syntax.specs.Expression.{to_expressions}
+use Rattle.theory_syntax.specs.Process as process
+use Rattle.theory_text.specs.Raw.{RawName, RawCall}
+use Rattle.theory_checking.specs.Names.{Environment, meaning}
+use Rattle.theory_checking.specs.Resolving as resolving
+use Rattle.theory_checking.specs.Resolving.{number_of}
+use Rattle.theory_checking.specs.Sites.{AsEquation, Site, Used, in_expressions, in_process}
 use Rattle.csp_parse.specs.declared.expressions.Expression.{Expression}
 use Rattle.csp_parse.specs.Expressions.{expressions_of}
 use Rattle.csp_expression.specs.declared.expr.Expr.{Expr}

@@ -2,16 +2,16 @@
 use Rattle.std.specs.Prelude.{flat_map, nat_lt, not, slice_get, option_and_then}
 use Rattle.std.proofs.lemmas.Bool.{eqb-true, eqb-false, ltb-true, ltb-false}
 use Rattle.std.proofs.Common.{◌≡◌, ◌<◌, ◌≤◌, ℕ, Bool, true, false, List, [], ◌∷◌, Option, Some, None, refl, sym, ap, ◌∙◌, subst}
-use Rattle.csp_text.specs.Raw.{RawName}
+use Rattle.theory_text.specs.Raw.{RawName}
 use Rattle.csp_lex.specs.declared.places.Place.{Place}
 use Rattle.csp_lex.specs.Places.{place_of}
-use Rattle.csp_checking.specs.Names.{DatatypeName, ConstructorName, NametypeName, ChannelName, EquationName, Meaning, Declared, Bound, Environment, meaning}
-use Rattle.csp_checking.specs.Resolving.{as_channel, as_equation}
-use Rattle.csp_checking.specs.Rules.{suits, parameters_declared, fields_declared, parameter_count, field_count, unknown, wrong_class, arguments, fields, too_many_fields}
-use Rattle.csp_checking.specs.Sites.{Use, AsExpression, AsConstructor, AsEquation, AsEvent, AsProductions, AsBareLeft, AsBareRight, Site, Used}
-use Rattle.csp_checking.specs.Walks.{IsFine, IsStoppedAt}
-use Rattle.csp_checking.proofs.FineSites.{equation_fine, event_fine}
-use Rattle.csp_checking.proofs.SingleSites.{arguments_stop, class_stops, fields_stop, productions_fine, productions_stop}
+use Rattle.theory_checking.specs.Names.{DatatypeName, ConstructorName, NametypeName, ChannelName, EquationName, Meaning, Declared, Bound, Environment, meaning}
+use Rattle.theory_checking.specs.Resolving.{as_channel, as_equation}
+use Rattle.theory_checking.specs.Rules.{suits, parameters_declared, fields_declared, parameter_count, field_count, unknown, wrong_class, arguments, fields, too_many_fields}
+use Rattle.theory_checking.specs.Sites.{Use, AsExpression, AsConstructor, AsEquation, AsEvent, AsProductions, AsBareLeft, AsBareRight, Site, Used}
+use Rattle.theory_checking.specs.Walks.{IsFine, IsStoppedAt}
+use Rattle.theory_checking.proofs.FineSites.{equation_fine, event_fine}
+use Rattle.theory_checking.proofs.SingleSites.{arguments_stop, class_stops, fields_stop, productions_fine, productions_stop}
 use Rattle.csp_names.specs.declared.refusals.KindFault.{KindFault}
 use Rattle.csp_names.specs.declared.refusals.KindFault.TheVariants as fault
 use Rattle.csp_names.specs.declared.refusals.Refused.{Refused}

@@ -2,17 +2,17 @@
 use Rattle.std.specs.Prelude.{cond, nat_eq, not, option_and_then}
 use Rattle.std.proofs.lemmas.Bool.{eqb-true, eqb-false}
 use Rattle.std.proofs.Common.{◌≡◌, ◌≢◌, ℕ, Bool, true, false, [], ◌∷◌, Option, Some, None, refl, sym, ap, ◌∙◌}
-use Rattle.csp_syntax.specs.Expression.{Expression}
-use Rattle.csp_text.specs.Raw.{RawName, RawUse}
-use Rattle.csp_checking.specs.Names.{DatatypeName, ConstructorName, NametypeName, ChannelName, EquationName, Meaning, Declared, Bound, Environment, fields_of_constructor, meaning}
-use Rattle.csp_checking.specs.Resolving as resolving
-use Rattle.csp_checking.specs.Resolving.{as_constructor, as_expression, constructor_count, constructor_with, is_count, lacks_fields}
-use Rattle.csp_checking.specs.Rules.{suits}
-use Rattle.csp_checking.specs.Sites.{AsConstructor, AsExpression, Used}
-use Rattle.csp_checking.specs.Walks.{IsFine, IsStoppedAt}
-use Rattle.csp_checking.proofs.FineSites.{constructor_fine, expression_fine}
-use Rattle.csp_checking.proofs.Meant.{constructor_counted}
-use Rattle.csp_checking.proofs.SingleSites.{bare_stops, class_stops, constructor_stops}
+use Rattle.theory_syntax.specs.Expression.{Expression}
+use Rattle.theory_text.specs.Raw.{RawName, RawUse}
+use Rattle.theory_checking.specs.Names.{DatatypeName, ConstructorName, NametypeName, ChannelName, EquationName, Meaning, Declared, Bound, Environment, fields_of_constructor, meaning}
+use Rattle.theory_checking.specs.Resolving as resolving
+use Rattle.theory_checking.specs.Resolving.{as_constructor, as_expression, constructor_count, constructor_with, is_count, lacks_fields}
+use Rattle.theory_checking.specs.Rules.{suits}
+use Rattle.theory_checking.specs.Sites.{AsConstructor, AsExpression, Used}
+use Rattle.theory_checking.specs.Walks.{IsFine, IsStoppedAt}
+use Rattle.theory_checking.proofs.FineSites.{constructor_fine, expression_fine}
+use Rattle.theory_checking.proofs.Meant.{constructor_counted}
+use Rattle.theory_checking.proofs.SingleSites.{bare_stops, class_stops, constructor_stops}
 use Rattle.csp_names.specs.declared.refusals.KindFault.TheVariants as fault
 use Rattle.csp_names.specs.Names.{agree}
 use Rattle.csp_names.specs.Refusals.{fault_of}

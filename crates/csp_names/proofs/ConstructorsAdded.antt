@@ -2,9 +2,9 @@
 use Rattle.std.specs.Prelude.{get_or, map, take}
 use Rattle.std.proofs.lemmas.List.{get_or-map, length-map, length-take-le, map-append, take_all, take_more}
 use Rattle.std.proofs.Common.{vec_len, ◌≡◌, ◌<◌, ◌≤◌, ℕ, ◌+◌, List, [], ◌∷◌, ◌++◌, append-nil, arith, length, length-append, sym, ap, ◌∙◌, subst}
-use Rattle.csp_text.specs.Raw.{RawClause, RawName}
-use Rattle.csp_checking.specs.DeclaredRows.{numbered_rows}
-use Rattle.csp_checking.specs.Names.{ConstructorName, Declared, clause_names}
+use Rattle.theory_text.specs.Raw.{RawClause, RawName}
+use Rattle.theory_checking.specs.DeclaredRows.{numbered_rows}
+use Rattle.theory_checking.specs.Names.{ConstructorName, Declared, clause_names}
 use Rattle.csp_parse.specs.declared.declarations.Clause.{Clause}
 use Rattle.csp_parse.specs.Declarations.{clause_of, domain_of}
 use Rattle.csp_parse.specs.Names.{name_of}

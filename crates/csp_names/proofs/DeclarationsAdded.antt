@@ -2,15 +2,15 @@
 use Rattle.std.specs.Prelude.{replicate, take, drop, map, get_or, Result, Ok, Err, IsErr, IsErrAnd, OnOk}
 use Rattle.std.proofs.lemmas.List.{length-map, map-append, take_all, take_more, take-append-drop}
 use Rattle.std.proofs.Common.{Bool, ◌≡◌, ◌<◌, ◌≤◌, ℕ, ◌+◌, List, [], ◌∷◌, ◌++◌, append-nil, length, Vec, Box, vec_len, sym, ap, ap₂, ◌∙◌, subst, arith}
-use Rattle.csp_text.specs.Raw.{RawName, RawClause, RawDeclaration, RawDatatype, RawNametype, RawChannels, RawEquation, RawAssertion, RawScript}
-use Rattle.csp_checking.specs.DeclaredRows.{Row, numbered_rows, row_spellings, rows_declared}
-use Rattle.csp_checking.specs.Faults.{NoneRefused}
-use Rattle.csp_checking.specs.Names.{Class, DatatypeName, ConstructorName, NametypeName, ChannelName, EquationName, Declared, clause_names, constructor_fields, declared, declared_as, names_of}
-use Rattle.csp_checking.specs.Rules.{all_declared, fields_declared, IsRedeclared, parameters_declared}
-use Rattle.csp_checking.proofs.Counts.{channels_counted, equations_counted}
-use Rattle.csp_checking.proofs.Meant.{constructors_counted}
-use Rattle.csp_checking.proofs.DeclaredRows.{class_counts, rows_have_spellings, rows_of_one_more}
-use Rattle.csp_checking.proofs.OneMore.{flat_map_one_more}
+use Rattle.theory_text.specs.Raw.{RawName, RawClause, RawDeclaration, RawDatatype, RawNametype, RawChannels, RawEquation, RawAssertion, RawScript}
+use Rattle.theory_checking.specs.DeclaredRows.{Row, numbered_rows, row_spellings, rows_declared}
+use Rattle.theory_checking.specs.Faults.{NoneRefused}
+use Rattle.theory_checking.specs.Names.{Class, DatatypeName, ConstructorName, NametypeName, ChannelName, EquationName, Declared, clause_names, constructor_fields, declared, declared_as, names_of}
+use Rattle.theory_checking.specs.Rules.{all_declared, fields_declared, IsRedeclared, parameters_declared}
+use Rattle.theory_checking.proofs.Counts.{channels_counted, equations_counted}
+use Rattle.theory_checking.proofs.Meant.{constructors_counted}
+use Rattle.theory_checking.proofs.DeclaredRows.{class_counts, rows_have_spellings, rows_of_one_more}
+use Rattle.theory_checking.proofs.OneMore.{flat_map_one_more}
 use Rattle.csp_parse.specs.declared.declarations.Declaration.{Declaration}
 use Rattle.csp_parse.specs.declared.declarations.Declaration.TheVariants as forms
 use Rattle.csp_parse.specs.declared.declarations.Clause.{Clause}

@@ -2,12 +2,12 @@
 use Rattle.std.specs.Prelude.{map, option_map}
 use Rattle.std.proofs.Common.{◌≡◌, ℕ, Bool, List, [], ◌++◌, Option, Ok, Err, refl, sym, ap, subst}
 use Rattle.std.specs.declared.vec.Vec.{Vec}
-use Rattle.csp_syntax.specs.Process as process
-use Rattle.csp_text.specs.Raw.{RawName, RawProcess, RawProperty, RawRefinementOf, RawDeadlockFree, RawDivergenceFree}
-use Rattle.csp_checking.specs.Names.{Environment, binding, bound_in, bound_in_property, spellings}
-use Rattle.csp_checking.specs.Resolving as resolving
-use Rattle.csp_checking.specs.Resolving.{bound_number, every}
-use Rattle.csp_checking.specs.Sites.{Site, in_parameters, in_process, in_property}
+use Rattle.theory_syntax.specs.Process as process
+use Rattle.theory_text.specs.Raw.{RawName, RawProcess, RawProperty, RawRefinementOf, RawDeadlockFree, RawDivergenceFree}
+use Rattle.theory_checking.specs.Names.{Environment, binding, bound_in, bound_in_property, spellings}
+use Rattle.theory_checking.specs.Resolving as resolving
+use Rattle.theory_checking.specs.Resolving.{bound_number, every}
+use Rattle.theory_checking.specs.Sites.{Site, in_parameters, in_process, in_property}
 use Rattle.csp_expression.specs.declared.name.Name.{Name}
 use Rattle.csp_term.specs.declared.term.Term.{Term}
 use Rattle.csp_term.specs.declared.property.Property.{Property}

@@ -3,17 +3,17 @@ use Rattle.std.specs.Prelude.{option_map, IfOk, IfErr}
 use Rattle.std.proofs.Common.{◌≡◌, ◌++◌, List, map, Some, Result, Ok, Err, refl, sym, ap, ap₂, ◌∙◌, subst}
 use Rattle.std.specs.declared.boxed.Box.{Box}
 use Rattle.std.specs.declared.vec.Vec.{Vec}
-use Rattle.csp_syntax.specs.Process as pure
-use Rattle.csp_syntax.specs.Operators.{combined}
-use Rattle.csp_syntax.specs.declared.event_set_operator.EventSetOperator.{EventSetOperator}
-use Rattle.csp_syntax.specs.declared.event_set_operator.EventSetOperator.TheVariants as operator
-use Rattle.csp_text.specs.Raw.{RawEvent, RawEventSet, RawEnumeration, RawProductions}
-use Rattle.csp_checking.specs.Names.{Environment}
-use Rattle.csp_checking.specs.Resolving as resolving
-use Rattle.csp_checking.specs.Resolving.{of_two}
-use Rattle.csp_checking.specs.Sites.{Site, in_event_set}
-use Rattle.csp_checking.specs.Walks.{AllFine}
-use Rattle.csp_checking.proofs.Walking.{fine_both}
+use Rattle.theory_syntax.specs.Process as pure
+use Rattle.theory_syntax.specs.Operators.{combined}
+use Rattle.theory_syntax.specs.declared.event_set_operator.EventSetOperator.{EventSetOperator}
+use Rattle.theory_syntax.specs.declared.event_set_operator.EventSetOperator.TheVariants as operator
+use Rattle.theory_text.specs.Raw.{RawEvent, RawEventSet, RawEnumeration, RawProductions}
+use Rattle.theory_checking.specs.Names.{Environment}
+use Rattle.theory_checking.specs.Resolving as resolving
+use Rattle.theory_checking.specs.Resolving.{of_two}
+use Rattle.theory_checking.specs.Sites.{Site, in_event_set}
+use Rattle.theory_checking.specs.Walks.{AllFine}
+use Rattle.theory_checking.proofs.Walking.{fine_both}
 use Rattle.csp_parse.specs.declared.events.Event.{Event}
 use Rattle.csp_parse.specs.declared.event_sets.EventSet as raw
 use Rattle.csp_parse.specs.declared.event_sets.EventSet.TheOpen as layer

@@ -1,13 +1,13 @@
 -- Events are resolved part by part: the channel, and then the fields.
 use Rattle.std.proofs.Common.{◌≡◌, ℕ, ◌∷◌, [], List, Option, Result, Ok, Err, refl, subst}
 use Rattle.std.specs.declared.vec.Vec.{Vec}
-use Rattle.csp_syntax.specs.Expression.{to_expressions}
-use Rattle.csp_syntax.specs.Process as pure
-use Rattle.csp_text.specs.Raw.{RawName, RawExpressions}
-use Rattle.csp_checking.specs.Names.{Environment, meaning}
-use Rattle.csp_checking.specs.Resolving as resolving
-use Rattle.csp_checking.specs.Resolving.{number_of}
-use Rattle.csp_checking.specs.Sites.{Use, Site, Used, in_expressions}
+use Rattle.theory_syntax.specs.Expression.{to_expressions}
+use Rattle.theory_syntax.specs.Process as pure
+use Rattle.theory_text.specs.Raw.{RawName, RawExpressions}
+use Rattle.theory_checking.specs.Names.{Environment, meaning}
+use Rattle.theory_checking.specs.Resolving as resolving
+use Rattle.theory_checking.specs.Resolving.{number_of}
+use Rattle.theory_checking.specs.Sites.{Use, Site, Used, in_expressions}
 use Rattle.csp_parse.specs.declared.expressions.Expression as raw
 use Rattle.csp_parse.specs.Expressions as written
 use Rattle.csp_value.specs.declared.name.ChannelId.{ChannelId}

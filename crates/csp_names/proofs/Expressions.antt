@@ -2,16 +2,16 @@
 use Rattle.std.specs.Prelude.{flat_map, option_map, pos, IfOk, IfErr}
 use Rattle.std.proofs.Common.{◌≡◌, ◌≤◌, ◌<◌, ◌+◌, ℕ, Bool, get_or, length, List, [], ◌∷◌, ◌++◌, Option, Some, None, Result, Ok, Err, refl, sym, ap, ap₂, ◌∙◌, subst}
 use Rattle.std.specs.declared.vec.Vec.{Vec}
-use Rattle.csp_syntax.specs.Expression as pure
-use Rattle.csp_syntax.specs.Expression.{to_expressions}
-use Rattle.csp_syntax.specs.Value.{Integer, Truth}
-use Rattle.csp_text.specs.Raw.{RawName, RawExpression, RawNumber, RawTruth, RawBooleans, RawApply, RawConstructor, RawExpressions}
-use Rattle.csp_checking.specs.Names.{Environment}
-use Rattle.csp_checking.specs.Resolving as resolving
-use Rattle.csp_checking.specs.Resolving.{of_two, every, number_of}
-use Rattle.csp_checking.specs.Sites.{AsConstructor, Site, Used, in_expression, in_expressions}
-use Rattle.csp_checking.specs.Walks.{AllFine}
-use Rattle.csp_checking.proofs.Walking.{fine_both}
+use Rattle.theory_syntax.specs.Expression as pure
+use Rattle.theory_syntax.specs.Expression.{to_expressions}
+use Rattle.theory_syntax.specs.Value.{Integer, Truth}
+use Rattle.theory_text.specs.Raw.{RawName, RawExpression, RawNumber, RawTruth, RawBooleans, RawApply, RawConstructor, RawExpressions}
+use Rattle.theory_checking.specs.Names.{Environment}
+use Rattle.theory_checking.specs.Resolving as resolving
+use Rattle.theory_checking.specs.Resolving.{of_two, every, number_of}
+use Rattle.theory_checking.specs.Sites.{AsConstructor, Site, Used, in_expression, in_expressions}
+use Rattle.theory_checking.specs.Walks.{AllFine}
+use Rattle.theory_checking.proofs.Walking.{fine_both}
 use Rattle.csp_parse.specs.declared.expressions.Expression.{Expression}
 use Rattle.csp_parse.specs.Expressions.{expression_of, expressions_of}
 use Rattle.csp_value.specs.declared.name.ConId.{ConId}

@@ -3,17 +3,17 @@ use Rattle.std.specs.Prelude.{cond, take, drop, option_map, IfOk, IfErr, OnOk}
 use Rattle.std.specs.Str.{bytes_eq}
 use Rattle.std.proofs.lemmas.List.{drop_more, get_or-map, length-map, take_more, take_all, take-append-drop, map-append}
 use Rattle.std.proofs.Common.{◌≡◌, ◌<◌, ◌≤◌, ℕ, suc, ◌+◌, Bool, true, false, List, [], ◌∷◌, ◌++◌, get_or, length, map, Option, Some, None, Result, Ok, Err, refl, sym, ap, ap₂, ◌∙◌, subst, arith}
-use Rattle.csp_syntax.specs.Process as pure
-use Rattle.csp_text.specs.Raw.{RawName, RawExpression, RawField, RawGiven, RawInput, RawInputFrom}
-use Rattle.csp_checking.specs.Names.{Environment, binding, bound_by_fields, declared_meaning, fields_of_constructor, number_in, spellings, with_spellings}
-use Rattle.csp_checking.specs.Resolving as resolving
-use Rattle.csp_checking.specs.Sites.{BoundThere, Site, in_expression, in_fields}
-use Rattle.csp_checking.specs.Walks.{AllFine, IsFine, IsStoppedAt}
-use Rattle.csp_checking.proofs.FineSites.{bound_fine}
-use Rattle.csp_checking.proofs.OneMore.{bound_by_more, fields_of_more, in_more_fields, same_declarations}
-use Rattle.csp_checking.proofs.Resolving.{same_table}
-use Rattle.csp_checking.proofs.SingleSites.{bound_stops}
-use Rattle.csp_checking.proofs.Walking.{fine_both}
+use Rattle.theory_syntax.specs.Process as pure
+use Rattle.theory_text.specs.Raw.{RawName, RawExpression, RawField, RawGiven, RawInput, RawInputFrom}
+use Rattle.theory_checking.specs.Names.{Environment, binding, bound_by_fields, declared_meaning, fields_of_constructor, number_in, spellings, with_spellings}
+use Rattle.theory_checking.specs.Resolving as resolving
+use Rattle.theory_checking.specs.Sites.{BoundThere, Site, in_expression, in_fields}
+use Rattle.theory_checking.specs.Walks.{AllFine, IsFine, IsStoppedAt}
+use Rattle.theory_checking.proofs.FineSites.{bound_fine}
+use Rattle.theory_checking.proofs.OneMore.{bound_by_more, fields_of_more, in_more_fields, same_declarations}
+use Rattle.theory_checking.proofs.Resolving.{same_table}
+use Rattle.theory_checking.proofs.SingleSites.{bound_stops}
+use Rattle.theory_checking.proofs.Walking.{fine_both}
 use Rattle.csp_parse.specs.declared.processes.Field as raw
 use Rattle.csp_parse.specs.Processes as written
 use Rattle.csp_expression.specs.declared.expr.Expr.{Expr}

@@ -2,18 +2,18 @@
 use Rattle.std.specs.Prelude.{flat_map, IfOk, IfErr}
 use Rattle.std.proofs.Common.{◌≡◌, ℕ, List, [], ◌++◌, Option, Some, Result, Ok, Err, refl, sym, ◌∙◌, subst}
 use Rattle.std.specs.declared.vec.Vec.{Vec}
-use Rattle.csp_syntax.specs.declared.process_operator.ProcessOperator.{ProcessOperator}
-use Rattle.csp_syntax.specs.declared.process_operator.ProcessOperator.TheVariants as chaining
-use Rattle.csp_syntax.specs.declared.process_operator.ReplicatedOperator.{ReplicatedOperator}
-use Rattle.csp_syntax.specs.declared.process_operator.ReplicatedOperator.TheVariants as replicator
-use Rattle.csp_syntax.specs.Expression as pure
-use Rattle.csp_syntax.specs.Operators as operators
-use Rattle.csp_syntax.specs.Process as process
-use Rattle.csp_text.specs.Raw.{RawName, RawExpression, RawEventSet, RawPair, Infix, RawProcess, RawStop, RawSkip, RawGuard, RawIf, RawInfix, RawGeneralisedParallel, RawAlphabetisedParallel, RawHiding, RawRenaming}
-use Rattle.csp_checking.specs.Names.{Environment, bound_in, spellings}
-use Rattle.csp_checking.specs.Resolving as resolving
-use Rattle.csp_checking.specs.Resolving.{of_two}
-use Rattle.csp_checking.specs.Sites.{Site, in_event_set, in_expression, in_pair, in_process}
+use Rattle.theory_syntax.specs.declared.process_operator.ProcessOperator.{ProcessOperator}
+use Rattle.theory_syntax.specs.declared.process_operator.ProcessOperator.TheVariants as chaining
+use Rattle.theory_syntax.specs.declared.process_operator.ReplicatedOperator.{ReplicatedOperator}
+use Rattle.theory_syntax.specs.declared.process_operator.ReplicatedOperator.TheVariants as replicator
+use Rattle.theory_syntax.specs.Expression as pure
+use Rattle.theory_syntax.specs.Operators as operators
+use Rattle.theory_syntax.specs.Process as process
+use Rattle.theory_text.specs.Raw.{RawName, RawExpression, RawEventSet, RawPair, Infix, RawProcess, RawStop, RawSkip, RawGuard, RawIf, RawInfix, RawGeneralisedParallel, RawAlphabetisedParallel, RawHiding, RawRenaming}
+use Rattle.theory_checking.specs.Names.{Environment, bound_in, spellings}
+use Rattle.theory_checking.specs.Resolving as resolving
+use Rattle.theory_checking.specs.Resolving.{of_two}
+use Rattle.theory_checking.specs.Sites.{Site, in_event_set, in_expression, in_pair, in_process}
 use Rattle.csp_parse.specs.declared.processes.Infix.TheVariants as joining
 use Rattle.csp_parse.specs.Processes.{infix_of, replicator_of}
 use Rattle.csp_expression.specs.declared.expr.Expr.{Expr}

@@ -2,12 +2,12 @@
 use Rattle.std.specs.Prelude.{cond}
 use Rattle.std.proofs.Common.{◌≡◌, ℕ, suc, ◌+◌, Bool, true, false, List, [], ◌∷◌, ◌++◌, Option, Some, refl, sym, ap, ap₂, ◌∙◌, subst, arith}
 use Rattle.std.specs.Str.{bytes_eq}
-use Rattle.csp_checking.specs.Names.{Environment, number_in, with_spellings}
-use Rattle.csp_checking.specs.Resolving.{of_two}
-use Rattle.csp_checking.specs.Sites.{Site}
-use Rattle.csp_checking.specs.Walks.{AllFine}
-use Rattle.csp_checking.proofs.Spellings.{number_stays_with, with_more}
-use Rattle.csp_checking.proofs.Walking.{fine_both}
+use Rattle.theory_checking.specs.Names.{Environment, number_in, with_spellings}
+use Rattle.theory_checking.specs.Resolving.{of_two}
+use Rattle.theory_checking.specs.Sites.{Site}
+use Rattle.theory_checking.specs.Walks.{AllFine}
+use Rattle.theory_checking.proofs.Spellings.{number_stays_with, with_more}
+use Rattle.theory_checking.proofs.Walking.{fine_both}
 use Rattle.csp_names.specs.declared.bound_names.BoundNames.{BoundNames}
 use Rattle.csp_names.specs.declared.refusals.Refused.{Refused}
 use Rattle.csp_names.specs.declared.scope.Scope.{Scope}

@@ -1,10 +1,10 @@
 -- Parts that stand inside of bindings.
 use Rattle.std.proofs.Common.{ℕ, List, [], ◌++◌, append-nil, Option, ap₂, subst}
-use Rattle.csp_text.specs.Raw.{RawName}
-use Rattle.csp_checking.specs.Names.{Environment, binding, spellings}
-use Rattle.csp_checking.specs.Resolving.{of_two}
-use Rattle.csp_checking.specs.Sites.{Site}
-use Rattle.csp_checking.proofs.Walking.{fine_both}
+use Rattle.theory_text.specs.Raw.{RawName}
+use Rattle.theory_checking.specs.Names.{Environment, binding, spellings}
+use Rattle.theory_checking.specs.Resolving.{of_two}
+use Rattle.theory_checking.specs.Sites.{Site}
+use Rattle.theory_checking.proofs.Walking.{fine_both}
 use Rattle.csp_names.specs.declared.bound_names.BoundNames.{BoundNames}
 use Rattle.csp_names.specs.declared.refusals.Refused.{Refused}
 use Rattle.csp_names.specs.declared.scope.Scope.{Scope}

@@ -4,9 +4,9 @@ use Rattle.std.specs.Option.{option_map_or}
 use Rattle.std.specs.Str.{bytes_eq}
 use Rattle.std.proofs.Common.{◌≡◌, ℕ, suc, Bool, true, false, List, [], ◌∷◌, Option, Some, None, refl, sym, ap, ◌∙◌, arith}
 use Rattle.std.proofs.lemmas.Bool.{lt-ltb}
-use Rattle.csp_text.specs.Raw.{RawName}
-use Rattle.csp_checking.specs.Names.{Bound, Class, ConstructorName, Declared, declared_meaning, Environment, fields_of_constructor, has_spelling, Meaning, meaning, number_in}
-use Rattle.csp_checking.specs.Resolving.{as_constructor, constructor_count}
+use Rattle.theory_text.specs.Raw.{RawName}
+use Rattle.theory_checking.specs.Names.{Bound, Class, ConstructorName, Declared, declared_meaning, Environment, fields_of_constructor, has_spelling, Meaning, meaning, number_in}
+use Rattle.theory_checking.specs.Resolving.{as_constructor, constructor_count}
 use Rattle.csp_names.specs.declared.bound_names.BoundName.{BoundName}
 use Rattle.csp_names.specs.declared.bound_names.BoundNames.{BoundNames}
 use Rattle.csp_names.specs.declared.scope.Scope.{Scope}

@@ -7,13 +7,13 @@ use Rattle.std.proofs.lemmas.Grind.{flat_map-append}
 use Rattle.std.proofs.lemmas.List.{append_assoc, length-map, map-append, length-take-le, take_more, take_all, take-append-drop, replicate_more}
 use Rattle.std.proofs.Common.{vec_len, ◌≡◌, ◌<◌, ◌≤◌, ℕ, suc, ◌+◌, Bool, true, false, List, [], ◌∷◌, ◌++◌, append-nil, length, length-append, Option, Some, None, refl, sym, ap, ◌∙◌, subst, arith}
 use Rattle.indexmap.specs.IndexMap.{insert_entry}
-use Rattle.csp_text.specs.Raw.{RawName, RawScript}
-use Rattle.csp_checking.specs.DeclaredRows.{Row, numbered_rows, row_spellings}
-use Rattle.csp_checking.specs.Faults.{IsFirstRefused}
-use Rattle.csp_checking.specs.Names.{Class, ChannelName, Declared, declared, has_spelling, number_in}
-use Rattle.csp_checking.specs.Rules.{all_declared, IsRedeclared}
-use Rattle.csp_checking.proofs.Counts.{length-replicate}
-use Rattle.csp_checking.proofs.DeclaredRows.{numbered_one_more, once_with_one_more, redeclared_first}
+use Rattle.theory_text.specs.Raw.{RawName, RawScript}
+use Rattle.theory_checking.specs.DeclaredRows.{Row, numbered_rows, row_spellings}
+use Rattle.theory_checking.specs.Faults.{IsFirstRefused}
+use Rattle.theory_checking.specs.Names.{Class, ChannelName, Declared, declared, has_spelling, number_in}
+use Rattle.theory_checking.specs.Rules.{all_declared, IsRedeclared}
+use Rattle.theory_checking.proofs.Counts.{length-replicate}
+use Rattle.theory_checking.proofs.DeclaredRows.{numbered_one_more, once_with_one_more, redeclared_first}
 use Rattle.csp_parse.specs.declared.names.Name.{Name}
 use Rattle.csp_parse.specs.Names.{name_of}
 use Rattle.csp_lex.specs.declared.places.Place.{Place}

@@ -9,19 +9,19 @@ use Rattle.std.proofs.Math.Dec.{eqb-suc-zero}
 use Rattle.std.proofs.lemmas.Bool.{eqb-true, eqb-false}
 use Rattle.std.proofs.lemmas.List.{length-map}
 use Rattle.std.proofs.Common.{◌≡◌, ◌≢◌, ℕ, Bool, true, false, List, [], ◌∷◌, ◌++◌, length, map, Option, Some, None, Result, Ok, Err, refl, sym, ap, ap₂, ◌∙◌, subst}
-use Rattle.csp_syntax.specs.Expression as pure
-use Rattle.csp_syntax.specs.Process as process
-use Rattle.csp_syntax.specs.Value as value
-use Rattle.csp_syntax.specs.Value.{Value}
-use Rattle.csp_text.specs.Raw.{RawName, RawEvent, RawExpressions, no_raw_expressions, raw_expression_and, RawPair}
-use Rattle.csp_checking.specs.Names.{ChannelName, Environment, Declared, meaning}
-use Rattle.csp_checking.specs.Resolving as resolving
-use Rattle.csp_checking.specs.Resolving.{of_two}
-use Rattle.csp_checking.specs.Rules.{field_count, suits, unknown, wrong_class, left_fields, right_fields, other_sets}
-use Rattle.csp_checking.specs.Sites.{AsBareLeft, AsBareRight, Site, Used, has_no_fields, in_event, in_pair}
-use Rattle.csp_checking.specs.Walks.{AllFine, IsFine, IsStoppedAt}
-use Rattle.csp_checking.proofs.SingleSites.{left_stops, right_counts_stop, right_sets_stop}
-use Rattle.csp_checking.proofs.Walking.{fine_both}
+use Rattle.theory_syntax.specs.Expression as pure
+use Rattle.theory_syntax.specs.Process as process
+use Rattle.theory_syntax.specs.Value as value
+use Rattle.theory_syntax.specs.Value.{Value}
+use Rattle.theory_text.specs.Raw.{RawName, RawEvent, RawExpressions, no_raw_expressions, raw_expression_and, RawPair}
+use Rattle.theory_checking.specs.Names.{ChannelName, Environment, Declared, meaning}
+use Rattle.theory_checking.specs.Resolving as resolving
+use Rattle.theory_checking.specs.Resolving.{of_two}
+use Rattle.theory_checking.specs.Rules.{field_count, suits, unknown, wrong_class, left_fields, right_fields, other_sets}
+use Rattle.theory_checking.specs.Sites.{AsBareLeft, AsBareRight, Site, Used, has_no_fields, in_event, in_pair}
+use Rattle.theory_checking.specs.Walks.{AllFine, IsFine, IsStoppedAt}
+use Rattle.theory_checking.proofs.SingleSites.{left_stops, right_counts_stop, right_sets_stop}
+use Rattle.theory_checking.proofs.Walking.{fine_both}
 use Rattle.csp_parse.specs.declared.expressions.Expression as raw
 use Rattle.csp_parse.specs.declared.events.Event.{Event}
 use Rattle.csp_parse.specs.Events.{event_of}

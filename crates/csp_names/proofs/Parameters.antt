@@ -2,17 +2,17 @@
 use Rattle.std.specs.Prelude.{take, drop, is_some, nat_lt, option_map, IfErr, IfOk, OnOk}
 use Rattle.std.proofs.lemmas.List.{drop_more, get_or-map, length-map, take_more, take_all, take-append-drop, map-append}
 use Rattle.std.proofs.Common.{◌≡◌, ◌<◌, ◌≤◌, ℕ, ◌+◌, Bool, true, false, List, [], ◌∷◌, ◌++◌, get_or, length, map, Option, Some, None, Result, Ok, Err, sym, ap, ◌∙◌, subst, arith}
-use Rattle.csp_text.specs.Raw.{RawName}
-use Rattle.csp_checking.specs.Names.{Environment, binding, has_spelling, number_in, spellings}
-use Rattle.csp_checking.specs.Resolving.{bound_number, every}
-use Rattle.csp_checking.specs.Sites.{Site, Parameter, in_parameters}
-use Rattle.csp_checking.specs.Walks.{AllFine, IsFine, IsStoppedAt}
-use Rattle.csp_checking.specs.Faults.{DeclaredTwice}
-use Rattle.csp_checking.proofs.FineSites.{parameter_fine}
-use Rattle.csp_checking.proofs.OneMore.{every_one_more, in_more_parameters}
-use Rattle.csp_checking.proofs.Resolving.{same_table}
-use Rattle.csp_checking.proofs.SingleSites.{declared_parameter_stops, parameter_again_stops}
-use Rattle.csp_checking.proofs.Walking.{fine_both}
+use Rattle.theory_text.specs.Raw.{RawName}
+use Rattle.theory_checking.specs.Names.{Environment, binding, has_spelling, number_in, spellings}
+use Rattle.theory_checking.specs.Resolving.{bound_number, every}
+use Rattle.theory_checking.specs.Sites.{Site, Parameter, in_parameters}
+use Rattle.theory_checking.specs.Walks.{AllFine, IsFine, IsStoppedAt}
+use Rattle.theory_checking.specs.Faults.{DeclaredTwice}
+use Rattle.theory_checking.proofs.FineSites.{parameter_fine}
+use Rattle.theory_checking.proofs.OneMore.{every_one_more, in_more_parameters}
+use Rattle.theory_checking.proofs.Resolving.{same_table}
+use Rattle.theory_checking.proofs.SingleSites.{declared_parameter_stops, parameter_again_stops}
+use Rattle.theory_checking.proofs.Walking.{fine_both}
 use Rattle.csp_expression.specs.declared.name.Name.{Name}
 use Rattle.csp_parse.specs.declared.names.Name as parsed
 use Rattle.csp_parse.specs.Names.{name_of}

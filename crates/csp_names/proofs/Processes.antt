@@ -1,10 +1,10 @@
 -- Processes are resolved part by part.
 use Rattle.std.proofs.Common.{◌≡◌, ℕ, List, [], ◌++◌, append-nil, Option, Some, None, refl, ◌∙◌, subst}
 use Rattle.std.proofs.lemmas.List.{map-append}
-use Rattle.csp_text.specs.Raw.{RawName}
-use Rattle.csp_checking.specs.Names.{Environment, spellings}
-use Rattle.csp_checking.specs.Resolving.{of_two, of_three, of_four}
-use Rattle.csp_checking.specs.Sites.{Site}
+use Rattle.theory_text.specs.Raw.{RawName}
+use Rattle.theory_checking.specs.Names.{Environment, spellings}
+use Rattle.theory_checking.specs.Resolving.{of_two, of_three, of_four}
+use Rattle.theory_checking.specs.Sites.{Site}
 use Rattle.csp_names.specs.declared.bound_names.BoundNames.{BoundNames}
 use Rattle.csp_names.specs.declared.refusals.Refused.{Refused}
 use Rattle.csp_names.specs.declared.scope.Scope.{Scope}

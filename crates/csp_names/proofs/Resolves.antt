@@ -2,11 +2,11 @@
 use Rattle.std.specs.Prelude.{flat_map, IfOk, IfErr}
 use Rattle.std.proofs.Common.{◌≡◌, ◌<◌, ◌≤◌, ◌+◌, ℕ, suc, get_or, length, map, List, [], ◌∷◌, ◌++◌, Option, Result, Ok, Err, refl, sym, ap, ap₂, ◌∙◌, subst}
 use Rattle.std.specs.declared.vec.Vec.{Vec}
-use Rattle.csp_checking.specs.Names.{Environment, meaning}
-use Rattle.csp_checking.specs.Resolving.{number_of, every, of_two}
-use Rattle.csp_checking.specs.Sites.{Site}
-use Rattle.csp_checking.specs.Walks.{AllFine}
-use Rattle.csp_checking.proofs.Walking.{fine_both}
+use Rattle.theory_checking.specs.Names.{Environment, meaning}
+use Rattle.theory_checking.specs.Resolving.{number_of, every, of_two}
+use Rattle.theory_checking.specs.Sites.{Site}
+use Rattle.theory_checking.specs.Walks.{AllFine}
+use Rattle.theory_checking.proofs.Walking.{fine_both}
 use Rattle.csp_parse.specs.declared.expressions.Expression.{Expression}
 use Rattle.csp_parse.specs.Expressions.{expressions_of}
 use Rattle.csp_names.specs.declared.bound_names.BoundNames.{BoundNames}

@@ -6,22 +6,22 @@ use Rattle.std.specs.Str.{bytes_eq, chars}
 use Rattle.std.proofs.lemmas.Grind.{flat_map-append}
 use Rattle.std.proofs.lemmas.List.{append_assoc, length-map, map-append}
 use Rattle.std.proofs.Common.{◌≡◌, ℕ, zero, suc, ◌+◌, ◌<◌, ◌≤◌, Bool, true, false, List, [], ◌∷◌, ◌++◌, append-nil, arith, length, length-append, map, Some, None, refl, sym, ap, ◌∙◌, subst}
-use Rattle.csp_syntax.specs.Value.{Value}
-use Rattle.csp_text.specs.Place.{Place}
-use Rattle.csp_text.specs.Raw.{RawName, RawDeclaration, RawEquation, RawAssertion, RawProcess, RawProperty, RawScript}
-use Rattle.csp_checking.specs.DeclaredRows.{meaning_in}
-use Rattle.csp_checking.specs.Names as checking
-use Rattle.csp_checking.specs.Names.{bound_in_declaration, ConstructorName, constructor_fields, Declared, declared, declared_meaning, Environment, environment_above, environment_of, fields_of_constructor, names_of, number_in, spellings, with_spellings}
-use Rattle.csp_checking.specs.Resolving as resolving
-use Rattle.csp_checking.specs.Rules.{all_declared, HasFieldSets}
-use Rattle.csp_checking.specs.Sites.{in_declaration}
-use Rattle.csp_checking.specs.Walks.{AllFine}
-use Rattle.csp_checking.proofs.DeclaredRows.{rows_counted}
-use Rattle.csp_checking.proofs.Meant.{at_place, class_number, constructors_counted, number_within}
-use Rattle.csp_checking.proofs.OneMore.{flat_map_one_more}
-use Rattle.csp_checking.proofs.RowMeanings.{meaning_above_is_row}
-use Rattle.csp_checking.proofs.Spellings.{number_stays_in_tree, with_more}
-use Rattle.csp_checking.proofs.Unrefused.{got_more}
+use Rattle.theory_syntax.specs.Value.{Value}
+use Rattle.theory_text.specs.Place.{Place}
+use Rattle.theory_text.specs.Raw.{RawName, RawDeclaration, RawEquation, RawAssertion, RawProcess, RawProperty, RawScript}
+use Rattle.theory_checking.specs.DeclaredRows.{meaning_in}
+use Rattle.theory_checking.specs.Names as checking
+use Rattle.theory_checking.specs.Names.{bound_in_declaration, ConstructorName, constructor_fields, Declared, declared, declared_meaning, Environment, environment_above, environment_of, fields_of_constructor, names_of, number_in, spellings, with_spellings}
+use Rattle.theory_checking.specs.Resolving as resolving
+use Rattle.theory_checking.specs.Rules.{all_declared, HasFieldSets}
+use Rattle.theory_checking.specs.Sites.{in_declaration}
+use Rattle.theory_checking.specs.Walks.{AllFine}
+use Rattle.theory_checking.proofs.DeclaredRows.{rows_counted}
+use Rattle.theory_checking.proofs.Meant.{at_place, class_number, constructors_counted, number_within}
+use Rattle.theory_checking.proofs.OneMore.{flat_map_one_more}
+use Rattle.theory_checking.proofs.RowMeanings.{meaning_above_is_row}
+use Rattle.theory_checking.proofs.Spellings.{number_stays_in_tree, with_more}
+use Rattle.theory_checking.proofs.Unrefused.{got_more}
 use Rattle.csp_term.specs.declared.assertion.Assertion.{Assertion}
 use Rattle.csp_term.specs.declared.script.Equation.{Equation}
 use Rattle.csp_term.specs.Script.{assertion_of, equation_of}

@@ -3,11 +3,11 @@ use Rattle.std.specs.Prelude.{take, drop, flat_map, IfOk, IfErr, IsErr, IsErrAnd
 use Rattle.std.proofs.lemmas.Result.{err_from_is_err_and}
 use Rattle.std.proofs.lemmas.List.{drop_more, take_more, take_all, take-append-drop, map-append}
 use Rattle.std.proofs.Common.{◌≡◌, ℕ, ◌+◌, ◌<◌, ◌≤◌, List, [], ◌∷◌, ◌++◌, length, get_or, map, Option, Some, Result, Ok, Err, refl, sym, ap, ◌∙◌, subst}
-use Rattle.csp_checking.specs.Resolving.{every}
-use Rattle.csp_checking.proofs.OneMore.{every_one_more}
-use Rattle.csp_checking.specs.Sites.{Site}
-use Rattle.csp_checking.specs.Walks.{AllFine}
-use Rattle.csp_checking.proofs.Walking.{fine_one_more, stopped_behind, stopped_in_first, stopped_in_one}
+use Rattle.theory_checking.specs.Resolving.{every}
+use Rattle.theory_checking.proofs.OneMore.{every_one_more}
+use Rattle.theory_checking.specs.Sites.{Site}
+use Rattle.theory_checking.specs.Walks.{AllFine}
+use Rattle.theory_checking.proofs.Walking.{fine_one_more, stopped_behind, stopped_in_first, stopped_in_one}
 use Rattle.csp_names.specs.declared.refusals.Refused.{Refused}
 use Rattle.csp_names.specs.declared.refusals.Refused.TheVariants as refused
 use Rattle.csp_names.specs.Walks.{Stops, Walked}

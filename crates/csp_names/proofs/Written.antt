@@ -2,10 +2,10 @@
 use Rattle.std.proofs.Common.{◌≡◌, ◌∙◌, ℕ, Bool, List, sym, ap, ap₂}
 use Rattle.std.specs.declared.boxed.Box.{Box}
 use Rattle.std.specs.declared.vec.Vec.{Vec}
-use Rattle.csp_syntax.specs.declared.operator.UnaryOperator.{UnaryOperator}
-use Rattle.csp_syntax.specs.declared.operator.BinaryOperator.{BinaryOperator}
-use Rattle.csp_syntax.specs.Operators.{binary_of, unary_of}
-use Rattle.csp_text.specs.Raw.{RawExpression, RawNumber, RawTruth, RawBooleans, RawUse, RawApply, RawCombine, RawSequence, RawSet, RawRange, RawConstructor}
+use Rattle.theory_syntax.specs.declared.operator.UnaryOperator.{UnaryOperator}
+use Rattle.theory_syntax.specs.declared.operator.BinaryOperator.{BinaryOperator}
+use Rattle.theory_syntax.specs.Operators.{binary_of, unary_of}
+use Rattle.theory_text.specs.Raw.{RawExpression, RawNumber, RawTruth, RawBooleans, RawUse, RawApply, RawCombine, RawSequence, RawSet, RawRange, RawConstructor}
 use Rattle.csp_parse.specs.declared.expressions.Expression.TheOpen as layer
 use Rattle.csp_parse.specs.declared.expressions.Expression.TheFolds.{fold-roll-Expression}
 use Rattle.csp_parse.specs.declared.expressions.Expression.TheVariants as views

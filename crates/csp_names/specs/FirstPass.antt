@@ -1,12 +1,12 @@
 -- What the first pass makes of the declared names of a tree.
 use Rattle.std.specs.Prelude.{◌≡◌, ℕ, List, [], ◌∷◌, ◌++◌, length, map, flat_map, Result, Ok, Err, ⊤}
 use Rattle.std.specs.Str.{chars}
-use Rattle.csp_text.specs.Raw.{RawName, RawClause, RawDeclaration, RawScript}
+use Rattle.theory_text.specs.Raw.{RawName, RawClause, RawDeclaration, RawScript}
 use Rattle.csp_lex.specs.Places.{place_of}
-use Rattle.csp_checking.specs.DeclaredRows.{Row, declared_rows, row_spellings}
-use Rattle.csp_checking.specs.Faults.{IsFirstRefused, NoneRefused}
-use Rattle.csp_checking.specs.Names.{DatatypeName, NametypeName, constructor_fields, names_of, spellings}
-use Rattle.csp_checking.specs.Rules.{all_declared, fields_declared, IsRedeclared, parameters_declared}
+use Rattle.theory_checking.specs.DeclaredRows.{Row, declared_rows, row_spellings}
+use Rattle.theory_checking.specs.Faults.{IsFirstRefused, NoneRefused}
+use Rattle.theory_checking.specs.Names.{DatatypeName, NametypeName, constructor_fields, names_of, spellings}
+use Rattle.theory_checking.specs.Rules.{all_declared, fields_declared, IsRedeclared, parameters_declared}
 use Rattle.csp_names.specs.declared.meanings.Declared.{Declared}
 use Rattle.csp_names.specs.declared.name_table.NameTable.{NameTable}
 use Rattle.csp_names.specs.declared.names.Names.{Names}

@@ -1,6 +1,6 @@
 -- Meanings of names, as the definitions have them.
-use Rattle.csp_checking.specs.Names as checking
-use Rattle.csp_checking.specs.Names.{DatatypeName, ConstructorName, NametypeName, ChannelName, EquationName}
+use Rattle.theory_checking.specs.Names as checking
+use Rattle.theory_checking.specs.Names.{DatatypeName, ConstructorName, NametypeName, ChannelName, EquationName}
 use Rattle.csp_names.specs.declared.meanings.Declared.{Declared}
 use Rattle.csp_names.specs.declared.meanings.Declared.TheVariants as declared
 use Rattle.csp_names.specs.declared.meanings.Meaning.{Meaning}

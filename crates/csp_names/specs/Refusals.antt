@@ -1,5 +1,5 @@
 -- Refusals, as the definitions have them.
-use Rattle.csp_checking.specs.Faults as checking
+use Rattle.theory_checking.specs.Faults as checking
 use Rattle.csp_names.specs.declared.refusals.KindFault.{KindFault}
 use Rattle.csp_names.specs.declared.refusals.KindFault.TheVariants as fault
 

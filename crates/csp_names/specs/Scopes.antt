@@ -2,12 +2,12 @@
 use Rattle.std.specs.Prelude.{◌≡◌, ◌≢◌, ◌↔◌, ℕ, suc, ◌+◌, cond, List, [], ◌∷◌, length, map, flat_map, take, slice_get, Option, Some, option_and_then, option_map}
 use Rattle.std.specs.Option.{option_map_or}
 use Rattle.std.specs.Str.{bytes_eq}
-use Rattle.csp_text.specs.Raw.{RawScript}
-use Rattle.csp_checking.specs.Names as checking
-use Rattle.csp_checking.specs.Names.{Environment, declared_meaning, number_in, with_spellings}
-use Rattle.csp_checking.specs.Rules.{HasFieldSets, fields_declared, parameters_declared}
+use Rattle.theory_text.specs.Raw.{RawScript}
+use Rattle.theory_checking.specs.Names as checking
+use Rattle.theory_checking.specs.Names.{Environment, declared_meaning, number_in, with_spellings}
+use Rattle.theory_checking.specs.Rules.{HasFieldSets, fields_declared, parameters_declared}
 use Rattle.csp_value.specs.Fields.{field_values}
-use Rattle.csp_syntax.specs.Value.{Value}
+use Rattle.theory_syntax.specs.Value.{Value}
 use Rattle.csp_value.specs.declared.field_set.FieldSet.{FieldSet}
 use Rattle.std.specs.declared.vec.Vec.{Vec}
 use Rattle.csp_names.specs.declared.bound_names.BoundName.{BoundName}

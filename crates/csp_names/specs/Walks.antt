@@ -1,15 +1,15 @@
 -- What a walk answers.
 use Rattle.std.specs.declared.vec.Vec.{Vec}
 use Rattle.std.specs.Prelude.{◌≡◌, ℕ, Bool, true, false, List, [], ◌∷◌, ◌++◌, map, flat_map, Option, Some, Result, Ok, Err, IsTrue, ◌↔◌, ⊤}
-use Rattle.csp_text.specs.Raw.{RawName, RawExpression, RawExpressions, RawField, RawEvent, RawEventSet, RawPair, RawProcess, RawProperty}
-use Rattle.csp_syntax.specs.Expression as pure
-use Rattle.csp_syntax.specs.Process as process
+use Rattle.theory_text.specs.Raw.{RawName, RawExpression, RawExpressions, RawField, RawEvent, RawEventSet, RawPair, RawProcess, RawProperty}
+use Rattle.theory_syntax.specs.Expression as pure
+use Rattle.theory_syntax.specs.Process as process
 use Rattle.csp_lex.specs.Places.{place_of}
-use Rattle.csp_checking.specs.Names.{Environment, Declared, ChannelName, EquationName, binding, bound_by_fields, bound_in, bound_in_property, meaning, spellings, with_spellings}
-use Rattle.csp_checking.specs.Resolving as resolving
-use Rattle.csp_checking.specs.Rules.{field_count}
-use Rattle.csp_checking.specs.Sites.{Use, AsExpression, AsConstructor, AsEquation, AsEvent, AsProductions, AsBareLeft, AsBareRight, Site, Used, BoundThere, Parameter, in_expression, in_expressions, in_fields, in_event, in_production, in_event_set, in_pair, in_process, in_property, in_parameters}
-use Rattle.csp_checking.specs.Walks.{AllFine, IsFine, IsStoppedAt}
+use Rattle.theory_checking.specs.Names.{Environment, Declared, ChannelName, EquationName, binding, bound_by_fields, bound_in, bound_in_property, meaning, spellings, with_spellings}
+use Rattle.theory_checking.specs.Resolving as resolving
+use Rattle.theory_checking.specs.Rules.{field_count}
+use Rattle.theory_checking.specs.Sites.{Use, AsExpression, AsConstructor, AsEquation, AsEvent, AsProductions, AsBareLeft, AsBareRight, Site, Used, BoundThere, Parameter, in_expression, in_expressions, in_fields, in_event, in_production, in_event_set, in_pair, in_process, in_property, in_parameters}
+use Rattle.theory_checking.specs.Walks.{AllFine, IsFine, IsStoppedAt}
 use Rattle.csp_value.specs.declared.name.ChannelId.{ChannelId}
 use Rattle.csp_value.specs.declared.name.ConId.{ConId}
 use Rattle.csp_expression.specs.declared.expr.Expr.{Expr}

@@ -2,7 +2,7 @@
 
 ghost use Rattle.std.specs.Prelude.{◌≡◌, ◌∷◌, [], cond, length, nat_lt, None, Some, option_map, IfErr, IfOk, OnOk};
 ghost use Rattle.std.specs.Str.{chars, IsUtf8};
-ghost use Rattle.csp_checking.specs.Names.{number_in};
+ghost use Rattle.theory_checking.specs.Names.{number_in};
 ghost use Rattle.csp_names.specs.declared.refusals.Refused.TheVariants.{Memory as no_room};
 ghost use Rattle.csp_names.specs.Rows.{AreTexts, row_at};
 ghost use Rattle.csp_names.specs.Scopes.{Binds, bound_rows, bound_spellings, IsInOrder, IsPut, number_at, Releases, times_at};

@@ -1,7 +1,7 @@
 //! Channels and equations by their names, and how many fields and parameters they have.
 
 ghost use Rattle.std.specs.Prelude.{◌≡◌};
-ghost use Rattle.csp_checking.specs.Sites.{AsEquation, AsEvent, AsProductions};
+ghost use Rattle.theory_checking.specs.Sites.{AsEquation, AsEvent, AsProductions};
 ghost use Rattle.csp_parse.specs.Names.{name_of};
 ghost use Rattle.csp_names.specs.Names.{agree, suffice};
 ghost use Rattle.csp_names.specs.Walks.{CountsFields, NamesChannel, NamesEquation, ResolvesChannel, ResolvesEquation};

@@ -1,7 +1,7 @@
 //! Equations and assertions.
 
 ghost use Rattle.std.specs.Prelude.{◌≡◌, map, IfErr, OnOk};
-ghost use Rattle.csp_checking.specs.Names.{spellings};
+ghost use Rattle.theory_checking.specs.Names.{spellings};
 ghost use Rattle.csp_parse.specs.Declarations.{property_of};
 ghost use Rattle.csp_parse.specs.Names.{name_of};
 ghost use Rattle.csp_parse.specs.Processes.{process_of};

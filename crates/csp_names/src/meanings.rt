@@ -1,7 +1,7 @@
 //! What names mean.
 
 ghost use Rattle.std.specs.Prelude.{◌≡◌, option_map, Some};
-ghost use Rattle.csp_checking.specs.Resolving.{as_channel, as_constructor, as_equation, as_expression};
+ghost use Rattle.theory_checking.specs.Resolving.{as_channel, as_constructor, as_equation, as_expression};
 ghost use Rattle.csp_expression.specs.Expression.{expression_of};
 ghost use Rattle.csp_names.specs.Meanings.{meaning_of};
 

@@ -1,8 +1,8 @@
 //! The first pass: each name is declared once.
 
 ghost use Rattle.std.specs.Prelude.{◌≡◌, ◌+◌, ◌∷◌, [], length, map, IfErr, IfOk, OnOk, replicate};
-ghost use Rattle.csp_checking.specs.DeclaredRows.{numbered_rows};
-ghost use Rattle.csp_checking.specs.Names.{ChannelName, clause_names, ConstructorName, declared, EquationName};
+ghost use Rattle.theory_checking.specs.DeclaredRows.{numbered_rows};
+ghost use Rattle.theory_checking.specs.Names.{ChannelName, clause_names, ConstructorName, declared, EquationName};
 ghost use Rattle.csp_parse.specs.Declarations.{clause_of, declaration_of, script_of};
 ghost use Rattle.csp_parse.specs.Names.{name_of};
 ghost use Rattle.csp_names.specs.declared.refusals.Refused.TheVariants.{Memory as no_room};

@@ -27,7 +27,7 @@ pub enum KindFault {
 }
 
 impl KindFault {
-    ghost use Rattle.csp_checking.specs.Checked.{kind_fault_spelling};
+    ghost use Rattle.theory_checking.specs.Checked.{kind_fault_spelling};
     ghost use Rattle.csp_names.specs.Refusals.{fault_of};
 
     /// The number of the refusal, as it is printed.
@@ -47,7 +47,7 @@ impl KindFault {
 
 impl fmt::Display for KindFault {
     ghost use Rattle.std.specs.Prelude.{Some};
-    ghost use Rattle.csp_checking.specs.Checked.{kind_fault_spelling};
+    ghost use Rattle.theory_checking.specs.Checked.{kind_fault_spelling};
     ghost use Rattle.csp_names.specs.Refusals.{fault_of};
 
     ghost output = { λ fault. Some (kind_fault_spelling (fault_of fault)) };

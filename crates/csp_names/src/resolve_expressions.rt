@@ -1,6 +1,6 @@
 //! Expressions and the names in them.
 
-ghost use Rattle.csp_text.specs.Raw.{RawUse};
+ghost use Rattle.theory_text.specs.Raw.{RawUse};
 ghost use Rattle.csp_parse.specs.Expressions.{expression_of, expressions_of};
 ghost use Rattle.csp_parse.specs.Names.{name_of};
 ghost use Rattle.csp_names.specs.Walks.{ResolvesExpression, ResolvesExpressions};

@@ -1,7 +1,7 @@
 //! The fields of prefixes, and the names that they bind.
 
 ghost use Rattle.std.specs.Prelude.{◌≡◌, ◌∷◌, [], map, IfErr, OnOk};
-ghost use Rattle.csp_checking.specs.Names.{bound_by_fields, spellings};
+ghost use Rattle.theory_checking.specs.Names.{bound_by_fields, spellings};
 ghost use Rattle.csp_parse.specs.Names.{name_of};
 ghost use Rattle.csp_parse.specs.Processes.{field_of};
 ghost use Rattle.csp_names.specs.declared.refusals.Refused.TheVariants.{Memory as no_room};

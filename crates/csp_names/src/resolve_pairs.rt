@@ -1,7 +1,7 @@
 //! The pairs of renamings and the names in them.
 
 ghost use Rattle.std.specs.Prelude.{◌≡◌, ◌↔◌, map, option_map, Some, IsTrue};
-ghost use Rattle.csp_checking.specs.Sites.{AsBareLeft, AsBareRight, has_no_fields};
+ghost use Rattle.theory_checking.specs.Sites.{AsBareLeft, AsBareRight, has_no_fields};
 ghost use Rattle.csp_parse.specs.Events.{event_of, pair_of};
 ghost use Rattle.csp_parse.specs.Names.{name_of};
 ghost use Rattle.csp_value.specs.Fields.{field_values};

@@ -1,7 +1,7 @@
 //! Processes and the names in them.
 
 ghost use Rattle.std.specs.Prelude.{map};
-ghost use Rattle.csp_text.specs.Raw.{RawAlphabetisedParallel, RawCall, RawGeneralisedParallel, RawGuard, RawHiding, RawIf, RawInfix, RawPrefix, RawRenaming, RawReplicated};
+ghost use Rattle.theory_text.specs.Raw.{RawAlphabetisedParallel, RawCall, RawGeneralisedParallel, RawGuard, RawHiding, RawIf, RawInfix, RawPrefix, RawRenaming, RawReplicated};
 ghost use Rattle.csp_parse.specs.EventSets.{event_set_of};
 ghost use Rattle.csp_parse.specs.Events.{pair_of};
 ghost use Rattle.csp_parse.specs.Expressions.{expression_of, expressions_of};
@@ -18,9 +18,9 @@ use csp_parse::{
     EventSet as RawEventSet, Expression as RawExpression, Field as RawField, Infix,
     Name as RawName, Pair as RawPair, Process as RawProcess,
 };
-use csp_syntax::ReplicatedOperator;
 use csp_term::{Term, TermForm};
 use std::alloc::Allocator;
+use theory_syntax::ReplicatedOperator;
 
 impl<'n, 't, A: Allocator + Copy> Scope<'n, 't, A> {
     /// The process that is written, or the first fault of a name in it.

@@ -1,7 +1,7 @@
 //! The names that can be used where the text is looked at.
 
 ghost use Rattle.std.specs.Prelude.{◌≡◌, option_map};
-ghost use Rattle.csp_checking.specs.Names.{meaning, Environment};
+ghost use Rattle.theory_checking.specs.Names.{meaning, Environment};
 ghost use Rattle.csp_parse.specs.Names.{name_of};
 ghost use Rattle.csp_names.specs.Meanings.{meaning_of};
 ghost use Rattle.csp_names.specs.Rows.{AreTexts};

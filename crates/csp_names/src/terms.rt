@@ -1,10 +1,10 @@
 //! Terms made of their parts.
 
 ghost use Rattle.std.specs.Prelude.{◌≡◌, pos, IfOk, IfErr};
-ghost use Rattle.csp_syntax.specs.Expression as pure;
-ghost use Rattle.csp_syntax.specs.Value.{Integer, Truth};
-ghost use Rattle.csp_syntax.specs.Operators.{binary_of, combined, unary_of};
-ghost use Rattle.csp_checking.specs.Resolving.{infix_process};
+ghost use Rattle.theory_syntax.specs.Expression as pure;
+ghost use Rattle.theory_syntax.specs.Value.{Integer, Truth};
+ghost use Rattle.theory_syntax.specs.Operators.{binary_of, combined, unary_of};
+ghost use Rattle.theory_checking.specs.Resolving.{infix_process};
 ghost use Rattle.csp_parse.specs.Processes.{infix_of};
 ghost use Rattle.csp_event_sets.specs.Events.{event_set_of};
 ghost use Rattle.csp_expression.specs.Expression.{expression_of};
@@ -15,10 +15,10 @@ use crate::refusals::Refused;
 use csp_event_sets::EventSet;
 use csp_expression::{BinaryOperator, Expr, UnaryOperator};
 use csp_parse::Infix;
-use csp_syntax::EventSetOperator;
 use csp_term::{Term, TermForm};
 use csp_value::Value;
 use std::alloc::Allocator;
+use theory_syntax::EventSetOperator;
 
 /// The number as an expression, or `Memory` where no value is so great.
 pub(crate) fn number_expression<A: Allocator + Copy>(number: u32) -> Result<Expr<A>, Refused>

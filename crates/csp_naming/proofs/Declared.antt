@@ -4,12 +4,12 @@ use Rattle.std.specs.Borrow.{Bor}
 use Rattle.std.proofs.lemmas.Grind.{flat_map-append}
 use Rattle.std.proofs.lemmas.List.{map-append}
 use Rattle.std.proofs.Common.{◌≡◌, ◌∙◌, ◌≤◌, ◌+◌, ℕ, List, [], ◌∷◌, ◌++◌, length, map, Vec, ap, subst, sym, append-nil, append_assoc}
-use Rattle.csp_text.specs.Raw.{RawName, RawDeclaration, RawScript}
-use Rattle.csp_checking.specs.Names as checking
-use Rattle.csp_checking.specs.Names.{Class, DatatypeName, ConstructorName, NametypeName, ChannelName, EquationName, bound_in_declaration, bound_spellings, clause_names, declared_as, spellings, with_spellings}
-use Rattle.csp_checking.proofs.Spellings.{with_more}
-use Rattle.csp_notation.specs.Names as notation
-use Rattle.csp_notation.specs.Names.{in_bytes, names_in}
+use Rattle.theory_text.specs.Raw.{RawName, RawDeclaration, RawScript}
+use Rattle.theory_checking.specs.Names as checking
+use Rattle.theory_checking.specs.Names.{Class, DatatypeName, ConstructorName, NametypeName, ChannelName, EquationName, bound_in_declaration, bound_spellings, clause_names, declared_as, spellings, with_spellings}
+use Rattle.theory_checking.proofs.Spellings.{with_more}
+use Rattle.theory_notation.specs.Names as notation
+use Rattle.theory_notation.specs.Names.{in_bytes, names_in}
 use Rattle.csp_parse.specs.declared.declarations.Clause.{Clause}
 use Rattle.csp_parse.specs.declared.declarations.Declaration.{Declaration}
 use Rattle.csp_parse.specs.declared.names.Name.{Name}

@@ -6,8 +6,8 @@ use Rattle.std.specs.Str.{bytes_eq, chars, IsUtf8}
 use Rattle.std.proofs.lemmas.Str.{encodes-chars}
 use Rattle.std.proofs.Common.{◌≡◌, ℕ, suc, Bool, true, false, List, [], ◌∷◌, ◌++◌, Option, Some, None, refl, sym, ap, ap₂}
 use Rattle.indexmap.specs.IndexSet.{insert_key}
-use Rattle.csp_checking.specs.Names.{has_spelling, number_in, with_spellings}
-use Rattle.csp_notation.specs.Names.{in_bytes}
+use Rattle.theory_checking.specs.Names.{has_spelling, number_in, with_spellings}
+use Rattle.theory_notation.specs.Names.{in_bytes}
 use Rattle.csp_print.specs.Names.{spellings_of}
 use Rattle.csp_names.proofs.Rows.{same_spelling}
 use Rattle.csp_naming.specs.Texts.{AreTexts, spelled}

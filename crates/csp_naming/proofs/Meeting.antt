@@ -1,9 +1,9 @@
 -- Names that are met part by part.
 use Rattle.std.proofs.lemmas.List.{map-append}
 use Rattle.std.proofs.Common.{◌≡◌, ◌∙◌, ℕ, Bool, List, ◌++◌, map, Result, Ok, Err, Vec, Box, ap, ap₂, sym}
-use Rattle.csp_text.specs.Raw.{RawName}
-use Rattle.csp_checking.specs.Names.{bound_in, bound_in_declaration, bound_in_property, spellings, with_spellings}
-use Rattle.csp_checking.proofs.Spellings.{with_more}
+use Rattle.theory_text.specs.Raw.{RawName}
+use Rattle.theory_checking.specs.Names.{bound_in, bound_in_declaration, bound_in_property, spellings, with_spellings}
+use Rattle.theory_checking.proofs.Spellings.{with_more}
 use Rattle.csp_lex.specs.declared.places.Place.{Place}
 use Rattle.csp_parse.specs.declared.declarations.Declaration.{Declaration}
 use Rattle.csp_parse.specs.declared.declarations.Declaration.TheVariants as forms

@@ -1,6 +1,6 @@
 -- Bound names that are met.
 use Rattle.std.specs.Prelude.{◌≡◌, ℕ, List, Result, OnOk}
-use Rattle.csp_checking.specs.Names.{with_spellings}
+use Rattle.theory_checking.specs.Names.{with_spellings}
 use Rattle.csp_naming.specs.declared.bound_names.BoundNames.{BoundNames}
 use Rattle.csp_naming.specs.Texts.{spelled}
 

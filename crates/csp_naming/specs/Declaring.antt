@@ -2,10 +2,10 @@
 use Rattle.std.specs.Prelude.{◌≡◌, ℕ, List, ◌++◌, Result, OnOk}
 use Rattle.std.specs.Borrow.{Bor}
 use Rattle.std.specs.declared.vec.Vec.{Vec}
-use Rattle.csp_text.specs.Raw.{RawDeclaration, RawScript}
-use Rattle.csp_checking.specs.Names as checking
-use Rattle.csp_checking.specs.Names.{Class, DatatypeName, ConstructorName, NametypeName, ChannelName, EquationName, declared_as, spellings}
-use Rattle.csp_notation.specs.Names.{in_bytes}
+use Rattle.theory_text.specs.Raw.{RawDeclaration, RawScript}
+use Rattle.theory_checking.specs.Names as checking
+use Rattle.theory_checking.specs.Names.{Class, DatatypeName, ConstructorName, NametypeName, ChannelName, EquationName, declared_as, spellings}
+use Rattle.theory_notation.specs.Names.{in_bytes}
 use Rattle.csp_print.specs.declared.names.Names.{Names}
 use Rattle.csp_print.specs.Names.{spellings_of}
 

@@ -1,7 +1,7 @@
 //! What binds names: parameters, inputs and replicated forms.
 
 ghost use Rattle.std.specs.Prelude.{◌∷◌, ◌++◌, [], map};
-ghost use Rattle.csp_checking.specs.Names.{bound_by_fields, bound_in, bound_in_declaration, bound_in_property, spellings};
+ghost use Rattle.theory_checking.specs.Names.{bound_by_fields, bound_in, bound_in_declaration, bound_in_property, spellings};
 ghost use Rattle.csp_parse.specs.Declarations.{declaration_of, property_of};
 ghost use Rattle.csp_parse.specs.Processes.{field_of, process_of};
 ghost use Rattle.csp_naming.specs.Binding.{Meets};

@@ -19,8 +19,8 @@ pub(crate) struct BoundNames<'t, A: Allocator> {
 impl<'t, A: Allocator + Copy> BoundNames<'t, A> {
     ghost use Rattle.std.specs.Prelude.{◌≡◌, ◌∷◌, [], map, IfOk};
     ghost use Rattle.std.specs.Str.{chars};
-    ghost use Rattle.csp_checking.specs.Names.{spellings};
-    ghost use Rattle.csp_notation.specs.Names.{in_bytes};
+    ghost use Rattle.theory_checking.specs.Names.{spellings};
+    ghost use Rattle.theory_notation.specs.Names.{in_bytes};
     ghost use Rattle.csp_parse.specs.Names.{name_of};
     ghost use Rattle.csp_print.specs.Names.{spellings_of};
     ghost use Rattle.csp_naming.specs.Binding.{Meets, met};

@@ -2,7 +2,7 @@
 
 ghost use Rattle.std.specs.Prelude.{◌∷◌, [], map, OnOk};
 ghost use Rattle.std.specs.Str.{chars};
-ghost use Rattle.csp_checking.specs.Names.{clause_names, spellings};
+ghost use Rattle.theory_checking.specs.Names.{clause_names, spellings};
 ghost use Rattle.csp_parse.specs.Declarations.{clause_of, declaration_of};
 ghost use Rattle.csp_parse.specs.Names.{name_of};
 ghost use Rattle.csp_naming.specs.Declaring.{Declares, Lists};

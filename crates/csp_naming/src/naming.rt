@@ -2,7 +2,7 @@
 
 ghost use Rattle.std.specs.Prelude.{◌≡◌, IfOk};
 ghost use Rattle.csp_parse.specs.Declarations.{script_of};
-ghost use Rattle.csp_notation.specs.Names.{names_in};
+ghost use Rattle.theory_notation.specs.Names.{names_in};
 ghost use Rattle.csp_print.specs.Names as printed;
 
 use crate::bound_names::BoundNames;

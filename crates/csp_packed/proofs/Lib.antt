@@ -1,2 +1,4 @@
 pub mod Spelled
 pub mod Sameness
+pub mod Hashes
+pub mod Packing

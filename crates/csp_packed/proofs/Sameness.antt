@@ -4,9 +4,9 @@ use mir.Syntax
 use Rattle.std.proofs.Common.{◌≡◌, ℕ, List, Bool, true, false, nat_eq, IsTrue, IsFalse, sym, ap, ◌∙◌}
 use Rattle.std.specs.declared.alloc.Allocator as allocator
 use lib.Pointwise.{pointwise}
-use Rattle.csp_syntax.specs.Process.{Process}
-use Rattle.csp_semantics.specs.Meaning.Limits.{fits}
-use Rattle.csp_spelling.specs.Spelling.{spelling}
+use Rattle.theory_syntax.specs.Process.{Process}
+use Rattle.theory_semantics.specs.Meaning.Limits.{fits}
+use Rattle.theory_spelling.specs.Spelling.{spelling}
 use Rattle.csp_value.proofs.Sameness.{Tells, text_tells}
 use Rattle.csp_term.specs.Term.{process_of}
 use Rattle.csp_term.proofs.Equality.{term_tells}

@@ -1,12 +1,12 @@
 -- Bytes that spell a term within the limits, and that term.
 use Rattle.std.proofs.Common.{◌≡◌, ℕ, List, [], ◌∷◌, Bool, true, IsTrue, ◌↔◌, Option, Some, None, refl, sym, ap, subst, ◌∙◌}
-use Rattle.csp_syntax.specs.Process.{Process, Omega}
-use Rattle.csp_semantics.specs.Meaning.Limits.{fits}
-use Rattle.csp_spelling.specs.Spelling.{spelling}
-use Rattle.csp_spelling.specs.Ranges.{IsInRange}
-use Rattle.csp_spelling.specs.Reading as reading
-use Rattle.csp_spelling.specs.Reading.{term_of}
-use Rattle.csp_spelling.proofs.Laws.{term_again}
+use Rattle.theory_syntax.specs.Process.{Process, Omega}
+use Rattle.theory_semantics.specs.Meaning.Limits.{fits}
+use Rattle.theory_spelling.specs.Spelling.{spelling}
+use Rattle.theory_spelling.specs.Ranges.{IsInRange}
+use Rattle.theory_spelling.specs.Reading as reading
+use Rattle.theory_spelling.specs.Reading.{term_of}
+use Rattle.theory_spelling.proofs.Laws.{term_again}
 use Rattle.csp_spell.specs.WithinLimits.{IsTermWithinLimits}
 use Rattle.csp_spell.proofs.WholeTerms.{term_is_spellable}
 use Rattle.csp_spell.specs.declared.fault.UnpackFault.{UnpackFault}

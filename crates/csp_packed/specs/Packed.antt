@@ -1,5 +1,5 @@
 -- The terms that packed and kept ones stand for.
-use Rattle.csp_syntax.specs.Process.{Process}
+use Rattle.theory_syntax.specs.Process.{Process}
 use Rattle.csp_term.specs.Term.{process_of}
 use Rattle.csp_packed.specs.Within.{term_spelled}
 use Rattle.csp_packed.specs.declared.packed_term.PackedTerm.{PackedTerm}

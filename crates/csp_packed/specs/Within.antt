@@ -1,11 +1,11 @@
 -- Bytes that spell a term within the limits, and that term.
 use Rattle.std.specs.Prelude.{◌≡◌, Bool, true, false, ℕ, List, Option, Some, None, IsTrue, IsFalse}
 use Rattle.std.specs.Coded.{Coded-set, coded_bool, coded_list, coded_ℕ, ×_prop}
-use Rattle.csp_syntax.specs.Process.{Process, Stop, Script}
-use Rattle.csp_semantics.specs.Kinds.Scripts.{IsTermOf}
-use Rattle.csp_semantics.specs.Meaning.Limits.{fits}
-use Rattle.csp_spelling.specs.Reading.{term_of}
-use Rattle.csp_spelling.specs.Spelling.{spelling}
+use Rattle.theory_syntax.specs.Process.{Process, Stop, Script}
+use Rattle.theory_semantics.specs.Kinds.Scripts.{IsTermOf}
+use Rattle.theory_semantics.specs.Meaning.Limits.{fits}
+use Rattle.theory_spelling.specs.Reading.{term_of}
+use Rattle.theory_spelling.specs.Spelling.{spelling}
 
 -- a term of some checked script
 abbrev pub IsOfSomeScript : Process → Type 0

@@ -1,9 +1,9 @@
 //! Terms as bytes, or whole past the limits.
 
 ghost use Rattle.std.specs.Prelude.{◌≡◌, ◌↔◌, IfOk, IsFalse, IsTrue, MatchOption};
-ghost use Rattle.csp_syntax.specs.Process.{Omega};
-ghost use Rattle.csp_semantics.specs.Meaning.Limits.{fits};
-ghost use Rattle.csp_spelling.specs.Spelling.{spelling};
+ghost use Rattle.theory_syntax.specs.Process.{Omega};
+ghost use Rattle.theory_semantics.specs.Meaning.Limits.{fits};
+ghost use Rattle.theory_spelling.specs.Spelling.{spelling};
 ghost use Rattle.csp_term.specs.Term.{process_of};
 ghost use Rattle.csp_packed.specs.Within.{IsOfSomeScript};
 

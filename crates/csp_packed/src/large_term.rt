@@ -1,7 +1,7 @@
 //! Terms past the limits.
 
 ghost use Rattle.std.specs.Prelude.{◌≡◌, IfOk, IsFalse};
-ghost use Rattle.csp_semantics.specs.Meaning.Limits.{fits};
+ghost use Rattle.theory_semantics.specs.Meaning.Limits.{fits};
 ghost use Rattle.csp_term.specs.Term.{process_of};
 ghost use Rattle.csp_packed.specs.Within.{past_prop};
 

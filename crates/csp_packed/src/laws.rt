@@ -2,7 +2,7 @@
 //! process, whichever allocator holds them. A packed term is hashed by its spelling, in one write.
 
 ghost use Rattle.std.specs.Prelude.{◌≡◌, ◌↔◌, IsTrue};
-ghost use Rattle.csp_spelling.specs.Spelling.{spelling};
+ghost use Rattle.theory_spelling.specs.Spelling.{spelling};
 ghost use Rattle.csp_packed.specs.Packed.{kept_process, packed_process};
 
 use crate::kept_term::KeptTerm;

@@ -3,9 +3,9 @@
 ghost use Rattle.std.specs.Prelude.{◌≡◌, ◌∷◌, ◌↔◌, [], IfOk, IsTrue};
 ghost use Rattle.std.specs.Cmp.Rules.{hashing};
 ghost use Rattle.std.proofs.Common.{rules};
-ghost use Rattle.csp_syntax.specs.Process.{Omega};
-ghost use Rattle.csp_semantics.specs.Meaning.Limits.{fits};
-ghost use Rattle.csp_spelling.specs.Spelling.{spelling};
+ghost use Rattle.theory_syntax.specs.Process.{Omega};
+ghost use Rattle.theory_semantics.specs.Meaning.Limits.{fits};
+ghost use Rattle.theory_spelling.specs.Spelling.{spelling};
 ghost use Rattle.csp_spell.specs.WithinLimits.{IsTermWithinLimits};
 ghost use Rattle.csp_term.specs.Term.{process_of};
 ghost use Rattle.csp_packed.specs.Within.{SpellsWithin, spells_prop, term_spelled};

@@ -1,9 +1,9 @@
 -- Assertions: what the readers of their parts decide, their own do.
 use Rattle.std.proofs.Common.{◌≡◌, ◌∙◌, ◌⊎◌, Bool, true, false, List, [], ◌∷◌, ◌++◌, inl, inr, refl, sym, subst}
-use Rattle.csp_text.specs.Token.{Token, KeywordToken, SignToken, AssertWord, NotWord, StopWord, ColonSign, TracesSign, FailuresSign, PlacedToken}
-use Rattle.csp_text.specs.Raw.{RawProcess, RawStop}
-use Rattle.csp_text.specs.Grammar as grammar
-use Rattle.csp_text.specs.Grammar.{IsWord, IsSign, IsModel, IsFreedom, IsFirstSide, IsProcess}
+use Rattle.theory_text.specs.Token.{Token, KeywordToken, SignToken, AssertWord, NotWord, StopWord, ColonSign, TracesSign, FailuresSign, PlacedToken}
+use Rattle.theory_text.specs.Raw.{RawProcess, RawStop}
+use Rattle.theory_text.specs.Grammar as grammar
+use Rattle.theory_text.specs.Grammar.{IsWord, IsSign, IsModel, IsFreedom, IsFirstSide, IsProcess}
 use Rattle.csp_parse.specs.declared.stops.Stopped.{Stopped}
 use Rattle.csp_parse.specs.declared.stops.Stopped.TheVariants as stop
 use Rattle.csp_parse.specs.Deciding.{first, nothing, only, Begins, Done, IsStop, here, high, memory}

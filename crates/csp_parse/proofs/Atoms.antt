@@ -1,10 +1,10 @@
 -- Atoms, from what is passed and read.
 use Rattle.std.proofs.Common.{◌∙◌, List, ◌++◌, true, false, inl, inr, sym, subst, append_assoc}
-use Rattle.csp_syntax.specs.Expression.{Unary, Binary, Negate, Length}
-use Rattle.csp_text.specs.Token.{PlacedToken, Keyword, TrueWord, FalseWord, BoolWord, OpenRoundSign, CloseRoundSign, MinusSign, HashSign, LessSign, GreaterSign, OpenBraceSign, CloseBraceSign, RangeSign}
-use Rattle.csp_text.specs.Raw.{RawName, RawExpression, RawNumber, RawTruth, RawBooleans, RawUse, RawApply, RawCombine, RawSequence, RawSet, RawRange, RawExpressions, no_raw_expressions}
-use Rattle.csp_text.specs.Grammar as grammar
-use Rattle.csp_text.specs.Grammar.{IsWord, IsSign, IsName, IsNumber, IsUnaryWord, IsBinaryWord, IsExpression, IsAtom, AreSums, AreExpressions}
+use Rattle.theory_syntax.specs.Expression.{Unary, Binary, Negate, Length}
+use Rattle.theory_text.specs.Token.{PlacedToken, Keyword, TrueWord, FalseWord, BoolWord, OpenRoundSign, CloseRoundSign, MinusSign, HashSign, LessSign, GreaterSign, OpenBraceSign, CloseBraceSign, RangeSign}
+use Rattle.theory_text.specs.Raw.{RawName, RawExpression, RawNumber, RawTruth, RawBooleans, RawUse, RawApply, RawCombine, RawSequence, RawSet, RawRange, RawExpressions, no_raw_expressions}
+use Rattle.theory_text.specs.Grammar as grammar
+use Rattle.theory_text.specs.Grammar.{IsWord, IsSign, IsName, IsNumber, IsUnaryWord, IsBinaryWord, IsExpression, IsAtom, AreSums, AreExpressions}
 use Rattle.csp_parse.specs.Levels.{constructed, IsEnclosed, ReadsBracketed, ReadsRound, ReadsTwo}
 use Rattle.csp_parse.specs.Reading.{Standing, Passes, Reads}
 use Rattle.csp_parse.proofs.AtomsBegin.{around}

@@ -1,10 +1,10 @@
 -- Which atom begins with a token.
 use Rattle.std.proofs.Common.{◌≡◌, ◌∙◌, List, [], ◌∷◌, ◌++◌, Some, inl, inr, refl, sym, ap, subst, append_assoc, append-nil}
-use Rattle.csp_syntax.specs.Expression as pure
-use Rattle.csp_text.specs.Token.{Token, KeywordToken, SignToken, Keyword, Sign, OpenRoundSign, CloseRoundSign, CommaSign, MinusSign, HashSign, LessSign, OpenBraceSign, CloseBraceSign, GreaterSign, PlacedToken}
-use Rattle.csp_text.specs.Raw.{RawExpression, RawApply, RawCombine, RawSequence, RawSet, RawRange, RawExpressions}
-use Rattle.csp_text.specs.Grammar as grammar
-use Rattle.csp_text.specs.Grammar.{IsWord, word, IsSign, sign, IsName, IsNumber, IsUnaryWord, IsBinaryWord, IsExpression, IsSum, IsAtom, AreSums, AreExpressions}
+use Rattle.theory_syntax.specs.Expression as pure
+use Rattle.theory_text.specs.Token.{Token, KeywordToken, SignToken, Keyword, Sign, OpenRoundSign, CloseRoundSign, CommaSign, MinusSign, HashSign, LessSign, OpenBraceSign, CloseBraceSign, GreaterSign, PlacedToken}
+use Rattle.theory_text.specs.Raw.{RawExpression, RawApply, RawCombine, RawSequence, RawSet, RawRange, RawExpressions}
+use Rattle.theory_text.specs.Grammar as grammar
+use Rattle.theory_text.specs.Grammar.{IsWord, word, IsSign, sign, IsName, IsNumber, IsUnaryWord, IsBinaryWord, IsExpression, IsSum, IsAtom, AreSums, AreExpressions}
 use Rattle.csp_parse.specs.AtomForms.{Whole, Bracketed, Round, TwoBracketed, Items, Members, Inside, AtomOf}
 use Rattle.csp_parse.specs.Forms.{HasTree, Then, both, Repeated, never, Next, Parts}
 use Rattle.csp_parse.specs.Levels.{constructed, IsEnclosed}

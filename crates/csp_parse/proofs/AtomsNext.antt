@@ -1,9 +1,9 @@
 -- Which atom it is, from the next token.
 use Rattle.std.proofs.Common.{◌≡◌, ◌∙◌, Some, List, [], ◌∷◌, ◌++◌, sym, ap, subst}
-use Rattle.csp_syntax.specs.Expression as pure
-use Rattle.csp_text.specs.Token as text
-use Rattle.csp_text.specs.Token.{Token, PlacedToken}
-use Rattle.csp_text.specs.Grammar.{IsWord, IsName, IsNumber, IsAtom}
+use Rattle.theory_syntax.specs.Expression as pure
+use Rattle.theory_text.specs.Token as text
+use Rattle.theory_text.specs.Token.{Token, PlacedToken}
+use Rattle.theory_text.specs.Grammar.{IsWord, IsName, IsNumber, IsAtom}
 use Rattle.csp_lex.specs.declared.keywords.Keyword.{Keyword}
 use Rattle.csp_lex.specs.declared.signs.Sign.{Sign}
 use Rattle.csp_lex.specs.declared.kinds.TokenKind.{TokenKind}

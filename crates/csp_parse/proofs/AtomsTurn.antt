@@ -1,9 +1,9 @@
 -- Atoms: what the readers of their parts decide, their own do.
 use Rattle.std.proofs.Common.{◌≡◌, ◌∙◌, ◌⊎◌, ℕ, Bool, true, false, Some, None, List, [], ◌∷◌, ◌++◌, inl, inr, refl, sym, ap, subst, arith}
-use Rattle.csp_syntax.specs.Expression as pure
-use Rattle.csp_text.specs.Token as text
-use Rattle.csp_text.specs.Token.{Token, KeywordToken, SignToken, Sign, GreaterSign, CommaSign, RangeSign, OpenRoundSign, CloseRoundSign, LessSign, OpenBraceSign, CloseBraceSign, MinusSign, HashSign, TrueWord, FalseWord, BoolWord, PlacedToken}
-use Rattle.csp_text.specs.Grammar.{IsWord, IsSign, IsName, IsNumber, IsSum, IsAtom}
+use Rattle.theory_syntax.specs.Expression as pure
+use Rattle.theory_text.specs.Token as text
+use Rattle.theory_text.specs.Token.{Token, KeywordToken, SignToken, Sign, GreaterSign, CommaSign, RangeSign, OpenRoundSign, CloseRoundSign, LessSign, OpenBraceSign, CloseBraceSign, MinusSign, HashSign, TrueWord, FalseWord, BoolWord, PlacedToken}
+use Rattle.theory_text.specs.Grammar.{IsWord, IsSign, IsName, IsNumber, IsSum, IsAtom}
 use Rattle.csp_lex.specs.declared.keywords.Keyword.{Keyword}
 use Rattle.csp_lex.specs.declared.keywords.Keyword.TheVariants as keyword
 use Rattle.csp_lex.specs.declared.signs.Sign as lexed

@@ -1,12 +1,12 @@
 -- Where declarations begin: the tokens alone tell it, read once from the left.
 use Rattle.std.proofs.Common.{◌≡◌, ◌∙◌, Bool, true, false, List, [], ◌∷◌, ◌++◌, refl, sym, ap, subst}
-use Rattle.csp_syntax.specs.Expression.{Unary, Binary}
-use Rattle.csp_syntax.specs.Process.{Model}
-use Rattle.csp_text.specs.Token.{Keyword, Sign, Token, KeywordToken, SignToken, NameToken, NumberToken, PlacedToken, DatatypeWord, NametypeWord, ChannelWord, AssertWord, TrueWord, FalseWord, BoolWord, StopWord, SkipWord, OpenRoundSign, CloseRoundSign, OpenSquareSign, CloseSquareSign, OpenSharedSign, CloseSharedSign, OpenRenamingSign, CloseRenamingSign, OpenProductionsSign, CloseProductionsSign, OpenBraceSign, CloseBraceSign, LessSign, GreaterSign}
-use Rattle.csp_text.specs.Raw.{RawName, RawExpression, RawExpressions, RawField, RawEvent, RawEventSet, RawPair, Infix, Replicator, RawProcess, RawDomain, RawClause, RawDeclaration}
-use Rattle.csp_text.specs.Grammar.{IsWord, word, IsSign, sign, IsName, IsNumber, AreNames, IsAdding, IsMultiplying, IsComparing, IsUnaryWord, IsBinaryWord, IsExpression, IsConjunction, IsNegation, IsComparison, IsSum, IsProduct, IsAtom, AreSums, AreExpressions, AreDotted, IsEvent, AreEvents, AreLaterFields, AreFields, IsSetWord, IsEventSet, ArePairs, IsRenamingPart, IsHidingPart, IsInfix, IsReplicator, IsProcess, IsRenamed, IsHidden, IsChain, IsOperand, IsBase, AreDomains, IsClause, AreClauses, IsModel, IsDeclaration}
-use Rattle.csp_text.specs.Raw.{RawName, RawExpression, RawExpressions, RawField, RawEvent, RawEventSet, RawPair, Infix, Replicator, RawProcess, RawDomain, RawProperty, RawDeclaration}
-use Rattle.csp_text.specs.Grammar.{IsWord, word, IsSign, sign, IsName, IsNumber, AreNames, IsAdding, IsMultiplying, IsComparing, IsUnaryWord, IsBinaryWord, IsExpression, IsConjunction, IsNegation, IsComparison, IsSum, IsProduct, IsAtom, AreSums, AreExpressions, AreDotted, IsEvent, AreEvents, AreLaterFields, AreFields, IsSetWord, IsEventSet, ArePairs, IsRenamingPart, IsHidingPart, IsInfix, IsReplicator, IsProcess, IsRenamed, IsHidden, IsChain, IsOperand, IsBase, AreDomains, IsModel, IsSpelled, IsFreedomEnd, IsFreedom, IsFirstSide, IsDeclaration}
+use Rattle.theory_syntax.specs.Expression.{Unary, Binary}
+use Rattle.theory_syntax.specs.Process.{Model}
+use Rattle.theory_text.specs.Token.{Keyword, Sign, Token, KeywordToken, SignToken, NameToken, NumberToken, PlacedToken, DatatypeWord, NametypeWord, ChannelWord, AssertWord, TrueWord, FalseWord, BoolWord, StopWord, SkipWord, OpenRoundSign, CloseRoundSign, OpenSquareSign, CloseSquareSign, OpenSharedSign, CloseSharedSign, OpenRenamingSign, CloseRenamingSign, OpenProductionsSign, CloseProductionsSign, OpenBraceSign, CloseBraceSign, LessSign, GreaterSign}
+use Rattle.theory_text.specs.Raw.{RawName, RawExpression, RawExpressions, RawField, RawEvent, RawEventSet, RawPair, Infix, Replicator, RawProcess, RawDomain, RawClause, RawDeclaration}
+use Rattle.theory_text.specs.Grammar.{IsWord, word, IsSign, sign, IsName, IsNumber, AreNames, IsAdding, IsMultiplying, IsComparing, IsUnaryWord, IsBinaryWord, IsExpression, IsConjunction, IsNegation, IsComparison, IsSum, IsProduct, IsAtom, AreSums, AreExpressions, AreDotted, IsEvent, AreEvents, AreLaterFields, AreFields, IsSetWord, IsEventSet, ArePairs, IsRenamingPart, IsHidingPart, IsInfix, IsReplicator, IsProcess, IsRenamed, IsHidden, IsChain, IsOperand, IsBase, AreDomains, IsClause, AreClauses, IsModel, IsDeclaration}
+use Rattle.theory_text.specs.Raw.{RawName, RawExpression, RawExpressions, RawField, RawEvent, RawEventSet, RawPair, Infix, Replicator, RawProcess, RawDomain, RawProperty, RawDeclaration}
+use Rattle.theory_text.specs.Grammar.{IsWord, word, IsSign, sign, IsName, IsNumber, AreNames, IsAdding, IsMultiplying, IsComparing, IsUnaryWord, IsBinaryWord, IsExpression, IsConjunction, IsNegation, IsComparison, IsSum, IsProduct, IsAtom, AreSums, AreExpressions, AreDotted, IsEvent, AreEvents, AreLaterFields, AreFields, IsSetWord, IsEventSet, ArePairs, IsRenamingPart, IsHidingPart, IsInfix, IsReplicator, IsProcess, IsRenamed, IsHidden, IsChain, IsOperand, IsBase, AreDomains, IsModel, IsSpelled, IsFreedomEnd, IsFreedom, IsFirstSide, IsDeclaration}
 
 -- What opened a group: `<` of a sequence, `[` of a freedom, `[` in a freedom, or any other bracket.
 pub data Bracket : Type 0 where

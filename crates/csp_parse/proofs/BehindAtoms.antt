@@ -1,8 +1,8 @@
 -- Expressions that begin with an atom, and what stands behind it.
 use Rattle.std.proofs.Common.{◌≡◌, ◌⊎◌, List, ◌++◌, inl, inr, sym, subst, append_assoc}
-use Rattle.csp_text.specs.Token.{Token, KeywordToken, NotWord, PlacedToken}
-use Rattle.csp_text.specs.Raw.{RawExpression}
-use Rattle.csp_text.specs.Grammar.{IsWord, word, IsExpression, IsConjunction, IsNegation, IsComparison, IsSum, IsProduct, IsAtom}
+use Rattle.theory_text.specs.Token.{Token, KeywordToken, NotWord, PlacedToken}
+use Rattle.theory_text.specs.Raw.{RawExpression}
+use Rattle.theory_text.specs.Grammar.{IsWord, word, IsExpression, IsConjunction, IsNegation, IsComparison, IsSum, IsProduct, IsAtom}
 use Rattle.csp_parse.specs.declared.levels.Level.{Level}
 use Rattle.csp_parse.specs.declared.levels.Level.TheVariants as level
 use Rattle.csp_parse.specs.Continuing.{IsRest, IsAgainst, BehindConjunction, BehindComparison, BehindSum, BehindProduct, BehindAtom, IsChained}

@@ -1,7 +1,7 @@
 -- Lists with a sign between: what the readers of the parts decide, the reader of the list does.
 use Rattle.std.proofs.Common.{◌∙◌, List, [], ◌∷◌, ◌++◌, refl, sym, ap, subst, append_assoc, append-nil}
-use Rattle.csp_text.specs.Token.{Token, SignToken, Sign, PlacedToken}
-use Rattle.csp_text.specs.Grammar.{IsSign, sign}
+use Rattle.theory_text.specs.Token.{Token, SignToken, Sign, PlacedToken}
+use Rattle.theory_text.specs.Grammar.{IsSign, sign}
 use Rattle.csp_parse.specs.declared.stops.Stopped.{Stopped}
 use Rattle.csp_parse.specs.Deciding.{nothing, only, IsStop, Ends, Done}
 use Rattle.csp_parse.specs.Forms.{HasTree, both, Repeated, never, again, Next, Parts}

@@ -1,10 +1,10 @@
 -- Chains of operators between expressions: what each operand's reader decides, the chain's does.
 use Rattle.std.proofs.Common.{◌≡◌, List, [], ◌++◌, refl, sym, ap, subst, append_assoc, append-nil, arith}
-use Rattle.csp_syntax.specs.Expression as pure
-use Rattle.csp_text.specs.Token.{Token, OrWord, AndWord, PlacedToken}
-use Rattle.csp_text.specs.Raw.{RawExpression, RawCombine}
-use Rattle.csp_text.specs.Grammar as grammar
-use Rattle.csp_text.specs.Grammar.{IsWord, word, IsSign, sign, IsAdding, IsMultiplying, IsExpression, IsConjunction, IsSum, IsProduct}
+use Rattle.theory_syntax.specs.Expression as pure
+use Rattle.theory_text.specs.Token.{Token, OrWord, AndWord, PlacedToken}
+use Rattle.theory_text.specs.Raw.{RawExpression, RawCombine}
+use Rattle.theory_text.specs.Grammar as grammar
+use Rattle.theory_text.specs.Grammar.{IsWord, word, IsSign, sign, IsAdding, IsMultiplying, IsExpression, IsConjunction, IsSum, IsProduct}
 use Rattle.csp_parse.specs.declared.levels.Level.{Level}
 use Rattle.csp_parse.specs.declared.levels.Level.TheVariants as level
 use Rattle.csp_parse.specs.Continuing.{operator_rank, operates, continues, IsStep, IsRest, HasOperators, IsChained}

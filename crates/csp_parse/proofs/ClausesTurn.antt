@@ -1,9 +1,9 @@
 -- Clauses of datatypes: what the readers of their parts decide, their own do.
 use Rattle.std.proofs.Common.{◌≡◌, ◌∙◌, List, [], ◌++◌, map, inl, inr, refl, sym, ap, subst, append-nil}
-use Rattle.csp_text.specs.Token.{DotSign, BarSign, PlacedToken}
-use Rattle.csp_text.specs.Raw.{RawName, RawDomain, RawClause}
-use Rattle.csp_text.specs.Grammar as grammar
-use Rattle.csp_text.specs.Grammar.{IsSign, IsName, AreDomains, IsClause, AreClauses}
+use Rattle.theory_text.specs.Token.{DotSign, BarSign, PlacedToken}
+use Rattle.theory_text.specs.Raw.{RawName, RawDomain, RawClause}
+use Rattle.theory_text.specs.Grammar as grammar
+use Rattle.theory_text.specs.Grammar.{IsSign, IsName, AreDomains, IsClause, AreClauses}
 use Rattle.csp_parse.specs.declared.declarations.Domain.{Domain}
 use Rattle.csp_parse.specs.declared.stops.Stopped.{Stopped}
 use Rattle.csp_parse.specs.DeclarationForms.{datatype_goes_on}

@@ -1,10 +1,10 @@
 -- Comparisons: a sum, and perhaps a sign and another.
 use Rattle.std.proofs.Common.{◌≡◌, ◌∙◌, List, [], ◌++◌, inl, inr, refl, sym, ap, subst, append_assoc, append-nil}
-use Rattle.csp_syntax.specs.Expression as pure
-use Rattle.csp_text.specs.Token.{Token, PlacedToken}
-use Rattle.csp_text.specs.Raw.{RawExpression, RawCombine}
-use Rattle.csp_text.specs.Grammar as grammar
-use Rattle.csp_text.specs.Grammar.{sign, IsComparing, IsComparison, IsSum}
+use Rattle.theory_syntax.specs.Expression as pure
+use Rattle.theory_text.specs.Token.{Token, PlacedToken}
+use Rattle.theory_text.specs.Raw.{RawExpression, RawCombine}
+use Rattle.theory_text.specs.Grammar as grammar
+use Rattle.theory_text.specs.Grammar.{sign, IsComparing, IsComparison, IsSum}
 use Rattle.csp_parse.specs.declared.levels.Level.TheVariants as level
 use Rattle.csp_parse.specs.declared.stops.Stopped.{Stopped}
 use Rattle.csp_parse.specs.Continuing.{operator_rank, operates, IsAgainst}

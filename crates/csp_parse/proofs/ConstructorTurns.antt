@@ -1,10 +1,10 @@
 -- Constructors with fields, and what is an atom in round brackets: what the readers of their parts decide, their own do.
 use Rattle.std.proofs.Common.{◌≡◌, ◌∙◌, ◌⊎◌, Some, List, [], ◌∷◌, ◌++◌, inl, inr, refl, sym, ap, subst, append-nil, arith}
 use Rattle.std.proofs.lemmas.List.{append_cancel_right}
-use Rattle.csp_text.specs.Token.{Token, KeywordToken, SignToken, NameToken, NumberToken, DotSign, PlacedToken}
-use Rattle.csp_text.specs.Raw.{RawName, RawExpression, RawExpressions, no_raw_expressions, raw_expression_and, RawConstructor}
-use Rattle.csp_text.specs.Grammar as grammar
-use Rattle.csp_text.specs.Grammar.{IsSign, sign, IsName, IsAtom, IsExpression, AreDotted}
+use Rattle.theory_text.specs.Token.{Token, KeywordToken, SignToken, NameToken, NumberToken, DotSign, PlacedToken}
+use Rattle.theory_text.specs.Raw.{RawName, RawExpression, RawExpressions, no_raw_expressions, raw_expression_and, RawConstructor}
+use Rattle.theory_text.specs.Grammar as grammar
+use Rattle.theory_text.specs.Grammar.{IsSign, sign, IsName, IsAtom, IsExpression, AreDotted}
 use Rattle.csp_lex.specs.declared.kinds.TokenKind.TheVariants as kind
 use Rattle.csp_lex.specs.declared.signs.Sign.TheVariants as signs
 use Rattle.csp_parse.specs.declared.levels.Level.TheVariants as level

@@ -1,11 +1,11 @@
 -- Scripts, from declarations that are read and counted.
 use Rattle.std.proofs.Common.{◌≡◌, ◌∙◌, ◌≤◌, List, [], ◌∷◌, ◌++◌, map, sym, ap, subst, append_assoc, append-nil, arith}
 use Rattle.std.proofs.lemmas.List.{map-append}
-use Rattle.csp_text.specs.Token.{PlacedToken}
-use Rattle.csp_text.specs.Raw.{RawDeclaration, RawScript}
-use Rattle.csp_text.specs.Grammar as grammar
-use Rattle.csp_text.specs.Grammar.{IsDeclaration, IsScript}
-use Rattle.csp_text.specs.Height.{Nest, nesting, after_token, after_tokens, nest_height, greatest_height}
+use Rattle.theory_text.specs.Token.{PlacedToken}
+use Rattle.theory_text.specs.Raw.{RawDeclaration, RawScript}
+use Rattle.theory_text.specs.Grammar as grammar
+use Rattle.theory_text.specs.Grammar.{IsDeclaration, IsScript}
+use Rattle.theory_text.specs.Height.{Nest, nesting, after_token, after_tokens, nest_height, greatest_height}
 use Rattle.csp_parse.specs.Limits.{IsLow, IsLowScript, none, and_one}
 use Rattle.csp_parse.specs.Reading.{Standing, CountsFirst, AreLow, Reads}
 use Rattle.csp_parse.specs.Nests.{start}

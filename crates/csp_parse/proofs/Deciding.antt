@@ -1,8 +1,8 @@
 -- Readers in turn: what each decides, all decide together.
 use Rattle.std.proofs.Common.{◌≡◌, ◌∙◌, List, [], ◌∷◌, ◌++◌, refl, sym, ap, subst, append_assoc}
 use Rattle.std.proofs.lemmas.List.{append_cancel_left, append_cancel_right}
-use Rattle.csp_text.specs.Token.{Token, PlacedToken}
-use Rattle.csp_text.specs.Height.{Nest, after_tokens}
+use Rattle.theory_text.specs.Token.{Token, PlacedToken}
+use Rattle.theory_text.specs.Height.{Nest, after_tokens}
 use Rattle.csp_parse.specs.declared.stops.Stopped.{Stopped}
 use Rattle.csp_parse.specs.Deciding.{first, nothing, Stops, Begins, Decides, Ends, Done, IsOver, Exceeds, IsStop, here, high, memory}
 use Rattle.csp_parse.specs.Forms.{Then, both}

@@ -1,13 +1,13 @@
 -- Declarations by their first token, and equations: what the readers of their parts decide, their own do.
 use Rattle.std.proofs.Common.{◌≡◌, ◌∙◌, ℕ, true, false, List, [], ◌∷◌, ◌++◌, inl, inr, refl, sym, ap, subst, append_assoc, append-nil, arith}
-use Rattle.csp_text.specs.Token.{Token, KeywordToken, NameToken, DatatypeWord, NametypeWord, ChannelWord, AssertWord, CommaSign, EqualsSign, OpenRoundSign, CloseRoundSign, PlacedToken}
-use Rattle.csp_text.specs.Raw.{RawName, RawDeclaration, RawNametype, RawChannels, RawEquation, RawAssertion}
-use Rattle.csp_text.specs.Token.{Token, KeywordToken, NameToken, DatatypeWord, NametypeWord, ChannelWord, AssertWord, CommaSign, EqualsSign, OpenRoundSign, CloseRoundSign, PlacedToken}
+use Rattle.theory_text.specs.Token.{Token, KeywordToken, NameToken, DatatypeWord, NametypeWord, ChannelWord, AssertWord, CommaSign, EqualsSign, OpenRoundSign, CloseRoundSign, PlacedToken}
+use Rattle.theory_text.specs.Raw.{RawName, RawDeclaration, RawNametype, RawChannels, RawEquation, RawAssertion}
+use Rattle.theory_text.specs.Token.{Token, KeywordToken, NameToken, DatatypeWord, NametypeWord, ChannelWord, AssertWord, CommaSign, EqualsSign, OpenRoundSign, CloseRoundSign, PlacedToken}
 use Rattle.std.proofs.Common.{◌≡◌, ◌∙◌, ℕ, true, false, List, [], ◌∷◌, ◌++◌, inl, inr, refl, sym, ap, subst, append_assoc, append-nil, arith}
-use Rattle.csp_text.specs.Token.{Token, KeywordToken, NameToken, DatatypeWord, NametypeWord, ChannelWord, AssertWord, CommaSign, EqualsSign, OpenRoundSign, CloseRoundSign, PlacedToken}
-use Rattle.csp_text.specs.Raw.{RawName, RawDeclaration, RawNametype, RawChannels, RawEquation, RawAssertion, RawRefinementOf}
-use Rattle.csp_text.specs.Grammar as grammar
-use Rattle.csp_text.specs.Grammar.{IsWord, IsSign, IsName, AreNames, IsModel, IsProcess, IsDeclaration}
+use Rattle.theory_text.specs.Token.{Token, KeywordToken, NameToken, DatatypeWord, NametypeWord, ChannelWord, AssertWord, CommaSign, EqualsSign, OpenRoundSign, CloseRoundSign, PlacedToken}
+use Rattle.theory_text.specs.Raw.{RawName, RawDeclaration, RawNametype, RawChannels, RawEquation, RawAssertion, RawRefinementOf}
+use Rattle.theory_text.specs.Grammar as grammar
+use Rattle.theory_text.specs.Grammar.{IsWord, IsSign, IsName, AreNames, IsModel, IsProcess, IsDeclaration}
 use Rattle.csp_lex.specs.declared.keywords.Keyword.TheVariants as keyword
 use Rattle.csp_lex.specs.declared.kinds.TokenKind.TheVariants as kind
 use Rattle.csp_parse.specs.declared.levels.Level.TheVariants as level

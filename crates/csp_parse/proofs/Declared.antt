@@ -1,9 +1,9 @@
 -- What the readers of declarations tell, from what those of their parts do.
 use Rattle.std.proofs.Common.{◌≡◌, ◌∙◌, List, [], ◌∷◌, ◌++◌, refl, sym, subst}
-use Rattle.csp_syntax.specs.Process.{Model}
-use Rattle.csp_text.specs.Token.{Token, SignToken, Sign, DatatypeWord, EqualsSign, TracesSign, FailuresSign, PlacedToken}
-use Rattle.csp_text.specs.Grammar as grammar
-use Rattle.csp_text.specs.Grammar.{IsWord, IsSign, sign, IsName, AreClauses, IsModel}
+use Rattle.theory_syntax.specs.Process.{Model}
+use Rattle.theory_text.specs.Token.{Token, SignToken, Sign, DatatypeWord, EqualsSign, TracesSign, FailuresSign, PlacedToken}
+use Rattle.theory_text.specs.Grammar as grammar
+use Rattle.theory_text.specs.Grammar.{IsWord, IsSign, sign, IsName, AreClauses, IsModel}
 use Rattle.csp_parse.specs.declared.stops.Stopped.{Stopped}
 use Rattle.csp_parse.specs.Deciding.{first, nothing, only, Ends, IsStop, Done}
 use Rattle.csp_parse.specs.DeclarationForms.{IsDatatype, datatype_goes_on}

@@ -1,12 +1,12 @@
 -- Declarations and scripts, from what is passed and read.
 use Rattle.std.proofs.Common.{◌≡◌, Bool, sym, List, [], ◌∷◌, ◌++◌, ◌<◌, length, ap, subst, arith}
-use Rattle.csp_syntax.specs.Process.{Model, Traces, Failures}
-use Rattle.csp_text.specs.Token.{PlacedToken, DatatypeWord, NametypeWord, ChannelWord, AssertWord, EqualsSign, ColonSign, OpenRoundSign, CloseRoundSign, TracesSign, FailuresSign}
-use Rattle.csp_text.specs.Raw.{RawName, RawExpression, RawDomain, RawClause, RawProcess, RawDatatype, RawNametype, RawChannels, RawEquation, RawAssertion}
-use Rattle.csp_text.specs.Grammar as grammar
-use Rattle.csp_text.specs.Grammar.{IsWord, word, IsSign, IsName, AreNames, AreClauses, IsAtom, IsExpression, AreDomains, IsProcess, IsModel, IsDeclaration}
-use Rattle.csp_text.specs.Raw.{RawName, RawExpression, RawDomain, RawProcess, RawDatatype, RawNametype, RawChannels, RawEquation, RawAssertion, RawProperty, RawRefinementOf}
-use Rattle.csp_text.specs.Grammar.{IsWord, word, IsSign, IsName, AreNames, IsAtom, IsExpression, AreDomains, IsProcess, IsModel, IsFreedom, IsFirstSide, IsDeclaration}
+use Rattle.theory_syntax.specs.Process.{Model, Traces, Failures}
+use Rattle.theory_text.specs.Token.{PlacedToken, DatatypeWord, NametypeWord, ChannelWord, AssertWord, EqualsSign, ColonSign, OpenRoundSign, CloseRoundSign, TracesSign, FailuresSign}
+use Rattle.theory_text.specs.Raw.{RawName, RawExpression, RawDomain, RawClause, RawProcess, RawDatatype, RawNametype, RawChannels, RawEquation, RawAssertion}
+use Rattle.theory_text.specs.Grammar as grammar
+use Rattle.theory_text.specs.Grammar.{IsWord, word, IsSign, IsName, AreNames, AreClauses, IsAtom, IsExpression, AreDomains, IsProcess, IsModel, IsDeclaration}
+use Rattle.theory_text.specs.Raw.{RawName, RawExpression, RawDomain, RawProcess, RawDatatype, RawNametype, RawChannels, RawEquation, RawAssertion, RawProperty, RawRefinementOf}
+use Rattle.theory_text.specs.Grammar.{IsWord, word, IsSign, IsName, AreNames, IsAtom, IsExpression, AreDomains, IsProcess, IsModel, IsFreedom, IsFirstSide, IsDeclaration}
 use Rattle.csp_parse.specs.declared.levels.Level.{Level}
 use Rattle.csp_parse.specs.declared.levels.Level.TheVariants as level
 use Rattle.csp_parse.specs.DeclarationForms.{IsSide}

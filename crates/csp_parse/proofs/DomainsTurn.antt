@@ -1,9 +1,9 @@
 -- Domains, nametypes and channels: what the readers of their parts decide, their own do.
 use Rattle.std.proofs.Common.{◌≡◌, List, [], ◌∷◌, ◌++◌, inl, inr, refl, sym, subst}
-use Rattle.csp_text.specs.Token.{SignToken, DotSign, CommaSign, ColonSign, EqualsSign, NametypeWord, ChannelWord, PlacedToken}
-use Rattle.csp_text.specs.Raw.{RawExpression, RawDomain}
-use Rattle.csp_text.specs.Grammar as grammar
-use Rattle.csp_text.specs.Grammar.{IsWord, IsSign, IsName, AreDomains}
+use Rattle.theory_text.specs.Token.{SignToken, DotSign, CommaSign, ColonSign, EqualsSign, NametypeWord, ChannelWord, PlacedToken}
+use Rattle.theory_text.specs.Raw.{RawExpression, RawDomain}
+use Rattle.theory_text.specs.Grammar as grammar
+use Rattle.theory_text.specs.Grammar.{IsWord, IsSign, IsName, AreDomains}
 use Rattle.csp_parse.specs.declared.levels.Level.{Level}
 use Rattle.csp_parse.specs.declared.levels.Level.TheVariants as level
 use Rattle.csp_parse.specs.declared.stops.Stopped.{Stopped}

@@ -1,10 +1,10 @@
 -- What stands in brackets and begins with a name and a dot: what the readers of its parts decide, its own does.
 use Rattle.std.proofs.Common.{◌≡◌, ◌∙◌, List, [], ◌∷◌, ◌++◌, inl, inr, refl, sym, ap, subst, append_assoc, append-nil}
 use Rattle.std.proofs.lemmas.List.{append_cancel_left, append_cancel_right}
-use Rattle.csp_text.specs.Token.{Token, SignToken, DotSign, OpenRoundSign, PlacedToken}
-use Rattle.csp_text.specs.Raw.{RawName, RawPrefix}
-use Rattle.csp_text.specs.Grammar as grammar
-use Rattle.csp_text.specs.Grammar.{IsName, AreDotted, IsBase, IsOperand, IsProcess}
+use Rattle.theory_text.specs.Token.{Token, SignToken, DotSign, OpenRoundSign, PlacedToken}
+use Rattle.theory_text.specs.Raw.{RawName, RawPrefix}
+use Rattle.theory_text.specs.Grammar as grammar
+use Rattle.theory_text.specs.Grammar.{IsName, AreDotted, IsBase, IsOperand, IsProcess}
 use Rattle.csp_lex.specs.declared.kinds.TokenKind.TheVariants as kind
 use Rattle.csp_lex.specs.declared.signs.Sign.TheVariants as signs
 use Rattle.csp_parse.specs.declared.starts.Start.{Start}

@@ -1,11 +1,11 @@
 -- Events, pairs and sets of events, from what is passed and read.
 use Rattle.std.proofs.Common.{◌≡◌, ◌∙◌, List, [], ◌∷◌, ◌++◌, map, Some, refl, sym, ap, subst, append_assoc, append-nil}
 use Rattle.std.proofs.lemmas.List.{map-append}
-use Rattle.csp_text.specs.Token as text
-use Rattle.csp_text.specs.Token.{PlacedToken, Keyword, DotSign, CommaSign, BackArrowSign, OpenRoundSign, CloseRoundSign, OpenBraceSign, CloseBraceSign, OpenProductionsSign, CloseProductionsSign}
-use Rattle.csp_text.specs.Raw.{RawName, RawEvent, RawEventSet, RawEnumeration, RawProductions, RawExpression, RawExpressions, no_raw_expressions, raw_expression_and}
-use Rattle.csp_text.specs.Grammar as grammar
-use Rattle.csp_text.specs.Grammar.{IsWord, IsSign, IsName, IsAtom, AreDotted, IsEvent, AreEvents, IsSetWord, IsEventSet}
+use Rattle.theory_text.specs.Token as text
+use Rattle.theory_text.specs.Token.{PlacedToken, Keyword, DotSign, CommaSign, BackArrowSign, OpenRoundSign, CloseRoundSign, OpenBraceSign, CloseBraceSign, OpenProductionsSign, CloseProductionsSign}
+use Rattle.theory_text.specs.Raw.{RawName, RawEvent, RawEventSet, RawEnumeration, RawProductions, RawExpression, RawExpressions, no_raw_expressions, raw_expression_and}
+use Rattle.theory_text.specs.Grammar as grammar
+use Rattle.theory_text.specs.Grammar.{IsWord, IsSign, IsName, IsAtom, AreDotted, IsEvent, AreEvents, IsSetWord, IsEventSet}
 use Rattle.csp_parse.specs.declared.expressions.Expression.{Expression}
 use Rattle.csp_parse.specs.Expressions.{raw_list, expression_of, expressions_of}
 use Rattle.csp_parse.specs.Reading.{Standing, Passes, Reads}

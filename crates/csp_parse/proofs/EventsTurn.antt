@@ -1,10 +1,10 @@
 -- Events, pairs and sets of events: what the readers of their parts decide, their own do.
 use Rattle.std.proofs.Common.{◌≡◌, ◌∙◌, ◌⊎◌, ℕ, Some, None, List, [], ◌∷◌, ◌++◌, inl, inr, refl, sym, ap, subst, append_assoc}
-use Rattle.csp_text.specs.Token as text
-use Rattle.csp_text.specs.Token.{Token, KeywordToken, SignToken, NameToken, NumberToken, Keyword, Sign, DotSign, CommaSign, BackArrowSign, OpenRoundSign, CloseRoundSign, OpenBraceSign, CloseBraceSign, OpenProductionsSign, CloseProductionsSign, PlacedToken}
-use Rattle.csp_text.specs.Raw.{RawName, RawEvent, RawExpressions, RawEventSet, RawEnumeration, RawProductions, RawPair}
-use Rattle.csp_text.specs.Grammar as grammar
-use Rattle.csp_text.specs.Grammar.{IsWord, word, IsSign, sign, IsName, name, IsAtom, AreDotted, IsEvent, AreEvents, IsSetWord, IsEventSet, ArePairs}
+use Rattle.theory_text.specs.Token as text
+use Rattle.theory_text.specs.Token.{Token, KeywordToken, SignToken, NameToken, NumberToken, Keyword, Sign, DotSign, CommaSign, BackArrowSign, OpenRoundSign, CloseRoundSign, OpenBraceSign, CloseBraceSign, OpenProductionsSign, CloseProductionsSign, PlacedToken}
+use Rattle.theory_text.specs.Raw.{RawName, RawEvent, RawExpressions, RawEventSet, RawEnumeration, RawProductions, RawPair}
+use Rattle.theory_text.specs.Grammar as grammar
+use Rattle.theory_text.specs.Grammar.{IsWord, word, IsSign, sign, IsName, name, IsAtom, AreDotted, IsEvent, AreEvents, IsSetWord, IsEventSet, ArePairs}
 use Rattle.csp_lex.specs.declared.keywords.Keyword as words
 use Rattle.csp_lex.specs.declared.signs.Sign.TheVariants as signs
 use Rattle.csp_lex.specs.declared.kinds.TokenKind.{TokenKind}

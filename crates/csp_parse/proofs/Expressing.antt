@@ -1,10 +1,10 @@
 -- Expressions of each level: what the readers of their parts decide, their own do.
 use Rattle.std.proofs.Common.{Result, IfOk, IfErr, ◌≡◌, ◌∙◌, ◌<◌, ℕ, Option, Some, None, List, [], ◌∷◌, ◌++◌, inl, inr, refl, sym, ap, subst, arith}
-use Rattle.csp_syntax.specs.Expression as pure
-use Rattle.csp_text.specs.Token.{Token, KeywordToken, SignToken, CommaSign, SameSign, DiffersSign, LessSign, AtMostSign, GreaterSign, AtLeastSign, PlusSign, MinusSign, CaretSign, TimesSign, PercentSign, OrWord, AndWord, NotWord, PlacedToken}
-use Rattle.csp_text.specs.Raw.{RawUse, RawApply}
-use Rattle.csp_text.specs.Grammar as grammar
-use Rattle.csp_text.specs.Grammar.{IsWord, word, IsSign, sign, IsComparing, IsAdding, IsMultiplying, IsExpression, IsNegation, IsComparison, IsSum, IsAtom}
+use Rattle.theory_syntax.specs.Expression as pure
+use Rattle.theory_text.specs.Token.{Token, KeywordToken, SignToken, CommaSign, SameSign, DiffersSign, LessSign, AtMostSign, GreaterSign, AtLeastSign, PlusSign, MinusSign, CaretSign, TimesSign, PercentSign, OrWord, AndWord, NotWord, PlacedToken}
+use Rattle.theory_text.specs.Raw.{RawUse, RawApply}
+use Rattle.theory_text.specs.Grammar as grammar
+use Rattle.theory_text.specs.Grammar.{IsWord, word, IsSign, sign, IsComparing, IsAdding, IsMultiplying, IsExpression, IsNegation, IsComparison, IsSum, IsAtom}
 use Rattle.csp_lex.specs.declared.kinds.TokenKind.{TokenKind}
 use Rattle.csp_lex.specs.declared.kinds.TokenKind.TheVariants as kind
 use Rattle.csp_lex.specs.declared.keywords.Keyword.TheVariants as keyword

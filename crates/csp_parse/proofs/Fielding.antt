@@ -1,10 +1,10 @@
 -- The fields of a prefix, read from their beginning.
 use Rattle.std.proofs.Common.{◌≡◌, ◌∙◌, refl, List, [], ◌∷◌, ◌++◌, map, sym, ap, subst, append_assoc, append-nil}
 use Rattle.std.proofs.lemmas.List.{map-append}
-use Rattle.csp_text.specs.Token.{PlacedToken, OutputSign, InputSign, ColonSign}
-use Rattle.csp_text.specs.Raw.{RawName, RawField, RawGiven, RawInput, RawInputFrom, RawExpression, RawExpressions}
-use Rattle.csp_text.specs.Grammar as grammar
-use Rattle.csp_text.specs.Grammar.{IsSign, IsName, IsAtom, AreDotted, AreLaterFields, AreFields}
+use Rattle.theory_text.specs.Token.{PlacedToken, OutputSign, InputSign, ColonSign}
+use Rattle.theory_text.specs.Raw.{RawName, RawField, RawGiven, RawInput, RawInputFrom, RawExpression, RawExpressions}
+use Rattle.theory_text.specs.Grammar as grammar
+use Rattle.theory_text.specs.Grammar.{IsSign, IsName, IsAtom, AreDotted, AreLaterFields, AreFields}
 use Rattle.csp_parse.specs.declared.expressions.Expression.{Expression}
 use Rattle.csp_parse.specs.declared.processes.Field.{Field}
 use Rattle.csp_parse.specs.Expressions.{raw_list, expression_of, expressions_of}

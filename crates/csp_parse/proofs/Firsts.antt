@@ -1,8 +1,8 @@
 -- What expressions begin with.
 use Rattle.std.proofs.Common.{◌≡◌, ◌⊎◌, List, [], ◌∷◌, ◌++◌, inl, inr, sym, subst}
-use Rattle.csp_text.specs.Token.{Token, KeywordToken, NotWord, PlacedToken}
-use Rattle.csp_text.specs.Raw.{RawExpression}
-use Rattle.csp_text.specs.Grammar.{IsWord, word, IsExpression, IsConjunction, IsNegation, IsComparison, IsSum, IsProduct, IsAtom}
+use Rattle.theory_text.specs.Token.{Token, KeywordToken, NotWord, PlacedToken}
+use Rattle.theory_text.specs.Raw.{RawExpression}
+use Rattle.theory_text.specs.Grammar.{IsWord, word, IsExpression, IsConjunction, IsNegation, IsComparison, IsSum, IsProduct, IsAtom}
 use Rattle.csp_parse.specs.AtomForms.{AtomOf}
 use Rattle.csp_parse.proofs.AtomsBegin.{BeginsAtom, atom_begins}
 use Rattle.csp_parse.proofs.Deciding.{Inhabited}

@@ -1,9 +1,9 @@
 -- Freedoms behind a colon: what the readers of their parts decide, their own do.
 use Rattle.std.proofs.Common.{◌≡◌, ◌∙◌, List, ◌++◌, inl, inr, sym, subst, codes}
-use Rattle.csp_text.specs.Token.{Token, NameToken, OpenSquareSign, CloseSquareSign, CloseRenamingSign, PlacedToken}
-use Rattle.csp_text.specs.Raw.{RawDeadlockFree, RawDivergenceFree}
-use Rattle.csp_text.specs.Grammar as grammar
-use Rattle.csp_text.specs.Grammar.{IsSign, IsSpelled, IsFreedomEnd, IsFreedom}
+use Rattle.theory_text.specs.Token.{Token, NameToken, OpenSquareSign, CloseSquareSign, CloseRenamingSign, PlacedToken}
+use Rattle.theory_text.specs.Raw.{RawDeadlockFree, RawDivergenceFree}
+use Rattle.theory_text.specs.Grammar as grammar
+use Rattle.theory_text.specs.Grammar.{IsSign, IsSpelled, IsFreedomEnd, IsFreedom}
 use Rattle.csp_parse.specs.Deciding.{nothing, only, Done}
 use Rattle.csp_parse.specs.Forms.{HasTree, Then, both, Either}
 use Rattle.csp_parse.specs.FreedomForms.{DeadlockFreed, DivergenceFreed, DoubleEnd}

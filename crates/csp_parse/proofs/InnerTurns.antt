@@ -1,7 +1,7 @@
 -- What stands in brackets: what the readers of its parts decide, its own does.
 use Rattle.std.proofs.Common.{◌≡◌, ◌∙◌, ◌⊎◌, List, [], ◌++◌, inl, inr, refl, sym, ap, subst, append_assoc, append-nil}
-use Rattle.csp_text.specs.Token.{Token, CloseRoundSign, PlacedToken}
-use Rattle.csp_text.specs.Grammar.{IsSign, IsBase, IsProcess}
+use Rattle.theory_text.specs.Token.{Token, CloseRoundSign, PlacedToken}
+use Rattle.theory_text.specs.Grammar.{IsSign, IsBase, IsProcess}
 use Rattle.csp_parse.specs.declared.stops.Stopped.{Stopped}
 use Rattle.csp_parse.specs.Deciding.{first, nothing, only, Begins, Done, IsStop}
 use Rattle.csp_parse.specs.Forms.{HasTree, Then, both, Either}

@@ -1,10 +1,10 @@
 -- Processes by their next token: which form is read, and what the readers of its parts decide.
 use Rattle.std.proofs.Common.{◌≡◌, ◌∙◌, ◌⊎◌, Bool, true, false, List, [], ◌∷◌, ◌++◌, inl, inr, refl, sym, ap, subst}
-use Rattle.csp_text.specs.Token as text
-use Rattle.csp_text.specs.Token.{Token, KeywordToken, SignToken, Sign, IfWord, ThenWord, ElseWord, ArrowSign, DotSign, OutputSign, InputSign, ColonSign, AtSign, GuardSign, BoxSign, InternalSign, TripleBarSign, DoubleBarSign, OpenSharedSign, CloseSharedSign, OpenRenamingSign, HidingSign, OpenRoundSign, OpenSquareSign, CloseSquareSign, PlacedToken}
-use Rattle.csp_text.specs.Raw.{RawField, Infix, ExternalInfix, InternalInfix, SequentialInfix, InterleavingInfix, InterruptInfix, SlidingInfix, Replicator, ExternalReplicator, InternalReplicator, InterleavingReplicator}
-use Rattle.csp_text.specs.Grammar as grammar
-use Rattle.csp_text.specs.Grammar.{IsWord, IsSign, IsName, IsAtom, IsExpression, IsEventSet, IsRenamingPart, IsHidingPart, AreDotted, AreLaterFields, AreFields, IsOperand, IsProcess}
+use Rattle.theory_text.specs.Token as text
+use Rattle.theory_text.specs.Token.{Token, KeywordToken, SignToken, Sign, IfWord, ThenWord, ElseWord, ArrowSign, DotSign, OutputSign, InputSign, ColonSign, AtSign, GuardSign, BoxSign, InternalSign, TripleBarSign, DoubleBarSign, OpenSharedSign, CloseSharedSign, OpenRenamingSign, HidingSign, OpenRoundSign, OpenSquareSign, CloseSquareSign, PlacedToken}
+use Rattle.theory_text.specs.Raw.{RawField, Infix, ExternalInfix, InternalInfix, SequentialInfix, InterleavingInfix, InterruptInfix, SlidingInfix, Replicator, ExternalReplicator, InternalReplicator, InterleavingReplicator}
+use Rattle.theory_text.specs.Grammar as grammar
+use Rattle.theory_text.specs.Grammar.{IsWord, IsSign, IsName, IsAtom, IsExpression, IsEventSet, IsRenamingPart, IsHidingPart, AreDotted, AreLaterFields, AreFields, IsOperand, IsProcess}
 use Rattle.csp_parse.specs.declared.levels.Level.TheVariants as level
 use Rattle.csp_parse.specs.declared.stops.Stopped.{Stopped}
 use Rattle.csp_parse.specs.Continuing.{continues}

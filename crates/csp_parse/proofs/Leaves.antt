@@ -1,9 +1,9 @@
 -- What the readers of one sign, one keyword and one name tell where they stop.
 use Rattle.std.proofs.Common.{ℕ, ◌≡◌, Some, List, [], ◌∷◌, refl, sym, subst}
-use Rattle.csp_text.specs.Token as text
-use Rattle.csp_text.specs.Token.{PlacedToken}
-use Rattle.csp_text.specs.Raw.{RawName}
-use Rattle.csp_text.specs.Grammar.{IsWord, word, IsSign, sign, IsName, name, IsSpelled, spelled}
+use Rattle.theory_text.specs.Token as text
+use Rattle.theory_text.specs.Token.{PlacedToken}
+use Rattle.theory_text.specs.Raw.{RawName}
+use Rattle.theory_text.specs.Grammar.{IsWord, word, IsSign, sign, IsName, name, IsSpelled, spelled}
 use Rattle.csp_lex.specs.declared.keywords.Keyword.{Keyword}
 use Rattle.csp_lex.specs.declared.signs.Sign.{Sign}
 use Rattle.std.specs.Str.{chars}

@@ -1,10 +1,10 @@
 -- Lists of expressions with commas between.
 use Rattle.std.proofs.Common.{◌≡◌, ◌∙◌, List, [], ◌∷◌, ◌++◌, map, refl, sym, ap, subst, append_assoc, append-nil}
 use Rattle.std.proofs.lemmas.List.{map-append}
-use Rattle.csp_text.specs.Token.{PlacedToken, CommaSign}
-use Rattle.csp_text.specs.Raw.{RawExpression, RawExpressions, no_raw_expressions, raw_expression_and}
-use Rattle.csp_text.specs.Grammar as grammar
-use Rattle.csp_text.specs.Grammar.{IsSign, IsExpression, IsSum, AreSums, AreExpressions}
+use Rattle.theory_text.specs.Token.{PlacedToken, CommaSign}
+use Rattle.theory_text.specs.Raw.{RawExpression, RawExpressions, no_raw_expressions, raw_expression_and}
+use Rattle.theory_text.specs.Grammar as grammar
+use Rattle.theory_text.specs.Grammar.{IsSign, IsExpression, IsSum, AreSums, AreExpressions}
 use Rattle.csp_parse.specs.declared.expressions.Expression.{Expression}
 use Rattle.csp_parse.specs.declared.levels.Level.{Level}
 use Rattle.csp_parse.specs.declared.levels.Level.TheVariants as level

@@ -1,10 +1,10 @@
 -- Where each declaration is within the limit of heights, no token is too high.
 use Rattle.std.proofs.Common.{◌≡◌, ◌∙◌, ◌≤◌, ◌⊎◌, inl, inr, Bool, true, false, List, [], ◌∷◌, ◌++◌, refl, sym, ap, subst, append_assoc, append-nil, arith}
-use Rattle.csp_text.specs.Token.{Keyword, Token, KeywordToken, SignToken, NameToken, NumberToken, PlacedToken, DatatypeWord, NametypeWord, ChannelWord, AssertWord}
-use Rattle.csp_text.specs.Raw.{RawDeclaration, RawScript}
-use Rattle.csp_text.specs.Grammar.{IsDeclaration, IsScript, declarations, no_declarations}
-use Rattle.csp_text.specs.Height.{Plain, nesting, after_token, after_tokens, nest_height, tokens_height, greatest_height, BeginsDeclaration, IsLatest, latest, nothing, HasNoneTooHigh}
-use Rattle.csp_text.proofs.Heights.{joined}
+use Rattle.theory_text.specs.Token.{Keyword, Token, KeywordToken, SignToken, NameToken, NumberToken, PlacedToken, DatatypeWord, NametypeWord, ChannelWord, AssertWord}
+use Rattle.theory_text.specs.Raw.{RawDeclaration, RawScript}
+use Rattle.theory_text.specs.Grammar.{IsDeclaration, IsScript, declarations, no_declarations}
+use Rattle.theory_text.specs.Height.{Plain, nesting, after_token, after_tokens, nest_height, tokens_height, greatest_height, BeginsDeclaration, IsLatest, latest, nothing, HasNoneTooHigh}
+use Rattle.theory_text.proofs.Heights.{joined}
 use Rattle.csp_parse.specs.Nests.{start}
 use Rattle.csp_parse.specs.Limits.{IsLow, IsLowScript}
 use Rattle.csp_parse.proofs.Beginning.{Scan, behind, begins, begins_word, Walks, stays, goes, outside, Declares, declaration}

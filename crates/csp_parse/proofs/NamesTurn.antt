@@ -1,10 +1,10 @@
 -- What stands behind a name, where an operand or an expression may begin with it.
 use Rattle.std.proofs.Common.{◌≡◌, ◌∙◌, ◌⊎◌, ◌≤◌, Bool, true, false, List, [], ◌++◌, inl, inr, refl, sym, ap, subst, arith}
-use Rattle.csp_text.specs.Token as text
-use Rattle.csp_text.specs.Token.{Token, KeywordToken, SignToken, Sign, DotSign, OutputSign, InputSign, ArrowSign, GuardSign, OpenRoundSign, CloseRoundSign, PlacedToken}
-use Rattle.csp_text.specs.Raw.{RawField}
-use Rattle.csp_text.specs.Grammar as grammar
-use Rattle.csp_text.specs.Grammar.{IsSign, sign, AreLaterFields, AreFields}
+use Rattle.theory_text.specs.Token as text
+use Rattle.theory_text.specs.Token.{Token, KeywordToken, SignToken, Sign, DotSign, OutputSign, InputSign, ArrowSign, GuardSign, OpenRoundSign, CloseRoundSign, PlacedToken}
+use Rattle.theory_text.specs.Raw.{RawField}
+use Rattle.theory_text.specs.Grammar as grammar
+use Rattle.theory_text.specs.Grammar.{IsSign, sign, AreLaterFields, AreFields}
 use Rattle.csp_parse.specs.declared.levels.Level.{Level}
 use Rattle.csp_parse.specs.declared.levels.Level.TheVariants as level
 use Rattle.csp_parse.specs.declared.stops.Stopped.{Stopped}

@@ -1,8 +1,8 @@
 -- What the next token says of what is read, and what nothing that is read says.
 use Rattle.std.proofs.Common.{◌≡◌, ◌⊎◌, List, [], ◌∷◌, ◌++◌, inl, inr, refl, sym, subst}
-use Rattle.csp_text.specs.Token as text
-use Rattle.csp_text.specs.Token.{Token, KeywordToken, SignToken, ArrowSign, GuardSign, CloseRoundSign, OpenRenamingSign, HidingSign, PlacedToken}
-use Rattle.csp_text.specs.Grammar.{IsSign}
+use Rattle.theory_text.specs.Token as text
+use Rattle.theory_text.specs.Token.{Token, KeywordToken, SignToken, ArrowSign, GuardSign, CloseRoundSign, OpenRenamingSign, HidingSign, PlacedToken}
+use Rattle.theory_text.specs.Grammar.{IsSign}
 use Rattle.csp_lex.specs.declared.kinds.TokenKind.TheVariants as kind
 use Rattle.csp_lex.specs.declared.keywords.Keyword.TheVariants as keyword
 use Rattle.csp_lex.specs.declared.signs.Sign.TheVariants as signs

@@ -1,7 +1,7 @@
 -- A token is of one kind: keywords and signs are told apart by what they mean.
 use Rattle.std.proofs.Common.{◌≡◌, ◌∙◌, ℕ, List, [], ◌∷◌, refl, sym, ap}
-use Rattle.csp_text.specs.Token as text
-use Rattle.csp_text.specs.Token.{PlacedToken}
+use Rattle.theory_text.specs.Token as text
+use Rattle.theory_text.specs.Token.{PlacedToken}
 use Rattle.csp_lex.specs.declared.keywords.Keyword.{Keyword}
 use Rattle.csp_lex.specs.declared.keywords.Keyword.TheVariants as keyword
 use Rattle.csp_lex.specs.declared.signs.Sign.{Sign}

@@ -1,10 +1,10 @@
 -- What stands behind an atom where an operator is next: it is not empty.
 use Rattle.std.proofs.Common.{◌≡◌, ◌∙◌, ◌⊎◌, List, [], ◌∷◌, ◌++◌, inl, inr, refl, sym, ap, subst, append-nil, arith}
-use Rattle.csp_syntax.specs.Expression.{Binary}
-use Rattle.csp_text.specs.Token as text
-use Rattle.csp_text.specs.Token.{Token, KeywordToken, SignToken, GuardSign, PlacedToken}
-use Rattle.csp_text.specs.Grammar as grammar
-use Rattle.csp_text.specs.Grammar.{IsComparing}
+use Rattle.theory_syntax.specs.Expression.{Binary}
+use Rattle.theory_text.specs.Token as text
+use Rattle.theory_text.specs.Token.{Token, KeywordToken, SignToken, GuardSign, PlacedToken}
+use Rattle.theory_text.specs.Grammar as grammar
+use Rattle.theory_text.specs.Grammar.{IsComparing}
 use Rattle.csp_parse.specs.declared.levels.Level.{Level}
 use Rattle.csp_parse.specs.declared.levels.Level.TheVariants as level
 use Rattle.csp_parse.specs.Continuing.{continues, IsRest, BehindComparison, BehindSum, BehindProduct, BehindAtom}

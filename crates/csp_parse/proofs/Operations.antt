@@ -1,10 +1,10 @@
 -- Operations of each level, from what is passed and read.
 use Rattle.std.proofs.Common.{◌≡◌, List, [], ◌∷◌, ◌++◌, sym, subst, ap, ◌∙◌, append_assoc, append-nil}
-use Rattle.csp_syntax.specs.Expression.{Binary, Not}
-use Rattle.csp_text.specs.Token.{PlacedToken, NotWord}
-use Rattle.csp_text.specs.Raw.{RawExpression, RawApply, RawCombine}
-use Rattle.csp_text.specs.Grammar as grammar
-use Rattle.csp_text.specs.Grammar.{IsWord, IsComparing, IsExpression, IsConjunction, IsNegation, IsComparison, IsSum, IsProduct, IsAtom}
+use Rattle.theory_syntax.specs.Expression.{Binary, Not}
+use Rattle.theory_text.specs.Token.{PlacedToken, NotWord}
+use Rattle.theory_text.specs.Raw.{RawExpression, RawApply, RawCombine}
+use Rattle.theory_text.specs.Grammar as grammar
+use Rattle.theory_text.specs.Grammar.{IsWord, IsComparing, IsExpression, IsConjunction, IsNegation, IsComparison, IsSum, IsProduct, IsAtom}
 use Rattle.csp_parse.specs.declared.levels.Level.{Level}
 use Rattle.csp_parse.specs.declared.levels.Level.TheVariants as level
 use Rattle.csp_parse.specs.Levels.{IsAt, IsOperatorAt, stronger}

@@ -1,7 +1,7 @@
 -- A form of two parts, where the first part tells what may stand behind it.
 use Rattle.std.proofs.Common.{◌≡◌, ◌∙◌, List, ◌++◌, sym, ap, subst, append_assoc}
 use Rattle.std.proofs.lemmas.List.{append_cancel_left}
-use Rattle.csp_text.specs.Token.{Token, PlacedToken}
+use Rattle.theory_text.specs.Token.{Token, PlacedToken}
 use Rattle.csp_parse.specs.declared.stops.Stopped.{Stopped}
 use Rattle.csp_parse.specs.declared.stops.Stopped.TheVariants as stop
 use Rattle.csp_parse.specs.Deciding.{first, Stops, Begins, Done, IsStop, here, high, memory}

@@ -1,9 +1,9 @@
 -- Arguments of calls and fields of prefixes: what the readers of their parts decide, their own do.
 use Rattle.std.proofs.Common.{◌≡◌, ◌∙◌, ◌⊎◌, List, [], ◌∷◌, ◌++◌, inl, inr, refl, sym, ap, subst, append_assoc, append-nil}
-use Rattle.csp_text.specs.Token.{Token, SignToken, DotSign, ColonSign, OutputSign, InputSign, OpenRoundSign, CloseRoundSign, PlacedToken}
-use Rattle.csp_text.specs.Raw.{RawExpression, RawExpressions, RawField, RawGiven, RawInput, RawInputFrom}
-use Rattle.csp_text.specs.Grammar as grammar
-use Rattle.csp_text.specs.Grammar.{IsSign, IsName, IsAtom, AreExpressions, AreDotted, AreLaterFields, AreFields}
+use Rattle.theory_text.specs.Token.{Token, SignToken, DotSign, ColonSign, OutputSign, InputSign, OpenRoundSign, CloseRoundSign, PlacedToken}
+use Rattle.theory_text.specs.Raw.{RawExpression, RawExpressions, RawField, RawGiven, RawInput, RawInputFrom}
+use Rattle.theory_text.specs.Grammar as grammar
+use Rattle.theory_text.specs.Grammar.{IsSign, IsName, IsAtom, AreExpressions, AreDotted, AreLaterFields, AreFields}
 use Rattle.csp_parse.specs.declared.levels.Level.TheVariants as level
 use Rattle.csp_parse.specs.declared.stops.Stopped.{Stopped}
 use Rattle.csp_parse.specs.AtomForms.{Whole}

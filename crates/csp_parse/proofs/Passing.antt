@@ -3,9 +3,9 @@ use Rattle.std.proofs.Common.{◌≡◌, ◌∙◌, ℕ, ◌+◌, ◌<◌, ◌�
 use Rattle.std.specs.List.{slice_get}
 use Rattle.std.proofs.lemmas.Bool.{cases_lt}
 use Rattle.std.proofs.lemmas.Option.{slice_get-get_or, slice_get_cases, slice_get_within, get_or_from_slice_get}
-use Rattle.csp_text.specs.Token.{PlacedToken, NameToken}
-use Rattle.csp_text.specs.Grammar.{IsWord, word, IsSign, sign, IsName, name, IsSpelled, spelled, IsNumber, number}
-use Rattle.csp_text.specs.Height.{Nest, nesting, after_token, after_tokens, nest_height, greatest_height}
+use Rattle.theory_text.specs.Token.{PlacedToken, NameToken}
+use Rattle.theory_text.specs.Grammar.{IsWord, word, IsSign, sign, IsName, name, IsSpelled, spelled, IsNumber, number}
+use Rattle.theory_text.specs.Height.{Nest, nesting, after_token, after_tokens, nest_height, greatest_height}
 use Rattle.csp_lex.specs.declared.kinds.Token.{Token}
 use Rattle.csp_lex.specs.declared.kinds.TokenKind.TheVariants as kind
 use Rattle.csp_lex.specs.declared.keywords.Keyword as keywords

@@ -2,7 +2,7 @@
 use Rattle.std.proofs.Common.{◌≡◌, ◌∙◌, sym, ap, map}
 use Rattle.std.specs.declared.vec.Vec.{Vec}
 use Rattle.csp_parse.specs.declared.processes.Infix.{Infix}
-use Rattle.csp_text.specs.Raw.{RawEventSet, RawEnumeration, RawProductions, RawProcess, RawCall, RawPrefix, RawInfix, RawRenaming}
+use Rattle.theory_text.specs.Raw.{RawEventSet, RawEnumeration, RawProductions, RawProcess, RawCall, RawPrefix, RawInfix, RawRenaming}
 use Rattle.csp_parse.specs.declared.names.Name.{Name}
 use Rattle.csp_parse.specs.declared.events.Event.{Event}
 use Rattle.csp_parse.specs.declared.events.Pair.{Pair}

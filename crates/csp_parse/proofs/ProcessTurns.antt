@@ -1,10 +1,10 @@
 -- Processes: what the readers of their parts decide, their own do.
 use Rattle.std.proofs.Common.{◌≡◌, ◌⊎◌, Bool, true, false, List, [], ◌++◌, inl, inr, refl, sym, subst, append_assoc, append-nil}
-use Rattle.csp_text.specs.Token as text
-use Rattle.csp_text.specs.Token.{Token, KeywordToken, SignToken, Sign, StopWord, IfWord, ThenWord, ElseWord, ColonSign, AtSign, ArrowSign, GuardSign, BoxSign, InternalSign, TripleBarSign, DoubleBarSign, OpenSharedSign, CloseSharedSign, OpenRenamingSign, HidingSign, OpenRoundSign, CloseRoundSign, OpenSquareSign, CloseSquareSign, PlacedToken}
-use Rattle.csp_text.specs.Raw.{RawStop, RawGuard, Infix, ExternalInfix, InternalInfix, SequentialInfix, InterleavingInfix, InterruptInfix, SlidingInfix, Replicator, ExternalReplicator, InternalReplicator, InterleavingReplicator}
-use Rattle.csp_text.specs.Grammar as grammar
-use Rattle.csp_text.specs.Grammar.{IsWord, word, IsSign, sign, IsName, IsAtom, IsExpression, IsEventSet, IsRenamingPart, IsHidingPart, IsBase, IsOperand, IsProcess}
+use Rattle.theory_text.specs.Token as text
+use Rattle.theory_text.specs.Token.{Token, KeywordToken, SignToken, Sign, StopWord, IfWord, ThenWord, ElseWord, ColonSign, AtSign, ArrowSign, GuardSign, BoxSign, InternalSign, TripleBarSign, DoubleBarSign, OpenSharedSign, CloseSharedSign, OpenRenamingSign, HidingSign, OpenRoundSign, CloseRoundSign, OpenSquareSign, CloseSquareSign, PlacedToken}
+use Rattle.theory_text.specs.Raw.{RawStop, RawGuard, Infix, ExternalInfix, InternalInfix, SequentialInfix, InterleavingInfix, InterruptInfix, SlidingInfix, Replicator, ExternalReplicator, InternalReplicator, InterleavingReplicator}
+use Rattle.theory_text.specs.Grammar as grammar
+use Rattle.theory_text.specs.Grammar.{IsWord, word, IsSign, sign, IsName, IsAtom, IsExpression, IsEventSet, IsRenamingPart, IsHidingPart, IsBase, IsOperand, IsProcess}
 use Rattle.csp_parse.specs.declared.stops.Stopped.{Stopped}
 use Rattle.csp_parse.specs.declared.stops.Stopped.TheVariants as stop
 use Rattle.csp_parse.specs.Deciding.{first, only, Stops, Begins, Done, IsStop, here, high, memory}

@@ -1,9 +1,9 @@
 -- Processes by what they begin with.
 use Rattle.std.proofs.Common.{◌≡◌, ◌∙◌, ◌⊎◌, List, [], ◌++◌, inl, inr, refl, sym, ap, subst, append_assoc, append-nil}
-use Rattle.csp_text.specs.Token.{Sign, PlacedToken}
-use Rattle.csp_text.specs.Raw.{RawProcess, RawIf, RawInfix, RawGeneralisedParallel, RawAlphabetisedParallel, RawHiding, RawRenaming, RawReplicated, Infix, ExternalInfix, InternalInfix, SequentialInfix, InterleavingInfix, InterruptInfix, SlidingInfix, Replicator, ExternalReplicator, InternalReplicator, InterleavingReplicator}
-use Rattle.csp_text.specs.Grammar as grammar
-use Rattle.csp_text.specs.Grammar.{IsSign, IsRenamingPart, IsHidingPart, IsInfix, IsReplicator, IsRenamed, IsHidden, IsChain, IsBase, IsOperand, IsProcess}
+use Rattle.theory_text.specs.Token.{Sign, PlacedToken}
+use Rattle.theory_text.specs.Raw.{RawProcess, RawIf, RawInfix, RawGeneralisedParallel, RawAlphabetisedParallel, RawHiding, RawRenaming, RawReplicated, Infix, ExternalInfix, InternalInfix, SequentialInfix, InterleavingInfix, InterruptInfix, SlidingInfix, Replicator, ExternalReplicator, InternalReplicator, InterleavingReplicator}
+use Rattle.theory_text.specs.Grammar as grammar
+use Rattle.theory_text.specs.Grammar.{IsSign, IsRenamingPart, IsHidingPart, IsInfix, IsReplicator, IsRenamed, IsHidden, IsChain, IsBase, IsOperand, IsProcess}
 use Rattle.csp_parse.specs.Forms.{HasTree, Then, both, Repeated, never, again}
 use Rattle.csp_parse.specs.ProcessForms.{Operand, Conditional, ReplicatedBy, Replicated, Shared, Alphabets, ChainOf, BehindOperand, Suffixes, Begun}
 use Rattle.csp_parse.specs.Starts.{IsRenamedBase, base, renamed, IsHiddenBase, unhidden, hidden}

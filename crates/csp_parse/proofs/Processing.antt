@@ -1,10 +1,10 @@
 -- Processes, from what is passed and read.
 use Rattle.std.proofs.Common.{◌≡◌, List, ◌++◌, subst}
-use Rattle.csp_text.specs.Token.{PlacedToken, Sign, IfWord, ThenWord, ElseWord, StopWord, SkipWord, ArrowSign, GuardSign, AtSign, ColonSign, HidingSign, DoubleBarSign, OpenRoundSign, CloseRoundSign, OpenSquareSign, CloseSquareSign, OpenSharedSign, CloseSharedSign, OpenRenamingSign, CloseRenamingSign}
-use Rattle.csp_text.specs.Raw as raw
-use Rattle.csp_text.specs.Raw.{RawName, RawExpression, RawUse, RawExpressions, no_raw_expressions, RawField, RawEventSet, RawPair, Infix, Replicator, RawProcess, RawStop, RawSkip, RawCall, RawPrefix, RawGuard, RawIf, RawInfix, RawGeneralisedParallel, RawAlphabetisedParallel, RawHiding, RawRenaming, RawReplicated}
-use Rattle.csp_text.specs.Grammar as grammar
-use Rattle.csp_text.specs.Grammar.{IsWord, IsSign, IsName, IsAtom, IsExpression, AreFields, IsEventSet, ArePairs, IsRenamed, IsHidden, IsInfix, IsReplicator, IsChain, IsBase, IsOperand, IsProcess}
+use Rattle.theory_text.specs.Token.{PlacedToken, Sign, IfWord, ThenWord, ElseWord, StopWord, SkipWord, ArrowSign, GuardSign, AtSign, ColonSign, HidingSign, DoubleBarSign, OpenRoundSign, CloseRoundSign, OpenSquareSign, CloseSquareSign, OpenSharedSign, CloseSharedSign, OpenRenamingSign, CloseRenamingSign}
+use Rattle.theory_text.specs.Raw as raw
+use Rattle.theory_text.specs.Raw.{RawName, RawExpression, RawUse, RawExpressions, no_raw_expressions, RawField, RawEventSet, RawPair, Infix, Replicator, RawProcess, RawStop, RawSkip, RawCall, RawPrefix, RawGuard, RawIf, RawInfix, RawGeneralisedParallel, RawAlphabetisedParallel, RawHiding, RawRenaming, RawReplicated}
+use Rattle.theory_text.specs.Grammar as grammar
+use Rattle.theory_text.specs.Grammar.{IsWord, IsSign, IsName, IsAtom, IsExpression, AreFields, IsEventSet, ArePairs, IsRenamed, IsHidden, IsInfix, IsReplicator, IsChain, IsBase, IsOperand, IsProcess}
 use Rattle.csp_parse.specs.Reading.{Standing, Passes, Reads}
 use Rattle.csp_parse.specs.Starts.{ReadsName, ReadsArguments, IsRenamedBase, base, renamed, IsHiddenBase, unhidden, hidden}
 use Rattle.csp_parse.specs.Words.{infix_sign, replicator_sign}

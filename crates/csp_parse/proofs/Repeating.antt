@@ -1,7 +1,7 @@
 -- A form any number of times: what each reader of one decides, all decide together.
 use Rattle.std.proofs.Common.{◌≡◌, ◌∙◌, List, [], ◌∷◌, ◌++◌, refl, sym, ap, subst, append_assoc, append-nil}
 use Rattle.std.proofs.lemmas.List.{append_cancel_left}
-use Rattle.csp_text.specs.Token.{Token, PlacedToken}
+use Rattle.theory_text.specs.Token.{Token, PlacedToken}
 use Rattle.csp_parse.specs.declared.stops.Stopped.{Stopped}
 use Rattle.csp_parse.specs.Deciding.{first, Stops, Begins, Decides, IsStop, here, high, memory, Done}
 use Rattle.csp_parse.specs.Forms.{Repeated, never, again}

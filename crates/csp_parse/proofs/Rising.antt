@@ -1,8 +1,8 @@
 -- Heights: what a nest's is at least, and how a token raises it.
 use Rattle.std.proofs.Common.{Bool, true, false, cond, ◌≡◌, ◌∙◌, ◌<◌, ◌≤◌, ◌+◌, List, [], ◌∷◌, ◌++◌, map, reverse, refl, sym, ap, subst, arith}
 use Rattle.std.proofs.lemmas.List.{map-append, reverse-append}
-use Rattle.csp_text.specs.Height.{Group, group_height, one_more, with_group, no_tokens, no_tokens_yet, Nest, Nesting, Opens, OpensSquare, Closes, ClosesDouble, Counts, Plain, closed, nesting, after_token, ended_height, nest_height, greatest_height}
-use Rattle.csp_text.specs.Token.{PlacedToken}
+use Rattle.theory_text.specs.Height.{Group, group_height, one_more, with_group, no_tokens, no_tokens_yet, Nest, Nesting, Opens, OpensSquare, Closes, ClosesDouble, Counts, Plain, closed, nesting, after_token, ended_height, nest_height, greatest_height}
+use Rattle.theory_text.specs.Token.{PlacedToken}
 use Rattle.csp_parse.specs.declared.nests.Group as groups
 use Rattle.csp_parse.specs.Nests.{group_of, opened, start}
 use Rattle.csp_parse.specs.declared.stops.Stopped.{Stopped}

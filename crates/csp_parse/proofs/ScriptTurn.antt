@@ -2,12 +2,12 @@
 use Rattle.std.proofs.Common.{◌≡◌, ◌∙◌, ◌≤◌, ◌<◌, Bool, true, false, List, [], ◌∷◌, ◌++◌, refl, sym, ap, subst, append_assoc, append-nil, arith}
 use Rattle.std.specs.Prelude.{⊤}
 use Rattle.std.proofs.lemmas.List.{append_cancel_left}
-use Rattle.csp_text.specs.Place.{Place}
-use Rattle.csp_text.specs.Token.{Token, KeywordToken, NameToken, DatatypeWord, NametypeWord, ChannelWord, AssertWord, PlacedToken}
-use Rattle.csp_text.specs.Raw.{RawDeclaration, RawScript}
-use Rattle.csp_text.specs.Grammar as grammar
-use Rattle.csp_text.specs.Grammar.{IsDeclaration, IsScript, BeginsScript}
-use Rattle.csp_text.specs.Height.{Nest, after_tokens, nest_height, tokens_height, greatest_height, BeginsDeclaration, latest, nothing, HasNoneTooHigh, GrammarFault, UnexpectedEnd, IsGrammarRefusal}
+use Rattle.theory_text.specs.Place.{Place}
+use Rattle.theory_text.specs.Token.{Token, KeywordToken, NameToken, DatatypeWord, NametypeWord, ChannelWord, AssertWord, PlacedToken}
+use Rattle.theory_text.specs.Raw.{RawDeclaration, RawScript}
+use Rattle.theory_text.specs.Grammar as grammar
+use Rattle.theory_text.specs.Grammar.{IsDeclaration, IsScript, BeginsScript}
+use Rattle.theory_text.specs.Height.{Nest, after_tokens, nest_height, tokens_height, greatest_height, BeginsDeclaration, latest, nothing, HasNoneTooHigh, GrammarFault, UnexpectedEnd, IsGrammarRefusal}
 use Rattle.csp_parse.specs.declared.refusals.Refused.{Refused}
 use Rattle.csp_lex.specs.declared.kinds.TokenKind.{TokenKind}
 use Rattle.csp_parse.specs.declared.stops.Stopped.{Stopped}

@@ -1,6 +1,6 @@
 -- A form that is chosen by the first two tokens.
 use Rattle.std.proofs.Common.{◌≡◌, ◌∙◌, Option, List, [], ◌∷◌, ◌++◌, refl, sym, ap}
-use Rattle.csp_text.specs.Token.{Token, PlacedToken}
+use Rattle.theory_text.specs.Token.{Token, PlacedToken}
 use Rattle.csp_parse.specs.declared.stops.Stopped.{Stopped}
 use Rattle.csp_parse.specs.Deciding.{first, Stops, Decides, Done, IsStop, here, high, memory}
 use Rattle.csp_parse.specs.Reading.{Standing, behind_next}

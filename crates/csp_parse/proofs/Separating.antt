@@ -1,10 +1,10 @@
 -- Lists with a sign between, read from their beginning.
 use Rattle.std.proofs.Common.{◌≡◌, ◌∙◌, List, [], ◌∷◌, ◌++◌, map, sym, ap, subst, append_assoc}
 use Rattle.std.proofs.lemmas.List.{map-append}
-use Rattle.csp_text.specs.Token.{PlacedToken, Sign, CommaSign, BarSign, DotSign}
-use Rattle.csp_text.specs.Raw.{RawName, RawClause, RawEvent, RawPair, RawDomain}
-use Rattle.csp_text.specs.Grammar as grammar
-use Rattle.csp_text.specs.Grammar.{IsSign, IsName, AreNames, IsClause, AreClauses, IsEvent, AreEvents, ArePairs, AreDomains}
+use Rattle.theory_text.specs.Token.{PlacedToken, Sign, CommaSign, BarSign, DotSign}
+use Rattle.theory_text.specs.Raw.{RawName, RawClause, RawEvent, RawPair, RawDomain}
+use Rattle.theory_text.specs.Grammar as grammar
+use Rattle.theory_text.specs.Grammar.{IsSign, IsName, AreNames, IsClause, AreClauses, IsEvent, AreEvents, ArePairs, AreDomains}
 use Rattle.csp_parse.specs.declared.levels.Level.TheVariants as level
 use Rattle.csp_parse.specs.Levels.{IsDomainAt, domain}
 use Rattle.csp_parse.specs.Reading.{Standing, Passes, Reads}

@@ -1,8 +1,8 @@
 -- Forms of one token.
 use Rattle.std.proofs.Common.{ℕ, ◌≡◌, ◌∙◌, ◌≤◌, Some, List, [], ◌∷◌, ◌++◌, refl, sym, ap, subst}
-use Rattle.csp_text.specs.Token.{Token, KeywordToken, SignToken, NameToken, Keyword, Sign, PlacedToken}
-use Rattle.csp_text.specs.Grammar.{IsWord, word, IsSign, sign, IsName, name, IsSpelled, spelled}
-use Rattle.csp_text.specs.Height.{nest_height, greatest_height}
+use Rattle.theory_text.specs.Token.{Token, KeywordToken, SignToken, NameToken, Keyword, Sign, PlacedToken}
+use Rattle.theory_text.specs.Grammar.{IsWord, word, IsSign, sign, IsName, name, IsSpelled, spelled}
+use Rattle.theory_text.specs.Height.{nest_height, greatest_height}
 use Rattle.csp_parse.specs.declared.stops.Stopped.{Stopped}
 use Rattle.csp_parse.specs.Deciding.{first, nothing, Decides, Ends, Fails, IsOver, IsStop, high, IsStopOfOne, at_end, under, Done}
 use Rattle.csp_parse.specs.Forms.{HasTree}

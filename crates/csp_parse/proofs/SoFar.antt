@@ -1,10 +1,10 @@
 -- Low declarations and the beginning of one more: no token of them is too high.
 use Rattle.std.proofs.Common.{◌≡◌, ◌∙◌, ◌≤◌, inl, inr, true, List, [], ◌∷◌, ◌++◌, sym, ap, subst, append_assoc, append-nil, arith}
-use Rattle.csp_text.specs.Token.{PlacedToken}
-use Rattle.csp_text.specs.Raw.{RawScript}
-use Rattle.csp_text.specs.Grammar.{IsDeclaration, IsScript, declarations, no_declarations}
-use Rattle.csp_text.specs.Height.{tokens_height, greatest_height, BeginsDeclaration, latest, nothing, HasNoneTooHigh}
-use Rattle.csp_text.proofs.Heights.{joined}
+use Rattle.theory_text.specs.Token.{PlacedToken}
+use Rattle.theory_text.specs.Raw.{RawScript}
+use Rattle.theory_text.specs.Grammar.{IsDeclaration, IsScript, declarations, no_declarations}
+use Rattle.theory_text.specs.Height.{tokens_height, greatest_height, BeginsDeclaration, latest, nothing, HasNoneTooHigh}
+use Rattle.theory_text.proofs.Heights.{joined}
 use Rattle.csp_parse.specs.Limits.{IsLow, IsLowScript}
 use Rattle.csp_parse.proofs.Beginning.{begins, outside, declaration}
 use Rattle.csp_parse.proofs.Lowness.{one_latest, Fine, divided, fine_at_end, fine_within}

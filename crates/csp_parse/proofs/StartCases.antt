@@ -1,14 +1,14 @@
 -- What follows from a start, by which one it is.
 use Rattle.std.proofs.Common.{Result, Ok, Err, IfOk, ◌≡◌, ◌∙◌, ◌⊎◌, List, [], ◌∷◌, ◌++◌, inl, inr, refl, sym, subst}
 use Rattle.std.proofs.lemmas.List.{append_cancel_right}
-use Rattle.csp_syntax.specs.declared.process_operator.ProcessOperator.TheVariants as chaining
-use Rattle.csp_syntax.specs.declared.process_operator.ReplicatedOperator.{ReplicatedOperator}
-use Rattle.csp_syntax.specs.declared.process_operator.ReplicatedOperator.TheVariants as replicator
-use Rattle.csp_text.specs.Token as text
-use Rattle.csp_text.specs.Token.{Token, Keyword, KeywordToken, NameToken, SignToken, StopWord, SkipWord, IfWord, CloseRoundSign, OpenRoundSign, BoxSign, InternalSign, SemicolonSign, TripleBarSign, InterruptSign, SlidingSign, OpenSharedSign, OpenSquareSign, PlacedToken}
-use Rattle.csp_text.specs.Raw.{RawName, RawProcess, RawStop, RawSkip}
-use Rattle.csp_text.specs.Grammar as grammar
-use Rattle.csp_text.specs.Grammar.{IsWord, IsSign, IsName, IsBase, IsOperand, IsProcess}
+use Rattle.theory_syntax.specs.declared.process_operator.ProcessOperator.TheVariants as chaining
+use Rattle.theory_syntax.specs.declared.process_operator.ReplicatedOperator.{ReplicatedOperator}
+use Rattle.theory_syntax.specs.declared.process_operator.ReplicatedOperator.TheVariants as replicator
+use Rattle.theory_text.specs.Token as text
+use Rattle.theory_text.specs.Token.{Token, Keyword, KeywordToken, NameToken, SignToken, StopWord, SkipWord, IfWord, CloseRoundSign, OpenRoundSign, BoxSign, InternalSign, SemicolonSign, TripleBarSign, InterruptSign, SlidingSign, OpenSharedSign, OpenSquareSign, PlacedToken}
+use Rattle.theory_text.specs.Raw.{RawName, RawProcess, RawStop, RawSkip}
+use Rattle.theory_text.specs.Grammar as grammar
+use Rattle.theory_text.specs.Grammar.{IsWord, IsSign, IsName, IsBase, IsOperand, IsProcess}
 use Rattle.csp_lex.specs.declared.kinds.TokenKind.TheVariants as kind
 use Rattle.csp_lex.specs.declared.keywords.Keyword as lexed
 use Rattle.csp_lex.specs.declared.keywords.Keyword.TheVariants as keyword

@@ -1,9 +1,9 @@
 -- Operands and expressions by their first token.
 use Rattle.std.proofs.Common.{◌≡◌, ◌∙◌, ◌⊎◌, List, [], ◌∷◌, ◌++◌, inl, inr, refl, sym, ap, subst, append_assoc, append-nil}
-use Rattle.csp_text.specs.Token.{Token, KeywordToken, StopWord, SkipWord, OpenRoundSign, CloseRoundSign, GuardSign, PlacedToken}
-use Rattle.csp_text.specs.Raw.{RawName, RawProcess, RawCall, RawGuard, RawPrefix}
-use Rattle.csp_text.specs.Grammar as grammar
-use Rattle.csp_text.specs.Grammar.{IsWord, word, IsSign, sign, IsName, IsAtom, IsExpression, AreExpressions, AreFields, IsBase, IsOperand, IsProcess}
+use Rattle.theory_text.specs.Token.{Token, KeywordToken, StopWord, SkipWord, OpenRoundSign, CloseRoundSign, GuardSign, PlacedToken}
+use Rattle.theory_text.specs.Raw.{RawName, RawProcess, RawCall, RawGuard, RawPrefix}
+use Rattle.theory_text.specs.Grammar as grammar
+use Rattle.theory_text.specs.Grammar.{IsWord, word, IsSign, sign, IsName, IsAtom, IsExpression, AreExpressions, AreFields, IsBase, IsOperand, IsProcess}
 use Rattle.csp_lex.specs.declared.kinds.TokenKind.TheVariants as kind
 use Rattle.csp_lex.specs.declared.signs.Sign.TheVariants as signs
 use Rattle.csp_parse.specs.AtomForms.{Round, Enclosed}

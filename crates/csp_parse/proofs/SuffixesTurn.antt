@@ -1,9 +1,9 @@
 -- Renamings and hidings: what the readers of their parts decide, their own do.
 use Rattle.std.proofs.Common.{List, ◌++◌, inl, inr, sym, subst}
-use Rattle.csp_text.specs.Token.{Token, SignToken, OpenRenamingSign, CloseRenamingSign, HidingSign, PlacedToken}
-use Rattle.csp_text.specs.Raw.{RawEventSet, RawPair}
-use Rattle.csp_text.specs.Grammar as grammar
-use Rattle.csp_text.specs.Grammar.{IsSign, IsEventSet, ArePairs, IsRenamingPart, IsHidingPart}
+use Rattle.theory_text.specs.Token.{Token, SignToken, OpenRenamingSign, CloseRenamingSign, HidingSign, PlacedToken}
+use Rattle.theory_text.specs.Raw.{RawEventSet, RawPair}
+use Rattle.theory_text.specs.Grammar as grammar
+use Rattle.theory_text.specs.Grammar.{IsSign, IsEventSet, ArePairs, IsRenamingPart, IsHidingPart}
 use Rattle.csp_parse.specs.declared.stops.Stopped.{Stopped}
 use Rattle.csp_parse.specs.Deciding.{nothing, only, Done, IsStop}
 use Rattle.csp_parse.specs.EventForms.{lists_events}

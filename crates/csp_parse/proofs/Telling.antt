@@ -1,9 +1,9 @@
 -- What the tokens of a start are not, by what was read.
 use Rattle.std.proofs.Common.{◌≡◌, ◌∙◌, ◌⊎◌, List, [], ◌∷◌, ◌++◌, inl, inr, refl, sym, ap, subst, append_assoc, append-nil, arith}
 use Rattle.std.proofs.lemmas.List.{append_cancel_left, append_cancel_right}
-use Rattle.csp_text.specs.Token.{Token, OpenRoundSign, CloseRoundSign, PlacedToken}
-use Rattle.csp_text.specs.Raw.{RawProcess}
-use Rattle.csp_text.specs.Grammar.{IsSign, sign, IsName, IsBase, IsOperand, IsProcess}
+use Rattle.theory_text.specs.Token.{Token, OpenRoundSign, CloseRoundSign, PlacedToken}
+use Rattle.theory_text.specs.Raw.{RawProcess}
+use Rattle.theory_text.specs.Grammar.{IsSign, sign, IsName, IsBase, IsOperand, IsProcess}
 use Rattle.csp_lex.specs.declared.kinds.TokenKind.TheVariants as kind
 use Rattle.csp_lex.specs.declared.signs.Sign.TheVariants as signs
 use Rattle.csp_parse.specs.declared.levels.Level.TheVariants as level

@@ -1,8 +1,8 @@
 -- The tree of each form of expression.
 use Rattle.std.proofs.Common.{◌≡◌, ◌∙◌, ℕ, Bool, sym, ap}
-use Rattle.csp_syntax.specs.declared.operator.BinaryOperator.{BinaryOperator}
-use Rattle.csp_syntax.specs.Operators.{binary_of}
-use Rattle.csp_text.specs.Raw.{RawExpression, RawNumber, RawTruth, RawBooleans, RawUse, RawCombine, RawSequence, RawSet, RawConstructor}
+use Rattle.theory_syntax.specs.declared.operator.BinaryOperator.{BinaryOperator}
+use Rattle.theory_syntax.specs.Operators.{binary_of}
+use Rattle.theory_text.specs.Raw.{RawExpression, RawNumber, RawTruth, RawBooleans, RawUse, RawCombine, RawSequence, RawSet, RawConstructor}
 use Rattle.csp_parse.specs.declared.expressions.Expression.TheOpen as layer
 use Rattle.csp_parse.specs.declared.expressions.Expression.TheFolds.{fold-roll-Expression}
 use Rattle.csp_parse.specs.declared.expressions.Expression.TheVariants as views

@@ -1,8 +1,8 @@
 -- A form that is read in steps: what the reader of the rest decides, the reader of the whole does.
 use Rattle.std.proofs.Common.{ℕ, Result, IfOk, IfErr, ◌≡◌, List, [], ◌∷◌, ◌++◌, inl, inr, sym, subst, append_assoc}
 use Rattle.std.proofs.lemmas.Result.{IfOk-weaker, IfErr-weaker}
-use Rattle.csp_text.specs.Token.{Token, KeywordToken, SignToken, NameToken, Keyword, Sign, PlacedToken}
-use Rattle.csp_text.specs.Grammar.{IsWord, word, IsSign, sign, IsSpelled, spelled}
+use Rattle.theory_text.specs.Token.{Token, KeywordToken, SignToken, NameToken, Keyword, Sign, PlacedToken}
+use Rattle.theory_text.specs.Grammar.{IsWord, word, IsSign, sign, IsSpelled, spelled}
 use Rattle.csp_parse.specs.declared.stops.Stopped.{Stopped}
 use Rattle.csp_parse.specs.Deciding.{first, nothing, only, Stops, Done, IsStop, here, high, memory}
 use Rattle.csp_parse.specs.Forms.{Then, both, Either, Repeated, never}

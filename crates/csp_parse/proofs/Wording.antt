@@ -1,10 +1,10 @@
 -- The operators that tokens are.
 use Rattle.std.proofs.Common.{◌≡◌, ℕ, List, [], ◌∷◌, Some, subst}
-use Rattle.csp_syntax.specs.Expression as pure
-use Rattle.csp_text.specs.Token as text
-use Rattle.csp_text.specs.Token.{PlacedToken}
-use Rattle.csp_text.specs.Grammar as grammar
-use Rattle.csp_text.specs.Grammar.{IsWord, word, IsSign, sign, IsComparing, IsAdding, IsMultiplying, IsUnaryWord, IsBinaryWord}
+use Rattle.theory_syntax.specs.Expression as pure
+use Rattle.theory_text.specs.Token as text
+use Rattle.theory_text.specs.Token.{PlacedToken}
+use Rattle.theory_text.specs.Grammar as grammar
+use Rattle.theory_text.specs.Grammar.{IsWord, word, IsSign, sign, IsComparing, IsAdding, IsMultiplying, IsUnaryWord, IsBinaryWord}
 use Rattle.csp_parse.specs.declared.levels.Level.{Level}
 use Rattle.csp_parse.specs.declared.levels.Level.TheVariants as level
 use Rattle.csp_parse.specs.Levels.{IsOperatorAt}

@@ -2,8 +2,8 @@
 use Rattle.std.proofs.Common.{◌≡◌, ◌∙◌, ℕ, List, refl, sym, ap, subst, codes}
 use Rattle.std.proofs.lemmas.Str.{encodes-chars}
 use Rattle.std.specs.Str.{IsUtf8, chars, encode_utf8_all}
-use Rattle.csp_text.specs.Token.{PlacedToken}
-use Rattle.csp_text.specs.Grammar.{IsSpelled}
+use Rattle.theory_text.specs.Token.{PlacedToken}
+use Rattle.theory_text.specs.Grammar.{IsSpelled}
 use Rattle.csp_parse.specs.declared.stops.Stopped.{Stopped}
 use Rattle.csp_parse.specs.Deciding.{nothing, IsStop}
 use Rattle.csp_parse.specs.Reading.{Standing, IsNextSpelled, Passes}

@@ -1,7 +1,7 @@
 -- What an atom is by its first token, whatever its tree.
 use Rattle.std.specs.Prelude.{List}
-use Rattle.csp_text.specs.Token.{Token, KeywordToken, SignToken, NameToken, NumberToken, Keyword, Sign, TrueWord, FalseWord, BoolWord, HeadWord, TailWord, NullWord, CardWord, ElemWord, MemberWord, UnionWord, InterWord, DiffWord, MinusSign, HashSign, OpenRoundSign, CloseRoundSign, LessSign, GreaterSign, OpenBraceSign, CloseBraceSign, CommaSign, RangeSign, PlacedToken}
-use Rattle.csp_text.specs.Grammar.{IsWord, IsSign, IsName, IsNumber, IsExpression, IsSum, IsAtom}
+use Rattle.theory_text.specs.Token.{Token, KeywordToken, SignToken, NameToken, NumberToken, Keyword, Sign, TrueWord, FalseWord, BoolWord, HeadWord, TailWord, NullWord, CardWord, ElemWord, MemberWord, UnionWord, InterWord, DiffWord, MinusSign, HashSign, OpenRoundSign, CloseRoundSign, LessSign, GreaterSign, OpenBraceSign, CloseBraceSign, CommaSign, RangeSign, PlacedToken}
+use Rattle.theory_text.specs.Grammar.{IsWord, IsSign, IsName, IsNumber, IsExpression, IsSum, IsAtom}
 use Rattle.csp_parse.specs.Forms.{HasTree, Then, Repeated, Either, Next}
 use Rattle.csp_parse.specs.Levels.{IsEnclosed}
 

@@ -1,7 +1,7 @@
 -- Which tokens go on with an expression.
 use Rattle.std.specs.Prelude.{◌≡◌, ◌<◌, ◌≤◌, ◌⊎◌, ℕ, List}
-use Rattle.csp_text.specs.Token.{Token, KeywordToken, SignToken, OrWord, AndWord, SameSign, DiffersSign, LessSign, AtMostSign, GreaterSign, AtLeastSign, PlusSign, MinusSign, CaretSign, TimesSign, PercentSign, CommaSign, DotSign, PlacedToken}
-use Rattle.csp_text.specs.Grammar.{IsComparing, IsSum}
+use Rattle.theory_text.specs.Token.{Token, KeywordToken, SignToken, OrWord, AndWord, SameSign, DiffersSign, LessSign, AtMostSign, GreaterSign, AtLeastSign, PlusSign, MinusSign, CaretSign, TimesSign, PercentSign, CommaSign, DotSign, PlacedToken}
+use Rattle.theory_text.specs.Grammar.{IsComparing, IsSum}
 use Rattle.csp_parse.specs.declared.levels.Level.{Level}
 use Rattle.csp_parse.specs.declared.levels.Level.TheVariants as level
 use Rattle.csp_parse.specs.declared.stops.Stopped.{Stopped}

@@ -1,8 +1,8 @@
 -- What a reader of tokens tells of other tokens: where what it read ends whatever stands behind it, and why nothing was
 -- read.
 use Rattle.std.specs.Prelude.{◌≡◌, ◌<◌, ◌≤◌, Option, Some, None, List, [], ◌∷◌, ◌++◌, ⊤}
-use Rattle.csp_text.specs.Token.{Token, SignToken, Sign, PlacedToken}
-use Rattle.csp_text.specs.Height.{Nest, nesting, after_token, after_tokens, nest_height, greatest_height}
+use Rattle.theory_text.specs.Token.{Token, SignToken, Sign, PlacedToken}
+use Rattle.theory_text.specs.Height.{Nest, nesting, after_token, after_tokens, nest_height, greatest_height}
 use Rattle.csp_parse.specs.declared.stops.Stopped.{Stopped}
 use Rattle.csp_parse.specs.declared.stops.Stopped.TheVariants as stop
 use Rattle.csp_parse.specs.Reading.{Standing, CountsFirst, AreLow, Splits}

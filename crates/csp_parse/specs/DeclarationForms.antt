@@ -1,11 +1,11 @@
 -- What declarations are by their first token, whatever their trees.
 use Rattle.std.specs.Prelude.{◌≡◌, ◌⊎◌, Bool, true, false, List}
 use Rattle.std.specs.declared.boxed.Box.{Box}
-use Rattle.csp_text.specs.Raw.{RawProcess}
+use Rattle.theory_text.specs.Raw.{RawProcess}
 use Rattle.csp_parse.specs.declared.processes.Process.{Process}
 use Rattle.csp_parse.specs.Processes.{process_in}
-use Rattle.csp_text.specs.Token.{Token, KeywordToken, NameToken, DatatypeWord, NametypeWord, ChannelWord, AssertWord, EqualsSign, BarSign, CommaSign, ColonSign, DotSign, OpenRoundSign, CloseRoundSign, PlacedToken}
-use Rattle.csp_text.specs.Grammar.{IsWord, IsSign, IsName, AreDomains, AreClauses, IsModel, IsProcess, IsFreedom, IsFirstSide}
+use Rattle.theory_text.specs.Token.{Token, KeywordToken, NameToken, DatatypeWord, NametypeWord, ChannelWord, AssertWord, EqualsSign, BarSign, CommaSign, ColonSign, DotSign, OpenRoundSign, CloseRoundSign, PlacedToken}
+use Rattle.theory_text.specs.Grammar.{IsWord, IsSign, IsName, AreDomains, AreClauses, IsModel, IsProcess, IsFreedom, IsFirstSide}
 use Rattle.csp_parse.specs.declared.levels.Level.TheVariants as level
 use Rattle.csp_parse.specs.Deciding.{only}
 use Rattle.csp_parse.specs.Forms.{HasTree, Then, Either, Perhaps}

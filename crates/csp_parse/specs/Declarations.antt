@@ -1,7 +1,7 @@
 -- Declarations and scripts, as the definitions have them.
 use Rattle.std.specs.Prelude.{map}
-use Rattle.csp_syntax.specs.Models.{model_of}
-use Rattle.csp_text.specs.Raw.{RawDomain, RawClause, RawDeclaration, RawDatatype, RawNametype, RawChannels, RawEquation, RawAssertion, RawScript, RawProperty, RawRefinementOf, RawDeadlockFree, RawDivergenceFree}
+use Rattle.theory_syntax.specs.Models.{model_of}
+use Rattle.theory_text.specs.Raw.{RawDomain, RawClause, RawDeclaration, RawDatatype, RawNametype, RawChannels, RawEquation, RawAssertion, RawScript, RawProperty, RawRefinementOf, RawDeadlockFree, RawDivergenceFree}
 use Rattle.csp_lex.specs.Places.{place_of}
 use Rattle.csp_parse.specs.declared.declarations.Clause.{Clause}
 use Rattle.csp_parse.specs.declared.declarations.Domain.{Domain}

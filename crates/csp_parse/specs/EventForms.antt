@@ -1,7 +1,7 @@
 -- What events and sets of events are by their first token, whatever their trees.
 use Rattle.std.specs.Prelude.{◌⊎◌, List}
-use Rattle.csp_text.specs.Token.{Token, KeywordToken, SignToken, Keyword, Sign, UnionWord, InterWord, DiffWord, DotSign, CommaSign, OpenRoundSign, CloseRoundSign, OpenBraceSign, CloseBraceSign, OpenProductionsSign, CloseProductionsSign, PlacedToken}
-use Rattle.csp_text.specs.Grammar.{IsWord, IsSign, AreEvents, IsEventSet}
+use Rattle.theory_text.specs.Token.{Token, KeywordToken, SignToken, Keyword, Sign, UnionWord, InterWord, DiffWord, DotSign, CommaSign, OpenRoundSign, CloseRoundSign, OpenBraceSign, CloseBraceSign, OpenProductionsSign, CloseProductionsSign, PlacedToken}
+use Rattle.theory_text.specs.Grammar.{IsWord, IsSign, AreEvents, IsEventSet}
 use Rattle.csp_parse.specs.Deciding.{only}
 use Rattle.csp_parse.specs.Forms.{HasTree, Then, Either}
 

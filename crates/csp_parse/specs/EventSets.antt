@@ -1,9 +1,9 @@
 -- Sets of events, as the definitions have them.
 use Rattle.std.specs.Prelude.{map}
 use Rattle.std.specs.Box.{box_value}
-use Rattle.csp_syntax.specs.declared.event_set_operator.EventSetOperator.{EventSetOperator}
-use Rattle.csp_syntax.specs.declared.event_set_operator.EventSetOperator.TheVariants as operator
-use Rattle.csp_text.specs.Raw.{RawEventSet, RawEnumeration, RawProductions, RawEventUnion, RawEventIntersection, RawEventDifference}
+use Rattle.theory_syntax.specs.declared.event_set_operator.EventSetOperator.{EventSetOperator}
+use Rattle.theory_syntax.specs.declared.event_set_operator.EventSetOperator.TheVariants as operator
+use Rattle.theory_text.specs.Raw.{RawEventSet, RawEnumeration, RawProductions, RawEventUnion, RawEventIntersection, RawEventDifference}
 use Rattle.csp_parse.specs.declared.event_sets.EventSet.{EventSet}
 use Rattle.csp_parse.specs.declared.event_sets.EventSet.TheOpen as layer
 use Rattle.csp_parse.specs.declared.event_sets.EventSet.TheFolds.{fold-EventSet}

@@ -1,5 +1,5 @@
 -- Events and pairs, as the definitions have them.
-use Rattle.csp_text.specs.Raw.{RawEvent, RawPair}
+use Rattle.theory_text.specs.Raw.{RawEvent, RawPair}
 use Rattle.csp_parse.specs.declared.events.Event.{Event}
 use Rattle.csp_parse.specs.declared.events.Pair.{Pair}
 use Rattle.csp_parse.specs.Expressions.{expressions_of}

@@ -1,8 +1,8 @@
 -- Expressions, as the definitions have them.
 use Rattle.std.specs.Prelude.{List, [], ◌∷◌, map}
 use Rattle.std.specs.Box.{box_value}
-use Rattle.csp_syntax.specs.Operators.{unary_of, binary_of}
-use Rattle.csp_text.specs.Raw.{RawExpression, RawNumber, RawTruth, RawBooleans, RawUse, RawApply, RawCombine, RawSequence, RawSet, RawRange, RawConstructor, RawExpressions, no_raw_expressions, raw_expression_and}
+use Rattle.theory_syntax.specs.Operators.{unary_of, binary_of}
+use Rattle.theory_text.specs.Raw.{RawExpression, RawNumber, RawTruth, RawBooleans, RawUse, RawApply, RawCombine, RawSequence, RawSet, RawRange, RawConstructor, RawExpressions, no_raw_expressions, raw_expression_and}
 use Rattle.csp_parse.specs.declared.expressions.Expression.{Expression}
 use Rattle.csp_parse.specs.declared.expressions.Expression.TheOpen as layer
 use Rattle.csp_parse.specs.declared.expressions.Expression.TheFolds.{fold-Expression}

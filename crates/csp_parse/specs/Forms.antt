@@ -1,7 +1,7 @@
 -- Forms of tokens, whatever their trees.
 use Rattle.std.specs.Prelude.{◌≡◌, ◌⊎◌, List, [], ◌++◌}
-use Rattle.csp_text.specs.Token.{Sign, PlacedToken}
-use Rattle.csp_text.specs.Grammar.{IsSign}
+use Rattle.theory_text.specs.Token.{Sign, PlacedToken}
+use Rattle.theory_text.specs.Grammar.{IsSign}
 
 -- the tokens are of this form, with some tree
 abbrev pub HasTree : {X : Type 0} → (List PlacedToken → X → Type 0) → List PlacedToken → Type 0

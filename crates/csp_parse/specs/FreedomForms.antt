@@ -1,7 +1,7 @@
 -- What freedoms are behind their opening bracket.
 use Rattle.std.specs.Prelude.{List, codes}
-use Rattle.csp_text.specs.Token.{CloseSquareSign, CloseRenamingSign, PlacedToken}
-use Rattle.csp_text.specs.Grammar.{IsSign, IsSpelled, IsFreedomEnd}
+use Rattle.theory_text.specs.Token.{CloseSquareSign, CloseRenamingSign, PlacedToken}
+use Rattle.theory_text.specs.Grammar.{IsSign, IsSpelled, IsFreedomEnd}
 use Rattle.csp_parse.specs.Forms.{Then, Either}
 
 abbrev pub DivergenceFreed : List PlacedToken → Type 0

@@ -1,9 +1,9 @@
 -- The levels of expressions, as the definitions have them.
 use Rattle.std.specs.Prelude.{◌≡◌, ◌⊎◌, ℕ, List, ◌∷◌, ◌++◌}
-use Rattle.csp_syntax.specs.Expression as pure
-use Rattle.csp_text.specs.Token.{PlacedToken, Sign, AndWord, OrWord, CommaSign, DotSign, OpenRoundSign, CloseRoundSign}
-use Rattle.csp_text.specs.Raw.{RawName, RawExpression, RawApply, RawCombine, RawConstructor, RawExpressions, RawDomain, no_raw_expressions, raw_expression_and}
-use Rattle.csp_text.specs.Grammar.{IsWord, IsSign, IsAdding, IsMultiplying, IsExpression, IsConjunction, IsNegation, IsComparison, IsSum, IsProduct, IsAtom, IsName, AreDotted}
+use Rattle.theory_syntax.specs.Expression as pure
+use Rattle.theory_text.specs.Token.{PlacedToken, Sign, AndWord, OrWord, CommaSign, DotSign, OpenRoundSign, CloseRoundSign}
+use Rattle.theory_text.specs.Raw.{RawName, RawExpression, RawApply, RawCombine, RawConstructor, RawExpressions, RawDomain, no_raw_expressions, raw_expression_and}
+use Rattle.theory_text.specs.Grammar.{IsWord, IsSign, IsAdding, IsMultiplying, IsExpression, IsConjunction, IsNegation, IsComparison, IsSum, IsProduct, IsAtom, IsName, AreDotted}
 use Rattle.csp_parse.specs.declared.levels.Level.{Level}
 use Rattle.csp_parse.specs.declared.levels.Level.TheVariants as level
 use Rattle.csp_parse.specs.Reading.{Standing, PassesOne, Passes, Reads, ReadsBehind}

@@ -1,9 +1,9 @@
 -- Declarations within the limit of heights.
 use Rattle.std.specs.Prelude.{◌≡◌, ◌≤◌, List, [], ◌∷◌, ◌++◌}
-use Rattle.csp_text.specs.Token.{PlacedToken}
-use Rattle.csp_text.specs.Raw.{RawDeclaration, RawScript}
-use Rattle.csp_text.specs.Grammar.{IsDeclaration}
-use Rattle.csp_text.specs.Height.{tokens_height, greatest_height}
+use Rattle.theory_text.specs.Token.{PlacedToken}
+use Rattle.theory_text.specs.Raw.{RawDeclaration, RawScript}
+use Rattle.theory_text.specs.Grammar.{IsDeclaration}
+use Rattle.theory_text.specs.Height.{tokens_height, greatest_height}
 
 -- no beginning of the tokens is higher than the limit
 abbrev pub IsLow : List PlacedToken → Type 0

@@ -1,6 +1,6 @@
 -- Names, as the definitions have them.
 use Rattle.std.specs.Str.{chars}
-use Rattle.csp_text.specs.Raw.{RawName}
+use Rattle.theory_text.specs.Raw.{RawName}
 use Rattle.csp_lex.specs.Places.{place_of}
 use Rattle.csp_parse.specs.declared.names.Name.{Name}
 

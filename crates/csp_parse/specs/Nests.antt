@@ -1,6 +1,6 @@
 -- The groups that are open, as the definitions have them.
 use Rattle.std.specs.Prelude.{Bool, [], ◌∷◌, map, reverse}
-use Rattle.csp_text.specs.Height as height
+use Rattle.theory_text.specs.Height as height
 use Rattle.csp_parse.specs.declared.nests.Group.{Group}
 use Rattle.csp_parse.specs.declared.nests.Nest.{Nest}
 use Rattle.csp_parse.specs.declared.nests.Nesting.{Nesting}

@@ -1,8 +1,8 @@
 -- What processes are by their parts, whatever their trees.
 use Rattle.std.specs.Prelude.{◌≡◌, ◌⊎◌, Bool, true, false, List}
-use Rattle.csp_text.specs.Token.{Token, KeywordToken, SignToken, Sign, AndWord, OrWord, IfWord, ThenWord, ElseWord, ArrowSign, BoxSign, InternalSign, TripleBarSign, DoubleBarSign, OpenSharedSign, CloseSharedSign, OpenRenamingSign, InterruptSign, SlidingSign, HidingSign, SemicolonSign, GuardSign, AtSign, SameSign, DiffersSign, AtMostSign, AtLeastSign, LessSign, GreaterSign, PlusSign, MinusSign, TimesSign, PercentSign, CaretSign, OutputSign, InputSign, DotSign, ColonSign, OpenRoundSign, CloseRoundSign, OpenSquareSign, CloseSquareSign, PlacedToken}
-use Rattle.csp_text.specs.Raw.{Infix, Replicator}
-use Rattle.csp_text.specs.Grammar.{IsRenamingPart, IsHidingPart, IsWord, IsSign, IsName, IsAtom, IsExpression, AreExpressions, AreFields, AreLaterFields, IsEventSet, IsBase, IsOperand, IsProcess}
+use Rattle.theory_text.specs.Token.{Token, KeywordToken, SignToken, Sign, AndWord, OrWord, IfWord, ThenWord, ElseWord, ArrowSign, BoxSign, InternalSign, TripleBarSign, DoubleBarSign, OpenSharedSign, CloseSharedSign, OpenRenamingSign, InterruptSign, SlidingSign, HidingSign, SemicolonSign, GuardSign, AtSign, SameSign, DiffersSign, AtMostSign, AtLeastSign, LessSign, GreaterSign, PlusSign, MinusSign, TimesSign, PercentSign, CaretSign, OutputSign, InputSign, DotSign, ColonSign, OpenRoundSign, CloseRoundSign, OpenSquareSign, CloseSquareSign, PlacedToken}
+use Rattle.theory_text.specs.Raw.{Infix, Replicator}
+use Rattle.theory_text.specs.Grammar.{IsRenamingPart, IsHidingPart, IsWord, IsSign, IsName, IsAtom, IsExpression, AreExpressions, AreFields, AreLaterFields, IsEventSet, IsBase, IsOperand, IsProcess}
 use Rattle.csp_parse.specs.AtomForms.{Enclosed}
 use Rattle.csp_parse.specs.Continuing.{BehindAtom}
 use Rattle.csp_parse.specs.Deciding.{only}

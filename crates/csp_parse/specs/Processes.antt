@@ -2,11 +2,11 @@
 use Rattle.std.specs.Prelude.{List, map}
 use Rattle.std.specs.Box.{box_value}
 use Rattle.std.specs.declared.boxed.Box.{Box}
-use Rattle.csp_syntax.specs.declared.process_operator.ProcessOperator.TheVariants as chaining
-use Rattle.csp_syntax.specs.declared.process_operator.ReplicatedOperator.{ReplicatedOperator}
-use Rattle.csp_syntax.specs.declared.process_operator.ReplicatedOperator.TheVariants as replicator
-use Rattle.csp_text.specs.Raw as raw
-use Rattle.csp_text.specs.Raw.{RawField, RawGiven, RawInput, RawInputFrom, RawProcess, RawStop, RawSkip, RawCall, RawPrefix, RawGuard, RawIf, RawInfix, RawGeneralisedParallel, RawAlphabetisedParallel, RawHiding, RawRenaming, RawReplicated}
+use Rattle.theory_syntax.specs.declared.process_operator.ProcessOperator.TheVariants as chaining
+use Rattle.theory_syntax.specs.declared.process_operator.ReplicatedOperator.{ReplicatedOperator}
+use Rattle.theory_syntax.specs.declared.process_operator.ReplicatedOperator.TheVariants as replicator
+use Rattle.theory_text.specs.Raw as raw
+use Rattle.theory_text.specs.Raw.{RawField, RawGiven, RawInput, RawInputFrom, RawProcess, RawStop, RawSkip, RawCall, RawPrefix, RawGuard, RawIf, RawInfix, RawGeneralisedParallel, RawAlphabetisedParallel, RawHiding, RawRenaming, RawReplicated}
 use Rattle.csp_parse.specs.declared.expressions.Expression.{Expression}
 use Rattle.csp_parse.specs.declared.processes.Field.{Field}
 use Rattle.csp_parse.specs.declared.processes.Field.TheVariants as field

@@ -1,11 +1,11 @@
 -- What reading tokens says of them.
 use Rattle.std.specs.Prelude.{◌≡◌, ◌≤◌, ℕ, List, [], ◌∷◌, ◌++◌, map, drop, ⊤}
-use Rattle.csp_text.specs.Token.{NameToken, PlacedToken}
+use Rattle.theory_text.specs.Token.{NameToken, PlacedToken}
 use Rattle.csp_lex.specs.declared.kinds.TokenKind.{TokenKind}
 use Rattle.csp_lex.specs.declared.kinds.TokenKind.TheVariants as kind
 use Rattle.csp_lex.specs.declared.signs.Sign.TheVariants as sign
 use Rattle.csp_lex.specs.Tokens.{token_of, placed_token}
-use Rattle.csp_text.specs.Height.{Nest, nesting, after_token, after_tokens, nest_height, greatest_height}
+use Rattle.theory_text.specs.Height.{Nest, nesting, after_token, after_tokens, nest_height, greatest_height}
 use Rattle.csp_parse.specs.declared.parsers.Parser.{Parser}
 use Rattle.csp_parse.specs.Nests.{nest_of}
 

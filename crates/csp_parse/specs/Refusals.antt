@@ -1,8 +1,8 @@
 -- Refusals, as the definitions have them.
 use Rattle.std.specs.Prelude.{◌≡◌, List, [], ◌∷◌}
-use Rattle.csp_text.specs.Height as text
-use Rattle.csp_text.specs.Place as places
-use Rattle.csp_text.specs.Token.{PlacedToken}
+use Rattle.theory_text.specs.Height as text
+use Rattle.theory_text.specs.Place as places
+use Rattle.theory_text.specs.Token.{PlacedToken}
 use Rattle.csp_lex.specs.declared.places.Place.{Place}
 use Rattle.csp_lex.specs.Places.{place_of}
 use Rattle.csp_parse.specs.declared.refusals.GrammarFault.{GrammarFault}

@@ -1,8 +1,8 @@
 -- Lists with a sign between.
 use Rattle.std.specs.Prelude.{List, [], ◌∷◌, ◌++◌}
-use Rattle.csp_text.specs.Token.{PlacedToken, Sign, BackArrowSign}
-use Rattle.csp_text.specs.Raw.{RawEvent, RawPair}
-use Rattle.csp_text.specs.Grammar.{IsSign, IsEvent}
+use Rattle.theory_text.specs.Token.{PlacedToken, Sign, BackArrowSign}
+use Rattle.theory_text.specs.Raw.{RawEvent, RawPair}
+use Rattle.theory_text.specs.Grammar.{IsSign, IsEvent}
 
 -- parts of one form with a sign between
 pub data AreSeparated {X : Type 0} (s : Sign) (Is : List PlacedToken → X → Type 0) : List PlacedToken → List X → Type 0 where

@@ -1,10 +1,10 @@
 -- What the tokens that a start is read from are not, and what may stand behind it.
 use Rattle.std.specs.Prelude.{◌≡◌, List, [], ◌++◌, ⊤}
-use Rattle.csp_syntax.specs.declared.process_operator.ProcessOperator.TheVariants as chaining
-use Rattle.csp_syntax.specs.declared.process_operator.ReplicatedOperator.{ReplicatedOperator}
-use Rattle.csp_syntax.specs.declared.process_operator.ReplicatedOperator.TheVariants as replicator
-use Rattle.csp_text.specs.Token.{PlacedToken, OpenRoundSign, CloseRoundSign}
-use Rattle.csp_text.specs.Grammar.{IsSign, IsBase, IsProcess}
+use Rattle.theory_syntax.specs.declared.process_operator.ProcessOperator.TheVariants as chaining
+use Rattle.theory_syntax.specs.declared.process_operator.ReplicatedOperator.{ReplicatedOperator}
+use Rattle.theory_syntax.specs.declared.process_operator.ReplicatedOperator.TheVariants as replicator
+use Rattle.theory_text.specs.Token.{PlacedToken, OpenRoundSign, CloseRoundSign}
+use Rattle.theory_text.specs.Grammar.{IsSign, IsBase, IsProcess}
 use Rattle.csp_lex.specs.declared.kinds.TokenKind.TheVariants as kinds
 use Rattle.csp_lex.specs.declared.signs.Sign.{Sign}
 use Rattle.csp_lex.specs.declared.signs.Sign.TheVariants as sign

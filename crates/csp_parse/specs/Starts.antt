@@ -1,8 +1,8 @@
 -- What stands where an operand or an expression begins, as the definitions have it.
 use Rattle.std.specs.Prelude.{List, ◌++◌}
-use Rattle.csp_text.specs.Token.{PlacedToken, OpenRoundSign, CloseRoundSign, OutputSign, InputSign, ColonSign}
-use Rattle.csp_text.specs.Raw.{RawProcess, RawName, RawCall, RawUse, RawExpression, RawExpressions, no_raw_expressions, RawField, RawGiven, RawInput, RawInputFrom}
-use Rattle.csp_text.specs.Grammar.{IsSign, IsName, IsAtom, IsExpression, AreExpressions, IsBase, IsRenamed, IsHidden, IsOperand, IsProcess}
+use Rattle.theory_text.specs.Token.{PlacedToken, OpenRoundSign, CloseRoundSign, OutputSign, InputSign, ColonSign}
+use Rattle.theory_text.specs.Raw.{RawProcess, RawName, RawCall, RawUse, RawExpression, RawExpressions, no_raw_expressions, RawField, RawGiven, RawInput, RawInputFrom}
+use Rattle.theory_text.specs.Grammar.{IsSign, IsName, IsAtom, IsExpression, AreExpressions, IsBase, IsRenamed, IsHidden, IsOperand, IsProcess}
 use Rattle.csp_parse.specs.declared.starts.Start.{Start}
 use Rattle.csp_parse.specs.declared.starts.Start.TheVariants as start
 use Rattle.csp_parse.specs.declared.starts.Inner.{Inner}

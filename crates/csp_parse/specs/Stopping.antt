@@ -1,10 +1,10 @@
 -- What it says that the reader of a script stopped, as the definitions' refusals ask.
 use Rattle.std.specs.Prelude.{◌≡◌, List, [], ◌∷◌, ◌++◌, ⊤}
-use Rattle.csp_text.specs.Place.{Place}
-use Rattle.csp_text.specs.Token.{PlacedToken}
-use Rattle.csp_text.specs.Raw.{RawScript}
-use Rattle.csp_text.specs.Grammar.{IsScript, BeginsScript}
-use Rattle.csp_text.specs.Height.{IsTooHigh, HasNoneTooHigh, IsGrammarRefusal}
+use Rattle.theory_text.specs.Place.{Place}
+use Rattle.theory_text.specs.Token.{PlacedToken}
+use Rattle.theory_text.specs.Raw.{RawScript}
+use Rattle.theory_text.specs.Grammar.{IsScript, BeginsScript}
+use Rattle.theory_text.specs.Height.{IsTooHigh, HasNoneTooHigh, IsGrammarRefusal}
 use Rattle.csp_lex.specs.Places.{place_of}
 use Rattle.csp_parse.specs.declared.refusals.Refused.{Refused}
 use Rattle.csp_parse.specs.declared.refusals.Refused.TheVariants as refused

@@ -1,8 +1,8 @@
 -- The operators that tokens are, computed.
 use Rattle.std.specs.Prelude.{Option, Some, None}
-use Rattle.csp_syntax.specs.Expression as pure
-use Rattle.csp_text.specs.Token as text
-use Rattle.csp_text.specs.Raw as raw
+use Rattle.theory_syntax.specs.Expression as pure
+use Rattle.theory_text.specs.Token as text
+use Rattle.theory_text.specs.Raw as raw
 use Rattle.csp_parse.specs.declared.levels.Level.{Level}
 use Rattle.csp_parse.specs.declared.levels.Level.TheVariants as level
 

@@ -4,8 +4,8 @@ use crate::expressions::Expression;
 use crate::names::Name;
 use crate::processes::Process;
 use csp_lex::Place;
-use csp_syntax::Model;
 use std::alloc::Allocator;
+use theory_syntax::Model;
 
 /// The set of a nametype, or of a field of a constructor or channel, with the place of its first token.
 #[derive(Drop)]

@@ -1,8 +1,8 @@
 //! Sets of events, as they are written.
 
 use crate::events::Event;
-use csp_syntax::EventSetOperator;
 use std::alloc::Allocator;
+use theory_syntax::EventSetOperator;
 
 /// A set of events as it is written.
 #[derive(Drop)]

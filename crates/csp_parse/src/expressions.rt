@@ -1,8 +1,8 @@
 //! Expressions, as they are written.
 
 use crate::names::Name;
-use csp_syntax::{BinaryOperator, UnaryOperator};
 use std::alloc::Allocator;
+use theory_syntax::{BinaryOperator, UnaryOperator};
 
 /// An expression as it is written. Brackets leave no mark.
 #[derive(Drop)]

@@ -2,12 +2,12 @@
 
 ghost use Rattle.std.specs.Prelude.{◌≡◌, ℕ, List};
 ghost use Rattle.std.specs.Option.{option_map};
-ghost use Rattle.csp_syntax.specs.Operators.{unary_of, binary_of};
+ghost use Rattle.theory_syntax.specs.Operators.{unary_of, binary_of};
 ghost use Rattle.csp_lex.specs.Tokens.{keyword_of, token_of};
 ghost use Rattle.csp_parse.specs.Words.{unary_word, binary_word, comparison_of};
 
 use csp_lex::{Keyword, Sign, TokenKind};
-use csp_syntax::{BinaryOperator, UnaryOperator};
+use theory_syntax::{BinaryOperator, UnaryOperator};
 
 /// How strongly an expression holds together, the weakest first.
 #[derive(Clone, Copy)]

@@ -29,17 +29,14 @@ mod starts;
 mod stops;
 
 ghost use Rattle.std.specs.Prelude.{IfOk, IfErr, map};
-ghost use Rattle.csp_text.specs.Grammar.{IsScript};
-ghost use Rattle.csp_text.specs.Height.{HasNoneTooHigh};
+ghost use Rattle.theory_text.specs.Grammar.{IsScript};
+ghost use Rattle.theory_text.specs.Height.{HasNoneTooHigh};
 ghost use Rattle.csp_lex.specs.Places.{place_of};
 ghost use Rattle.csp_lex.specs.Tokens.{placed_token};
 ghost use Rattle.csp_parse.specs.Declarations.{script_of};
 ghost use Rattle.csp_parse.specs.Stopping.{IsRefusalOf};
 
 use csp_lex::TokenList;
-pub use csp_syntax::{
-    BinaryOperator, EventSetOperator, Model, ProcessOperator, ReplicatedOperator, UnaryOperator,
-};
 pub use declarations::{Clause, Declaration, Domain, Property, Raw};
 pub use event_sets::EventSet;
 pub use events::{Event, Pair};
@@ -49,6 +46,9 @@ pub use nests::GREATEST_HEIGHT;
 pub use processes::{Field, Infix, Process};
 pub use refusals::{GrammarFault, Refused};
 use std::alloc::Allocator;
+pub use theory_syntax::{
+    BinaryOperator, EventSetOperator, Model, ProcessOperator, ReplicatedOperator, UnaryOperator,
+};
 
 /// The script that tokens are, or why they are none.
 ///

@@ -1,9 +1,9 @@
 //! The heights of declarations, counted token by token.
 
 ghost use Rattle.std.specs.Prelude.{◌≡◌, ◌≤◌, ◌<◌, ◌+◌, ℕ, List, IfOk};
-ghost use Rattle.csp_text.specs.Height.{nesting, nest_height, group_height, no_tokens_yet, after_token, closed, closed_double, greatest_height};
-ghost use Rattle.csp_text.specs.Height as height;
-ghost use Rattle.csp_text.specs.Token.{SignToken, KeywordToken};
+ghost use Rattle.theory_text.specs.Height.{nesting, nest_height, group_height, no_tokens_yet, after_token, closed, closed_double, greatest_height};
+ghost use Rattle.theory_text.specs.Height as height;
+ghost use Rattle.theory_text.specs.Token.{SignToken, KeywordToken};
 ghost use Rattle.csp_lex.specs.Tokens.{keyword_of, sign_of, token_of};
 ghost use Rattle.csp_parse.specs.Nests.{nesting_is, group_of, nest_of, opened, start};
 

@@ -1,9 +1,9 @@
 //! A reader of tokens: the next one is looked at, and passed.
 
 ghost use Rattle.std.specs.Prelude.{◌≡◌, ◌<◌, ◌≤◌, ℕ, List, [], true, false, IfOk, IfErr, IfSome, IfNone, length, map};
-ghost use Rattle.csp_text.specs.Token.{SignToken};
-ghost use Rattle.csp_text.specs.Height.{token_fault};
-ghost use Rattle.csp_text.specs.Grammar.{IsSign, IsWord, IsName, IsSpelled};
+ghost use Rattle.theory_text.specs.Token.{SignToken};
+ghost use Rattle.theory_text.specs.Height.{token_fault};
+ghost use Rattle.theory_text.specs.Grammar.{IsSign, IsWord, IsName, IsSpelled};
 ghost use Rattle.std.specs.Str.{chars};
 ghost use Rattle.csp_lex.specs.Tokens.{keyword_of, sign_of, token_of, placed_token};
 ghost use Rattle.csp_lex.specs.declared.kinds.TokenKind.TheVariants as kinds;
@@ -30,7 +30,7 @@ pub(crate) struct Parser<'t, 'a, A: Allocator> {
 }
 
 impl<'t, 'a, A: Allocator + Copy> Parser<'t, 'a, A> {
-    ghost use Rattle.csp_text.specs.Height.{nest_height, greatest_height};
+    ghost use Rattle.theory_text.specs.Height.{nest_height, greatest_height};
     ghost use Rattle.csp_parse.specs.declared.stops.Stopped.TheVariants.{Memory};
     ghost use Rattle.csp_parse.specs.Deciding.{nothing, Ends, Done, IsStop, IsStopOfOne, IsStopOfCount};
     ghost use Rattle.csp_parse.specs.Forms.{HasTree, Next};

@@ -12,8 +12,8 @@ use crate::expressions::Expression;
 use crate::names::Name;
 use crate::stops::Stopped;
 use csp_lex::Sign;
-use csp_syntax::{ProcessOperator, ReplicatedOperator};
 use std::alloc::Allocator;
+use theory_syntax::{ProcessOperator, ReplicatedOperator};
 
 /// A field of a prefix.
 #[derive(Drop)]
@@ -95,7 +95,7 @@ pub enum Process<'a, A: Allocator> {
 }
 
 impl<'a, A: Allocator + Copy> Process<'a, A> {
-    ghost use Rattle.csp_text.specs.Raw.{RawStop, RawSkip, RawCall, RawPrefix, RawGuard, RawIf, RawInfix, RawGeneralisedParallel, RawAlphabetisedParallel, RawHiding, RawRenaming, RawReplicated};
+    ghost use Rattle.theory_text.specs.Raw.{RawStop, RawSkip, RawCall, RawPrefix, RawGuard, RawIf, RawInfix, RawGeneralisedParallel, RawAlphabetisedParallel, RawHiding, RawRenaming, RawReplicated};
     ghost use Rattle.csp_parse.specs.declared.stops.Stopped.TheVariants.{Memory};
     ghost use Rattle.csp_parse.specs.Events.{pair_of};
     ghost use Rattle.csp_parse.specs.EventSets.{event_set_of};

@@ -1,8 +1,8 @@
 //! Reading assertions.
 
 ghost use Rattle.std.specs.Prelude.{◌≡◌, ◌<◌, ◌≤◌, IfOk, IfErr, length};
-ghost use Rattle.csp_syntax.specs.Models.{model_of};
-ghost use Rattle.csp_text.specs.Grammar.{IsModel, IsDeclaration};
+ghost use Rattle.theory_syntax.specs.Models.{model_of};
+ghost use Rattle.theory_text.specs.Grammar.{IsModel, IsDeclaration};
 ghost use Rattle.csp_parse.specs.Declarations.{declaration_of};
 
 use crate::declarations::{Declaration, Property};
@@ -10,8 +10,8 @@ use crate::parsers::Parser;
 use crate::processes::Process;
 use crate::stops::Stopped;
 use csp_lex::{Keyword, Sign};
-use csp_syntax::Model;
 use std::alloc::Allocator;
+use theory_syntax::Model;
 
 impl<'t, 'a, A: Allocator + Copy> Parser<'t, 'a, A> {
     ghost use Rattle.csp_parse.specs.Deciding.{nothing, Ends, Done, IsStop};

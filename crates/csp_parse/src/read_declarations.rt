@@ -1,9 +1,9 @@
 //! Reading declarations.
 
 ghost use Rattle.std.specs.Prelude.{◌≡◌, ◌<◌, ◌≤◌, IfOk, IfErr, length, map};
-ghost use Rattle.csp_syntax.specs.Models.{model_of};
-ghost use Rattle.csp_text.specs.Grammar.{IsName, IsExpression, AreDomains, IsClause, AreClauses, IsModel, IsDeclaration};
-ghost use Rattle.csp_text.specs.Token.{DotSign, BarSign};
+ghost use Rattle.theory_syntax.specs.Models.{model_of};
+ghost use Rattle.theory_text.specs.Grammar.{IsName, IsExpression, AreDomains, IsClause, AreClauses, IsModel, IsDeclaration};
+ghost use Rattle.theory_text.specs.Token.{DotSign, BarSign};
 ghost use Rattle.csp_lex.specs.Tokens.{sign_of};
 ghost use Rattle.csp_parse.specs.Declarations.{domain_of, clause_of, declaration_of, script_of};
 ghost use Rattle.csp_parse.specs.Levels.{IsDomainAt};

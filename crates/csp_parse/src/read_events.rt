@@ -2,9 +2,9 @@
 
 ghost use Rattle.std.specs.Prelude.{◌≡◌, ◌<◌, ◌≤◌, IfOk, IfErr, length, map};
 ghost use Rattle.std.specs.Option.{option_map};
-ghost use Rattle.csp_text.specs.Token.{DotSign};
-ghost use Rattle.csp_text.specs.Grammar.{IsSign, AreDotted, IsEvent, AreEvents, ArePairs, IsEventSet};
-ghost use Rattle.csp_text.specs.Raw.{RawEnumeration, RawProductions};
+ghost use Rattle.theory_text.specs.Token.{DotSign};
+ghost use Rattle.theory_text.specs.Grammar.{IsSign, AreDotted, IsEvent, AreEvents, ArePairs, IsEventSet};
+ghost use Rattle.theory_text.specs.Raw.{RawEnumeration, RawProductions};
 ghost use Rattle.csp_lex.specs.Tokens.{keyword_of, sign_of};
 ghost use Rattle.csp_lex.specs.declared.kinds.TokenKind.TheVariants as kinds;
 ghost use Rattle.csp_parse.specs.declared.stops.Stopped.TheVariants.{Memory};
@@ -21,8 +21,8 @@ use crate::levels::Level;
 use crate::parsers::Parser;
 use crate::stops::Stopped;
 use csp_lex::{Keyword, Sign, TokenKind};
-use csp_syntax::EventSetOperator;
 use std::alloc::Allocator;
+use theory_syntax::EventSetOperator;
 
 impl<'t, 'a, A: Allocator + Copy> Parser<'t, 'a, A> {
     ghost use Rattle.csp_parse.specs.Deciding.{nothing, only, Done, IsStop};

@@ -1,10 +1,10 @@
 //! Reading expressions.
 
 ghost use Rattle.std.specs.Prelude.{◌≡◌, ◌<◌, ◌≤◌, None, IfOk, IfErr, length};
-ghost use Rattle.csp_syntax.specs.Operators.{unary_of, binary_of};
-ghost use Rattle.csp_text.specs.Token.{DotSign, RangeSign, CloseBraceSign, LessSign, OpenBraceSign};
-ghost use Rattle.csp_text.specs.Grammar.{IsSign, IsExpression, IsNegation, IsComparison, IsSum, IsAtom, AreDotted};
-ghost use Rattle.csp_text.specs.Raw.{RawApply, RawCombine, RawRange};
+ghost use Rattle.theory_syntax.specs.Operators.{unary_of, binary_of};
+ghost use Rattle.theory_text.specs.Token.{DotSign, RangeSign, CloseBraceSign, LessSign, OpenBraceSign};
+ghost use Rattle.theory_text.specs.Grammar.{IsSign, IsExpression, IsNegation, IsComparison, IsSum, IsAtom, AreDotted};
+ghost use Rattle.theory_text.specs.Raw.{RawApply, RawCombine, RawRange};
 ghost use Rattle.csp_lex.specs.Tokens.{keyword_of, sign_of};
 ghost use Rattle.csp_parse.specs.declared.stops.Stopped.TheVariants.{Memory};
 ghost use Rattle.csp_lex.specs.declared.kinds.TokenKind.TheVariants as kinds;
@@ -16,8 +16,8 @@ use crate::levels::{Level, binary_function, comparison, unary_function};
 use crate::parsers::Parser;
 use crate::stops::Stopped;
 use csp_lex::{Keyword, Sign, TokenKind};
-use csp_syntax::{BinaryOperator, UnaryOperator};
 use std::alloc::Allocator;
+use theory_syntax::{BinaryOperator, UnaryOperator};
 
 impl<'t, 'a, A: Allocator + Copy> Parser<'t, 'a, A> {
     ghost use Rattle.csp_parse.specs.AtomForms.{Whole, Bracketed, Round, Enclosed, TwoBracketed, Items, Members, Inside};

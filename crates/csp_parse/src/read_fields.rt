@@ -1,8 +1,8 @@
 //! Reading the fields of a prefix.
 
 ghost use Rattle.std.specs.Prelude.{◌≡◌, ◌<◌, ◌≤◌, IfOk, IfErr, length, map};
-ghost use Rattle.csp_text.specs.Grammar.{AreDotted, AreFields, AreLaterFields};
-ghost use Rattle.csp_text.specs.Token.{ColonSign};
+ghost use Rattle.theory_text.specs.Grammar.{AreDotted, AreFields, AreLaterFields};
+ghost use Rattle.theory_text.specs.Token.{ColonSign};
 ghost use Rattle.csp_parse.specs.Expressions.{expressions_of};
 ghost use Rattle.csp_parse.specs.Processes.{field_of, fields_given};
 ghost use Rattle.csp_parse.specs.Starts.{IsLaterField};

@@ -4,8 +4,8 @@
 
 ghost use Rattle.std.specs.Prelude.{◌≡◌, ◌<◌, IfOk, IfErr, length};
 ghost use Rattle.std.specs.Str.{chars};
-ghost use Rattle.csp_text.specs.Grammar.{IsFreedom, IsFreedomEnd};
-ghost use Rattle.csp_text.specs.Raw.{RawDeadlockFree, RawDivergenceFree};
+ghost use Rattle.theory_text.specs.Grammar.{IsFreedom, IsFreedomEnd};
+ghost use Rattle.theory_text.specs.Raw.{RawDeadlockFree, RawDivergenceFree};
 ghost use Rattle.csp_parse.specs.Declarations.{property_of};
 
 use crate::declarations::Property;

@@ -1,8 +1,8 @@
 //! Reading processes.
 
 ghost use Rattle.std.specs.Prelude.{◌≡◌, ◌<◌, ◌≤◌, ◌⊎◌, true, false, IfOk, IfErr, IfSome, IfNone, length};
-ghost use Rattle.csp_text.specs.Grammar.{IsSign, IsWord, IsExpression, IsRenamingPart, IsHidingPart, IsBase, IsOperand, IsProcess};
-ghost use Rattle.csp_text.specs.Token.{IfWord, OpenRenamingSign, HidingSign};
+ghost use Rattle.theory_text.specs.Grammar.{IsSign, IsWord, IsExpression, IsRenamingPart, IsHidingPart, IsBase, IsOperand, IsProcess};
+ghost use Rattle.theory_text.specs.Token.{IfWord, OpenRenamingSign, HidingSign};
 ghost use Rattle.csp_lex.specs.Tokens.{keyword_of, sign_of};
 ghost use Rattle.csp_parse.specs.Expressions.{expression_of};
 ghost use Rattle.csp_parse.specs.Processes.{infix_of, replicator_of, process_in};
@@ -16,11 +16,11 @@ use crate::processes::{Infix, Process, infix_sign, replicated_sign};
 use crate::starts::Start;
 use crate::stops::Stopped;
 use csp_lex::{Keyword, Sign, TokenKind};
-use csp_syntax::{ProcessOperator, ReplicatedOperator};
 use std::alloc::Allocator;
+use theory_syntax::{ProcessOperator, ReplicatedOperator};
 
 impl<'t, 'a, A: Allocator + Copy> Parser<'t, 'a, A> {
-    ghost use Rattle.csp_syntax.specs.declared.process_operator.ReplicatedOperator as over_sets;
+    ghost use Rattle.theory_syntax.specs.declared.process_operator.ReplicatedOperator as over_sets;
     ghost use Rattle.csp_lex.specs.declared.kinds.TokenKind.TheVariants as kinds;
     ghost use Rattle.csp_lex.specs.declared.keywords.Keyword.TheVariants as keyword;
     ghost use Rattle.csp_lex.specs.declared.signs.Sign.TheVariants as sign;

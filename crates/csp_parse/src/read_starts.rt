@@ -1,8 +1,8 @@
 //! Reading what stands where an operand or an expression begins.
 
 ghost use Rattle.std.specs.Prelude.{◌≡◌, ◌<◌, ◌≤◌, ◌⊎◌, true, false, IfOk, IfErr, length};
-ghost use Rattle.csp_text.specs.Grammar.{IsWord, IsName, IsAtom, IsExpression, AreDotted};
-ghost use Rattle.csp_text.specs.Token.{StopWord, SkipWord};
+ghost use Rattle.theory_text.specs.Grammar.{IsWord, IsName, IsAtom, IsExpression, AreDotted};
+ghost use Rattle.theory_text.specs.Token.{StopWord, SkipWord};
 ghost use Rattle.csp_parse.specs.Expressions.{expression_of, expressions_of};
 ghost use Rattle.csp_parse.specs.Names.{name_of};
 ghost use Rattle.csp_parse.specs.Starts.{ReadsName, ReadsStart, ReadsInner, ReadsArguments};

@@ -20,7 +20,7 @@ pub enum GrammarFault {
 }
 
 impl GrammarFault {
-    ghost use Rattle.csp_text.specs.Reading.{grammar_fault_spelling};
+    ghost use Rattle.theory_text.specs.Reading.{grammar_fault_spelling};
     ghost use Rattle.csp_parse.specs.Refusals.{fault_of};
 
     /// The number of the refusal, as it is printed.
@@ -38,7 +38,7 @@ impl GrammarFault {
 
 impl fmt::Display for GrammarFault {
     ghost use Rattle.std.specs.Prelude.{Some};
-    ghost use Rattle.csp_text.specs.Reading.{grammar_fault_spelling};
+    ghost use Rattle.theory_text.specs.Reading.{grammar_fault_spelling};
     ghost use Rattle.csp_parse.specs.Refusals.{fault_of};
 
     ghost output = { λ fault. Some (grammar_fault_spelling (fault_of fault)) };

@@ -1,8 +1,8 @@
 //! What stands where an operand or an expression begins.
 
 ghost use Rattle.std.specs.Prelude.{◌≡◌, IfOk, IfErr, map};
-ghost use Rattle.csp_text.specs.Grammar.{IsOperand};
-ghost use Rattle.csp_text.specs.Raw.{RawPrefix, RawGuard};
+ghost use Rattle.theory_text.specs.Grammar.{IsOperand};
+ghost use Rattle.theory_text.specs.Raw.{RawPrefix, RawGuard};
 ghost use Rattle.csp_parse.specs.Expressions.{expression_of};
 ghost use Rattle.csp_parse.specs.Names.{name_of};
 ghost use Rattle.csp_parse.specs.Processes.{field_of, process_in};

@@ -2,14 +2,14 @@
 use Rattle.std.proofs.Common.{◌≡◌, ℕ, zero, suc, ◌<◌, ◌≤◌, List, [], ◌∷◌, ◌++◌, length, get_or, refl, ap, arith}
 use Rattle.std.proofs.lemmas.Bool.Decides.{Decides-eqb}
 use Rattle.std.specs.Prelude.{codes, ◌==◌, false, true}
-use Rattle.csp_syntax.specs.Expression as pure
-use Rattle.csp_syntax.specs.Expression.{to_expressions}
-use Rattle.csp_semantics.specs.Meaning.Limits.{expression_size, expressions_size}
-use Rattle.csp_answers.specs.Printing.{name_at}
+use Rattle.theory_syntax.specs.Expression as pure
+use Rattle.theory_syntax.specs.Expression.{to_expressions}
+use Rattle.theory_semantics.specs.Meaning.Limits.{expression_size, expressions_size}
+use Rattle.theory_search.specs.Printing.{name_at}
 use Rattle.csp_expression.specs.declared.expr.Expr.{Expr}
 use Rattle.csp_expression.specs.Expression.{expression_of, expressions_of}
-use Rattle.csp_notation.specs.Names.{Names}
-use Rattle.csp_notation.specs.Expressions.{expression_text, expressions_behind}
+use Rattle.theory_notation.specs.Names.{Names}
+use Rattle.theory_notation.specs.Expressions.{expression_text, expressions_behind}
 
 -- a constructor that has fields
 pub with_fields : {A : Type 0} (names : Names) (k : ℕ) (fields : List (Expr A)) → (length fields == 0) ≡ false →

@@ -1,17 +1,17 @@
 -- The texts of processes under an operator.
 use Rattle.std.proofs.Common.{◌≡◌, ℕ, ◌++◌, refl}
 use Rattle.std.specs.Prelude.{codes}
-use Rattle.csp_answers.specs.Printing.{name_at}
-use Rattle.csp_syntax.specs.Expression.{Expression}
-use Rattle.csp_syntax.specs.Process.{Process}
-use Rattle.csp_syntax.specs.Operators.{binary_process, replicated_process}
-use Rattle.csp_syntax.specs.declared.process_operator.ProcessOperator.{ProcessOperator}
-use Rattle.csp_syntax.specs.declared.process_operator.ProcessOperator.TheVariants as operator
-use Rattle.csp_syntax.specs.declared.process_operator.ReplicatedOperator.{ReplicatedOperator}
-use Rattle.csp_syntax.specs.declared.process_operator.ReplicatedOperator.TheVariants as replicated
-use Rattle.csp_notation.specs.Names.{Names}
-use Rattle.csp_notation.specs.Expressions.{operand_text}
-use Rattle.csp_notation.specs.Processes.{chain_text, process_text, shape}
+use Rattle.theory_search.specs.Printing.{name_at}
+use Rattle.theory_syntax.specs.Expression.{Expression}
+use Rattle.theory_syntax.specs.Process.{Process}
+use Rattle.theory_syntax.specs.Operators.{binary_process, replicated_process}
+use Rattle.theory_syntax.specs.declared.process_operator.ProcessOperator.{ProcessOperator}
+use Rattle.theory_syntax.specs.declared.process_operator.ProcessOperator.TheVariants as operator
+use Rattle.theory_syntax.specs.declared.process_operator.ReplicatedOperator.{ReplicatedOperator}
+use Rattle.theory_syntax.specs.declared.process_operator.ReplicatedOperator.TheVariants as replicated
+use Rattle.theory_notation.specs.Names.{Names}
+use Rattle.theory_notation.specs.Expressions.{operand_text}
+use Rattle.theory_notation.specs.Processes.{chain_text, process_text, shape}
 use Rattle.csp_print.specs.Shapes.{operator_of, replicator_text}
 
 pub chained : (names : Names) (op : ProcessOperator) (p q : Process) →

@@ -2,16 +2,16 @@
 use Rattle.std.proofs.Common.{◌≡◌, ℕ, zero, suc, ◌<◌, ◌≤◌, List, [], ◌∷◌, ◌++◌, length, get_or, refl, sym, ◌∙◌, ap, arith}
 use Rattle.std.specs.Prelude.{codes, ◌==◌, false}
 use Rattle.std.specs.declared.vec.Vec.{Vec}
-use Rattle.csp_syntax.specs.Value as pure
-use Rattle.csp_semantics.specs.Meaning.Limits.{value_size, values_size}
-use Rattle.csp_answers.specs.Printing.{name_at}
+use Rattle.theory_syntax.specs.Value as pure
+use Rattle.theory_semantics.specs.Meaning.Limits.{value_size, values_size}
+use Rattle.theory_search.specs.Printing.{name_at}
 use Rattle.csp_value.specs.declared.value.Value.{Value}
 use Rattle.csp_value.specs.declared.value.Value.TheVariants as views
 use Rattle.csp_value.specs.declared.set.SetOf.{SetOf}
 use Rattle.csp_value.specs.Value.{value_of, values_of, members_of}
 use Rattle.csp_value.proofs.Forms.{value_of_seq, value_of_set, unlisted}
-use Rattle.csp_notation.specs.Names.{Names}
-use Rattle.csp_notation.specs.Values.{value_text, values_behind}
+use Rattle.theory_notation.specs.Names.{Names}
+use Rattle.theory_notation.specs.Values.{value_text, values_behind}
 
 -- a constructor that has fields
 pub with_fields : {A : Type 0} (names : Names) (k : ℕ) (fields : List (Value A)) → (length fields == 0) ≡ false →

@@ -1,7 +1,7 @@
 -- How the operators of sets of events are written.
 use Rattle.std.specs.Prelude.{ℕ, List, codes}
-use Rattle.csp_syntax.specs.declared.event_set_operator.EventSetOperator.{EventSetOperator}
-use Rattle.csp_syntax.specs.declared.event_set_operator.EventSetOperator.TheVariants as operator
+use Rattle.theory_syntax.specs.declared.event_set_operator.EventSetOperator.{EventSetOperator}
+use Rattle.theory_syntax.specs.declared.event_set_operator.EventSetOperator.TheVariants as operator
 
 abbrev pub operator_text : EventSetOperator → List ℕ
 operator_text operator.Union = codes "union("

@@ -1,7 +1,7 @@
 -- The names that those of the code stand for.
 use Rattle.std.specs.Prelude.{ℕ, List, map}
 use Rattle.std.specs.Borrow.{Bor}
-use Rattle.csp_notation.specs.Names as pure
+use Rattle.theory_notation.specs.Names as pure
 use Rattle.csp_print.specs.declared.names.Names.{Names}
 
 abbrev pub spellings_of : List (Bor (List ℕ)) → List (List ℕ)

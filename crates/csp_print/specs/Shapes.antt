@@ -1,11 +1,11 @@
 -- The operators, the shapes and the positions that those of the code stand for.
 use Rattle.std.specs.Prelude.{ℕ, List, codes}
-use Rattle.csp_text.specs.Raw as raw
-use Rattle.csp_syntax.specs.declared.process_operator.ProcessOperator.{ProcessOperator}
-use Rattle.csp_syntax.specs.declared.process_operator.ProcessOperator.TheVariants as operator
-use Rattle.csp_syntax.specs.declared.process_operator.ReplicatedOperator.{ReplicatedOperator}
-use Rattle.csp_syntax.specs.declared.process_operator.ReplicatedOperator.TheVariants as replicated
-use Rattle.csp_notation.specs.Processes as pure
+use Rattle.theory_text.specs.Raw as raw
+use Rattle.theory_syntax.specs.declared.process_operator.ProcessOperator.{ProcessOperator}
+use Rattle.theory_syntax.specs.declared.process_operator.ProcessOperator.TheVariants as operator
+use Rattle.theory_syntax.specs.declared.process_operator.ReplicatedOperator.{ReplicatedOperator}
+use Rattle.theory_syntax.specs.declared.process_operator.ReplicatedOperator.TheVariants as replicated
+use Rattle.theory_notation.specs.Processes as pure
 use Rattle.csp_print.specs.declared.shapes.Infix.{Infix}
 use Rattle.csp_print.specs.declared.shapes.Infix.TheVariants as joining
 use Rattle.csp_print.specs.declared.shapes.Shape.{Shape}

@@ -1,9 +1,9 @@
 //! The texts of events, of sets of events and of renamings.
 
 ghost use Rattle.std.specs.Prelude.{◌≡◌, codes};
-ghost use Rattle.csp_syntax.specs.Operators.{combined};
+ghost use Rattle.theory_syntax.specs.Operators.{combined};
 ghost use Rattle.csp_event_sets.specs.Events.{event_expression_of, event_expressions_of, event_set_of, renaming_pair_of, renaming_pairs_of};
-ghost use Rattle.csp_notation.specs.EventSets.{event_set_text, event_text, events_behind, events_text, pair_text, pairs_behind, pairs_text};
+ghost use Rattle.theory_notation.specs.EventSets.{event_set_text, event_text, events_behind, events_text, pair_text, pairs_behind, pairs_text};
 ghost use Rattle.csp_print.specs.EventSets.{operator_text};
 ghost use Rattle.csp_print.specs.Names.{names_of};
 ghost use Rattle.csp_print.specs.Writing.{Writes};

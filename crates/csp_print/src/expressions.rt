@@ -1,10 +1,10 @@
 //! The text of expressions.
 
 ghost use Rattle.std.specs.Prelude.{codes};
-ghost use Rattle.csp_syntax.specs.Expression.{Apply, Combine, ConstructorOf, Range, SequenceOf, SetOf, to_expressions};
-ghost use Rattle.csp_syntax.specs.Operators.{binary_of, unary_of};
+ghost use Rattle.theory_syntax.specs.Expression.{Apply, Combine, ConstructorOf, Range, SequenceOf, SetOf, to_expressions};
+ghost use Rattle.theory_syntax.specs.Operators.{binary_of, unary_of};
 ghost use Rattle.csp_expression.specs.Expression.{expression_of, expressions_of};
-ghost use Rattle.csp_notation.specs.Expressions.{expression_text, expressions_behind, items_text, operand_text};
+ghost use Rattle.theory_notation.specs.Expressions.{expression_text, expressions_behind, items_text, operand_text};
 ghost use Rattle.csp_print.specs.Names.{names_of};
 ghost use Rattle.csp_print.specs.Writing.{Writes};
 

@@ -1,7 +1,7 @@
 //! Spaces that keep tokens apart.
 
 ghost use Rattle.std.specs.Prelude.{codes};
-ghost use Rattle.csp_notation.specs.Marks.{gap};
+ghost use Rattle.theory_notation.specs.Marks.{gap};
 ghost use Rattle.csp_print.specs.Writing.{Writes};
 
 use std::alloc::{AllocError, Allocator};

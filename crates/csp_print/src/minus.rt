@@ -1,9 +1,9 @@
 //! Which texts of expressions begin with `-`.
 
 ghost use Rattle.std.specs.Prelude.{◌≡◌};
-ghost use Rattle.csp_syntax.specs.Operators.{unary_of};
+ghost use Rattle.theory_syntax.specs.Operators.{unary_of};
 ghost use Rattle.csp_expression.specs.Expression.{expression_of};
-ghost use Rattle.csp_notation.specs.Expressions as notation;
+ghost use Rattle.theory_notation.specs.Expressions as notation;
 
 use crate::operators::is_function;
 use crate::ranks::{ATOM, is_bare, left_rank};

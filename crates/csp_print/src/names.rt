@@ -1,6 +1,6 @@
 //! The spellings of a script's names.
 
-ghost use Rattle.csp_answers.specs.Printing.{name_at};
+ghost use Rattle.theory_search.specs.Printing.{name_at};
 ghost use Rattle.csp_print.specs.Names.{names_of, spellings_of};
 ghost use Rattle.csp_print.specs.Writing.{Writes};
 

@@ -1,8 +1,8 @@
 //! How operators of expressions are written.
 
 ghost use Rattle.std.specs.Prelude.{◌≡◌};
-ghost use Rattle.csp_syntax.specs.Operators.{binary_of, unary_of};
-ghost use Rattle.csp_notation.specs.Expressions as notation;
+ghost use Rattle.theory_syntax.specs.Operators.{binary_of, unary_of};
+ghost use Rattle.theory_notation.specs.Expressions as notation;
 
 use csp_expression::{BinaryOperator, UnaryOperator};
 

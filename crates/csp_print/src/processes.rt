@@ -1,15 +1,15 @@
 //! The text of terms.
 
 ghost use Rattle.std.specs.Prelude.{◌≡◌, codes};
-ghost use Rattle.csp_syntax.specs.Expression.{to_expressions};
-ghost use Rattle.csp_syntax.specs.Process.{AlphabetisedParallel, GeneralisedParallel, Guard, Hiding, If, Prefix, Renaming};
-ghost use Rattle.csp_syntax.specs.Operators.{replicated_process};
+ghost use Rattle.theory_syntax.specs.Expression.{to_expressions};
+ghost use Rattle.theory_syntax.specs.Process.{AlphabetisedParallel, GeneralisedParallel, Guard, Hiding, If, Prefix, Renaming};
+ghost use Rattle.theory_syntax.specs.Operators.{replicated_process};
 ghost use Rattle.csp_expression.specs.Expression.{expression_of, expressions_of};
 ghost use Rattle.csp_event_sets.specs.Events.{event_set_of, renaming_pairs_of};
 ghost use Rattle.csp_term.specs.Field.{fields_of};
 ghost use Rattle.csp_term.specs.Term.{process_of};
-ghost use Rattle.csp_notation.specs.Processes as notation;
-ghost use Rattle.csp_notation.specs.Processes.{call_text, chain_text, process_text, text_at};
+ghost use Rattle.theory_notation.specs.Processes as notation;
+ghost use Rattle.theory_notation.specs.Processes.{call_text, chain_text, process_text, text_at};
 ghost use Rattle.csp_print.specs.Names.{names_of};
 ghost use Rattle.csp_print.specs.Shapes.{infix_of, position_of, replicator_text};
 ghost use Rattle.csp_print.specs.Writing.{Writes};

@@ -1,9 +1,9 @@
 //! How strongly expressions hold together.
 
 ghost use Rattle.std.specs.Prelude.{◌≡◌, nat_le};
-ghost use Rattle.csp_syntax.specs.Operators.{binary_of, unary_of};
+ghost use Rattle.theory_syntax.specs.Operators.{binary_of, unary_of};
 ghost use Rattle.csp_expression.specs.Expression.{expression_of};
-ghost use Rattle.csp_notation.specs.Expressions as notation;
+ghost use Rattle.theory_notation.specs.Expressions as notation;
 
 use csp_expression::{BinaryOperator, Expr, UnaryOperator};
 use std::alloc::Allocator;

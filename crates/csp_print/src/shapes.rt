@@ -2,7 +2,7 @@
 
 ghost use Rattle.std.specs.Prelude.{◌≡◌};
 ghost use Rattle.csp_term.specs.Term.{process_of};
-ghost use Rattle.csp_notation.specs.Processes as notation;
+ghost use Rattle.theory_notation.specs.Processes as notation;
 ghost use Rattle.csp_print.specs.Shapes.{infix_of, operator_of, position_of, shape_of};
 
 use csp_term::{ProcessOperator, Term, TermForm};

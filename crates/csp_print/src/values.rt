@@ -1,10 +1,10 @@
 //! The text of values.
 
 ghost use Rattle.std.specs.Prelude.{◌≡◌, codes};
-ghost use Rattle.csp_syntax.specs.Value.{Constructor, to_values};
+ghost use Rattle.theory_syntax.specs.Value.{Constructor, to_values};
 ghost use Rattle.csp_value.specs.Value.{value_of, values_of};
-ghost use Rattle.csp_notation.specs.Values as notation;
-ghost use Rattle.csp_notation.specs.Values.{integer_text, value_text, values_behind, values_text};
+ghost use Rattle.theory_notation.specs.Values as notation;
+ghost use Rattle.theory_notation.specs.Values.{integer_text, value_text, values_behind, values_text};
 ghost use Rattle.csp_print.specs.Names.{names_of};
 ghost use Rattle.csp_print.specs.Writing.{Writes};
 

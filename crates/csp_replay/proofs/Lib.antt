@@ -1,6 +1,9 @@
-pub mod Adding
+pub mod AddingToLayers
 pub mod Fired
 pub mod Sorted
 pub mod Told
 pub mod Visible
 pub mod Within
+pub mod Putting
+pub mod FiredOnce
+pub mod Backwards

@@ -13,11 +13,11 @@ use Rattle.std.specs.List.Retain.{IsFiltered, DiffersFromLast}
 use Rattle.std.specs.List.Sorted.{IsPermutation, IsSorted}
 use Rattle.std.proofs.lemmas.Cmp.{lists_total}
 use Rattle.std.proofs.lemmas.List.Filters.{dedup_is}
-use Rattle.csp_syntax.specs.Value as pure
-use Rattle.csp_syntax.proofs.Orders.{action_total, action_ties}
-use Rattle.csp_semantics.specs.Meaning.Expansions.{offers_cmp}
-use Rattle.csp_semantics.specs.Meaning.Offers.{IsRising, RisesBy}
-use Rattle.csp_runs.proofs.Sortings.{once_stays, once_rises}
+use Rattle.theory_syntax.specs.Value as pure
+use Rattle.theory_syntax.proofs.Orders.{action_total, action_ties}
+use Rattle.theory_semantics.specs.Meaning.Expansions.{offers_cmp}
+use Rattle.theory_semantics.specs.Meaning.Offers.{IsRising, RisesBy}
+use Rattle.theory_runs.proofs.Sortings.{once_stays, once_rises}
 use Rattle.csp_value.specs.declared.handle.AllocHandle as handle
 use Rattle.csp_value.specs.declared.action.Action.{Action}
 use Rattle.csp_value.specs.Action.{action_of}

@@ -1,12 +1,12 @@
 -- The states that are told are terms of the script.
 use Rattle.std.proofs.Common.{ℕ, List, Vec, Contains, take}
-use Rattle.csp_syntax.specs.Value.{Action}
-use Rattle.csp_syntax.specs.Process.{Process, Script}
-use Rattle.csp_semantics.specs.Kinds.Scripts.{IsTermOf}
-use Rattle.csp_semantics.specs.Meaning.Runs.{trace}
-use Rattle.csp_semantics.proofs.Rising.{stands_from_Contains}
-use Rattle.csp_runs.specs.Layers.{AreTermsOf}
-use Rattle.csp_runs.proofs.Closing.{after_closed}
+use Rattle.theory_syntax.specs.Value.{Action}
+use Rattle.theory_syntax.specs.Process.{Process, Script}
+use Rattle.theory_semantics.specs.Kinds.Scripts.{IsTermOf}
+use Rattle.theory_semantics.specs.Meaning.Runs.{trace}
+use Rattle.theory_semantics.proofs.Rising.{stands_from_Contains}
+use Rattle.theory_runs.specs.Layers.{AreTermsOf}
+use Rattle.theory_runs.proofs.Closing.{after_closed}
 use Rattle.csp_term.specs.declared.term.Term.{Term}
 use Rattle.csp_replay.specs.Along.{TellsStates, states_listed}
 use Rattle.csp_replay.specs.declared.along.Along.TheVariants as variant

@@ -1,6 +1,6 @@
 -- Actions of the code that are no tau.
 use Rattle.std.proofs.Common.{◌≡◌, refl}
-use Rattle.csp_semantics.specs.Meaning.Transitions.{IsVisible}
+use Rattle.theory_semantics.specs.Meaning.Transitions.{IsVisible}
 use Rattle.csp_value.specs.Action.{action_of}
 use Rattle.csp_value.specs.declared.action.Action.{Action}
 use Rattle.csp_value.specs.declared.action.Action.TheVariants as variant

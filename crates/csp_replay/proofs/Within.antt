@@ -3,8 +3,8 @@ use Rattle.std.proofs.Common.{◌≡◌, Bool, true, false, List, map, Contains,
 use Rattle.std.specs.List.{list_any}
 use Rattle.std.proofs.lemmas.List.Folds.{Any-from_list_any, list_any_at}
 use Rattle.std.proofs.lemmas.Option.{slice_get-get_or, slice_get_within, get_or_from_slice_get}
-use Rattle.csp_syntax.proofs.Places.{get_map, get_some}
-use Rattle.csp_semantics.proofs.Rising.{stands_from_Contains, Contains-from_stands}
+use Rattle.theory_syntax.proofs.Places.{get_map, get_some}
+use Rattle.theory_semantics.proofs.Rising.{stands_from_Contains, Contains-from_stands}
 use Rattle.csp_value.proofs.Sameness.{Tells}
 
 module _ {X Y : Type 0} {test : X → X → Bool} {meaning : X → Y} (tells : Tells test meaning) (ys : List X) (x : X) (r : Bool) (is : r ≡ list_any (λ y. test y x) ys) where

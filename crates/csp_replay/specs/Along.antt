@@ -1,8 +1,8 @@
 -- The states after the beginnings of a path.
 use Rattle.std.specs.Prelude.{ℕ, List, Vec, map}
-use Rattle.csp_syntax.specs.Value.{Action}
-use Rattle.csp_syntax.specs.Process.{Process, Script}
-use Rattle.csp_runs.specs.States.{AreStatesAlong, AreSmall, AreMoreAlong}
+use Rattle.theory_syntax.specs.Value.{Action}
+use Rattle.theory_syntax.specs.Process.{Process, Script}
+use Rattle.theory_runs.specs.States.{AreStatesAlong, AreSmall, AreMoreAlong}
 use Rattle.csp_term.specs.Term.{process_of}
 use Rattle.csp_term.specs.declared.term.Term.{Term}
 use Rattle.csp_replay.specs.declared.along.Along.{Along}

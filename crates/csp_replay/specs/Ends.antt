@@ -1,9 +1,9 @@
 -- Terms that show evidence.
 use Rattle.std.specs.Prelude.{◌≡◌, ◌≢◌, ℕ, List, [], Option, Some, None, slice_get, Contains}
-use Rattle.csp_syntax.specs.Value.{Action}
-use Rattle.csp_syntax.specs.Process.{Process, Omega, Script}
-use Rattle.csp_semantics.specs.Meaning.Violations.{Evidence}
-use Rattle.csp_runs.specs.States.{Shows}
+use Rattle.theory_syntax.specs.Value.{Action}
+use Rattle.theory_syntax.specs.Process.{Process, Omega, Script}
+use Rattle.theory_semantics.specs.Meaning.Violations.{Evidence}
+use Rattle.theory_runs.specs.States.{Shows}
 
 -- one of the steps is by the action
 abbrev pub HasStepBy : List (Action × Process) → Action → Type 0

@@ -1,7 +1,7 @@
 -- The layer that one of the code stands for.
 use Rattle.std.specs.Prelude.{List, map}
-use Rattle.csp_syntax.specs.Process.{Process}
-use Rattle.csp_runs.specs.Layers as runs
+use Rattle.theory_syntax.specs.Process.{Process}
+use Rattle.theory_runs.specs.Layers as runs
 use Rattle.csp_term.specs.Term.{process_of}
 use Rattle.csp_replay.specs.declared.layer.Layer.{Layer}
 

@@ -1,8 +1,8 @@
 -- The layers of a path.
 use Rattle.std.specs.Prelude.{List, map}
-use Rattle.csp_syntax.specs.Value.{Action}
-use Rattle.csp_syntax.specs.Process.{Process, Script}
-use Rattle.csp_runs.specs.Layers.{AreLayers}
+use Rattle.theory_syntax.specs.Value.{Action}
+use Rattle.theory_syntax.specs.Process.{Process, Script}
+use Rattle.theory_runs.specs.Layers.{AreLayers}
 use Rattle.csp_replay.specs.declared.layers.Layers.{Layers}
 use Rattle.csp_replay.specs.Layer.{layer_of}
 

@@ -4,3 +4,8 @@ pub mod Ends
 pub mod Ways
 pub mod Along
 pub mod Offers
+pub mod Hindrance
+pub mod Looking
+pub mod Met
+pub mod WaysToStuck
+pub mod Running

@@ -1,6 +1,6 @@
 -- The acceptances that lists of the code stand for.
 use Rattle.std.specs.Prelude.{List, Vec, map}
-use Rattle.csp_syntax.specs.Value as pure
+use Rattle.theory_syntax.specs.Value as pure
 use Rattle.csp_value.specs.declared.action.Action.{Action}
 use Rattle.csp_value.specs.Action.{action_of}
 

@@ -1,8 +1,8 @@
 -- Ways through the layers of a path.
 use Rattle.std.specs.Prelude.{◌≡◌, ℕ, List, Vec, Some, map, slice_get}
-use Rattle.csp_syntax.specs.Value.{Action}
-use Rattle.csp_syntax.specs.Process.{Process, Script}
-use Rattle.csp_runs.specs.States.{Visits}
+use Rattle.theory_syntax.specs.Value.{Action}
+use Rattle.theory_syntax.specs.Process.{Process, Script}
+use Rattle.theory_runs.specs.States.{Visits}
 use Rattle.csp_term.specs.Term.{process_of}
 use Rattle.csp_term.specs.declared.term.Term.{Term}
 use Rattle.csp_replay.specs.declared.layers.Layers.{Layers}

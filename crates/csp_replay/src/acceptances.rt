@@ -1,13 +1,13 @@
 //! What states offer at least.
 
 ghost use Rattle.std.specs.Prelude.{[], map, IfOk, Contains, ◌↔◌, List};
-ghost use Rattle.csp_syntax.specs.Value as pure;
-ghost use Rattle.csp_semantics.specs.Meaning.Expansions.{offers_cmp};
-ghost use Rattle.csp_semantics.specs.Meaning.Offers.{RisesBy};
-ghost use Rattle.csp_answers.specs.Acceptances.{IsAcceptanceOfSome};
-ghost use Rattle.csp_runs.specs.Acceptances.{AreLeastAcceptances};
-ghost use Rattle.csp_runs.specs.Gathering.{Gathers};
-ghost use Rattle.csp_runs.specs.Layers.{AreTermsOf};
+ghost use Rattle.theory_syntax.specs.Value as pure;
+ghost use Rattle.theory_semantics.specs.Meaning.Expansions.{offers_cmp};
+ghost use Rattle.theory_semantics.specs.Meaning.Offers.{RisesBy};
+ghost use Rattle.theory_search.specs.Acceptances.{IsAcceptanceOfSome};
+ghost use Rattle.theory_runs.specs.Acceptances.{AreLeastAcceptances};
+ghost use Rattle.theory_runs.specs.Gathering.{Gathers};
+ghost use Rattle.theory_runs.specs.Layers.{AreTermsOf};
 ghost use Rattle.csp_term.specs.Script.{script_of};
 ghost use Rattle.csp_term.specs.Term.{process_of};
 ghost use Rattle.csp_replay.specs.Offers.{offers_listed};

@@ -1,9 +1,9 @@
 //! Terms that show the evidence of a violation.
 
 ghost use Rattle.std.specs.Prelude.{◌↔◌, map, Contains, IsTrue, IfOk};
-ghost use Rattle.csp_semantics.specs.Kinds.Scripts.{IsTermOf};
-ghost use Rattle.csp_runs.specs.States.{Shows};
-ghost use Rattle.csp_runs.specs.Layers.{AreTermsOf};
+ghost use Rattle.theory_semantics.specs.Kinds.Scripts.{IsTermOf};
+ghost use Rattle.theory_runs.specs.States.{Shows};
+ghost use Rattle.theory_runs.specs.Layers.{AreTermsOf};
 ghost use Rattle.csp_value.specs.Action.{action_of};
 ghost use Rattle.csp_term.specs.Script.{script_of};
 ghost use Rattle.csp_term.specs.Term.{process_of};

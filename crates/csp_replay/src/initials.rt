@@ -1,9 +1,9 @@
 //! What states can do.
 
 ghost use Rattle.std.specs.Prelude.{map, IfOk, OnOk};
-ghost use Rattle.csp_runs.specs.Gathering.{Gathers};
-ghost use Rattle.csp_runs.specs.Initials.{AreInitials, IsInitialBy};
-ghost use Rattle.csp_runs.specs.Layers.{AreTermsOf};
+ghost use Rattle.theory_runs.specs.Gathering.{Gathers};
+ghost use Rattle.theory_runs.specs.Initials.{AreInitials, IsInitialBy};
+ghost use Rattle.theory_runs.specs.Layers.{AreTermsOf};
 ghost use Rattle.csp_value.specs.Action.{action_of};
 ghost use Rattle.csp_term.specs.Script.{script_of};
 ghost use Rattle.csp_term.specs.Term.{process_of};

@@ -1,9 +1,9 @@
 //! Lists of actions in which no other one lies.
 
 ghost use Rattle.std.specs.Prelude.{[], ◌↔◌, map, IfOk, IsTrue};
-ghost use Rattle.csp_answers.specs.Acceptances.{IsWithin};
-ghost use Rattle.csp_runs.specs.Acceptances.{IsLeastAmong, LiesAlone};
-ghost use Rattle.csp_runs.specs.Gathering.{Gathers};
+ghost use Rattle.theory_search.specs.Acceptances.{IsWithin};
+ghost use Rattle.theory_runs.specs.Acceptances.{IsLeastAmong, LiesAlone};
+ghost use Rattle.theory_runs.specs.Gathering.{Gathers};
 ghost use Rattle.csp_value.specs.Action.{action_of};
 ghost use Rattle.csp_replay.specs.Offers.{offers_listed};
 

@@ -1,8 +1,8 @@
 //! The states on the way of a violation.
 
 ghost use Rattle.std.specs.Prelude.{map, IfOk, IfSome, IsNone};
-ghost use Rattle.csp_semantics.specs.Kinds.Scripts.{IsTermOf};
-ghost use Rattle.csp_runs.specs.States.{IsReplay, HasNoReplay};
+ghost use Rattle.theory_semantics.specs.Kinds.Scripts.{IsTermOf};
+ghost use Rattle.theory_runs.specs.States.{IsReplay, HasNoReplay};
 ghost use Rattle.csp_term.specs.Script.{script_of};
 ghost use Rattle.csp_term.specs.Term.{process_of};
 ghost use Rattle.verdict.specs.Outcome.{violation_of};

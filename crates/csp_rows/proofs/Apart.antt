@@ -1,45 +1,71 @@
--- A term is a row of its parts.
-use Rattle.std.proofs.Common.{◌≡◌, ◌<◌, ◌+◌, ℕ, List, [], ◌∷◌, length, refl, sym, ap, ap₂, subst, ◌∙◌}
-use Rattle.std.specs.Prelude.{fold}
-use Rattle.std.specs.List.{AllByRecursion, sum_by}
-use Rattle.std.proofs.lemmas.List.{length-map}
-use Rattle.csp_syntax.specs.Process.{Process}
-use Rattle.csp_semantics.specs.Meaning.Limits.{size}
-use Rattle.csp_spelling.specs.Spellable.{IsSpellable}
-use Rattle.csp_shapes.specs.Measures.{own_size}
-use Rattle.csp_shapes.specs.Operators.{IsSpellableShape}
-use Rattle.csp_shapes.specs.Parts.{parts_of, shape_of}
-use Rattle.csp_shapes.specs.Shape.{Shape, fill, holes}
-use Rattle.csp_shapes.proofs.Apart.{as_many, filled_again}
-use Rattle.csp_shapes.proofs.ByParts.{spellable_by_parts}
-use Rattle.csp_shapes.proofs.Measured.{size_by_parts}
-use Rattle.csp_changes.specs.declared.numbers.PartId.{PartId}
-use Rattle.csp_changes.specs.declared.part.Part.{Part}
-use Rattle.csp_changes.specs.declared.places.Place.{Place}
-use Rattle.csp_changes.specs.Measures.{AreMeasured}
-use Rattle.csp_changes.specs.Numbering.{Numbering}
-use Rattle.csp_changes.specs.Places.{AreRunsOf}
-use Rattle.csp_changes.specs.Rows.{row_parts, size_at}
+-- Bytes that are split so spell the shape with the parts.
+use Rattle.std.proofs.Common.{◌≡◌, ℕ, ◌<◌, zero, suc, List, [], ◌∷◌, length, take, refl, sym, ap, ◌∙◌, arith}
+use Rattle.std.specs.List.{AllByRecursion}
+use Rattle.std.proofs.lemmas.List.{append-nil, length-take}
+use Rattle.theory_syntax.specs.Process.{Process}
+use Rattle.theory_spelling.specs.Reading.{term_of}
+use Rattle.theory_spelling.specs.Spellable.{IsSpellable}
+use Rattle.theory_spelling.specs.Spelling.{spelling}
+use Rattle.theory_spelling.proofs.Laws.{term_again}
+use Rattle.theory_shapes.specs.Operators.{IsSpellableShape}
+use Rattle.theory_shapes.specs.Pieces.{in_turn, part_run, pieces}
+use Rattle.theory_shapes.specs.Shape.{Shape, fill, holes}
+use Rattle.theory_shapes.proofs.ByParts.{spellable_by_parts}
+use Rattle.theory_shapes.proofs.InPlace.{same_turn}
+use Rattle.theory_shapes.proofs.Spelled.{piece_count, spelled_whole}
+use Rattle.csp_rows.specs.declared.numbers.PartId.{PartId}
+use Rattle.csp_rows.specs.declared.part.Part.{Part}
+use Rattle.csp_rows.specs.declared.places.Place.{Place}
+use Rattle.csp_rows.specs.Numbering.{Numbering}
+use Rattle.csp_rows.specs.Places.{AreSpelled, IsRunAt, place_at}
+use Rattle.csp_rows.specs.Rows.{row_parts}
+use Rattle.csp_rows.specs.ByParts.{AreSpellable}
+use Rattle.csp_rows.specs.Split.{IsSplit, IsTermByParts, number_run}
 
-pub row_count : (z : Numbering) (row : List PartId) → length (row_parts z row) ≡ length row
-row_count z row = length-map row (λ (n : PartId). z.part n.0)
+pub row_count : (z : Numbering) (numbers : List PartId) → length (row_parts z numbers) ≡ length numbers
+row_count z [] = refl
+row_count z (n ∷ numbers) = ap suc (row_count z numbers)
 
-pub taken_apart : (z : Numbering) (t : Process) (row : List PartId) → row_parts z row ≡ parts_of t → (length row ≡ holes (shape_of t)) × (t ≡ fill (shape_of t) (row_parts z row))
-taken_apart z t row same = (
-  sym (row_count z row) ∙ ap (λ (ps : List Process). length ps) same ∙ as_many t,
-  sym (filled_again t) ∙ ap (fill (shape_of t)) (sym same),
-)
+parts_spellable : (z : Numbering) (count : ℕ) (numbers : List PartId) → AreSpellable z count → AllByRecursion (λ n. n.0 < count) numbers → AllByRecursion IsSpellable (row_parts z numbers)
+parts_spellable z count [] spellable among = tt
+parts_spellable z count (n ∷ numbers) spellable among = (spellable n.0 among.0, parts_spellable z count numbers spellable among.1)
 
-pub runs_there : (z : Numbering) (t : Process) (row : List PartId) (places : List Place) → row_parts z row ≡ parts_of t → AreRunsOf (shape_of t) (parts_of t) places → AreRunsOf (shape_of t) (row_parts z row) places
-runs_there z t row places same are = subst (λ (ps : List Process). AreRunsOf (shape_of t) ps places) (sym same) are
+module _ {A : Type 0} (z : Numbering) (parts : List (Part A)) (known : AreSpelled z parts) where
+  -- the runs are the spellings of the parts
+  run_is : (numbers : List PartId) (i : ℕ) → AllByRecursion (λ n. n.0 < length parts) numbers → i < length numbers → number_run parts numbers i ≡ part_run (row_parts z numbers) i
+  run_is [] i among within = absurd (omega (arith, within))
+  run_is (n ∷ numbers) zero among within = known n.0 among.0
+  run_is (n ∷ numbers) (suc i) among within = run_is numbers i among.1 (omega (arith, within))
 
-pub shape_spellable : (t : Process) → IsSpellable t → IsSpellableShape (shape_of t)
-shape_spellable t spellable = ((spellable_by_parts (shape_of t) (parts_of t) (as_many t)).0 (subst IsSpellable (sym (filled_again t)) spellable)).0
+  module _ (s : Shape) (bytes : List ℕ) (numbers : List PartId) (places : List Place) (spellable : AreSpellable z (length parts)) (by_shape : IsSpellableShape s) (is : IsSplit parts bytes (pieces s) numbers places) where
+    abbrev ps : List Process
+    ps = row_parts z numbers
 
-module _ {A : Type 0} (z : Numbering) (parts : List (Part A)) (are : AreMeasured z parts) where
-  sizes_told : (n m : ℕ) (row : List PartId) → n ≡ m → AllByRecursion (λ p. p.0 < length parts) row → fold (λ a p. a + size p) n (row_parts z row) ≡ fold (λ a p. a + size_at parts p.0) m row
-  sizes_told n m [] same known = same
-  sizes_told n m (p ∷ row) same known = sizes_told (n + size (z.part p.0)) (m + size_at parts p.0) row (ap₂ ◌+◌ same (sym (are p.0 known.0).size)) known.1
+    filled : length numbers ≡ holes s
+    filled = let e = is.between.count in omega (arith, e, piece_count s)
 
-  pub size_told : (s : Shape) (row : List PartId) → AllByRecursion (λ n. n.0 < length parts) row → length row ≡ holes s → size (fill s (row_parts z row)) ≡ own_size s + sum_by (λ n. size_at parts n.0) row
-  size_told s row known long = size_by_parts s (row_parts z row) (row_count z row ∙ long) ∙ ap (λ (n : ℕ). own_size s + n) (sizes_told 0 0 row refl known)
+    long : length ps ≡ holes s
+    long = row_count z numbers ∙ filled
+
+    -- so far as there are holes
+    front_is : (front : List (List ℕ)) → length front < suc (suc (holes s)) → in_turn 0 front (number_run parts numbers) ≡ in_turn 0 front (part_run ps)
+    front_is front few = same_turn 0 front (number_run parts numbers) (part_run ps) (λ i lo hi. run_is numbers i is.between.among (omega (arith, hi, few, filled)))
+
+    spelled : bytes ≡ spelling (fill s ps)
+    spelled = is.between.spelled ∙ append-nil (in_turn 0 (pieces s) (number_run parts numbers)) ∙ front_is (pieces s) (omega (arith, piece_count s)) ∙ sym (spelled_whole s ps)
+
+    run_at : (hole : ℕ) → hole < holes s → IsRunAt s ps hole (place_at places hole)
+    run_at hole within =
+        let there = is.placed hole (omega (arith, within, filled)) in
+        let front = take (suc hole) (pieces s) in
+        let starts = ap (λ (xs : List ℕ). length xs) (front_is front (omega (arith, within, piece_count s, length-take (suc hole) (pieces s)))) in
+        let runs = ap (λ (xs : List ℕ). length xs) (run_is numbers hole is.between.among (omega (arith, within, filled))) in
+        record { start = there.start ∙ starts; end = omega (arith, there.start, there.end, starts, runs) }
+
+    pub split_terms : IsTermByParts z s bytes numbers places
+    split_terms = record {
+      filled = filled;
+      spelled = spelled;
+      read = ap term_of spelled ∙ term_again (fill s ps) ((spellable_by_parts s ps long).1 (by_shape, parts_spellable z (length parts) numbers spellable is.between.among));
+      runs = run_at;
+    }

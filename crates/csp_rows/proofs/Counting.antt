@@ -1,13 +1,13 @@
 -- A term has no fewer nodes than holes, and changes are of no more.
 use Rattle.std.proofs.Common.{◌≡◌, ◌≤◌, ℕ, ◌+◌, suc, nat_le, true, List, [], ◌∷◌, length, arith}
 use Rattle.std.proofs.lemmas.Bool.{and_parts, leb-true}
-use Rattle.csp_syntax.specs.Process.{Process, Stop, Skip, Omega, Call, Prefix, Guard, If, ExternalChoice, InternalChoice, Sequential, Interleaving, Interrupt, GeneralisedParallel, AlphabetisedParallel, Hiding, Renaming, ReplicatedExternalChoice, ReplicatedInternalChoice, ReplicatedInterleaving, SlidingChoice}
-use Rattle.csp_semantics.specs.Meaning.Limits.{depth, fits, max_depth, max_size, size}
-use Rattle.csp_shapes.specs.Changes as pure
-use Rattle.csp_shapes.specs.Shape.{Composed, Framed, Generalised, Alphabetised, Hidden, Hole, Interleaved, Renamed, Shape, fill, fill_from, holes, part_at}
-use Rattle.csp_changes.specs.declared.changes.Change.{Change}
-use Rattle.csp_changes.specs.Numbering.{Numbering}
-use Rattle.csp_changes.specs.Runs.{changes_in}
+use Rattle.theory_syntax.specs.Process.{Process, Stop, Skip, Omega, Call, Prefix, Guard, If, ExternalChoice, InternalChoice, Sequential, Interleaving, Interrupt, GeneralisedParallel, AlphabetisedParallel, Hiding, Renaming, ReplicatedExternalChoice, ReplicatedInternalChoice, ReplicatedInterleaving, SlidingChoice}
+use Rattle.theory_semantics.specs.Meaning.Limits.{depth, fits, max_depth, max_size, size}
+use Rattle.theory_shapes.specs.Changes as pure
+use Rattle.theory_shapes.specs.Shape.{Composed, Framed, Generalised, Alphabetised, Hidden, Hole, Interleaved, Renamed, Shape, fill, fill_from, holes, part_at}
+use Rattle.csp_rows.specs.declared.changes.Change.{Change}
+use Rattle.csp_rows.specs.Numbering.{Numbering}
+use Rattle.csp_rows.specs.Runs.{changes_in}
 
 counts : (p : Process) → 1 ≤ size p
 counts Stop = omega arith

@@ -1,34 +1,34 @@
 -- A row is covered by its parts, and each of its steps has changes.
 use Rattle.std.proofs.Common.{◌≡◌, ◌<◌, ◌-◌, List, length, drop, Option, Some, None, Contains, refl, sym, ap, subst, ◌∙◌}
 use Rattle.std.specs.Prelude.{IsTrue}
-use Rattle.csp_syntax.specs.Value.{Action}
-use Rattle.csp_syntax.specs.Process.{Process, Script}
-use Rattle.csp_semantics.specs.Meaning.Limits.{fits, size}
-use Rattle.csp_semantics.specs.Meaning.Stepping.{Steps}
-use Rattle.csp_semantics.specs.Meaning.Transitions.{RuleStep}
-use Rattle.csp_spelling.specs.Spelling.{spelling}
-use Rattle.csp_shapes.specs.Changes as pure
-use Rattle.csp_shapes.specs.Shape.{fill, holes}
-use Rattle.csp_shapes.specs.ShapeSteps.{IsCovered, ShapeSteps, all_changing, shape_steps}
-use Rattle.csp_shapes.proofs.Fired.{fired_are_known}
-use Rattle.csp_shapes.proofs.Segments.{all_split}
-use Rattle.csp_shapes.proofs.Told.{steps_told}
-use Rattle.csp_changes.specs.declared.changes.Change.{Change}
-use Rattle.csp_changes.specs.declared.changes.Run.{Run}
-use Rattle.csp_changes.specs.declared.step.Step.{Step}
-use Rattle.csp_changes.specs.Measures.{IsRowWithin}
-use Rattle.csp_changes.specs.Numbering.{IsNumbered, Numbering, action_at}
-use Rattle.csp_changes.specs.Places.{AreChangesOf, IsRowOf}
-use Rattle.csp_changes.specs.Rows.{row_steps}
-use Rattle.csp_changes.specs.Runs.{AreAmong, AreNumbered, IsToldIn, Told, changes_of, changes_told, changing_of, run_of, step_of, steps_of, told_of}
-use Rattle.csp_changes.proofs.Targets.{may_be_made}
-use Rattle.csp_orders.specs.InOrder.{AreInOrder}
-use Rattle.csp_orders.proofs.Members.{all_contained, all_each, map_contained, map_contains}
+use Rattle.theory_syntax.specs.Value.{Action}
+use Rattle.theory_syntax.specs.Process.{Process, Script}
+use Rattle.theory_semantics.specs.Meaning.Limits.{fits, size}
+use Rattle.theory_semantics.specs.Meaning.Stepping.{Steps}
+use Rattle.theory_semantics.specs.Meaning.Transitions.{RuleStep}
+use Rattle.theory_spelling.specs.Spelling.{spelling}
+use Rattle.theory_shapes.specs.Changes as pure
+use Rattle.theory_shapes.specs.Shape.{fill, holes}
+use Rattle.theory_shapes.specs.ShapeSteps.{IsCovered, ShapeSteps, all_changing, shape_steps}
+use Rattle.theory_shapes.proofs.Fired.{fired_are_known}
+use Rattle.theory_shapes.proofs.Segments.{all_split}
+use Rattle.theory_shapes.proofs.Told.{steps_told}
+use Rattle.csp_rows.specs.declared.changes.Change.{Change}
+use Rattle.csp_rows.specs.declared.changes.Run.{Run}
+use Rattle.csp_rows.specs.declared.step.Step.{Step}
+use Rattle.csp_rows.specs.Measures.{IsRowWithin}
+use Rattle.csp_rows.specs.Numbering.{IsNumbered, Numbering, action_at}
+use Rattle.csp_rows.specs.Places.{AreChangesOf, IsRowOf}
+use Rattle.csp_rows.specs.Rows.{row_steps}
+use Rattle.csp_rows.specs.Runs.{AreAmong, AreNumbered, IsToldIn, Told, changes_of, changes_told, changing_of, run_of, step_of, steps_of, told_of}
+use Rattle.csp_rows.proofs.ChangedBytes.{may_be_made}
+use Rattle.csp_rows.specs.InOrder.{AreInOrder}
+use Rattle.csp_rows.proofs.Members.{all_contained, all_each, map_contained, map_contains}
 use Rattle.csp_rows.specs.Row.{Row}
 use Rattle.csp_rows.specs.ByParts.{IsRowByParts, parts_in}
 use Rattle.csp_rows.specs.Stepped.{AreStepsOfRow, HasChanges, RowSteps}
 use Rattle.csp_rows.specs.Targets.{target_of}
-use Rattle.csp_rows.proofs.Apart.{row_count}
+use Rattle.csp_rows.proofs.RowsOfParts.{row_count}
 use Rattle.csp_rows.proofs.Counting.{few_changes}
 
 module _ {A : Type 0} (z : Numbering) (script : Script) (r : Row A) (is : IsRowByParts z script r) where

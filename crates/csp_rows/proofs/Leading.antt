@@ -2,27 +2,27 @@
 use Rattle.std.proofs.Common.{◌≡◌, ◌<◌, ◌↔◌, ℕ, zero, suc, Bool, true, false, List, [], ◌∷◌, length, set, Option, refl, sym, ap, subst, ◌∙◌}
 use Rattle.std.specs.Prelude.{IsTrue}
 use Rattle.std.specs.List.{AllByRecursion}
-use Rattle.csp_syntax.specs.Process.{Process, Script}
-use Rattle.csp_semantics.specs.Kinds.Scripts.{IsTermOf}
-use Rattle.csp_semantics.specs.Meaning.Limits.{fits}
-use Rattle.csp_semantics.proofs.KindedSteps.{step_closed}
-use Rattle.csp_spelling.specs.Reading.{term_of}
-use Rattle.csp_spelling.specs.Spellable.{IsSpellable}
-use Rattle.csp_spelling.specs.Spelling.{spelling}
-use Rattle.csp_spelling.proofs.Laws.{term_again}
-use Rattle.csp_shapes.specs.Changes as pure
-use Rattle.csp_shapes.specs.Shape.{fill, holes}
-use Rattle.csp_shapes.proofs.ByParts.{spellable_by_parts}
-use Rattle.csp_shapes.proofs.Changing.{changed_count}
-use Rattle.csp_changes.specs.declared.changes.Change.{Change}
-use Rattle.csp_changes.specs.declared.changes.Run.{Run}
-use Rattle.csp_changes.specs.declared.numbers.PartId.{PartId}
-use Rattle.csp_changes.specs.declared.step.Step.{Step}
-use Rattle.csp_changes.specs.Measures.{TellsLimits, row_after}
-use Rattle.csp_changes.specs.Numbering.{Numbering, action_at}
-use Rattle.csp_changes.specs.Places.{IsTargetOf}
-use Rattle.csp_changes.specs.Rows.{row_parts}
-use Rattle.csp_changes.specs.Runs.{AreAmong, changes_in, changes_told, run_of}
+use Rattle.theory_syntax.specs.Process.{Process, Script}
+use Rattle.theory_semantics.specs.Kinds.Scripts.{IsTermOf}
+use Rattle.theory_semantics.specs.Meaning.Limits.{fits}
+use Rattle.theory_semantics.proofs.KindedSteps.{step_closed}
+use Rattle.theory_spelling.specs.Reading.{term_of}
+use Rattle.theory_spelling.specs.Spellable.{IsSpellable}
+use Rattle.theory_spelling.specs.Spelling.{spelling}
+use Rattle.theory_spelling.proofs.Laws.{term_again}
+use Rattle.theory_shapes.specs.Changes as pure
+use Rattle.theory_shapes.specs.Shape.{fill, holes}
+use Rattle.theory_shapes.proofs.ByParts.{spellable_by_parts}
+use Rattle.theory_shapes.proofs.Changing.{changed_count}
+use Rattle.csp_rows.specs.declared.changes.Change.{Change}
+use Rattle.csp_rows.specs.declared.changes.Run.{Run}
+use Rattle.csp_rows.specs.declared.numbers.PartId.{PartId}
+use Rattle.csp_rows.specs.declared.step.Step.{Step}
+use Rattle.csp_rows.specs.Measures.{TellsLimits, row_after}
+use Rattle.csp_rows.specs.Numbering.{Numbering, action_at}
+use Rattle.csp_rows.specs.Places.{IsTargetOf}
+use Rattle.csp_rows.specs.Rows.{row_parts}
+use Rattle.csp_rows.specs.Runs.{AreAmong, changes_in, changes_told, run_of}
 use Rattle.csp_rows.specs.Row.{Row}
 use Rattle.csp_rows.specs.ByParts.{AreSpellable, IsRowByParts, parts_in}
 use Rattle.csp_rows.specs.Stepped.{HasChanges}

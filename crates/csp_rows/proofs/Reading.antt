@@ -2,23 +2,23 @@
 use Rattle.std.proofs.Common.{◌≡◌, ℕ, List, [], ◌∷◌, Option, Some, Contains, refl, sym, ap₂, subst, ◌∙◌}
 use Rattle.std.specs.Prelude.{IsTrue}
 use Rattle.std.specs.List.{AllByRecursion}
-use Rattle.csp_syntax.specs.Value.{Action}
-use Rattle.csp_syntax.specs.Process.{Process, Script}
-use Rattle.csp_syntax.proofs.Members.{contains_here, contains_there}
-use Rattle.csp_semantics.specs.Meaning.Limits.{fits}
-use Rattle.csp_semantics.specs.Meaning.Stepping.{Steps}
-use Rattle.csp_spelling.specs.Reading.{term_of}
-use Rattle.csp_changes.specs.declared.changes.Change.{Change}
-use Rattle.csp_changes.specs.declared.changes.Run.{Run}
-use Rattle.csp_changes.specs.declared.numbers.ActionId.{ActionId}
-use Rattle.csp_changes.specs.declared.step.Step.{Step}
-use Rattle.csp_changes.specs.Numbering.{Numbering, action_at}
-use Rattle.csp_changes.specs.Places.{IsTargetOf}
-use Rattle.csp_changes.specs.Runs.{run_of}
-use Rattle.csp_ordering.specs.ByOrder.{changes_at}
-use Rattle.csp_orders.specs.InOrder.{offers_beside_tau, offers_of}
-use Rattle.csp_orders.specs.Numbers.{AreAllNumbered}
-use Rattle.csp_changes.specs.declared.numbers.ActionId.TheVariants as by_number
+use Rattle.theory_syntax.specs.Value.{Action}
+use Rattle.theory_syntax.specs.Process.{Process, Script}
+use Rattle.theory_syntax.proofs.Members.{contains_here, contains_there}
+use Rattle.theory_semantics.specs.Meaning.Limits.{fits}
+use Rattle.theory_semantics.specs.Meaning.Stepping.{Steps}
+use Rattle.theory_spelling.specs.Reading.{term_of}
+use Rattle.csp_rows.specs.declared.changes.Change.{Change}
+use Rattle.csp_rows.specs.declared.changes.Run.{Run}
+use Rattle.csp_rows.specs.declared.numbers.ActionId.{ActionId}
+use Rattle.csp_rows.specs.declared.step.Step.{Step}
+use Rattle.csp_rows.specs.Numbering.{Numbering, action_at}
+use Rattle.csp_rows.specs.Places.{IsTargetOf}
+use Rattle.csp_rows.specs.Runs.{run_of}
+use Rattle.csp_rows.specs.ByOrder.{changes_at}
+use Rattle.csp_rows.specs.InOrder.{offers_beside_tau, offers_of}
+use Rattle.csp_rows.specs.Numbers.{AreAllNumbered}
+use Rattle.csp_rows.specs.declared.numbers.ActionId.TheVariants as by_number
 use Rattle.csp_rows.specs.Row.{Row}
 use Rattle.csp_rows.specs.InBytes.{AreReadAs, AreTargetsOf}
 use Rattle.csp_rows.specs.Stepped.{AreStepsOfRow, RowSteps}

@@ -1,25 +1,25 @@
 -- `STOP ||| SKIP` is a row of its parts.
 use Rattle.std.proofs.Common.{◌≡◌, ◌↔◌, ℕ, zero, suc, true, List, [], ◌∷◌, Some, Contains, inl, inr, refl, sym, ap, subst, arith}
 use Rattle.std.specs.Prelude.{slice_get}
-use Rattle.csp_syntax.specs.Value.{Action, Tick}
-use Rattle.csp_syntax.specs.Process.{Interleaving, Omega, Process, Script, Skip, Stop}
-use Rattle.csp_semantics.specs.Kinds.Kind.{Kinds}
-use Rattle.csp_semantics.specs.Kinds.Scripts.{IsTermOf}
-use Rattle.csp_semantics.specs.Laws.Statements.{IsOneOf}
-use Rattle.csp_semantics.specs.Laws.Terms.{letters}
-use Rattle.csp_semantics.specs.Meaning.Limits.{fits}
-use Rattle.csp_semantics.specs.Meaning.Stepping.{Steps}
-use Rattle.csp_semantics.specs.Meaning.Transitions.{IsNotStuck, RuleStep}
-use Rattle.csp_semantics.proofs.Stepping.{exact}
-use Rattle.csp_shapes.specs.ShapeSteps.{AreFired}
-use Rattle.csp_shapes.proofs.Fired.{contains_step, step_contained}
-use Rattle.csp_changes.specs.declared.composed.SideBits.{SideBits}
-use Rattle.csp_changes.specs.declared.part.Part.{Part}
-use Rattle.csp_changes.specs.declared.step.PartStep.{PartStep}
-use Rattle.csp_changes.specs.Measures.{AreMeasured}
-use Rattle.csp_changes.specs.Numbering.{Numbering}
-use Rattle.csp_changes.specs.Places.{AreRunsOf, AreSpelled}
-use Rattle.csp_changes.specs.Rows.{AreStepsNumbered, AreTargetsAmong, part_steps_of, row_steps}
+use Rattle.theory_syntax.specs.Value.{Action, Tick}
+use Rattle.theory_syntax.specs.Process.{Interleaving, Omega, Process, Script, Skip, Stop}
+use Rattle.theory_semantics.specs.Kinds.Kind.{Kinds}
+use Rattle.theory_semantics.specs.Kinds.Scripts.{IsTermOf}
+use Rattle.theory_semantics.specs.Laws.Statements.{IsOneOf}
+use Rattle.theory_semantics.specs.Laws.Terms.{letters}
+use Rattle.theory_semantics.specs.Meaning.Limits.{fits}
+use Rattle.theory_semantics.specs.Meaning.Stepping.{Steps}
+use Rattle.theory_semantics.specs.Meaning.Transitions.{IsNotStuck, RuleStep}
+use Rattle.theory_semantics.proofs.Stepping.{exact}
+use Rattle.theory_shapes.specs.ShapeSteps.{AreFired}
+use Rattle.theory_shapes.proofs.Fired.{contains_step, step_contained}
+use Rattle.csp_rows.specs.declared.composed.SideBits.{SideBits}
+use Rattle.csp_rows.specs.declared.part.Part.{Part}
+use Rattle.csp_rows.specs.declared.step.PartStep.{PartStep}
+use Rattle.csp_rows.specs.Measures.{AreMeasured}
+use Rattle.csp_rows.specs.Numbering.{Numbering}
+use Rattle.csp_rows.specs.Places.{AreRunsOf, AreSpelled}
+use Rattle.csp_rows.specs.Rows.{AreStepsNumbered, AreTargetsAmong, part_steps_of, row_steps}
 use Rattle.csp_rows.specs.Row.{Row}
 use Rattle.csp_rows.specs.ByParts.{AreKept, AreSpellable, IsRowByParts, parts_in}
 use Rattle.csp_rows.specs.Example.{IsOneNode, ends, small_row}

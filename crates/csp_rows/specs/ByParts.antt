@@ -1,22 +1,22 @@
 -- What is known of a row by what is kept of its parts.
 use Rattle.std.specs.Prelude.{◌≡◌, ◌<◌, ℕ, IsTrue, List, length}
 use Rattle.std.specs.List.{AllByRecursion}
-use Rattle.csp_syntax.specs.Process.{Process, Script}
-use Rattle.csp_semantics.specs.Kinds.Scripts.{IsTermOf}
-use Rattle.csp_semantics.specs.Meaning.Limits.{fits, size}
-use Rattle.csp_spelling.specs.Spellable.{IsSpellable}
-use Rattle.csp_spelling.specs.Spelling.{spelling}
-use Rattle.csp_shapes.specs.Measures.{levels}
-use Rattle.csp_shapes.specs.Operators.{HasValues, IsSpellableShape}
-use Rattle.csp_shapes.specs.Shape.{fill, holes}
-use Rattle.csp_shapes.specs.ShapeSteps.{AreFired}
-use Rattle.csp_changes.specs.declared.part.Part.{Part}
-use Rattle.csp_changes.specs.Measures.{AreMeasured}
-use Rattle.csp_changes.specs.Numbering.{Numbering}
-use Rattle.csp_changes.specs.Places.{AreRunsOf, AreSpelled}
-use Rattle.csp_changes.specs.Rows.{ArePartsAmong, ArePartsNumbered, row_parts, row_steps}
-use Rattle.csp_changes.specs.Shapes.{IsShapeOf}
-use Rattle.csp_orders.specs.Numbers.{EventsRise}
+use Rattle.theory_syntax.specs.Process.{Process, Script}
+use Rattle.theory_semantics.specs.Kinds.Scripts.{IsTermOf}
+use Rattle.theory_semantics.specs.Meaning.Limits.{fits, size}
+use Rattle.theory_spelling.specs.Spellable.{IsSpellable}
+use Rattle.theory_spelling.specs.Spelling.{spelling}
+use Rattle.theory_shapes.specs.Measures.{levels}
+use Rattle.theory_shapes.specs.Operators.{HasValues, IsSpellableShape}
+use Rattle.theory_shapes.specs.Shape.{fill, holes}
+use Rattle.theory_shapes.specs.ShapeSteps.{AreFired}
+use Rattle.csp_rows.specs.declared.part.Part.{Part}
+use Rattle.csp_rows.specs.Measures.{AreMeasured}
+use Rattle.csp_rows.specs.Numbering.{Numbering}
+use Rattle.csp_rows.specs.Places.{AreRunsOf, AreSpelled}
+use Rattle.csp_rows.specs.Rows.{ArePartsAmong, ArePartsNumbered, row_parts, row_steps}
+use Rattle.csp_rows.specs.Shapes.{IsShapeOf}
+use Rattle.csp_rows.specs.Numbers.{EventsRise}
 use Rattle.csp_rows.specs.Row.{Row}
 
 -- so many parts have a spelling of their own

@@ -1,13 +1,13 @@
 -- A small row: `STOP ||| SKIP`.
 use Rattle.std.specs.Prelude.{◌≡◌, ℕ, List, [], ◌∷◌}
-use Rattle.csp_syntax.specs.Process.{Interleaving, Skip, Stop}
-use Rattle.csp_shapes.specs.Shape as pure
-use Rattle.csp_changes.specs.declared.composed.SideBits.{SideBits}
-use Rattle.csp_changes.specs.declared.numbers.ActionId.TheVariants.{Tick}
-use Rattle.csp_changes.specs.declared.part.Part.{Part}
-use Rattle.csp_changes.specs.declared.step.PartStep.{PartStep}
-use Rattle.csp_changes.specs.Rows.{kept}
-use Rattle.csp_changes.specs.Shapes.{Composed, Hole}
+use Rattle.theory_syntax.specs.Process.{Interleaving, Skip, Stop}
+use Rattle.theory_shapes.specs.Shape as pure
+use Rattle.csp_rows.specs.declared.composed.SideBits.{SideBits}
+use Rattle.csp_rows.specs.declared.numbers.ActionId.TheVariants.{Tick}
+use Rattle.csp_rows.specs.declared.part.Part.{Part}
+use Rattle.csp_rows.specs.declared.step.PartStep.{PartStep}
+use Rattle.csp_rows.specs.Rows.{kept}
+use Rattle.csp_rows.specs.Shapes.{Composed, Hole}
 use Rattle.csp_rows.specs.Row.{Row}
 
 -- what is kept of a part of one node: its bytes and its steps

@@ -1,12 +1,12 @@
 -- Steps of a row with the bytes of their targets.
 use Rattle.std.specs.Prelude.{◌≡◌, ⊤, ℕ, List, [], ◌∷◌, Some}
-use Rattle.csp_semantics.specs.Meaning.Stepping.{Steps}
-use Rattle.csp_spelling.specs.Reading.{term_of}
-use Rattle.csp_changes.specs.declared.changes.Change.{Change}
-use Rattle.csp_changes.specs.declared.step.Step.{Step}
-use Rattle.csp_changes.specs.Numbering.{Numbering, action_at}
-use Rattle.csp_changes.specs.Places.{IsTargetOf}
-use Rattle.csp_ordering.specs.ByOrder.{changes_at}
+use Rattle.theory_semantics.specs.Meaning.Stepping.{Steps}
+use Rattle.theory_spelling.specs.Reading.{term_of}
+use Rattle.csp_rows.specs.declared.changes.Change.{Change}
+use Rattle.csp_rows.specs.declared.step.Step.{Step}
+use Rattle.csp_rows.specs.Numbering.{Numbering, action_at}
+use Rattle.csp_rows.specs.Places.{IsTargetOf}
+use Rattle.csp_rows.specs.ByOrder.{changes_at}
 use Rattle.csp_rows.specs.Row.{Row}
 
 -- each bytes are what the changes of a step make of those of the row

@@ -1,11 +1,11 @@
 -- Rows: terms by the numbers of their parts.
 use Rattle.std.specs.Prelude.{ℕ, List}
-use Rattle.csp_syntax.specs.Process.{Process}
-use Rattle.csp_shapes.specs.Shape.{Shape}
-use Rattle.csp_changes.specs.declared.numbers.PartId.{PartId}
-use Rattle.csp_changes.specs.declared.part.Part.{Part}
-use Rattle.csp_changes.specs.declared.places.Place.{Place}
-use Rattle.csp_changes.specs.Shapes.{Tree}
+use Rattle.theory_syntax.specs.Process.{Process}
+use Rattle.theory_shapes.specs.Shape.{Shape}
+use Rattle.csp_rows.specs.declared.numbers.PartId.{PartId}
+use Rattle.csp_rows.specs.declared.part.Part.{Part}
+use Rattle.csp_rows.specs.declared.places.Place.{Place}
+use Rattle.csp_rows.specs.Shapes.{Tree}
 
 -- A term, its shape, the same by numbers, the numbers of the parts in its holes, what is kept of all parts, the bytes that
 -- spell the term, where the part in each hole is spelled, how many nodes there are, and how many operators stand over each

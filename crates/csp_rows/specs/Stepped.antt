@@ -1,20 +1,20 @@
 -- Steps of a row, as they are made and put in order.
 use Rattle.std.specs.Prelude.{◌≡◌, ◌≤◌, Contains, List, length, Some}
 use Rattle.std.specs.declared.cmp.Ordering.{Ordering}
-use Rattle.csp_syntax.specs.Process.{Script}
-use Rattle.csp_semantics.specs.Meaning.Limits.{max_size}
-use Rattle.csp_semantics.specs.Meaning.Transitions.{RuleStep}
-use Rattle.csp_shapes.specs.ShapeSteps.{all_changing}
-use Rattle.csp_changes.specs.declared.changes.Change.{Change}
-use Rattle.csp_changes.specs.declared.changes.Run.{Run}
-use Rattle.csp_changes.specs.declared.numbers.PartId.{PartId}
-use Rattle.csp_changes.specs.declared.step.Step.{Step}
-use Rattle.csp_changes.specs.Numbering.{IsNumbered, Numbering, action_at}
-use Rattle.csp_changes.specs.Places.{AreChangesOf, RiseUpTo, edits_of}
-use Rattle.csp_changes.specs.Runs.{AreAmong, IsRunIn, changing_of, run_of, steps_of}
-use Rattle.csp_changes.specs.Shapes.{AreShapeSteps}
-use Rattle.csp_ordering.specs.ByOrder.{ArePutInOrder, IsOrderOf}
-use Rattle.csp_ordering.specs.Falling.{NeverFall}
+use Rattle.theory_syntax.specs.Process.{Script}
+use Rattle.theory_semantics.specs.Meaning.Limits.{max_size}
+use Rattle.theory_semantics.specs.Meaning.Transitions.{RuleStep}
+use Rattle.theory_shapes.specs.ShapeSteps.{all_changing}
+use Rattle.csp_rows.specs.declared.changes.Change.{Change}
+use Rattle.csp_rows.specs.declared.changes.Run.{Run}
+use Rattle.csp_rows.specs.declared.numbers.PartId.{PartId}
+use Rattle.csp_rows.specs.declared.step.Step.{Step}
+use Rattle.csp_rows.specs.Numbering.{IsNumbered, Numbering, action_at}
+use Rattle.csp_rows.specs.Places.{AreChangesOf, RiseUpTo, edits_of}
+use Rattle.csp_rows.specs.Runs.{AreAmong, IsRunIn, changing_of, run_of, steps_of}
+use Rattle.csp_rows.specs.Shapes.{AreShapeSteps}
+use Rattle.csp_rows.specs.ByOrder.{ArePutInOrder, IsOrderOf}
+use Rattle.csp_rows.specs.Falling.{NeverFall}
 use Rattle.csp_rows.specs.Row.{Row}
 use Rattle.csp_rows.specs.ByParts.{IsRowByParts}
 use Rattle.csp_rows.specs.Targets.{target_of}

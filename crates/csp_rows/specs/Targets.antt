@@ -1,18 +1,18 @@
 -- What the steps of a row lead to.
 use Rattle.std.specs.Prelude.{◌≡◌, IsTrue, ℕ, List, map, Some}
-use Rattle.csp_syntax.specs.Value.{Action}
-use Rattle.csp_syntax.specs.Process.{Process, Script}
-use Rattle.csp_semantics.specs.Kinds.Scripts.{IsTermOf}
-use Rattle.csp_semantics.specs.Meaning.Limits.{fits}
-use Rattle.csp_semantics.specs.Meaning.Stepping.{Steps}
-use Rattle.csp_spelling.specs.Reading.{term_of}
-use Rattle.csp_spelling.specs.Spelling.{spelling}
-use Rattle.csp_shapes.specs.Changes.{changed}
-use Rattle.csp_shapes.specs.Shape.{fill}
-use Rattle.csp_changes.specs.declared.changes.Change.{Change}
-use Rattle.csp_changes.specs.declared.step.Step.{Step}
-use Rattle.csp_changes.specs.Numbering.{Numbering, action_at}
-use Rattle.csp_changes.specs.Runs.{changes_told}
+use Rattle.theory_syntax.specs.Value.{Action}
+use Rattle.theory_syntax.specs.Process.{Process, Script}
+use Rattle.theory_semantics.specs.Kinds.Scripts.{IsTermOf}
+use Rattle.theory_semantics.specs.Meaning.Limits.{fits}
+use Rattle.theory_semantics.specs.Meaning.Stepping.{Steps}
+use Rattle.theory_spelling.specs.Reading.{term_of}
+use Rattle.theory_spelling.specs.Spelling.{spelling}
+use Rattle.theory_shapes.specs.Changes.{changed}
+use Rattle.theory_shapes.specs.Shape.{fill}
+use Rattle.csp_rows.specs.declared.changes.Change.{Change}
+use Rattle.csp_rows.specs.declared.step.Step.{Step}
+use Rattle.csp_rows.specs.Numbering.{Numbering, action_at}
+use Rattle.csp_rows.specs.Runs.{changes_told}
 use Rattle.csp_rows.specs.Row.{Row}
 use Rattle.csp_rows.specs.ByParts.{parts_in}
 

@@ -3,7 +3,7 @@ use Rattle.std.proofs.Common.{◌≡◌, ℕ, zero, suc, ◌+◌, ◌<◌, ◌�
 use Rattle.std.specs.List.{flat_map, AllByRecursion}
 use Rattle.std.proofs.lemmas.List.{take_more, take_all, append-nil, map-append}
 use Rattle.std.proofs.lemmas.List.Concat.{flat_map-append}
-use Rattle.csp_spelling.specs.Spelling.{number_spelling, list_spelling}
+use Rattle.theory_spelling.specs.Spelling.{number_spelling, list_spelling}
 
 -- a part behind its tag
 pub behind_tag : {X E : Type 0} (r : Result X E) (old mid new part whole : List ℕ) (k : ℕ) → mid ≡ old ++ k ∷ [] → whole ≡ k ∷ part → OnOk r (new ≡ mid ++ part) → OnOk r (new ≡ old ++ whole)

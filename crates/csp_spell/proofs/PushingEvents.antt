@@ -1,13 +1,13 @@
 -- The parts of a set of events under an operator.
 use Rattle.std.proofs.Common.{◌≡◌, ◌+◌, ◌∷◌, ◌++◌, refl, ap, ◌∙◌}
-use Rattle.csp_syntax.specs.Process.{EventSet}
-use Rattle.csp_semantics.specs.Meaning.Limits.{event_set_size}
-use Rattle.csp_spelling.specs.Spelling.{event_set_spelling}
-use Rattle.csp_spelling.specs.Packable.{IsPackableEventSet}
-use Rattle.csp_spelling.specs.Ranges.{IsInRangeEventSet}
-use Rattle.csp_syntax.specs.declared.event_set_operator.EventSetOperator.{EventSetOperator}
-use Rattle.csp_syntax.specs.declared.event_set_operator.EventSetOperator.TheVariants as operator
-use Rattle.csp_syntax.specs.Operators.{combined}
+use Rattle.theory_syntax.specs.Process.{EventSet}
+use Rattle.theory_semantics.specs.Meaning.Limits.{event_set_size}
+use Rattle.theory_spelling.specs.Spelling.{event_set_spelling}
+use Rattle.theory_spelling.specs.Packable.{IsPackableEventSet}
+use Rattle.theory_spelling.specs.Ranges.{IsInRangeEventSet}
+use Rattle.theory_syntax.specs.declared.event_set_operator.EventSetOperator.{EventSetOperator}
+use Rattle.theory_syntax.specs.declared.event_set_operator.EventSetOperator.TheVariants as operator
+use Rattle.theory_syntax.specs.Operators.{combined}
 use Rattle.csp_spell.specs.Tags.{event_set_tag}
 
 pub spelled_combined : (op : EventSetOperator) (a b : EventSet) → event_set_spelling (combined op a b) ≡ event_set_tag op ∷ (event_set_spelling a ++ event_set_spelling b)

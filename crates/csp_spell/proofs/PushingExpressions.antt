@@ -1,13 +1,13 @@
 -- The parts of an expression that has no list too long, and the spelling of its lists.
-use Rattle.csp_semantics.specs.Meaning.Limits.{expression_size, expressions_size}
+use Rattle.theory_semantics.specs.Meaning.Limits.{expression_size, expressions_size}
 use Rattle.std.proofs.Common.{◌≡◌, ◌<◌, ◌≤◌, ◌^◌, ◌+◌, zero, suc, map, get_or, arith, ℕ, List, [], ◌∷◌, ◌++◌, length, ap, sym, subst, ◌∙◌}
 use Rattle.std.specs.List.{AllByRecursion}
-use Rattle.csp_syntax.specs.Expression.{Expression, ConstructorOf, SequenceOf, SetOf, to_expressions}
-use Rattle.csp_spelling.specs.Spelling.{list_spelling, number_spelling, expression_spelling, event_spelling}
-use Rattle.csp_spelling.specs.Spellable.{IsShort}
-use Rattle.csp_spelling.specs.Packable.{IsPackableExpression, ArePackableExpressions, ArePackableArguments, IsPackableList}
-use Rattle.csp_spelling.specs.Ranges.{IsInRangeExpression, AreInRangeExpressions}
-use Rattle.csp_spelling.proofs.Taking.{expressions_listed, arguments}
+use Rattle.theory_syntax.specs.Expression.{Expression, ConstructorOf, SequenceOf, SetOf, to_expressions}
+use Rattle.theory_spelling.specs.Spelling.{list_spelling, number_spelling, expression_spelling, event_spelling}
+use Rattle.theory_spelling.specs.Spellable.{IsShort}
+use Rattle.theory_spelling.specs.Packable.{IsPackableExpression, ArePackableExpressions, ArePackableArguments, IsPackableList}
+use Rattle.theory_spelling.specs.Ranges.{IsInRangeExpression, AreInRangeExpressions}
+use Rattle.theory_spelling.proofs.Taking.{expressions_listed, arguments}
 
 packable_each : (es : List Expression) → ArePackableExpressions (to_expressions es) → AllByRecursion IsPackableExpression es
 packable_each [] fits = tt

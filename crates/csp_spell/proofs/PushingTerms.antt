@@ -1,14 +1,14 @@
 -- The parts and sizes of processes under an operator.
 use Rattle.std.proofs.Common.{◌≡◌, ℕ, ◌+◌, refl}
-use Rattle.csp_syntax.specs.Expression.{Expression}
-use Rattle.csp_syntax.specs.Process.{Process}
-use Rattle.csp_semantics.specs.Meaning.Limits.{size, expression_size}
-use Rattle.csp_spelling.specs.Packable.{IsPackable, IsPackableExpression}
-use Rattle.csp_syntax.specs.declared.process_operator.ProcessOperator.{ProcessOperator}
-use Rattle.csp_syntax.specs.declared.process_operator.ProcessOperator.TheVariants as binary
-use Rattle.csp_syntax.specs.declared.process_operator.ReplicatedOperator.{ReplicatedOperator}
-use Rattle.csp_syntax.specs.declared.process_operator.ReplicatedOperator.TheVariants as replicated
-use Rattle.csp_syntax.specs.Operators.{binary_process, replicated_process}
+use Rattle.theory_syntax.specs.Expression.{Expression}
+use Rattle.theory_syntax.specs.Process.{Process}
+use Rattle.theory_semantics.specs.Meaning.Limits.{size, expression_size}
+use Rattle.theory_spelling.specs.Packable.{IsPackable, IsPackableExpression}
+use Rattle.theory_syntax.specs.declared.process_operator.ProcessOperator.{ProcessOperator}
+use Rattle.theory_syntax.specs.declared.process_operator.ProcessOperator.TheVariants as binary
+use Rattle.theory_syntax.specs.declared.process_operator.ReplicatedOperator.{ReplicatedOperator}
+use Rattle.theory_syntax.specs.declared.process_operator.ReplicatedOperator.TheVariants as replicated
+use Rattle.theory_syntax.specs.Operators.{binary_process, replicated_process}
 
 pub size_binary : (op : ProcessOperator) (p q : Process) → size (binary_process op p q) ≡ 1 + (size p + size q)
 size_binary binary.ExternalChoice p q = refl

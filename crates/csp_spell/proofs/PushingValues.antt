@@ -2,14 +2,14 @@
 use Rattle.std.proofs.Common.{◌≡◌, ℕ, zero, suc, ◌+◌, ◌<◌, ◌≤◌, false, true, List, [], ◌∷◌, ◌++◌, length, map, get_or, sym, ap, subst, ◌∙◌, arith}
 use Rattle.std.specs.List.{AllByRecursion}
 use Rattle.std.specs.Prelude.{◌==◌}
-use Rattle.csp_syntax.specs.Value.{Value, Constructor, Sequence, Set, Values, to_values, values_list}
-use Rattle.csp_semantics.specs.Meaning.Limits.{value_size, values_size}
-use Rattle.csp_spelling.specs.Spelling.{list_spelling, number_spelling, value_spelling}
-use Rattle.csp_spelling.specs.Spellable.{IsShort}
-use Rattle.csp_spelling.specs.Packable.{IsPackableValue, ArePackableValues, IsPackableList}
-use Rattle.csp_spelling.specs.Ranges.{IsInRangeValue, AreInRangeValues}
-use Rattle.csp_spelling.proofs.Taking.{values_listed, counted}
-use Rattle.csp_spelling.proofs.Again.{values_made}
+use Rattle.theory_syntax.specs.Value.{Value, Constructor, Sequence, Set, Values, to_values, values_list}
+use Rattle.theory_semantics.specs.Meaning.Limits.{value_size, values_size}
+use Rattle.theory_spelling.specs.Spelling.{list_spelling, number_spelling, value_spelling}
+use Rattle.theory_spelling.specs.Spellable.{IsShort}
+use Rattle.theory_spelling.specs.Packable.{IsPackableValue, ArePackableValues, IsPackableList}
+use Rattle.theory_spelling.specs.Ranges.{IsInRangeValue, AreInRangeValues}
+use Rattle.theory_spelling.proofs.Taking.{values_listed, counted}
+use Rattle.theory_spelling.proofs.Again.{values_made}
 
 packable_each : (vs : List Value) → ArePackableValues (to_values vs) → AllByRecursion IsPackableValue vs
 packable_each [] fits = tt

@@ -1,8 +1,8 @@
 -- Expressions with a list, behind their tags.
 use Rattle.std.proofs.Common.{◌≡◌, ℕ, List, Some, refl}
-use Rattle.csp_syntax.specs.Value.{Value}
-use Rattle.csp_syntax.specs.Expression.{Expression, ConstructorOf, SequenceOf, SetOf, to_expressions}
-use Rattle.csp_spelling.specs.Reading.{Found, number_at, list_at, expressions_at, expression_behind}
+use Rattle.theory_syntax.specs.Value.{Value}
+use Rattle.theory_syntax.specs.Expression.{Expression, ConstructorOf, SequenceOf, SetOf, to_expressions}
+use Rattle.theory_spelling.specs.Reading.{Found, number_at, list_at, expressions_at, expression_behind}
 
 module _ (read_value : List ℕ → Found Value) (read : List ℕ → Found Expression) where
   pub sequence_behind : (tag : ℕ) (bytes : List ℕ) (es : List Expression) (rest : List ℕ) (e : Expression) → tag ≡ 0x4b → list_at read bytes ≡ Some (es, rest) → e ≡ SequenceOf (to_expressions es) → expression_behind read_value read tag bytes ≡ Some (e, rest)

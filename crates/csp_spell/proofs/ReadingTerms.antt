@@ -1,8 +1,8 @@
 -- Terms with a list, behind their tags.
 use Rattle.std.proofs.Common.{◌≡◌, ℕ, List, Some, refl}
-use Rattle.csp_syntax.specs.Expression.{Expression, to_expressions}
-use Rattle.csp_syntax.specs.Process.{Field, Process, Call, Prefix}
-use Rattle.csp_spelling.specs.Reading.{Found, number_at, list_at, expressions_at, expression_at, field_at, call_at, prefix_at}
+use Rattle.theory_syntax.specs.Expression.{Expression, to_expressions}
+use Rattle.theory_syntax.specs.Process.{Field, Process, Call, Prefix}
+use Rattle.theory_spelling.specs.Reading.{Found, number_at, list_at, expressions_at, expression_at, field_at, call_at, prefix_at}
 
 pub call_found : (depth : ℕ) (bytes : List ℕ) (n : ℕ) (after : List ℕ) (es : List Expression) (rest : List ℕ) (p : Process)
     → number_at bytes ≡ Some (n, after) → list_at (expression_at depth) after ≡ Some (es, rest) → p ≡ Call n (to_expressions es) → call_at depth bytes ≡ Some (p, rest)

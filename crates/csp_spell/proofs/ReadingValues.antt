@@ -2,11 +2,11 @@
 use Rattle.std.proofs.Common.{◌≡◌, ℕ, suc, Bool, true, false, cond, List, [], ◌∷◌, length, map, Some, None, refl, sym, ap, ◌∙◌, arith}
 use Rattle.std.proofs.lemmas.Bool.{eqb-true}
 use Rattle.std.specs.Prelude.{◌==◌}
-use Rattle.csp_syntax.specs.Value.{Value, Constructor, Set, Values, to_values, sorted_values}
-use Rattle.csp_semantics.specs.Meaning.Offers.{rises}
-use Rattle.csp_semantics.proofs.RisingValues.{told_rises}
+use Rattle.theory_syntax.specs.Value.{Value, Constructor, Set, Values, to_values, sorted_values}
+use Rattle.theory_semantics.specs.Meaning.Offers.{rises}
+use Rattle.theory_semantics.proofs.RisingValues.{told_rises}
 use Rattle.csp_value.proofs.Sets.{rising_alike, sorted_rise, sorted_have}
-use Rattle.csp_spelling.specs.Reading.{Found, found_as, if_rising, list_at, number_at, constructor_at, members_at}
+use Rattle.theory_spelling.specs.Reading.{Found, found_as, if_rising, list_at, number_at, constructor_at, members_at}
 use Rattle.csp_spell.specs.declared.fault.UnpackFault.{UnpackFault}
 use Rattle.csp_spell.specs.declared.fault.UnpackFault.TheVariants as fault
 use Rattle.csp_spell.specs.Gives.{Fails}

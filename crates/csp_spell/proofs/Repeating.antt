@@ -1,7 +1,7 @@
 -- Items that are read one after the other, as a loop does.
 use Rattle.std.proofs.Common.{◌≡◌, ℕ, suc, ◌-◌, ◌+◌, ◌≤◌, ◌<◌, List, [], ◌∷◌, ◌++◌, Some, None, refl, sym, ap, ◌∙◌, append_assoc, arith}
 use Rattle.std.proofs.lemmas.List.{append-nil}
-use Rattle.csp_spelling.specs.Reading.{Found, ◌>>=◌, found_as, items_at}
+use Rattle.theory_spelling.specs.Reading.{Found, ◌>>=◌, found_as, items_at}
 use Rattle.csp_spell.specs.declared.fault.UnpackFault.{UnpackFault}
 use Rattle.csp_spell.specs.declared.fault.UnpackFault.TheVariants as fault
 use Rattle.csp_spell.specs.Gives.{Fails}

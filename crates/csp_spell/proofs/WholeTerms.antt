@@ -1,15 +1,15 @@
 -- What is read of all of the bytes, and what the bytes spell.
 use Rattle.std.proofs.Common.{◌≡◌, ℕ, List, [], Bool, Some, Result, Ok, Err, IfOk, IsTrue, ◌↔◌, sym, ap, subst, ◌∙◌}
-use Rattle.csp_syntax.specs.Process.{Process}
-use Rattle.csp_spelling.specs.Spelling.{spelling}
-use Rattle.csp_semantics.specs.Kinds.Scripts.{IsTermOf}
-use Rattle.csp_spelling.specs.Spellable.{IsSpellable}
-use Rattle.csp_spelling.specs.Packable.{IsPackable}
-use Rattle.csp_spelling.specs.Ranges.{IsInRange}
-use Rattle.csp_spelling.specs.Reading.{IsBytes, term_of}
-use Rattle.csp_spelling.proofs.Laws.{same_spelling, term_again, term_takes}
-use Rattle.csp_spelling.proofs.ShortLists.{within_is_short}
-use Rattle.csp_spelling.proofs.KindedSpelling.{spellable}
+use Rattle.theory_syntax.specs.Process.{Process}
+use Rattle.theory_spelling.specs.Spelling.{spelling}
+use Rattle.theory_semantics.specs.Kinds.Scripts.{IsTermOf}
+use Rattle.theory_spelling.specs.Spellable.{IsSpellable}
+use Rattle.theory_spelling.specs.Packable.{IsPackable}
+use Rattle.theory_spelling.specs.Ranges.{IsInRange}
+use Rattle.theory_spelling.specs.Reading.{IsBytes, term_of}
+use Rattle.theory_spelling.proofs.Laws.{same_spelling, term_again, term_takes}
+use Rattle.theory_spelling.proofs.ShortLists.{within_is_short}
+use Rattle.theory_spelling.proofs.KindedSpelling.{spellable}
 use Rattle.csp_spell.specs.declared.fault.UnpackFault.{UnpackFault}
 use Rattle.csp_spell.specs.Gives.{Gives}
 use Rattle.csp_spell.specs.WithinLimits.{IsTermWithinLimits}

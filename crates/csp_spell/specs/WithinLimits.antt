@@ -1,8 +1,8 @@
 -- The terms of which laws of packing speak.
 use Rattle.std.specs.Prelude.{IsTrue}
-use Rattle.csp_syntax.specs.Process.{Process, Script}
-use Rattle.csp_semantics.specs.Kinds.Scripts.{IsTermOf}
-use Rattle.csp_semantics.specs.Meaning.Limits.{fits}
+use Rattle.theory_syntax.specs.Process.{Process, Script}
+use Rattle.theory_semantics.specs.Kinds.Scripts.{IsTermOf}
+use Rattle.theory_semantics.specs.Meaning.Limits.{fits}
 
 -- a term of a checked script, and within the limits
 abbrev pub IsTermWithinLimits : Process → Type 0

@@ -1,9 +1,9 @@
 //! Events, sets of events and renamings at the end of bytes.
 
 ghost use Rattle.std.specs.Prelude.{◌≡◌, ◌++◌, OnOk};
-ghost use Rattle.csp_spelling.specs.Spelling.{event_set_spelling, event_spelling, list_spelling, pair_spelling};
-ghost use Rattle.csp_spelling.specs.Packable.{IsPackableEvent, IsPackableEventSet, IsPackableList, IsPackablePair};
-ghost use Rattle.csp_spelling.specs.Ranges.{IsInRangeEvent, IsInRangeEventSet, IsInRangePair};
+ghost use Rattle.theory_spelling.specs.Spelling.{event_set_spelling, event_spelling, list_spelling, pair_spelling};
+ghost use Rattle.theory_spelling.specs.Packable.{IsPackableEvent, IsPackableEventSet, IsPackableList, IsPackablePair};
+ghost use Rattle.theory_spelling.specs.Ranges.{IsInRangeEvent, IsInRangeEventSet, IsInRangePair};
 ghost use Rattle.std.specs.List.{AllByRecursion};
 ghost use Rattle.csp_spell.specs.Tags.{event_set_tag};
 ghost use Rattle.csp_event_sets.specs.Events.{event_expression_of, event_expressions_of, event_set_of, renaming_pair_of, renaming_pairs_of};

@@ -1,9 +1,9 @@
 //! Expressions at the end of bytes.
 
 ghost use Rattle.std.specs.Prelude.{◌≡◌, ◌++◌, OnOk};
-ghost use Rattle.csp_spelling.specs.Spelling.{expression_spelling, list_spelling};
-ghost use Rattle.csp_spelling.specs.Packable.{IsPackableExpression, IsPackableList};
-ghost use Rattle.csp_spelling.specs.Ranges.{IsInRangeExpression};
+ghost use Rattle.theory_spelling.specs.Spelling.{expression_spelling, list_spelling};
+ghost use Rattle.theory_spelling.specs.Packable.{IsPackableExpression, IsPackableList};
+ghost use Rattle.theory_spelling.specs.Ranges.{IsInRangeExpression};
 ghost use Rattle.std.specs.List.{AllByRecursion};
 ghost use Rattle.csp_expression.specs.Expression.{expression_of, expressions_of};
 

@@ -1,9 +1,9 @@
 //! Fields of prefixes at the end of bytes.
 
 ghost use Rattle.std.specs.Prelude.{◌≡◌, ◌++◌, OnOk};
-ghost use Rattle.csp_spelling.specs.Spelling.{field_spelling, list_spelling};
-ghost use Rattle.csp_spelling.specs.Packable.{IsPackableField, IsPackableList};
-ghost use Rattle.csp_spelling.specs.Ranges.{IsInRangeField};
+ghost use Rattle.theory_spelling.specs.Spelling.{field_spelling, list_spelling};
+ghost use Rattle.theory_spelling.specs.Packable.{IsPackableField, IsPackableList};
+ghost use Rattle.theory_spelling.specs.Ranges.{IsInRangeField};
 ghost use Rattle.std.specs.List.{AllByRecursion};
 ghost use Rattle.csp_term.specs.Field.{field_of, fields_of};
 

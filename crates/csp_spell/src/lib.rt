@@ -1,6 +1,6 @@
 //! Terms as bytes, and back.
 //!
-//! `pack` writes the one spelling of a term that the definitions of `csp_spelling` give, and `unpack` reads it. Bytes are
+//! `pack` writes the one spelling of a term that the definitions of `theory_spelling` give, and `unpack` reads it. Bytes are
 //! read exactly where they are the spelling of a term: nothing may stand behind it, no list may claim more than there is,
 //! and the members of a set rise. Writing appends to a vector that is lent, so that spellings can stand one behind the
 //! other. Both call themselves as deep as the term nests.

@@ -1,13 +1,13 @@
 //! Numbers at the end of bytes.
 
 ghost use Rattle.std.specs.Prelude.{◌≡◌, ◌∷◌, ◌++◌, ◌<◌, ◌^◌, OnOk};
-ghost use Rattle.csp_spelling.specs.Spelling.{number_spelling, truth_spelling, whole_spelling};
+ghost use Rattle.theory_spelling.specs.Spelling.{number_spelling, truth_spelling, whole_spelling};
 
 use csp_value::Memory;
 use std::alloc::Allocator;
 
 /// Puts the number at the end.
-#[tactic(auto, unfolding(csp_spelling::specs::Spelling::number_spelling))]
+#[tactic(auto, unfolding(theory_spelling::specs::Spelling::number_spelling))]
 pub(crate) fn push_number<A: Allocator>(number: u32, bytes: &mut Vec<u8, A>) -> Result<(), Memory>
     ensures { OnOk result (bytes.new.items ≡ bytes.old.items ++ number_spelling number) }
 {
@@ -36,7 +36,7 @@ pub(crate) fn push_length<A: Allocator>(length: usize, bytes: &mut Vec<u8, A>) -
 }
 
 /// Puts the whole number at the end.
-#[tactic(auto, unfolding(csp_spelling::specs::Spelling::number_spelling, csp_spelling::specs::Spelling::whole_spelling))]
+#[tactic(auto, unfolding(theory_spelling::specs::Spelling::number_spelling, theory_spelling::specs::Spelling::whole_spelling))]
 pub(crate) fn push_whole<A: Allocator>(number: i32, bytes: &mut Vec<u8, A>) -> Result<(), Memory>
     ensures { OnOk result (bytes.new.items ≡ bytes.old.items ++ whole_spelling number) }
 {

@@ -1,9 +1,9 @@
 //! The bytes that spell a term.
 
 ghost use Rattle.std.specs.Prelude.{◌≡◌, ◌++◌, IfOk, OnErr, OnOk};
-ghost use Rattle.csp_spelling.specs.Spelling.{spelling};
-ghost use Rattle.csp_spelling.specs.Packable.{IsPackable};
-ghost use Rattle.csp_spelling.specs.Ranges.{IsInRange};
+ghost use Rattle.theory_spelling.specs.Spelling.{spelling};
+ghost use Rattle.theory_spelling.specs.Packable.{IsPackable};
+ghost use Rattle.theory_spelling.specs.Ranges.{IsInRange};
 ghost use Rattle.csp_term.specs.Term.{process_of};
 
 use crate::terms::push_spelling;

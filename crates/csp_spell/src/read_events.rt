@@ -1,7 +1,7 @@
 //! Events, sets of events and renamings at the front of bytes.
 
-ghost use Rattle.csp_spelling.specs.Reading.{event_at, event_set_at, event_set_behind, items_at, list_at, pair_at, two_at};
-ghost use Rattle.csp_syntax.specs.Operators.{combined};
+ghost use Rattle.theory_spelling.specs.Reading.{event_at, event_set_at, event_set_behind, items_at, list_at, pair_at, two_at};
+ghost use Rattle.theory_syntax.specs.Operators.{combined};
 ghost use Rattle.csp_event_sets.specs.Events.{event_expression_of, event_expressions_of, event_set_of, renaming_pair_of, renaming_pairs_of};
 ghost use Rattle.csp_spell.specs.Gives.{Gives};
 
@@ -13,7 +13,7 @@ use csp_value::ChannelId;
 use std::alloc::Allocator;
 
 /// The event at the front, and the bytes behind it. Its parts nest at most so deep.
-#[tactic(auto, unfolding(csp_spelling::specs::Reading::event_at, csp_spelling::specs::Reading::expressions_at))]
+#[tactic(auto, unfolding(theory_spelling::specs::Reading::event_at, theory_spelling::specs::Reading::expressions_at))]
 fn read_event<A: Allocator + Copy>(
     alloc: A,
     depth: usize,
@@ -28,7 +28,7 @@ fn read_event<A: Allocator + Copy>(
 }
 
 /// The list of events at the front, and the bytes behind it.
-#[tactic(auto, unfolding(csp_spelling::specs::Reading::list_at))]
+#[tactic(auto, unfolding(theory_spelling::specs::Reading::list_at))]
 fn read_events<A: Allocator + Copy>(
     alloc: A,
     depth: usize,
@@ -61,7 +61,7 @@ fn read_each_event<A: Allocator + Copy>(
 
 /// The set of events at the front, and the bytes behind it. It nests at most so deep.
 #[cycle(read_event_set)]
-#[tactic(auto, unfolding(csp_spelling::specs::Reading::event_set_at))]
+#[tactic(auto, unfolding(theory_spelling::specs::Reading::event_set_at))]
 pub(crate) fn read_event_set<A: Allocator + Copy>(
     alloc: A,
     depth: usize,
@@ -78,7 +78,7 @@ pub(crate) fn read_event_set<A: Allocator + Copy>(
 
 /// The set of events behind its tag, and the bytes behind it. Its parts nest at most so deep.
 #[cycle(read_event_set)]
-#[tactic(auto, unfolding(csp_spelling::specs::Reading::event_set_behind))]
+#[tactic(auto, unfolding(theory_spelling::specs::Reading::event_set_behind))]
 fn read_tagged<A: Allocator + Copy>(
     alloc: A,
     depth: usize,
@@ -105,7 +105,7 @@ fn read_tagged<A: Allocator + Copy>(
 
 /// Both operands of the operator, and the bytes behind them.
 #[cycle(read_event_set)]
-#[tactic(auto, unfolding(csp_spelling::specs::Reading::two_at))]
+#[tactic(auto, unfolding(theory_spelling::specs::Reading::two_at))]
 fn read_operands<A: Allocator + Copy>(
     alloc: A,
     operator: EventSetOperator,
@@ -122,7 +122,7 @@ fn read_operands<A: Allocator + Copy>(
 }
 
 /// The sides of a pair at the front, and the bytes behind them. Their parts nest at most so deep.
-#[tactic(auto, unfolding(csp_spelling::specs::Reading::pair_at))]
+#[tactic(auto, unfolding(theory_spelling::specs::Reading::pair_at))]
 fn read_pair<A: Allocator + Copy>(
     alloc: A,
     depth: usize,
@@ -136,7 +136,7 @@ fn read_pair<A: Allocator + Copy>(
 }
 
 /// The list of pairs at the front, and the bytes behind it.
-#[tactic(auto, unfolding(csp_spelling::specs::Reading::list_at))]
+#[tactic(auto, unfolding(theory_spelling::specs::Reading::list_at))]
 pub(crate) fn read_pairs<A: Allocator + Copy>(
     alloc: A,
     depth: usize,

@@ -1,8 +1,8 @@
 //! Expressions at the front of bytes.
 
-ghost use Rattle.csp_spelling.specs.Reading.{binary_tagged, expression_at, expression_behind, items_at, list_at, operation_at, two_at, unary_tagged, value_at};
-ghost use Rattle.csp_syntax.specs.Expression.{Combine, Range};
-ghost use Rattle.csp_syntax.specs.Operators.{binary_of, unary_of};
+ghost use Rattle.theory_spelling.specs.Reading.{binary_tagged, expression_at, expression_behind, items_at, list_at, operation_at, two_at, unary_tagged, value_at};
+ghost use Rattle.theory_syntax.specs.Expression.{Combine, Range};
+ghost use Rattle.theory_syntax.specs.Operators.{binary_of, unary_of};
 ghost use Rattle.csp_expression.specs.Expression.{expression_of, expressions_of};
 ghost use Rattle.csp_spell.specs.Gives.{Gives};
 
@@ -16,7 +16,7 @@ use std::alloc::Allocator;
 
 /// The expression at the front, and the bytes behind it. It nests at most so deep.
 #[cycle(read_expression)]
-#[tactic(auto, unfolding(csp_spelling::specs::Reading::expression_at))]
+#[tactic(auto, unfolding(theory_spelling::specs::Reading::expression_at))]
 pub(crate) fn read_expression<A: Allocator + Copy>(
     alloc: A,
     depth: usize,
@@ -33,7 +33,7 @@ pub(crate) fn read_expression<A: Allocator + Copy>(
 
 /// The expression behind its tag, and the bytes behind it. Its parts nest at most so deep.
 #[cycle(read_expression)]
-#[tactic(auto, unfolding(csp_spelling::specs::Reading::expression_behind, csp_spelling::specs::Reading::expressions_at))]
+#[tactic(auto, unfolding(theory_spelling::specs::Reading::expression_behind, theory_spelling::specs::Reading::expressions_at))]
 fn read_tagged<A: Allocator + Copy>(
     alloc: A,
     depth: usize,
@@ -80,7 +80,7 @@ fn read_tagged<A: Allocator + Copy>(
 
 /// The numbers from one to another, and the bytes behind them.
 #[cycle(read_expression)]
-#[tactic(auto, unfolding(csp_spelling::specs::Reading::two_at))]
+#[tactic(auto, unfolding(theory_spelling::specs::Reading::two_at))]
 fn read_range<A: Allocator + Copy>(
     alloc: A,
     depth: usize,
@@ -118,7 +118,7 @@ fn read_operation<A: Allocator + Copy>(
 
 /// Both operands of the operator, and the bytes behind them.
 #[cycle(read_expression)]
-#[tactic(auto, unfolding(csp_spelling::specs::Reading::two_at))]
+#[tactic(auto, unfolding(theory_spelling::specs::Reading::two_at))]
 fn read_operands<A: Allocator + Copy>(
     alloc: A,
     operator: BinaryOperator,
@@ -136,7 +136,7 @@ fn read_operands<A: Allocator + Copy>(
 
 /// The list of expressions at the front, and the bytes behind it.
 #[cycle(read_expression)]
-#[tactic(auto, unfolding(csp_spelling::specs::Reading::list_at))]
+#[tactic(auto, unfolding(theory_spelling::specs::Reading::list_at))]
 pub(crate) fn read_expressions<A: Allocator + Copy>(
     alloc: A,
     depth: usize,

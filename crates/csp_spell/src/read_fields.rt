@@ -1,6 +1,6 @@
 //! Fields of prefixes at the front of bytes.
 
-ghost use Rattle.csp_spelling.specs.Reading.{field_at, field_behind, items_at, list_at};
+ghost use Rattle.theory_spelling.specs.Reading.{field_at, field_behind, items_at, list_at};
 ghost use Rattle.csp_term.specs.Field.{field_of, fields_of};
 ghost use Rattle.csp_spell.specs.Gives.{Gives};
 
@@ -11,7 +11,7 @@ use csp_term::{Field, Name};
 use std::alloc::Allocator;
 
 /// The field at the front, and the bytes behind it. Its parts nest at most so deep.
-#[tactic(auto, unfolding(csp_spelling::specs::Reading::field_at))]
+#[tactic(auto, unfolding(theory_spelling::specs::Reading::field_at))]
 fn read_field<A: Allocator + Copy>(
     alloc: A,
     depth: usize,
@@ -24,7 +24,7 @@ fn read_field<A: Allocator + Copy>(
 }
 
 /// The field behind its tag, and the bytes behind it. Its parts nest at most so deep.
-#[tactic(auto, unfolding(csp_spelling::specs::Reading::field_behind))]
+#[tactic(auto, unfolding(theory_spelling::specs::Reading::field_behind))]
 fn read_tagged<A: Allocator + Copy>(
     alloc: A,
     depth: usize,
@@ -52,7 +52,7 @@ fn read_tagged<A: Allocator + Copy>(
 }
 
 /// The list of fields at the front, and the bytes behind it.
-#[tactic(auto, unfolding(csp_spelling::specs::Reading::list_at))]
+#[tactic(auto, unfolding(theory_spelling::specs::Reading::list_at))]
 pub(crate) fn read_fields<A: Allocator + Copy>(
     alloc: A,
     depth: usize,

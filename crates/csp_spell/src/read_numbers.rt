@@ -1,6 +1,6 @@
 //! Numbers at the front of bytes.
 
-ghost use Rattle.csp_spelling.specs.Reading.{byte_at, number_at, truth_at, whole_at};
+ghost use Rattle.theory_spelling.specs.Reading.{byte_at, number_at, truth_at, whole_at};
 ghost use Rattle.csp_spell.specs.Gives.{Gives};
 
 use crate::fault::UnpackFault;
@@ -16,7 +16,7 @@ pub(crate) fn read_byte(bytes: &[u8]) -> Result<(u8, &[u8]), UnpackFault>
 }
 
 /// The number at the front, and the bytes behind it.
-#[tactic(auto, unfolding(csp_spelling::specs::Reading::number_at))]
+#[tactic(auto, unfolding(theory_spelling::specs::Reading::number_at))]
 pub(crate) fn read_number(bytes: &[u8]) -> Result<(u32, &[u8]), UnpackFault>
     ensures { Gives (λ x. (x.0, x.1.now)) result (number_at bytes.now) }
 {
@@ -29,7 +29,7 @@ pub(crate) fn read_number(bytes: &[u8]) -> Result<(u32, &[u8]), UnpackFault>
 }
 
 /// The whole number at the front, and the bytes behind it.
-#[tactic(auto, unfolding(csp_spelling::specs::Reading::whole_at))]
+#[tactic(auto, unfolding(theory_spelling::specs::Reading::whole_at))]
 pub(crate) fn read_whole(bytes: &[u8]) -> Result<(i32, &[u8]), UnpackFault>
     ensures { Gives (λ x. (x.0, x.1.now)) result (whole_at bytes.now) }
 {
@@ -38,7 +38,7 @@ pub(crate) fn read_whole(bytes: &[u8]) -> Result<(i32, &[u8]), UnpackFault>
 }
 
 /// The truth value at the front, and the bytes behind it.
-#[tactic(auto, unfolding(csp_spelling::specs::Reading::truth_at))]
+#[tactic(auto, unfolding(theory_spelling::specs::Reading::truth_at))]
 pub(crate) fn read_truth(bytes: &[u8]) -> Result<(bool, &[u8]), UnpackFault>
     ensures { Gives (λ x. (x.0, x.1.now)) result (truth_at bytes.now) }
 {

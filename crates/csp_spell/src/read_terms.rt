@@ -1,8 +1,8 @@
 //! Terms at the front of bytes.
 
-ghost use Rattle.csp_spelling.specs.Reading.{alphabetised_at, call_at, generalised_at, guard_at, hiding_at, if_at, prefix_at, process_at, process_behind, renaming_at, replicated_at, two_at};
-ghost use Rattle.csp_syntax.specs.Operators.{binary_process, replicated_process};
-ghost use Rattle.csp_syntax.specs.Process.{SlidingChoice};
+ghost use Rattle.theory_spelling.specs.Reading.{alphabetised_at, call_at, generalised_at, guard_at, hiding_at, if_at, prefix_at, process_at, process_behind, renaming_at, replicated_at, two_at};
+ghost use Rattle.theory_syntax.specs.Operators.{binary_process, replicated_process};
+ghost use Rattle.theory_syntax.specs.Process.{SlidingChoice};
 ghost use Rattle.csp_term.specs.Term.{process_of};
 ghost use Rattle.csp_spell.specs.Gives.{Gives};
 
@@ -16,7 +16,7 @@ use std::alloc::Allocator;
 
 /// The term at the front, and the bytes behind it. It nests at most so deep.
 #[cycle(read_term)]
-#[tactic(auto, unfolding(csp_spelling::specs::Reading::process_at))]
+#[tactic(auto, unfolding(theory_spelling::specs::Reading::process_at))]
 pub(crate) fn read_term<A: Allocator + Copy>(
     alloc: A,
     depth: usize,
@@ -33,7 +33,7 @@ pub(crate) fn read_term<A: Allocator + Copy>(
 
 /// The term behind its tag, and the bytes behind it. Its parts nest at most so deep.
 #[cycle(read_term)]
-#[tactic(auto, unfolding(csp_spelling::specs::Reading::process_behind))]
+#[tactic(auto, unfolding(theory_spelling::specs::Reading::process_behind))]
 fn read_tagged<A: Allocator + Copy>(
     alloc: A,
     depth: usize,
@@ -68,7 +68,7 @@ fn read_tagged<A: Allocator + Copy>(
 }
 
 /// A call's equation and arguments, and the bytes behind them.
-#[tactic(auto, unfolding(csp_spelling::specs::Reading::call_at, csp_spelling::specs::Reading::expressions_at))]
+#[tactic(auto, unfolding(theory_spelling::specs::Reading::call_at, theory_spelling::specs::Reading::expressions_at))]
 fn read_call<A: Allocator + Copy>(
     alloc: A,
     depth: usize,
@@ -84,7 +84,7 @@ fn read_call<A: Allocator + Copy>(
 
 /// A prefix's channel, fields and body, and the bytes behind them.
 #[cycle(read_term)]
-#[tactic(auto, unfolding(csp_spelling::specs::Reading::prefix_at))]
+#[tactic(auto, unfolding(theory_spelling::specs::Reading::prefix_at))]
 fn read_prefix<A: Allocator + Copy>(
     alloc: A,
     depth: usize,
@@ -101,7 +101,7 @@ fn read_prefix<A: Allocator + Copy>(
 
 /// A guard's condition and body, and the bytes behind them.
 #[cycle(read_term)]
-#[tactic(auto, unfolding(csp_spelling::specs::Reading::guard_at))]
+#[tactic(auto, unfolding(theory_spelling::specs::Reading::guard_at))]
 fn read_guard<A: Allocator + Copy>(
     alloc: A,
     depth: usize,
@@ -116,7 +116,7 @@ fn read_guard<A: Allocator + Copy>(
 
 /// A condition and both of its branches, and the bytes behind them.
 #[cycle(read_term)]
-#[tactic(auto, unfolding(csp_spelling::specs::Reading::if_at))]
+#[tactic(auto, unfolding(theory_spelling::specs::Reading::if_at))]
 fn read_if<A: Allocator + Copy>(
     alloc: A,
     depth: usize,
@@ -133,7 +133,7 @@ fn read_if<A: Allocator + Copy>(
 
 /// Both operands of the operator, and the bytes behind them.
 #[cycle(read_term)]
-#[tactic(auto, unfolding(csp_spelling::specs::Reading::two_at))]
+#[tactic(auto, unfolding(theory_spelling::specs::Reading::two_at))]
 fn read_operands<A: Allocator + Copy>(
     alloc: A,
     operator: ProcessOperator,
@@ -150,7 +150,7 @@ fn read_operands<A: Allocator + Copy>(
 
 /// Both processes of a sliding choice, and the bytes behind them.
 #[cycle(read_term)]
-#[tactic(auto, unfolding(csp_spelling::specs::Reading::two_at))]
+#[tactic(auto, unfolding(theory_spelling::specs::Reading::two_at))]
 fn read_sliding<A: Allocator + Copy>(
     alloc: A,
     depth: usize,
@@ -168,7 +168,7 @@ fn read_sliding<A: Allocator + Copy>(
 
 /// Both operands with the set of shared events between them, and the bytes behind them.
 #[cycle(read_term)]
-#[tactic(auto, unfolding(csp_spelling::specs::Reading::generalised_at))]
+#[tactic(auto, unfolding(theory_spelling::specs::Reading::generalised_at))]
 fn read_generalised<A: Allocator + Copy>(
     alloc: A,
     depth: usize,
@@ -185,7 +185,7 @@ fn read_generalised<A: Allocator + Copy>(
 
 /// Both operands with the set of each between them, and the bytes behind them.
 #[cycle(read_term)]
-#[tactic(auto, unfolding(csp_spelling::specs::Reading::alphabetised_at))]
+#[tactic(auto, unfolding(theory_spelling::specs::Reading::alphabetised_at))]
 fn read_alphabetised<A: Allocator + Copy>(
     alloc: A,
     depth: usize,
@@ -203,7 +203,7 @@ fn read_alphabetised<A: Allocator + Copy>(
 
 /// A process and the events that are hidden in it, and the bytes behind them.
 #[cycle(read_term)]
-#[tactic(auto, unfolding(csp_spelling::specs::Reading::hiding_at))]
+#[tactic(auto, unfolding(theory_spelling::specs::Reading::hiding_at))]
 fn read_hiding<A: Allocator + Copy>(
     alloc: A,
     depth: usize,
@@ -218,7 +218,7 @@ fn read_hiding<A: Allocator + Copy>(
 
 /// A process and the pairs by which it is renamed, and the bytes behind them.
 #[cycle(read_term)]
-#[tactic(auto, unfolding(csp_spelling::specs::Reading::renaming_at))]
+#[tactic(auto, unfolding(theory_spelling::specs::Reading::renaming_at))]
 fn read_renaming<A: Allocator + Copy>(
     alloc: A,
     depth: usize,
@@ -233,7 +233,7 @@ fn read_renaming<A: Allocator + Copy>(
 
 /// The name, the set and the process of the operator, and the bytes behind them.
 #[cycle(read_term)]
-#[tactic(auto, unfolding(csp_spelling::specs::Reading::replicated_at))]
+#[tactic(auto, unfolding(theory_spelling::specs::Reading::replicated_at))]
 fn read_replicated<A: Allocator + Copy>(
     alloc: A,
     operator: ReplicatedOperator,

@@ -1,7 +1,7 @@
 //! Values at the front of bytes.
 
-ghost use Rattle.csp_spelling.specs.Reading.{constructor_at, found_as, items_at, list_at, members_at, value_at, value_behind};
-ghost use Rattle.csp_syntax.specs.Value.{Set};
+ghost use Rattle.theory_spelling.specs.Reading.{constructor_at, found_as, items_at, list_at, members_at, value_at, value_behind};
+ghost use Rattle.theory_syntax.specs.Value.{Set};
 ghost use Rattle.csp_value.specs.Value.{value_of, values_of};
 ghost use Rattle.csp_spell.specs.Gives.{Gives};
 
@@ -12,7 +12,7 @@ use std::alloc::Allocator;
 
 /// The value at the front, and the bytes behind it. It nests at most so deep.
 #[cycle(read_value)]
-#[tactic(auto, unfolding(csp_spelling::specs::Reading::value_at))]
+#[tactic(auto, unfolding(theory_spelling::specs::Reading::value_at))]
 pub(crate) fn read_value<A: Allocator + Copy>(
     alloc: A,
     depth: usize,
@@ -29,7 +29,7 @@ pub(crate) fn read_value<A: Allocator + Copy>(
 
 /// The value behind its tag, and the bytes behind it. Its parts nest at most so deep.
 #[cycle(read_value)]
-#[tactic(auto, unfolding(csp_spelling::specs::Reading::value_behind, csp_spelling::specs::Reading::values_at))]
+#[tactic(auto, unfolding(theory_spelling::specs::Reading::value_behind, theory_spelling::specs::Reading::values_at))]
 fn read_tagged<A: Allocator + Copy>(
     alloc: A,
     depth: usize,
@@ -97,7 +97,7 @@ fn read_constructor<A: Allocator + Copy>(
 
 /// The list of values at the front, and the bytes behind it.
 #[cycle(read_value)]
-#[tactic(auto, unfolding(csp_spelling::specs::Reading::list_at))]
+#[tactic(auto, unfolding(theory_spelling::specs::Reading::list_at))]
 fn read_values<A: Allocator + Copy>(
     alloc: A,
     depth: usize,

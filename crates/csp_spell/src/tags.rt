@@ -2,9 +2,9 @@
 
 ghost use Rattle.std.specs.Prelude.{◌≡◌};
 ghost use Rattle.std.specs.Option.{option_map};
-ghost use Rattle.csp_spelling.specs.Spelling.{binary_tag, unary_tag};
-ghost use Rattle.csp_spelling.specs.Reading.{binary_tagged, unary_tagged};
-ghost use Rattle.csp_syntax.specs.Operators.{binary_of, unary_of};
+ghost use Rattle.theory_spelling.specs.Spelling.{binary_tag, unary_tag};
+ghost use Rattle.theory_spelling.specs.Reading.{binary_tagged, unary_tagged};
+ghost use Rattle.theory_syntax.specs.Operators.{binary_of, unary_of};
 ghost use Rattle.csp_spell.specs.Tags.{process_tag, replicated_tag};
 
 use csp_expression::{BinaryOperator, UnaryOperator};
@@ -52,7 +52,7 @@ pub(crate) fn binary_tag(operator: BinaryOperator) -> u8
 }
 
 /// The operator of one operand that has the tag.
-#[tactic(auto, unfolding(csp_spelling::specs::Reading::unary_tagged))]
+#[tactic(auto, unfolding(theory_spelling::specs::Reading::unary_tagged))]
 pub(crate) fn unary_tagged(tag: u8) -> Option<UnaryOperator>
     ensures { option_map unary_of result ≡ unary_tagged tag }
 {
@@ -69,7 +69,7 @@ pub(crate) fn unary_tagged(tag: u8) -> Option<UnaryOperator>
 }
 
 /// The operator of two operands that has the tag.
-#[tactic(auto, unfolding(csp_spelling::specs::Reading::binary_tagged))]
+#[tactic(auto, unfolding(theory_spelling::specs::Reading::binary_tagged))]
 pub(crate) fn binary_tagged(tag: u8) -> Option<BinaryOperator>
     ensures { option_map binary_of result ≡ binary_tagged tag }
 {

@@ -1,12 +1,12 @@
 //! Terms at the end of bytes.
 
 ghost use Rattle.std.specs.Prelude.{◌≡◌, ◌++◌, OnOk};
-ghost use Rattle.csp_syntax.specs.Expression.{to_expressions};
-ghost use Rattle.csp_syntax.specs.Process.{AlphabetisedParallel, Call, GeneralisedParallel, Guard, Hiding, If, Prefix, Renaming, SlidingChoice};
-ghost use Rattle.csp_syntax.specs.Operators.{binary_process, replicated_process};
-ghost use Rattle.csp_spelling.specs.Spelling.{spelling};
-ghost use Rattle.csp_spelling.specs.Packable.{IsPackable};
-ghost use Rattle.csp_spelling.specs.Ranges.{IsInRange};
+ghost use Rattle.theory_syntax.specs.Expression.{to_expressions};
+ghost use Rattle.theory_syntax.specs.Process.{AlphabetisedParallel, Call, GeneralisedParallel, Guard, Hiding, If, Prefix, Renaming, SlidingChoice};
+ghost use Rattle.theory_syntax.specs.Operators.{binary_process, replicated_process};
+ghost use Rattle.theory_spelling.specs.Spelling.{spelling};
+ghost use Rattle.theory_spelling.specs.Packable.{IsPackable};
+ghost use Rattle.theory_spelling.specs.Ranges.{IsInRange};
 ghost use Rattle.csp_event_sets.specs.Events.{event_set_of, renaming_pairs_of};
 ghost use Rattle.csp_expression.specs.Expression.{expression_of, expressions_of};
 ghost use Rattle.csp_term.specs.Field.{fields_of};

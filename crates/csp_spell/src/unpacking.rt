@@ -1,10 +1,10 @@
 //! The term that bytes spell.
 
 ghost use Rattle.std.specs.Prelude.{◌≡◌, IfOk, Some};
-ghost use Rattle.csp_syntax.specs.Process.{Process};
-ghost use Rattle.csp_spelling.specs.Spelling.{spelling};
-ghost use Rattle.csp_spelling.specs.Spellable.{IsSpellable};
-ghost use Rattle.csp_spelling.specs.Reading.{term_of};
+ghost use Rattle.theory_syntax.specs.Process.{Process};
+ghost use Rattle.theory_spelling.specs.Spelling.{spelling};
+ghost use Rattle.theory_spelling.specs.Spellable.{IsSpellable};
+ghost use Rattle.theory_spelling.specs.Reading.{term_of};
 ghost use Rattle.csp_term.specs.Term.{process_of};
 ghost use Rattle.csp_spell.specs.Gives.{Gives};
 
@@ -14,7 +14,7 @@ use csp_term::Term;
 use std::alloc::Allocator;
 
 /// The term of which all of the bytes are the spelling.
-#[tactic(auto, unfolding(csp_spelling::specs::Reading::term_of))]
+#[tactic(auto, unfolding(theory_spelling::specs::Reading::term_of))]
 fn read_whole<A: Allocator + Copy>(alloc: A, bytes: &[u8]) -> Result<Term<A>, UnpackFault>
     ensures { Gives process_of result (term_of bytes.now) }
 {

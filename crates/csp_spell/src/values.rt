@@ -1,10 +1,10 @@
 //! Values at the end of bytes.
 
 ghost use Rattle.std.specs.Prelude.{◌≡◌, ◌++◌, OnOk};
-ghost use Rattle.csp_syntax.specs.Value.{Constructor, to_values};
-ghost use Rattle.csp_spelling.specs.Spelling.{list_spelling, value_spelling};
-ghost use Rattle.csp_spelling.specs.Packable.{IsPackableList, IsPackableValue};
-ghost use Rattle.csp_spelling.specs.Ranges.{IsInRangeValue};
+ghost use Rattle.theory_syntax.specs.Value.{Constructor, to_values};
+ghost use Rattle.theory_spelling.specs.Spelling.{list_spelling, value_spelling};
+ghost use Rattle.theory_spelling.specs.Packable.{IsPackableList, IsPackableValue};
+ghost use Rattle.theory_spelling.specs.Ranges.{IsInRangeValue};
 ghost use Rattle.std.specs.List.{AllByRecursion};
 ghost use Rattle.csp_value.specs.Value.{value_of, values_of};
 

@@ -3,13 +3,13 @@ use denote.RattleType
 use denote.Enum.Declared
 use Rattle.std.proofs.Common.{◌≡◌, ℕ, refl, sym, ◌∙◌, subst, inl, inr}
 use Rattle.std.specs.declared.alloc.Allocator as allocator
-use Rattle.csp_syntax.specs.Process.{Process, Omega}
-use Rattle.csp_syntax.specs.Expression.{Expression}
-use Rattle.csp_syntax.specs.declared.process_operator.ProcessOperator.{ProcessOperator}
-use Rattle.csp_syntax.specs.declared.process_operator.ProcessOperator.TheVariants as binary
-use Rattle.csp_syntax.specs.declared.process_operator.ReplicatedOperator.{ReplicatedOperator}
-use Rattle.csp_syntax.specs.declared.process_operator.ReplicatedOperator.TheVariants as replicated
-use Rattle.csp_syntax.specs.Operators.{binary_process, replicated_process}
+use Rattle.theory_syntax.specs.Process.{Process, Omega}
+use Rattle.theory_syntax.specs.Expression.{Expression}
+use Rattle.theory_syntax.specs.declared.process_operator.ProcessOperator.{ProcessOperator}
+use Rattle.theory_syntax.specs.declared.process_operator.ProcessOperator.TheVariants as binary
+use Rattle.theory_syntax.specs.declared.process_operator.ReplicatedOperator.{ReplicatedOperator}
+use Rattle.theory_syntax.specs.declared.process_operator.ReplicatedOperator.TheVariants as replicated
+use Rattle.theory_syntax.specs.Operators.{binary_process, replicated_process}
 use Rattle.csp_term.specs.contracts.term.TermForm as contract
 use Rattle.csp_term.specs.declared.term.TermForm.{TermForm}
 use Rattle.csp_term.specs.declared.term.TermForm.TheVariants as views

@@ -8,16 +8,16 @@ use Rattle.std.specs.declared.alloc.Allocator as allocator
 use Rattle.std.specs.String.{string_bytes}
 use Rattle.std.specs.Bool.{beq}
 use Rattle.std.specs.Ordering.{is_eq}
-use Rattle.csp_syntax.specs.Value as pure
-use Rattle.csp_syntax.specs.Process as syntax
-use Rattle.csp_syntax.specs.Order.{process_cmp}
-use Rattle.csp_syntax.proofs.Equalities.{is_eq-Equal}
-use Rattle.csp_syntax.proofs.ProcessOrder.{process_same, process_refl}
-use Rattle.csp_syntax.proofs.Truths.{and_first, and_second}
-use Rattle.csp_syntax.specs.declared.model.Model.{Model}
-use Rattle.csp_syntax.specs.declared.model.Model.TheVariants as model
-use Rattle.csp_syntax.specs.contracts.model.ModelPartialEq.TheImpl as model_impl
-use Rattle.csp_syntax.specs.Models.{model_of}
+use Rattle.theory_syntax.specs.Value as pure
+use Rattle.theory_syntax.specs.Process as syntax
+use Rattle.theory_syntax.specs.Order.{process_cmp}
+use Rattle.theory_syntax.proofs.Equalities.{is_eq-Equal}
+use Rattle.theory_syntax.proofs.ProcessOrder.{process_same, process_refl}
+use Rattle.theory_syntax.proofs.Truths.{and_first, and_second}
+use Rattle.theory_syntax.specs.declared.model.Model.{Model}
+use Rattle.theory_syntax.specs.declared.model.Model.TheVariants as model
+use Rattle.theory_syntax.specs.contracts.model.ModelPartialEq.TheImpl as model_impl
+use Rattle.theory_syntax.specs.Models.{model_of}
 use Rattle.csp_value.specs.declared.set.SetOf.{SetOf}
 use Rattle.csp_value.specs.Value.{members_of}
 use Rattle.csp_value.proofs.Equality.{set_eq, set_tells}

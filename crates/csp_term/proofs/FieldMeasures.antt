@@ -1,8 +1,8 @@
 -- The sizes and the depths of fields together.
 use Rattle.std.proofs.Common.{◌≡◌, ℕ, ◌+◌, max, List, [], ◌∷◌, refl, sym, ap, arith}
 use Rattle.std.proofs.Math.Nat.{max-eq_left}
-use Rattle.csp_syntax.specs.Process as pure
-use Rattle.csp_semantics.specs.Meaning.Limits.{fields_depth, fields_size}
+use Rattle.theory_syntax.specs.Process as pure
+use Rattle.theory_semantics.specs.Meaning.Limits.{fields_depth, fields_size}
 use Rattle.csp_term.specs.declared.field.Field.{Field}
 use Rattle.csp_term.specs.Field.{field_of, fields_of}
 

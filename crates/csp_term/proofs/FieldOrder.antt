@@ -6,7 +6,7 @@ use Rattle.std.specs.declared.alloc.Allocator as allocator
 use Rattle.std.specs.declared.cmp.Ordering.{Ordering}
 use Rattle.std.specs.Ordering.{nat_cmp, ordering_then}
 use Rattle.std.specs.Cmp.Lexicographic.{slice_cmp}
-use Rattle.csp_syntax.specs.Order.{field_cmp}
+use Rattle.theory_syntax.specs.Order.{field_cmp}
 use Rattle.csp_term.specs.declared.field.Field.{Field}
 use Rattle.csp_term.specs.declared.field.Field.TheVariants as variant
 use Rattle.csp_term.specs.contracts.field.FieldOrd.TheImpl as impl

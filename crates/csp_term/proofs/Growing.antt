@@ -1,11 +1,11 @@
 -- Putting values in makes nothing smaller, and nothing less deep.
 use Rattle.std.proofs.Common.{◌≡◌, ℕ, ◌+◌, ◌≤◌, max, List, [], ◌∷◌, Option, Some, None, Bool, true, false, IsTrue, IsFalse, refl, sym, ◌∙◌, arith}
 use Rattle.std.proofs.Math.Nat.{max-le, le-max_left, le-max_right}
-use Rattle.csp_syntax.specs.Value.{Value, Integer, Truth, Constructor, Sequence, Set}
-use Rattle.csp_syntax.specs.Expression.{Expression, Literal, Name, Apply, Combine, SequenceOf, SetOf, Range, Booleans, Datatype, Nametype, ConstructorOf, Expressions, no_expressions, expression_and}
-use Rattle.csp_syntax.specs.Process.{Field, Given, Input, InputFrom, EventExpression, EventSet, Enumeration, Productions, EventUnion, EventIntersection, EventDifference, RenamingPair, Process, Stop, Skip, Omega, Call, Prefix, Guard, If, ExternalChoice, InternalChoice, Sequential, Interleaving, Interrupt, GeneralisedParallel, AlphabetisedParallel, Hiding, Renaming, ReplicatedExternalChoice, ReplicatedInternalChoice, ReplicatedInterleaving, SlidingChoice}
-use Rattle.csp_semantics.specs.Meaning.Substitution.{Bindings, bound, without, name_or, put_expression, put_expressions, put_fields, behind, put_events, put_event_set, put_pairs, put}
-use Rattle.csp_semantics.specs.Meaning.Limits.{value_size, value_depth, expression_size, expressions_size, fields_size, events_size, event_set_size, pairs_size, size, expression_depth, expressions_depth, fields_depth, events_depth, event_set_depth, pairs_depth, depth, fits}
+use Rattle.theory_syntax.specs.Value.{Value, Integer, Truth, Constructor, Sequence, Set}
+use Rattle.theory_syntax.specs.Expression.{Expression, Literal, Name, Apply, Combine, SequenceOf, SetOf, Range, Booleans, Datatype, Nametype, ConstructorOf, Expressions, no_expressions, expression_and}
+use Rattle.theory_syntax.specs.Process.{Field, Given, Input, InputFrom, EventExpression, EventSet, Enumeration, Productions, EventUnion, EventIntersection, EventDifference, RenamingPair, Process, Stop, Skip, Omega, Call, Prefix, Guard, If, ExternalChoice, InternalChoice, Sequential, Interleaving, Interrupt, GeneralisedParallel, AlphabetisedParallel, Hiding, Renaming, ReplicatedExternalChoice, ReplicatedInternalChoice, ReplicatedInterleaving, SlidingChoice}
+use Rattle.theory_semantics.specs.Meaning.Substitution.{Bindings, bound, without, name_or, put_expression, put_expressions, put_fields, behind, put_events, put_event_set, put_pairs, put}
+use Rattle.theory_semantics.specs.Meaning.Limits.{value_size, value_depth, expression_size, expressions_size, fields_size, events_size, event_set_size, pairs_size, size, expression_depth, expressions_depth, fields_depth, events_depth, event_set_depth, pairs_depth, depth, fits}
 
 -- ---- size
 

@@ -13,3 +13,4 @@ pub mod Without
 pub mod Growing
 pub mod Ended
 mod Sides
+pub mod WithinLimits

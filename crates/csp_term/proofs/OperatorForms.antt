@@ -2,18 +2,18 @@
 use Rattle.std.proofs.Common.{◌≡◌, ℕ, ◌+◌, ◌<◌, ◌≤◌, max, refl, arith}
 use Rattle.std.specs.declared.cmp.Ordering.{Ordering}
 use Rattle.std.specs.Ordering.{nat_cmp, ordering_then}
-use Rattle.csp_syntax.specs.Expression.{Expression}
-use Rattle.csp_syntax.specs.Process.{Process}
-use Rattle.csp_syntax.specs.Order.{expression_cmp, process_cmp, process_place}
-use Rattle.csp_syntax.specs.declared.process_operator.ProcessOperator.{ProcessOperator}
-use Rattle.csp_syntax.specs.declared.process_operator.ProcessOperator.TheVariants as binary
-use Rattle.csp_syntax.specs.declared.process_operator.ReplicatedOperator.{ReplicatedOperator}
-use Rattle.csp_syntax.specs.declared.process_operator.ReplicatedOperator.TheVariants as replicated
-use Rattle.csp_syntax.specs.contracts.process_operator.ProcessOperatorOrd.TheImpl as binary_impl
-use Rattle.csp_syntax.specs.contracts.process_operator.ReplicatedOperatorOrd.TheImpl as replicated_impl
-use Rattle.csp_syntax.specs.Operators.{binary_process, replicated_process}
-use Rattle.csp_semantics.specs.Meaning.Limits.{depth, size}
-use Rattle.csp_semantics.specs.Meaning.Substitution.{Bindings, put, put_expression, without}
+use Rattle.theory_syntax.specs.Expression.{Expression}
+use Rattle.theory_syntax.specs.Process.{Process}
+use Rattle.theory_syntax.specs.Order.{expression_cmp, process_cmp, process_place}
+use Rattle.theory_syntax.specs.declared.process_operator.ProcessOperator.{ProcessOperator}
+use Rattle.theory_syntax.specs.declared.process_operator.ProcessOperator.TheVariants as binary
+use Rattle.theory_syntax.specs.declared.process_operator.ReplicatedOperator.{ReplicatedOperator}
+use Rattle.theory_syntax.specs.declared.process_operator.ReplicatedOperator.TheVariants as replicated
+use Rattle.theory_syntax.specs.contracts.process_operator.ProcessOperatorOrd.TheImpl as binary_impl
+use Rattle.theory_syntax.specs.contracts.process_operator.ReplicatedOperatorOrd.TheImpl as replicated_impl
+use Rattle.theory_syntax.specs.Operators.{binary_process, replicated_process}
+use Rattle.theory_semantics.specs.Meaning.Limits.{depth, size}
+use Rattle.theory_semantics.specs.Meaning.Substitution.{Bindings, put, put_expression, without}
 use Rattle.csp_term.specs.Own.{own_depth, own_size}
 
 -- ---- of two processes

@@ -1,10 +1,10 @@
 -- Each side that an assertion of a checked script has is a term of it.
 use Rattle.std.proofs.Common.{zero, suc, List, [], ◌∷◌, map, Option, Some, None, IfSome, arith}
 use Rattle.std.specs.List.{All}
-use Rattle.csp_syntax.specs.Process as pure
-use Rattle.csp_semantics.specs.Kinds.Kind.{Kinds, Each}
-use Rattle.csp_semantics.specs.Kinds.Processes.{IsClosedTerm}
-use Rattle.csp_semantics.specs.Kinds.Scripts.{IsTermOf, IsWellKindedAssertion, IsWellKindedScript}
+use Rattle.theory_syntax.specs.Process as pure
+use Rattle.theory_semantics.specs.Kinds.Kind.{Kinds, Each}
+use Rattle.theory_semantics.specs.Kinds.Processes.{IsClosedTerm}
+use Rattle.theory_semantics.specs.Kinds.Scripts.{IsTermOf, IsWellKindedAssertion, IsWellKindedScript}
 use Rattle.csp_term.specs.declared.assertion.Assertion.{Assertion}
 use Rattle.csp_term.specs.Script.{HasSidesOf, assertion_of, property_of}
 

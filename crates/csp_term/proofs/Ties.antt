@@ -4,7 +4,7 @@ use Rattle.std.specs.Cmp.{IsTotalOrder, alike_right}
 use Rattle.std.specs.declared.cmp.Ordering.{Ordering}
 use Rattle.std.specs.declared.cmp.Ordering.TheVariants.{Equal}
 use Rattle.std.specs.Ordering.{is_eq}
-use Rattle.csp_syntax.proofs.Equalities.{is_eq-Equal}
+use Rattle.theory_syntax.proofs.Equalities.{is_eq-Equal}
 use Rattle.csp_value.proofs.Sameness.{Tells}
 
 module _ {X Y : Type 0} (R : X → X → Ordering) (order : IsTotalOrder R) (test : X → X → Bool) (matches : (x y : X) → test x y ≡ is_eq (R x y)) (meaning : X → Y) (tells : Tells test meaning) where

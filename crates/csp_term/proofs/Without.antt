@@ -1,6 +1,6 @@
 -- Bindings that a name hides.
 use Rattle.std.proofs.Common.{◌≡◌, ℕ, nat_eq, cond, not, filter, Bool, true, false, List, [], ◌∷◌, refl, ap}
-use Rattle.csp_semantics.specs.Meaning.Substitution.{Bindings, without}
+use Rattle.theory_semantics.specs.Meaning.Substitution.{Bindings, without}
 use Rattle.csp_value.specs.Value.{value_of}
 use Rattle.csp_expression.specs.declared.substitution.Binding.{Binding}
 use Rattle.csp_expression.specs.Bindings.{bindings_of}

@@ -1,6 +1,6 @@
 -- The field that one of the code stands for.
 use Rattle.std.specs.Prelude.{List, map}
-use Rattle.csp_syntax.specs.Process as pure
+use Rattle.theory_syntax.specs.Process as pure
 use Rattle.csp_term.specs.declared.field.Field.{Field}
 use Rattle.csp_term.specs.declared.field.Field.TheVariants as variant
 use Rattle.csp_expression.specs.Expression.{expression_of}

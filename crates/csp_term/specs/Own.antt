@@ -1,7 +1,7 @@
 -- What a process has at its head, without the processes in it.
 use Rattle.std.specs.Prelude.{ℕ, ◌+◌, max}
-use Rattle.csp_syntax.specs.Process.{Process, Stop, Skip, Omega, Call, Prefix, Guard, If, ExternalChoice, InternalChoice, Sequential, Interleaving, Interrupt, GeneralisedParallel, AlphabetisedParallel, Hiding, Renaming, ReplicatedExternalChoice, ReplicatedInternalChoice, ReplicatedInterleaving, SlidingChoice}
-use Rattle.csp_semantics.specs.Meaning.Limits.{event_set_depth, event_set_size, expression_depth, expression_size, expressions_depth, expressions_size, fields_depth, fields_size, pairs_depth, pairs_size}
+use Rattle.theory_syntax.specs.Process.{Process, Stop, Skip, Omega, Call, Prefix, Guard, If, ExternalChoice, InternalChoice, Sequential, Interleaving, Interrupt, GeneralisedParallel, AlphabetisedParallel, Hiding, Renaming, ReplicatedExternalChoice, ReplicatedInternalChoice, ReplicatedInterleaving, SlidingChoice}
+use Rattle.theory_semantics.specs.Meaning.Limits.{event_set_depth, event_set_size, expression_depth, expression_size, expressions_depth, expressions_size, fields_depth, fields_size, pairs_depth, pairs_size}
 
 -- how many nodes that is
 abbrev pub own_size : Process → ℕ

@@ -1,10 +1,10 @@
 -- The property, the assertion, the equation and the script that those of the code stand for.
 use Rattle.std.specs.Prelude.{ℕ, List, map, IfSome}
 use Rattle.std.specs.String.{string_bytes}
-use Rattle.csp_syntax.specs.Value.{Value}
-use Rattle.csp_syntax.specs.Process as pure
-use Rattle.csp_syntax.specs.Models.{model_of}
-use Rattle.csp_semantics.specs.Kinds.Scripts.{IsTermOf}
+use Rattle.theory_syntax.specs.Value.{Value}
+use Rattle.theory_syntax.specs.Process as pure
+use Rattle.theory_syntax.specs.Models.{model_of}
+use Rattle.theory_semantics.specs.Kinds.Scripts.{IsTermOf}
 use Rattle.csp_value.specs.Fields.{sets_of}
 use Rattle.csp_term.specs.declared.assertion.Assertion.{Assertion}
 use Rattle.csp_term.specs.declared.property.Property.{Property}

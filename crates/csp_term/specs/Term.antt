@@ -1,8 +1,8 @@
 -- The process that a term stands for.
 use Rattle.std.specs.Box.{box_value}
-use Rattle.csp_syntax.specs.Expression.{to_expressions}
-use Rattle.csp_syntax.specs.Process.{Process, Stop, Skip, Omega, Call, Prefix, Guard, If, GeneralisedParallel, AlphabetisedParallel, Hiding, Renaming, SlidingChoice}
-use Rattle.csp_syntax.specs.Operators.{binary_process, replicated_process}
+use Rattle.theory_syntax.specs.Expression.{to_expressions}
+use Rattle.theory_syntax.specs.Process.{Process, Stop, Skip, Omega, Call, Prefix, Guard, If, GeneralisedParallel, AlphabetisedParallel, Hiding, Renaming, SlidingChoice}
+use Rattle.theory_syntax.specs.Operators.{binary_process, replicated_process}
 use Rattle.csp_term.specs.declared.term.Term.{Term}
 use Rattle.csp_term.specs.declared.term.TermForm.{TermForm}
 use Rattle.csp_term.specs.declared.term.TermForm.TheOpen as layer

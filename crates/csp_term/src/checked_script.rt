@@ -2,7 +2,7 @@
 
 ghost use Rattle.std.specs.Prelude.{◌≡◌, All, IfOk, map};
 ghost use Rattle.std.specs.String.{string_bytes};
-ghost use Rattle.csp_semantics.specs.Kinds.Scripts.{IsCheckedScript};
+ghost use Rattle.theory_semantics.specs.Kinds.Scripts.{IsCheckedScript};
 ghost use Rattle.csp_expression.specs.Evaluation.{table_of};
 ghost use Rattle.csp_term.specs.Script.{HasSidesOf, assertion_of, equation_of, field_sets_of, script_of, script_of_parts};
 
@@ -21,10 +21,10 @@ pub struct Script<A: Allocator> {
 }
 
 impl<A: Allocator> Model for Script<A> {
-    ghost use Rattle.csp_syntax.specs.Process.{Script};
-    ghost use Rattle.csp_syntax.specs.Codes.Coding.{coded};
-    ghost use Rattle.csp_syntax.specs.Codes.Processes.{coding_script};
-    ghost use Rattle.csp_semantics.specs.Kinds.Scripts.{IsCheckedScript};
+    ghost use Rattle.theory_syntax.specs.Process.{Script};
+    ghost use Rattle.theory_syntax.specs.Codes.Coding.{coded};
+    ghost use Rattle.theory_syntax.specs.Codes.Processes.{coding_script};
+    ghost use Rattle.theory_semantics.specs.Kinds.Scripts.{IsCheckedScript};
     ghost use Rattle.csp_term.specs.Script.{script_of_parts};
 
     ghost Value = { Script };

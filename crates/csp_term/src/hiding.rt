@@ -1,8 +1,8 @@
 //! Processes of which events are hidden or renamed.
 
 ghost use Rattle.std.specs.Prelude.{◌≡◌, IfOk};
-ghost use Rattle.csp_syntax.specs.Process.{Hiding, Renaming};
-ghost use Rattle.csp_semantics.specs.Meaning.Substitution.{put, put_event_set};
+ghost use Rattle.theory_syntax.specs.Process.{Hiding, Renaming};
+ghost use Rattle.theory_semantics.specs.Meaning.Substitution.{put, put_event_set};
 ghost use Rattle.csp_expression.specs.Bindings.{bindings_of};
 ghost use Rattle.csp_event_sets.specs.Events.{event_set_of, renaming_pairs_of};
 ghost use Rattle.csp_term.specs.Term.{process_of, process_of_form};

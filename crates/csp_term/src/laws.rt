@@ -6,7 +6,7 @@
 ghost use Rattle.std.specs.Prelude.{◌≡◌, ◌↔◌, IsTrue};
 ghost use Rattle.std.specs.List.{fold};
 ghost use Rattle.std.specs.declared.cmp.Ordering.TheVariants.{Equal as Tie};
-ghost use Rattle.csp_syntax.specs.Order.{process_cmp};
+ghost use Rattle.theory_syntax.specs.Order.{process_cmp};
 ghost use Rattle.csp_term.specs.Term.{process_of};
 ghost use Rattle.csp_expression.specs.Evaluation.{table_of};
 ghost use Rattle.csp_term.specs.Script.{assertion_of, equation_of, script_of, script_of_parts};

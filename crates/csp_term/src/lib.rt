@@ -2,8 +2,9 @@
 //!
 //! A term stands for a process of the definitions, by `process_of`, and every call here is stated over that process: a
 //! copy stands for the same process, values are put in as the definitions say, the limits are decided exactly, and
-//! `==`, the order and the hash of two terms are those of their processes, whichever allocator holds them. The type of
-//! a script keeps that some kinds fit it.
+//! `==`, the order and the hash of two terms are those of their processes, whichever allocator holds them. What a term
+//! within the limits measures is answered by `size_of` and `depth_of`. The type of a script keeps that some kinds fit
+//! it.
 #![tactic(auto)]
 
 mod assertion;
@@ -12,6 +13,7 @@ mod field;
 mod hiding;
 pub mod laws;
 mod limits;
+mod measures;
 mod name;
 mod operands;
 mod property;
@@ -23,11 +25,12 @@ mod term;
 pub use assertion::Assertion;
 pub use checked_script::Script;
 pub use csp_expression::{Cause, DatatypeId, Fault, Name, NametypeId};
-pub use csp_syntax::{Model, ProcessOperator, ReplicatedOperator};
 pub use csp_value::{Action, AllocHandle, ChannelId, Event, Memory, TryCopy, copy_all};
 pub use field::Field;
+pub use measures::{depth_of, size_of};
 pub use name::EquationId;
 pub use property::Property;
 pub use script::{Channel, Constructor, Equation, ScriptParts};
 pub use substitution::{TermFault, bind};
 pub use term::{Term, TermForm};
+pub use theory_syntax::{Model, ProcessOperator, ReplicatedOperator};

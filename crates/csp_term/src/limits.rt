@@ -2,7 +2,7 @@
 
 ghost use Rattle.std.specs.Prelude.{◌≡◌, ◌∷◌, [], ◌+◌, ◌-◌, ◌≤◌, ◌↔◌, IsTrue};
 ghost use Rattle.std.specs.Option.{SomeIff};
-ghost use Rattle.csp_semantics.specs.Meaning.Limits.{size, depth, fields_depth, fields_size, fits};
+ghost use Rattle.theory_semantics.specs.Meaning.Limits.{size, depth, fields_depth, fields_size, fits};
 ghost use Rattle.csp_term.specs.Field.{field_of, fields_of};
 ghost use Rattle.csp_term.specs.Own.{own_depth, own_size};
 ghost use Rattle.csp_term.specs.Term.{process_of, process_of_form};

@@ -2,9 +2,9 @@
 //! down.
 
 ghost use Rattle.std.specs.Prelude.{◌≡◌, IfOk};
-ghost use Rattle.csp_syntax.specs.Process.{AlphabetisedParallel, GeneralisedParallel, If, SlidingChoice};
-ghost use Rattle.csp_syntax.specs.Operators.{binary_process};
-ghost use Rattle.csp_semantics.specs.Meaning.Substitution.{put, put_event_set, put_expression};
+ghost use Rattle.theory_syntax.specs.Process.{AlphabetisedParallel, GeneralisedParallel, If, SlidingChoice};
+ghost use Rattle.theory_syntax.specs.Operators.{binary_process};
+ghost use Rattle.theory_semantics.specs.Meaning.Substitution.{put, put_event_set, put_expression};
 ghost use Rattle.csp_event_sets.specs.Events.{event_set_of};
 ghost use Rattle.csp_expression.specs.Bindings.{bindings_of};
 ghost use Rattle.csp_expression.specs.Expression.{expression_of};
@@ -13,9 +13,9 @@ ghost use Rattle.csp_term.specs.Term.{process_of, process_of_form};
 use crate::term::{Term, TermForm};
 use csp_event_sets::EventSet;
 use csp_expression::{Binding, Expr};
-use csp_syntax::ProcessOperator;
 use csp_value::Memory;
 use std::alloc::Allocator;
+use theory_syntax::ProcessOperator;
 
 /// The choice by the condition with the values put in. They are in the first process already.
 #[cycle(put_term)]

@@ -1,14 +1,14 @@
 //! What assertions ask of their implementations.
 
 ghost use Rattle.std.specs.Prelude.{◌≡◌, option_map};
-ghost use Rattle.csp_syntax.specs.Process.{specification_of};
+ghost use Rattle.theory_syntax.specs.Process.{specification_of};
 ghost use Rattle.csp_term.specs.Term.{process_of};
 ghost use Rattle.csp_term.specs.Script.{property_of};
 
 use crate::term::Term;
-use csp_syntax::Model;
 use csp_value::{Memory, TryCopy};
 use std::alloc::Allocator;
+use theory_syntax::Model;
 
 /// A property of processes.
 #[derive(Drop)]

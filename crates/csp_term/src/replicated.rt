@@ -1,8 +1,8 @@
 //! Processes for each value of a set.
 
 ghost use Rattle.std.specs.Prelude.{◌≡◌, IfOk};
-ghost use Rattle.csp_syntax.specs.Operators.{replicated_process};
-ghost use Rattle.csp_semantics.specs.Meaning.Substitution.{put};
+ghost use Rattle.theory_syntax.specs.Operators.{replicated_process};
+ghost use Rattle.theory_semantics.specs.Meaning.Substitution.{put};
 ghost use Rattle.csp_expression.specs.Bindings.{bindings_of};
 ghost use Rattle.csp_expression.specs.Expression.{expression_of};
 ghost use Rattle.csp_term.specs.Term.{process_of, process_of_form};
@@ -10,9 +10,9 @@ ghost use Rattle.csp_term.specs.Term.{process_of, process_of_form};
 use crate::substitution::without;
 use crate::term::{Term, TermForm};
 use csp_expression::{Binding, Expr, Name};
-use csp_syntax::ReplicatedOperator;
 use csp_value::Memory;
 use std::alloc::Allocator;
+use theory_syntax::ReplicatedOperator;
 
 /// The replicated process with the values put in. Its name hides an outer one in the body, and not in the set.
 #[cycle(put_term)]

@@ -1,10 +1,10 @@
 //! Putting values in for names. Nothing is evaluated.
 
 ghost use Rattle.std.specs.Prelude.{◌≡◌, ◌∷◌, [], IfOk, IsErrOf, IsFalse, IsTrue};
-ghost use Rattle.csp_syntax.specs.Expression.{to_expressions};
-ghost use Rattle.csp_syntax.specs.Process.{Call, Guard, Prefix};
-ghost use Rattle.csp_semantics.specs.Meaning.Substitution.{behind, bind, put, put_expression, put_fields, without};
-ghost use Rattle.csp_semantics.specs.Meaning.Limits.{fits};
+ghost use Rattle.theory_syntax.specs.Expression.{to_expressions};
+ghost use Rattle.theory_syntax.specs.Process.{Call, Guard, Prefix};
+ghost use Rattle.theory_semantics.specs.Meaning.Substitution.{behind, bind, put, put_expression, put_fields, without};
+ghost use Rattle.theory_semantics.specs.Meaning.Limits.{fits};
 ghost use Rattle.csp_value.specs.Value.{value_of};
 ghost use Rattle.csp_expression.specs.Bindings.{bindings_of};
 ghost use Rattle.csp_expression.specs.Expression.{expression_of, expressions_of};

@@ -1,16 +1,16 @@
 //! Terms of processes.
 
 ghost use Rattle.std.specs.Prelude.{◌≡◌, ◌↔◌, IfOk, IsTrue};
-ghost use Rattle.csp_syntax.specs.Process.{Omega};
+ghost use Rattle.theory_syntax.specs.Process.{Omega};
 ghost use Rattle.csp_term.specs.Term.{process_of, process_of_form};
 
 use crate::field::Field;
 use crate::name::EquationId;
 use csp_event_sets::{EventSet, RenamingPair};
 use csp_expression::{Expr, Name};
-use csp_syntax::{ProcessOperator, ReplicatedOperator};
 use csp_value::{ChannelId, Memory};
 use std::alloc::Allocator;
+use theory_syntax::{ProcessOperator, ReplicatedOperator};
 
 /// A process as it is written. It holds its form behind a pointer, so that a term is moved and dropped alike whatever
 /// its form is. The order is that of the forms.
@@ -82,7 +82,7 @@ impl<A: Allocator> Term<A> {
 
 impl<A: Allocator + Copy> Term<A> {
     /// An equal term in the given allocator, or `Memory` where that has no room: the term with no value put in.
-    #[tactic(auto, using(csp_semantics::proofs::Putting::put_nothing))]
+    #[tactic(auto, using(theory_semantics::proofs::Putting::put_nothing))]
     pub fn try_copy(&self, alloc: A) -> Result<Term<A>, Memory>
         ensures { IfOk result (λ copy. process_of copy ≡ process_of self.now) }
     {

@@ -5,8 +5,8 @@ use Rattle.std.proofs.Common.{◌≡◌, Bool, true, nat_eq, refl, ap, []}
 use Rattle.std.proofs.lemmas.Bool.{and_from}
 use Rattle.std.specs.declared.alloc.Allocator as allocator
 use Rattle.std.specs.declared.clone.Clone as clone
-use Rattle.csp_syntax.specs.Value as pure
-use Rattle.csp_syntax.proofs.Truths.{and_first, and_second}
+use Rattle.theory_syntax.specs.Value as pure
+use Rattle.theory_syntax.proofs.Truths.{and_first, and_second}
 use Rattle.csp_value.specs.declared.handle.AllocHandle as handle
 use Rattle.csp_value.specs.declared.action.Event.{Event}
 use Rattle.csp_value.specs.declared.action.Action.{Action}

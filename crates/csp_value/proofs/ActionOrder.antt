@@ -6,7 +6,7 @@ use Rattle.std.specs.declared.alloc.Allocator as allocator
 use Rattle.std.specs.declared.clone.Clone as clone
 use Rattle.std.specs.declared.cmp.Ordering.{Ordering}
 use Rattle.std.specs.Ordering.{nat_cmp, ordering_then}
-use Rattle.csp_syntax.specs.Value as pure
+use Rattle.theory_syntax.specs.Value as pure
 use Rattle.csp_value.specs.declared.handle.AllocHandle as handle
 use Rattle.csp_value.specs.declared.action.Event.{Event}
 use Rattle.csp_value.specs.declared.action.Action.{Action}

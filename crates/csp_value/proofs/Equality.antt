@@ -4,8 +4,8 @@ use mir.Syntax
 use Rattle.std.proofs.Common.{◌≡◌, Bool, sym, ap, ◌∙◌}
 use Rattle.std.specs.declared.alloc.Allocator as allocator
 use Rattle.std.specs.Ordering.{is_eq}
-use Rattle.csp_syntax.specs.Value as pure
-use Rattle.csp_syntax.proofs.Equalities.{is_eq-Equal, value_same, value_refl, values_same, values_refl}
+use Rattle.theory_syntax.specs.Value as pure
+use Rattle.theory_syntax.proofs.Equalities.{is_eq-Equal, value_same, value_refl, values_same, values_refl}
 use Rattle.csp_value.specs.declared.value.Value.{Value}
 use Rattle.csp_value.specs.declared.set.SetOf.{SetOf}
 use Rattle.csp_value.specs.contracts.value.ValuePartialEq.TheImpl as value_impl

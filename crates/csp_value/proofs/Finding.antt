@@ -9,10 +9,10 @@ use Rattle.std.proofs.lemmas.List.Kept.{IsStrictlySortedBy-filter}
 use Rattle.std.proofs.lemmas.List.Sorted.{searchable_from_sorted}
 use Rattle.std.proofs.lemmas.Option.{slice_get-get_or, slice_get_within, get_or_from_slice_get}
 use Rattle.std.proofs.lemmas.Bool.{cases_lt}
-use Rattle.csp_syntax.specs.Value.{Value, value_cmp, value_eq, has_value}
-use Rattle.csp_syntax.proofs.Equalities.{value_same, value_refl, is_lt-Less, is_eq-reverse}
-use Rattle.csp_syntax.proofs.Orders.{value_total}
-use Rattle.csp_syntax.proofs.Places.{get_map}
+use Rattle.theory_syntax.specs.Value.{Value, value_cmp, value_eq, has_value}
+use Rattle.theory_syntax.proofs.Equalities.{value_same, value_refl, is_lt-Less, is_eq-reverse}
+use Rattle.theory_syntax.proofs.Orders.{value_total}
+use Rattle.theory_syntax.proofs.Places.{get_map}
 use Rattle.csp_value.proofs.Sets.{Rises, has_stands, stands_has}
 use Rattle.csp_value.proofs.Sorting.{order, rise_from_sorted}
 

@@ -3,8 +3,8 @@ use Rattle.std.proofs.Common.{◌≡◌, ℕ, ◌+◌, ◌<◌, List, [], ◌∷
 use Rattle.std.proofs.lemmas.List.{take_more, take-append-drop, map-append}
 use Rattle.std.specs.List.{insert}
 use Rattle.std.specs.declared.cmp.Ordering.TheVariants.{Less, Equal, Greater}
-use Rattle.csp_syntax.specs.Value.{Value, value_cmp, insert_value}
-use Rattle.csp_syntax.proofs.Places.{cut}
+use Rattle.theory_syntax.specs.Value.{Value, value_cmp, insert_value}
+use Rattle.theory_syntax.proofs.Places.{cut}
 
 module _ {X : Type 0} (meaning : X → Value) where
   at_less : (x y : X) (ys : List X) → value_cmp (meaning x) (meaning y) ≡ Less → insert_value (meaning x) (map meaning (y ∷ ys)) ≡ meaning x ∷ map meaning (y ∷ ys)

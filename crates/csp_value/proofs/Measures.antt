@@ -1,7 +1,7 @@
 -- The sizes and the depths of values together.
 use Rattle.std.proofs.Common.{ℕ, List}
-use Rattle.csp_syntax.specs.Value.{to_values}
-use Rattle.csp_semantics.specs.Meaning.Limits.{value_depth, value_size, values_depth, values_size}
+use Rattle.theory_syntax.specs.Value.{to_values}
+use Rattle.theory_semantics.specs.Meaning.Limits.{value_depth, value_size, values_depth, values_size}
 use Rattle.csp_value.specs.declared.value.Value.{Value}
 use Rattle.csp_value.specs.Value.{value_of, values_of}
 

@@ -2,8 +2,8 @@
 use Rattle.std.proofs.Common.{◌≡◌, ℕ, zero, suc, ◌+◌, ◌-◌, ◌<◌, ◌≤◌, Bool, true, false, List, [], ◌∷◌, length, map, drop, get_or, refl, sym, ap, ◌∙◌, arith}
 use Rattle.std.specs.Prelude.{◌&&◌}
 use Rattle.std.specs.Ordering.{is_lt}
-use Rattle.csp_syntax.specs.Value.{Value, value_cmp}
-use Rattle.csp_semantics.specs.Meaning.Offers.{rises}
+use Rattle.theory_syntax.specs.Value.{Value, value_cmp}
+use Rattle.theory_semantics.specs.Meaning.Offers.{rises}
 
 drop_back : {X : Type 0} (xs : List X) (place : ℕ) → 1 ≤ place → drop (place + 1 - 1) xs ≡ drop place xs
 drop_back xs place from = let e : place + 1 - 1 ≡ place = omega arith in ap (λ (n : ℕ). drop n xs) e

@@ -3,7 +3,7 @@ use Rattle.std.proofs.Common.{◌≡◌, ℕ, Bool, true, nat_eq, List, [], ◌�
 use Rattle.std.proofs.lemmas.Bool.{eqb-true, eq-eqb}
 use Rattle.std.specs.Cmp.Lexicographic.{same_text}
 pub use Rattle.std.proofs.lemmas.Bool.{and_from as both}
-pub use Rattle.csp_syntax.proofs.Truths.{and_first, and_second}
+pub use Rattle.theory_syntax.proofs.Truths.{and_first, and_second}
 use lib.Pointwise.{pointwise}
 
 pub record Tells {X Y : Type 0} (test : X → X → Bool) (meaning : X → Y) : Type 0 where

@@ -3,12 +3,12 @@ use Rattle.std.proofs.Common.{◌≡◌, ℕ, List, [], ◌∷◌, ◌++◌, map
 use Rattle.std.specs.declared.cmp.Ordering.{Ordering}
 use Rattle.std.specs.declared.cmp.Ordering.TheVariants.{Less, Equal, Greater}
 use Rattle.std.specs.Ordering.{is_eq}
-use Rattle.csp_syntax.specs.Value.{Value, value_cmp, value_eq, has_value, insert_value, insert_values, sorted_values}
-use Rattle.csp_semantics.specs.Meaning.Offers.{RisesBy}
-use Rattle.csp_syntax.proofs.Equalities.{is_eq-Equal, value_same, value_refl}
-use Rattle.csp_syntax.proofs.Orders.{value_total}
-use Rattle.csp_semantics.proofs.Rising.{Stands, rising_same, told_stands, stands_told}
-pub use Rattle.csp_semantics.proofs.RisingValues.{insert_rises, inserts_rise, sorted_rise}
+use Rattle.theory_syntax.specs.Value.{Value, value_cmp, value_eq, has_value, insert_value, insert_values, sorted_values}
+use Rattle.theory_semantics.specs.Meaning.Offers.{RisesBy}
+use Rattle.theory_syntax.proofs.Equalities.{is_eq-Equal, value_same, value_refl}
+use Rattle.theory_syntax.proofs.Orders.{value_total}
+use Rattle.theory_semantics.proofs.Rising.{Stands, rising_same, told_stands, stands_told}
+pub use Rattle.theory_semantics.proofs.RisingValues.{insert_rises, inserts_rise, sorted_rise}
 
 abbrev pub Rises : List Value → Type 0
 Rises = RisesBy value_cmp

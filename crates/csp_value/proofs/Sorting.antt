@@ -7,9 +7,9 @@ use Rattle.std.specs.List.Sorted.{IsPermutation, IsSorted, IsStrictlySortedBy}
 use Rattle.std.specs.Cmp.{on_total, both_ways}
 use Rattle.std.proofs.lemmas.List.Kept.{IsStrictlySortedBy-dedup}
 use Rattle.std.proofs.lemmas.List.Sorted.{Contains-permutation, IsPermutation-map, IsPermutation-sym}
-use Rattle.csp_syntax.specs.Value.{Value, value_cmp, value_eq, has_value, sorted_values}
-use Rattle.csp_syntax.proofs.Orders.{value_total}
-use Rattle.csp_semantics.proofs.Rising.{stands_from_Contains, Contains-from_stands}
+use Rattle.theory_syntax.specs.Value.{Value, value_cmp, value_eq, has_value, sorted_values}
+use Rattle.theory_syntax.proofs.Orders.{value_total}
+use Rattle.theory_semantics.proofs.Rising.{stands_from_Contains, Contains-from_stands}
 use Rattle.csp_value.proofs.Sets.{Rises, has_stands, stands_has, rising_alike, sorted_rise, sorted_have, or_again}
 
 moved_to : (vs ws : List Value) (z : Value) → IsPermutation vs ws → has_value vs z ≡ true → has_value ws z ≡ true

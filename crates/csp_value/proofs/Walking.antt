@@ -3,7 +3,7 @@ use Rattle.std.proofs.Common.{◌≡◌, ℕ, zero, suc, ◌+◌, ◌-◌, ◌<�
 use Rattle.std.proofs.lemmas.List.{drop_all}
 use Rattle.std.proofs.lemmas.List.Recursion.{max_bounds}
 use Rattle.std.proofs.Math.Nat.{max-le}
-use Rattle.csp_syntax.proofs.Places.{cut}
+use Rattle.theory_syntax.proofs.Places.{cut}
 
 -- what is left of the items and the room say the same as all of them
 abbrev pub Left : {X : Type 0} → (List X → ℕ) → List X → ℕ → ℕ → ℕ → Type 0

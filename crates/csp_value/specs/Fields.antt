@@ -1,6 +1,6 @@
 -- The values that fields may have.
 use Rattle.std.specs.Prelude.{List, map}
-use Rattle.csp_syntax.specs.Value as pure
+use Rattle.theory_syntax.specs.Value as pure
 use Rattle.csp_value.specs.declared.field_set.FieldSet.{FieldSet}
 use Rattle.csp_value.specs.Value.{members_of}
 

@@ -1,7 +1,7 @@
 //! The sets of values of the fields of a channel, or of a constructor.
 
 ghost use Rattle.std.specs.Prelude.{◌≡◌, IfOk};
-ghost use Rattle.csp_syntax.specs.Value.{has_value, sorted_values, to_values, values_list};
+ghost use Rattle.theory_syntax.specs.Value.{has_value, sorted_values, to_values, values_list};
 ghost use Rattle.csp_value.specs.Value.{IsRisingSet, members_of, rising_prop, value_of, values_of};
 
 use crate::copy::TryCopy;

@@ -2,7 +2,7 @@
 //! are, whichever allocator holds them, and the order of two of them is that of what they stand for.
 
 ghost use Rattle.std.specs.Prelude.{◌≡◌, ◌↔◌, IsTrue};
-ghost use Rattle.csp_syntax.specs.Value.{action_cmp, event_cmp, value_cmp, values_cmp};
+ghost use Rattle.theory_syntax.specs.Value.{action_cmp, event_cmp, value_cmp, values_cmp};
 ghost use Rattle.csp_value.specs.Action.{action_of, event_of};
 ghost use Rattle.csp_value.specs.Value.{members_of, value_of};
 

@@ -2,8 +2,8 @@
 
 ghost use Rattle.std.specs.Prelude.{◌≤◌, ◌-◌, ◌↔◌, IsTrue};
 ghost use Rattle.std.specs.Option.{SomeIff};
-ghost use Rattle.csp_syntax.specs.Value.{to_values};
-ghost use Rattle.csp_semantics.specs.Meaning.Limits.{value_depth, value_size, values_depth, values_size};
+ghost use Rattle.theory_syntax.specs.Value.{to_values};
+ghost use Rattle.theory_semantics.specs.Meaning.Limits.{value_depth, value_size, values_depth, values_size};
 ghost use Rattle.csp_value.specs.Value.{value_of, values_of};
 
 use crate::value::Value;

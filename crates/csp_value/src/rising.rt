@@ -1,7 +1,7 @@
 //! Whether values rise.
 
 ghost use Rattle.std.specs.Prelude.{◌≡◌};
-ghost use Rattle.csp_semantics.specs.Meaning.Offers.{rises};
+ghost use Rattle.theory_semantics.specs.Meaning.Offers.{rises};
 ghost use Rattle.csp_value.specs.Value.{values_of};
 
 use crate::laws::compare_values;

@@ -2,8 +2,8 @@
 
 ghost use Rattle.std.specs.Prelude.{◌≡◌, ◌≤◌, ◌-◌, ◌↔◌, IfOk, IsTrue, OnOk, filter, not};
 ghost use Rattle.std.specs.Option.{SomeIff};
-ghost use Rattle.csp_syntax.specs.Value.{has_value, insert_value, insert_values, sorted_values, to_values, values_list};
-ghost use Rattle.csp_semantics.specs.Meaning.Limits.{values_depth, values_size};
+ghost use Rattle.theory_syntax.specs.Value.{has_value, insert_value, insert_values, sorted_values, to_values, values_list};
+ghost use Rattle.theory_semantics.specs.Meaning.Limits.{values_depth, values_size};
 ghost use Rattle.csp_value.specs.Value.{IsRisingSet, members_of, value_of, values_of};
 
 use crate::copy::TryCopy;

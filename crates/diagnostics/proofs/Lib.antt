@@ -1,1 +1,2 @@
+pub mod NearestSoFar
 pub mod Telling

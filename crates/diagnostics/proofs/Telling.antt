@@ -5,8 +5,8 @@ use Rattle.std.specs.Str.Lossy.{utf8_valid_len}
 use Rattle.std.specs.String.{string_bytes}
 use Rattle.std.specs.declared.string.String.{String}
 use Rattle.std.proofs.lemmas.List.{take_more}
-use Rattle.csp_checking.proofs.OneMore.{flat_map_one_more}
-use Rattle.excerpts.specs.Excerpts.{excerpt_of}
+use Rattle.theory_checking.proofs.OneMore.{flat_map_one_more}
+use Rattle.diagnostics.specs.Excerpts.{excerpt_of}
 use Rattle.diagnostics.specs.declared.faults.Refusal.{Refusal}
 use Rattle.diagnostics.specs.Messages.{heading, IsMessage}
 

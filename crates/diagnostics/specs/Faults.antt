@@ -1,8 +1,8 @@
 -- The refusals of a text: the number and the rule of each.
 use Rattle.std.specs.Prelude.{ℕ, List, [], ◌∷◌, codes}
 use Rattle.std.specs.List.{concat}
-use Rattle.csp_text.specs.Reading.{grammar_fault_spelling, text_fault_spelling}
-use Rattle.csp_checking.specs.Checked.{kind_fault_spelling}
+use Rattle.theory_text.specs.Reading.{grammar_fault_spelling, text_fault_spelling}
+use Rattle.theory_checking.specs.Checked.{kind_fault_spelling}
 use Rattle.csp_lex.specs.Refusals as lexer
 use Rattle.csp_parse.specs.Refusals as parser
 use Rattle.csp_names.specs.Refusals as names

@@ -1,3 +1,10 @@
+pub mod Excerpts
+pub mod Places
+pub mod Surroundings
+pub mod Brackets
+pub mod Conditions
+pub mod Advice
+pub mod Nearest
 pub mod Rules
 pub mod Faults
 pub mod Characters

@@ -2,7 +2,7 @@
 use Rattle.std.specs.Prelude.{◌≡◌, ℕ, ◌++◌, List, [], ◌∷◌, codes, take}
 use Rattle.std.specs.List.{concat}
 use Rattle.std.specs.Str.Lossy.{utf8_valid_len}
-use Rattle.excerpts.specs.Excerpts.{excerpt_of}
+use Rattle.diagnostics.specs.Excerpts.{excerpt_of}
 use Rattle.diagnostics.specs.declared.faults.Refusal.{Refusal}
 use Rattle.diagnostics.specs.Faults.{fault_number, fault_rule}
 use Rattle.diagnostics.specs.Notes.{place_text}

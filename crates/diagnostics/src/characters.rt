@@ -3,8 +3,8 @@
 ghost use Rattle.std.specs.Prelude.{◌≡◌, option_map};
 ghost use Rattle.diagnostics.specs.Characters.{character_advice};
 
+use crate::texts::line_at;
 use csp_lex::Place;
-use excerpts::line_at;
 
 /// A character, and what may be meant by it.
 #[derive(Clone, Copy)]

@@ -15,7 +15,7 @@ mod texts;
 mod values;
 mod words;
 
-use advice::Advice;
+use crate::tables::Advice;
 
 pub(crate) const LOOK_BACK: &str =
     "where something is missing before it, look back: the declaration above may lack a `)`, an `else`, or a process";

@@ -6,11 +6,12 @@ use crate::faults::{Fault, Refusal};
 use crate::grammar_tables::{LOOK_BACK, end_table, mixed_table, nested_table, unexpected_tables};
 use crate::kind_tables::{BAD_SET, TOO_MANY, TWICE, WRONG_COUNT, unknown_tables, wrong_kind_table};
 use crate::notes::{bracket_note, end_note, name_note};
-use advice::{Advice, Surroundings, first_advice, surroundings_at};
+use crate::places::{Surroundings, surroundings_at};
+use crate::tables::{Advice, first_advice};
+use crate::texts::readable;
 use csp_lex::{Place, TextFault, TokenList, tokens};
 use csp_names::KindFault;
 use csp_parse::{GrammarFault, parse};
-use excerpts::readable;
 use std::alloc::{AllocError, Allocator};
 
 const OTHER_CHARACTER: &str = "leave it out, or write it within a comment";

@@ -4,8 +4,8 @@ mod unknown_processes;
 mod unknown_values;
 mod wrong_kinds;
 
-use advice::Advice;
-use advice::Condition::{Before, HereName};
+use crate::conditions::Condition::{Before, HereName};
+use crate::tables::Advice;
 
 /// For a name that is declared already.
 pub(crate) const TWICE: &[Advice] = &[Advice {

@@ -4,9 +4,10 @@ ghost use Rattle.std.specs.Prelude.{◌≡◌, IfOk};
 ghost use Rattle.std.specs.String.{string_bytes};
 ghost use Rattle.diagnostics.specs.Messages.{heading, IsMessage};
 
+use crate::excerpts::excerpt;
 use crate::faults::Refusal;
 use crate::helps::help;
-use excerpts::{excerpt, readable};
+use crate::texts::readable;
 use std::alloc::{AllocError, Allocator};
 
 /// The refusal of a text of this file in words: the place and the rule, the line of the text with a mark under the

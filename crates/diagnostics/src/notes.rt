@@ -5,7 +5,7 @@ ghost use Rattle.std.specs.String.{string_bytes};
 ghost use Rattle.diagnostics.specs.Notes.{below_note, bracket_note, declared_note, end_note, parts_text};
 
 use crate::declared_names::{Class, DeclaredName, declared_as};
-use advice::nearest;
+use crate::nearest_names::nearest;
 use csp_lex::Token;
 use csp_names::KindFault;
 use csp_parse::GrammarFault;

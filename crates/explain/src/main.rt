@@ -5,8 +5,7 @@
 #![tactic(auto)]
 
 use explain_program::run;
-use files::MachineFiles;
-use program::{Refusal, refuse};
+use program::{MachineFiles, Refusal, refuse};
 use report::Out;
 use std::alloc::{AllocError, Global};
 use std::io::ErrorKind;

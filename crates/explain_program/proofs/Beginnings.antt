@@ -1,9 +1,9 @@
 -- Scripts of files, with their names.
 use Rattle.std.proofs.Common.{ℕ, List}
-use Rattle.csp_syntax.specs.Process.{Script}
-use Rattle.csp_notation.specs.Names.{Names}
-use Rattle.csp_checking.specs.Checked.{IsCheckedText}
-use Rattle.files.specs.Beginning.{IsBeginning}
+use Rattle.theory_syntax.specs.Process.{Script}
+use Rattle.theory_notation.specs.Names.{Names}
+use Rattle.theory_checking.specs.Checked.{IsCheckedText}
+use Rattle.program.specs.Beginning.{IsBeginning}
 use Rattle.program.specs.Running.{IsScriptOfFile}
 use Rattle.program.proofs.Beginnings.{short_of_read, whole}
 use Rattle.explain_program.specs.Naming.{IsNamedFile, IsNamedText}

@@ -1,10 +1,10 @@
 -- One explanation that is given to a sink.
 use Rattle.std.proofs.Common.{◌≡◌, ℕ, zero, suc, ◌<◌, Bool, List, [], ◌∷◌, length, map, get_or, refl, sym, ap, subst, append-nil, arith}
 use Rattle.std.specs.Prelude.{Option}
-use Rattle.csp_syntax.specs.Process.{Script, Assertion}
-use Rattle.csp_answers.specs.Outcome.{Bounds, Outcome, Holds, Fails, Unknown, Denied}
-use Rattle.csp_notation.specs.Names.{Names}
-use Rattle.csp_runs.proofs.Visiting.{has_end}
+use Rattle.theory_syntax.specs.Process.{Script, Assertion}
+use Rattle.theory_search.specs.Outcome.{Bounds, Outcome, Holds, Fails, Unknown, Denied}
+use Rattle.theory_notation.specs.Names.{Names}
+use Rattle.theory_runs.proofs.Visiting.{has_end}
 use Rattle.explore.specs.Answering.{IsRightAsWritten}
 use Rattle.explanation.specs.Running.{HasRun}
 use Rattle.report.specs.Sending.{Sends}

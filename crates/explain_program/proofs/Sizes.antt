@@ -1,11 +1,11 @@
 -- What is answered by a search that has ended, or without one.
 use Rattle.std.proofs.Common.{◌≡◌, ◌≢◌, Bool, true, false, Option, Some, None, refl, sym, subst}
 use Rattle.std.specs.Prelude.{IsSomeAnd}
-use Rattle.csp_syntax.specs.Process.{Assertion, Script, specification_of}
-use Rattle.csp_answers.specs.Answer.{MayHaveForm, as_written}
-use Rattle.csp_answers.specs.Outcome.{Bounds, Why, Outcome, Unknown}
-use Rattle.csp_answers.specs.Search.{IsLawful, Open}
-use Rattle.csp_answers.specs.Sound.{IsFor, ScriptSearch}
+use Rattle.theory_syntax.specs.Process.{Assertion, Script, specification_of}
+use Rattle.theory_search.specs.Answer.{MayHaveForm, as_written}
+use Rattle.theory_search.specs.Outcome.{Bounds, Why, Outcome, Unknown}
+use Rattle.theory_search.specs.Search.{IsLawful, Open}
+use Rattle.theory_search.specs.Sound.{IsFor, ScriptSearch}
 use Rattle.explore.specs.Answering.{IsNotBegun, IsRightAsWritten}
 use Rattle.explore.proofs.Ending.{not_begun_right, right_for}
 use Rattle.explore.proofs.Exchanging.{right_as_written}

@@ -4,11 +4,11 @@ use Rattle.std.specs.Prelude.{Option, Result, Ok, Err, IfOk, IfErr}
 use Rattle.std.specs.Result.{IsErr, IsErrAnd}
 use Rattle.std.proofs.lemmas.Result.{err_from_is_err_and}
 use Rattle.std.proofs.lemmas.List.{take-take, take_all}
-use Rattle.csp_syntax.specs.Process.{Script, Assertion}
-use Rattle.csp_answers.specs.Outcome.{Outcome}
-use Rattle.csp_notation.specs.Names.{Names}
-use Rattle.files.specs.declared.files.Unread.{Unread}
-use Rattle.files.specs.declared.files.Unread.TheVariants as unread
+use Rattle.theory_syntax.specs.Process.{Script, Assertion}
+use Rattle.theory_search.specs.Outcome.{Outcome}
+use Rattle.theory_notation.specs.Names.{Names}
+use Rattle.program.specs.declared.files.Unread.{Unread}
+use Rattle.program.specs.declared.files.Unread.TheVariants as unread
 use Rattle.report.specs.Sending.{Sends, Breaks}
 use Rattle.program.specs.Reading.{IsRefusalOf}
 use Rattle.program.specs.Refusal.{of_file}

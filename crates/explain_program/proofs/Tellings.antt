@@ -5,10 +5,10 @@ use Rattle.std.specs.String.{string_bytes}
 use Rattle.std.specs.declared.string.String.{String}
 use Rattle.std.specs.List.{AllZip}
 use Rattle.std.proofs.lemmas.List.{length-take-le}
-use Rattle.csp_syntax.specs.Process.{Script, Assertion}
-use Rattle.csp_answers.specs.Outcome.{Outcome}
-use Rattle.csp_notation.specs.Names.{Names}
-use Rattle.csp_explanation.specs.Telling.{IsTold}
+use Rattle.theory_syntax.specs.Process.{Script, Assertion}
+use Rattle.theory_search.specs.Outcome.{Outcome}
+use Rattle.theory_notation.specs.Names.{Names}
+use Rattle.theory_explanation.specs.Telling.{IsTold}
 use Rattle.explore.specs.Answering.{IsRightAsWritten}
 use Rattle.report.specs.Sending.{Sends, Breaks}
 use Rattle.report.proofs.Sending.{appends_nothing, both, later}

@@ -1,9 +1,9 @@
 -- What the words ask for.
 use Rattle.std.specs.Prelude.{◌≡◌, ◌⊎◌, ◌↔◌, ℕ, Bool, IsTrue, zero, suc, List, [], Some, codes, take, drop}
-use Rattle.csp_answers.specs.Outcome.{Bounds}
-use Rattle.csp_notation.specs.Names.{Names}
-use Rattle.csp_explanation.specs.Cutting.{Width, Whole, UpTo}
-use Rattle.csp_explanation.specs.Styles.{Style}
+use Rattle.theory_search.specs.Outcome.{Bounds}
+use Rattle.theory_notation.specs.Names.{Names}
+use Rattle.theory_explanation.specs.Cutting.{Width, Whole, UpTo}
+use Rattle.theory_explanation.specs.Styles.{Style}
 use Rattle.settings.specs.CommandLine.{HasNumber}
 use Rattle.explain_settings.specs.CommandLine.{IsUsed, value}
 use Rattle.explain_settings.specs.Faults.{AskForHelp, AskForVersion, faults_of}

@@ -1,7 +1,7 @@
 -- Explanations of the assertions of a file.
 use Rattle.std.specs.Prelude.{◌≡◌, ◌≤◌, ◌<◌, ℕ, Bool, List, length, take, Option}
-use Rattle.csp_syntax.specs.Process.{Script}
-use Rattle.csp_notation.specs.Names.{Names}
+use Rattle.theory_syntax.specs.Process.{Script}
+use Rattle.theory_notation.specs.Names.{Names}
 use Rattle.report.specs.Sending.{Sends, Breaks}
 use Rattle.program.specs.declared.refusal.Refusal.TheVariants as refusal
 use Rattle.explain_program.specs.Asking.{Request, chosen, first_number}

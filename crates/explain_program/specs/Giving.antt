@@ -1,8 +1,8 @@
 -- Explanations that are given to a sink.
 use Rattle.std.specs.Prelude.{◌≡◌, ℕ, Bool, List, Option}
-use Rattle.csp_syntax.specs.Process.{Script, Assertion}
-use Rattle.csp_answers.specs.Outcome.{Outcome}
-use Rattle.csp_notation.specs.Names.{Names}
+use Rattle.theory_syntax.specs.Process.{Script, Assertion}
+use Rattle.theory_search.specs.Outcome.{Outcome}
+use Rattle.theory_notation.specs.Names.{Names}
 use Rattle.report.specs.Sending.{Sends, Breaks}
 use Rattle.program.specs.Answering.{AreRight}
 use Rattle.program.specs.Running.{status_of}

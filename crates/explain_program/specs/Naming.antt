@@ -1,10 +1,10 @@
 -- Texts with their scripts and names.
 use Rattle.std.specs.Prelude.{◌≡◌, ℕ, List}
-use Rattle.csp_syntax.specs.Process.{Script}
-use Rattle.csp_text.specs.Raw.{RawScript}
-use Rattle.csp_text.specs.Reading.{IsRead}
-use Rattle.csp_checking.specs.Checked.{IsCheckedTree}
-use Rattle.csp_notation.specs.Names.{Names, names_in}
+use Rattle.theory_syntax.specs.Process.{Script}
+use Rattle.theory_text.specs.Raw.{RawScript}
+use Rattle.theory_text.specs.Reading.{IsRead}
+use Rattle.theory_checking.specs.Checked.{IsCheckedTree}
+use Rattle.theory_notation.specs.Names.{Names, names_in}
 
 -- the text is checked: this is its script, and these are the names of its tree
 pub record IsNamedText (bytes : List ℕ) (script : Script) (names : Names) : Type 0 where

@@ -1,6 +1,6 @@
 -- What a run of the program prints and answers.
 use Rattle.std.specs.Prelude.{◌≡◌, ◌⊎◌, ℕ, Bool, List, Option, codes}
-use Rattle.files.specs.Beginning.{IsBeginning}
+use Rattle.program.specs.Beginning.{IsBeginning}
 use Rattle.report.specs.Sending.{Sends, Breaks}
 use Rattle.explain_settings.specs.Faults.{AreWrong}
 use Rattle.program.specs.Refusal.{refusal_line}

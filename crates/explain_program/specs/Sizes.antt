@@ -1,10 +1,10 @@
 -- How large searches are.
 use Rattle.std.specs.Prelude.{◌≡◌, ◌≢◌, Bool, Option, Some, None, IfSome, length}
-use Rattle.csp_syntax.specs.Process.{Script, Assertion}
-use Rattle.csp_answers.specs.Answer.{as_written}
-use Rattle.csp_answers.specs.Outcome.{Bounds, Why, Outcome, Unknown}
-use Rattle.csp_answers.specs.Search.{Search, Open, IsLawful}
-use Rattle.csp_answers.specs.Sound.{ScriptSearch, IsFor}
+use Rattle.theory_syntax.specs.Process.{Script, Assertion}
+use Rattle.theory_search.specs.Answer.{as_written}
+use Rattle.theory_search.specs.Outcome.{Bounds, Why, Outcome, Unknown}
+use Rattle.theory_search.specs.Search.{Search, Open, IsLawful}
+use Rattle.theory_search.specs.Sound.{ScriptSearch, IsFor}
 use Rattle.explore.specs.Answering.{IsNotBegun, IsToldOrNoMemory}
 use Rattle.explain_program.specs.declared.search_size.SearchSize.{SearchSize}
 

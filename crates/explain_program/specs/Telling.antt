@@ -1,10 +1,10 @@
 -- What is told of assertions, with how large their searches were where that is asked for.
 use Rattle.std.specs.Prelude.{◌≡◌, ℕ, suc, Bool, true, false, List, [], ◌∷◌, ◌++◌, Option, Some, None}
-use Rattle.csp_syntax.specs.Process.{Property, Assertion, Script}
-use Rattle.csp_answers.specs.Outcome.{Outcome}
-use Rattle.csp_notation.specs.Names.{Names}
-use Rattle.csp_explanation.specs.Counting.{count_text}
-use Rattle.csp_explanation.specs.Telling.{IsTold}
+use Rattle.theory_syntax.specs.Process.{Property, Assertion, Script}
+use Rattle.theory_search.specs.Outcome.{Outcome}
+use Rattle.theory_notation.specs.Names.{Names}
+use Rattle.theory_explanation.specs.Counting.{count_text}
+use Rattle.theory_explanation.specs.Telling.{IsTold}
 use Rattle.explain_program.specs.Asking.{Request, style_for}
 use Rattle.explain_program.specs.Sizes.{IsSizeFor}
 use Rattle.explain_program.specs.declared.search_size.SearchSize.{SearchSize}

@@ -1,7 +1,7 @@
 //! The answers to assertions.
 
 ghost use Rattle.std.specs.Prelude.{◌≡◌};
-ghost use Rattle.csp_answers.specs.Terms.{IsAssertionOf};
+ghost use Rattle.theory_search.specs.Terms.{IsAssertionOf};
 ghost use Rattle.csp_term.specs.Script.{assertion_of, script_of};
 ghost use Rattle.pair_store.specs.Bounds.{bounds_of};
 ghost use Rattle.explore.specs.Answering.{IsRightAsWritten};

@@ -3,12 +3,12 @@
 ghost use Rattle.std.specs.Prelude.{◌≡◌, ◌++◌, IfOk};
 ghost use Rattle.std.specs.String.{string_bytes};
 ghost use Rattle.csp_term.specs.Script.{property_of};
-ghost use Rattle.csp_explanation.specs.Counting.{count_text, nodes_text, number_text, plural_text};
+ghost use Rattle.theory_explanation.specs.Counting.{count_text, nodes_text, number_text, plural_text};
 ghost use Rattle.csp_print.specs.Writing.{Writes};
 ghost use Rattle.explain_program.specs.Telling.{size_text};
 
 use crate::search_size::SearchSize;
-use counterexample_text::{push_mark, push_number};
+use counterexample::{push_mark, push_number};
 use csp_term::{AllocHandle, Memory, Property};
 use std::alloc::AllocError;
 

@@ -1,8 +1,8 @@
 //! The search for the answer to an assertion, of which the answer keeps how large it was.
 
 ghost use Rattle.std.specs.Prelude.{◌≢◌, ◌≤◌, IsSomeAnd};
-ghost use Rattle.csp_answers.specs.Search.{Open, IsLawful};
-ghost use Rattle.csp_answers.specs.Terms.{IsAssertionOf};
+ghost use Rattle.theory_search.specs.Search.{Open, IsLawful};
+ghost use Rattle.theory_search.specs.Terms.{IsAssertionOf};
 ghost use Rattle.csp_term.specs.Script.{assertion_of, script_of};
 ghost use Rattle.pair_store.specs.Bounds.{bounds_of};
 ghost use Rattle.explore.specs.Answering.{IsRightAsWritten};

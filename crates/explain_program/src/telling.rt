@@ -2,12 +2,12 @@
 
 ghost use Rattle.std.specs.Prelude.{◌≡◌, IfOk};
 ghost use Rattle.std.specs.String.{string_bytes};
-ghost use Rattle.csp_answers.specs.Terms.{IsAssertionOf};
+ghost use Rattle.theory_search.specs.Terms.{IsAssertionOf};
 ghost use Rattle.csp_term.specs.Script.{assertion_of, script_of};
 ghost use Rattle.csp_term.specs.Term.{process_of};
 ghost use Rattle.csp_print.specs.Names.{names_of};
-ghost use Rattle.counterexample_text.specs.Styles.{style_of};
-ghost use Rattle.counterexample_text.specs.Widths.{width_of};
+ghost use Rattle.counterexample.specs.Styles.{style_of};
+ghost use Rattle.counterexample.specs.Widths.{width_of};
 ghost use Rattle.explanation.specs.Running.{HasRun};
 ghost use Rattle.verdict.specs.Outcome.{outcome_of};
 ghost use Rattle.explain_program.specs.Asking.{bounds_asked, request_of, style_for, width_of_number};
@@ -17,7 +17,7 @@ ghost use Rattle.explain_program.specs.Telling.{IsToldAsAsked};
 use crate::counting::with_size;
 use crate::reader::NamedScript;
 use crate::searching::Answer;
-use counterexample_text::{Style, Width};
+use counterexample::{Style, Width};
 use csp_print::Names;
 use csp_term::{AllocHandle, Assertion, Memory};
 use explain_settings::Settings;

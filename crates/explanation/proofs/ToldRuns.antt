@@ -1,16 +1,16 @@
 -- A run to a stuck state, with where its steps come from, is a run that is told.
 use Rattle.std.proofs.Common.{◌≡◌, suc, List, length, map, sym, ◌∙◌, ap, subst, arith}
 use Rattle.std.proofs.lemmas.List.{length-map}
-use Rattle.csp_syntax.specs.Process.{Process, Script}
-use Rattle.csp_stuck_runs.specs.Stuck.{Hindrance}
+use Rattle.theory_syntax.specs.Process.{Process, Script}
+use Rattle.theory_runs.specs.Stuck.{Hindrance}
 use Rattle.csp_value.specs.Action.{action_of}
 use Rattle.csp_term.specs.Term.{process_of}
-use Rattle.csp_explanation.specs.Counterexamples.{AreOriginsAlong}
-use Rattle.csp_explanation.specs.Faults.{IsToldRun}
-use Rattle.csp_explanation.proofs.Replays.{visits_length}
+use Rattle.theory_explanation.specs.Counterexamples.{AreOriginsAlong}
+use Rattle.theory_explanation.specs.Faults.{IsToldRun}
+use Rattle.theory_explanation.proofs.Replays.{visits_length}
 use Rattle.counterexample.specs.Counterexample.{origins_listed}
-use Rattle.stuck_runs.specs.Running.{IsRunTo}
-use Rattle.stuck_runs.specs.declared.way.StuckRun.{StuckRun}
+use Rattle.csp_replay.specs.Running.{IsRunTo}
+use Rattle.csp_replay.specs.declared.way_to_stuck.StuckRun.{StuckRun}
 use Rattle.explanation.specs.ToldRuns.{HasOriginsOf}
 use Rattle.explanation.specs.declared.told_run.ToldRun.{ToldRun}
 

@@ -1,8 +1,8 @@
 -- Outcomes whose violations have runs.
 use Rattle.std.specs.Prelude.{⊤}
-use Rattle.csp_syntax.specs.Process.{Process, Script}
-use Rattle.csp_answers.specs.Outcome.{Outcome, Holds, Fails, Unknown, Denied}
-use Rattle.csp_runs.specs.States.{HasEnd}
+use Rattle.theory_syntax.specs.Process.{Process, Script}
+use Rattle.theory_search.specs.Outcome.{Outcome, Holds, Fails, Unknown, Denied}
+use Rattle.theory_runs.specs.States.{HasEnd}
 
 -- where it shows a violation, a run of the process by its path ends with its evidence
 abbrev pub HasRun : Script → Process → Outcome → Type 0

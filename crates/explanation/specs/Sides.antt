@@ -1,16 +1,16 @@
 -- The runs of sides that those of the code stand for.
 use Rattle.std.specs.Prelude.{◌≡◌, ℕ, List, Option, Some, None, map}
-use Rattle.csp_syntax.specs.Process.{Process, Script}
-use Rattle.csp_stuck_runs.specs.Runs.{HasNoneWithin}
-use Rattle.csp_stuck_runs.specs.Stuck.{Hindrance}
+use Rattle.theory_syntax.specs.Process.{Process, Script}
+use Rattle.theory_runs.specs.Runs.{HasNoneWithin}
+use Rattle.theory_runs.specs.Stuck.{Hindrance}
 use Rattle.csp_value.specs.Action.{action_of}
 use Rattle.csp_term.specs.Term.{process_of}
-use Rattle.csp_explanation.specs.Faults as pure
-use Rattle.csp_explanation.specs.Paths.{path_text}
-use Rattle.csp_explanation.specs.Styles.{Style}
+use Rattle.theory_explanation.specs.Faults as pure
+use Rattle.theory_explanation.specs.Paths.{path_text}
+use Rattle.theory_explanation.specs.Styles.{Style}
 use Rattle.counterexample.specs.Counterexample.{origins_listed}
-use Rattle.stuck_runs.specs.Running.{IsRunTo}
-use Rattle.stuck_runs.specs.declared.way.StuckRun.{StuckRun}
+use Rattle.csp_replay.specs.Running.{IsRunTo}
+use Rattle.csp_replay.specs.declared.way_to_stuck.StuckRun.{StuckRun}
 use Rattle.explanation.specs.declared.sides.SideRun.{SideRun}
 use Rattle.explanation.specs.declared.told_run.ToldRun.{ToldRun}
 use Rattle.explanation.specs.declared.sides.SideRun.TheVariants as variant

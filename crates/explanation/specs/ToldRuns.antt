@@ -1,11 +1,11 @@
 -- Runs to stuck states, with where their steps come from.
 use Rattle.std.specs.Prelude.{◌≡◌, map}
-use Rattle.csp_syntax.specs.Process.{Script}
+use Rattle.theory_syntax.specs.Process.{Script}
 use Rattle.csp_value.specs.Action.{action_of}
 use Rattle.csp_term.specs.Term.{process_of}
 use Rattle.counterexample.specs.Counterexample.{origins_listed}
-use Rattle.csp_explanation.specs.Counterexamples.{AreOriginsAlong}
-use Rattle.stuck_runs.specs.declared.way.StuckRun.{StuckRun}
+use Rattle.theory_explanation.specs.Counterexamples.{AreOriginsAlong}
+use Rattle.csp_replay.specs.declared.way_to_stuck.StuckRun.{StuckRun}
 use Rattle.explanation.specs.declared.told_run.ToldRun.{ToldRun}
 
 -- the run, with the origins of its steps

@@ -3,23 +3,23 @@
 ghost use Rattle.std.specs.Prelude.{◌≡◌, ◌++◌, OnOk, Some};
 ghost use Rattle.std.specs.Option.{option_map};
 ghost use Rattle.std.specs.String.{string_bytes};
-ghost use Rattle.csp_answers.specs.Terms.{IsAssertionOf};
+ghost use Rattle.theory_search.specs.Terms.{IsAssertionOf};
 ghost use Rattle.csp_term.specs.Script.{assertion_of, script_of};
-ghost use Rattle.csp_explanation.specs.Faults as faults;
-ghost use Rattle.csp_explanation.specs.Telling.{TellsFound, TellsUnknown};
+ghost use Rattle.theory_explanation.specs.Faults as faults;
+ghost use Rattle.theory_explanation.specs.Telling.{TellsFound, TellsUnknown};
 ghost use Rattle.csp_print.specs.Writing.{Writes};
-ghost use Rattle.counterexample_text.specs.Styles.{style_of};
-ghost use Rattle.stuck_runs.specs.Hindrance.{hindrance_of};
+ghost use Rattle.counterexample.specs.Styles.{style_of};
+ghost use Rattle.csp_replay.specs.Hindrance.{hindrance_of};
 ghost use Rattle.verdict.specs.Outcome.{why_of};
 ghost use Rattle.explanation.specs.Sides.{side_run_of, told_text};
 
 use crate::reasons::reason;
 use crate::sides::{SideRun, side_run};
 use crate::told_run::ToldRun;
-use counterexample_text::{Run, Style, push_mark, push_path};
+use counterexample::{Run, Style, push_mark, push_path};
+use csp_replay::Hindrance;
 use csp_term::{AllocHandle, Assertion, Memory, Script};
 use std::alloc::AllocError;
-use stuck_runs::Hindrance;
 use verdict::Why;
 
 /// Why there is no answer, and a run to a state that is faulty or large, where that is why.

@@ -2,15 +2,15 @@
 
 ghost use Rattle.std.specs.Prelude.{◌≡◌, IfOk};
 ghost use Rattle.std.specs.String.{string_bytes};
-ghost use Rattle.csp_syntax.specs.Models.{model_of};
+ghost use Rattle.theory_syntax.specs.Models.{model_of};
 ghost use Rattle.csp_term.specs.Script.{assertion_of, property_of};
 ghost use Rattle.csp_term.specs.Term.{process_of};
 ghost use Rattle.verdict.specs.Outcome.{outcome_of};
-ghost use Rattle.csp_explanation.specs.Headline as told;
+ghost use Rattle.theory_explanation.specs.Headline as told;
 ghost use Rattle.csp_print.specs.Names.{names_of};
 ghost use Rattle.csp_print.specs.Writing.{Writes};
 
-use counterexample_text::{push_mark, push_number};
+use counterexample::{push_mark, push_number};
 use csp_print::{Names, push_term};
 use csp_term::{AllocHandle, Assertion, Model, Property, Term};
 use std::alloc::AllocError;

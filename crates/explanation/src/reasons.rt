@@ -3,7 +3,7 @@
 ghost use Rattle.std.specs.Prelude.{◌≡◌};
 ghost use Rattle.csp_expression.specs.Fault.{cause_of};
 ghost use Rattle.verdict.specs.Outcome.{why_of};
-ghost use Rattle.csp_explanation.specs.Reasons as told;
+ghost use Rattle.theory_explanation.specs.Reasons as told;
 
 use csp_term::Fault;
 use verdict::Why;

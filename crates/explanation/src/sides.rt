@@ -2,17 +2,17 @@
 
 ghost use Rattle.std.specs.Prelude.{IfOk, IfSome};
 ghost use Rattle.std.specs.Option.{option_map};
-ghost use Rattle.csp_syntax.specs.Process.{specification_of};
-ghost use Rattle.csp_semantics.specs.Kinds.Scripts.{IsTermOf};
-ghost use Rattle.csp_answers.specs.Terms.{IsAssertionOf};
+ghost use Rattle.theory_syntax.specs.Process.{specification_of};
+ghost use Rattle.theory_semantics.specs.Kinds.Scripts.{IsTermOf};
+ghost use Rattle.theory_search.specs.Terms.{IsAssertionOf};
 ghost use Rattle.csp_term.specs.Script.{assertion_of, property_of, script_of};
-ghost use Rattle.csp_explanation.specs.Faults.{IsFound};
-ghost use Rattle.stuck_runs.specs.Hindrance.{hindrance_of};
+ghost use Rattle.theory_explanation.specs.Faults.{IsFound};
+ghost use Rattle.csp_replay.specs.Hindrance.{hindrance_of};
 ghost use Rattle.explanation.specs.Sides.{IsSpecificationRun, IsSpecificationSide, side_run_of};
 
 use crate::told_run::{ToldRun, told_run};
+use csp_replay::{Hindrance, StuckRun, run_to_stuck};
 use csp_term::{AllocHandle, Assertion, Memory, Property, Script};
-use stuck_runs::{Hindrance, StuckRun, run_to_stuck};
 
 /// A run of a side.
 #[derive(Drop)]

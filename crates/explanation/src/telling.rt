@@ -2,20 +2,19 @@
 
 ghost use Rattle.std.specs.Prelude.{IfOk, OnOk};
 ghost use Rattle.std.specs.String.{string_bytes};
-ghost use Rattle.csp_answers.specs.Terms.{IsAssertionOf};
-ghost use Rattle.csp_runs.specs.States.{HasEnd};
+ghost use Rattle.theory_search.specs.Terms.{IsAssertionOf};
+ghost use Rattle.theory_runs.specs.States.{HasEnd};
 ghost use Rattle.csp_term.specs.Script.{assertion_of, script_of};
 ghost use Rattle.csp_term.specs.Term.{process_of};
 ghost use Rattle.verdict.specs.Outcome.{outcome_of, violation_of};
-ghost use Rattle.csp_explanation.specs.Telling.{IsTold, TellsCounterexample, TellsWhy};
+ghost use Rattle.theory_explanation.specs.Telling.{IsTold, TellsCounterexample, TellsWhy};
 ghost use Rattle.csp_print.specs.Writing.{Writes};
-ghost use Rattle.counterexample_text.specs.Styles.{style_of};
+ghost use Rattle.counterexample.specs.Styles.{style_of};
 ghost use Rattle.explanation.specs.Running.{HasRun};
 
 use crate::faults::push_unknown;
 use crate::headline::headline_text;
-use counterexample::counterexample_of;
-use counterexample_text::{Style, push_counterexample, push_mark};
+use counterexample::{Style, counterexample_of, push_counterexample, push_mark};
 use csp_term::{AllocHandle, Assertion, Memory, Script};
 use verdict::{Outcome, Shown};
 

@@ -6,8 +6,8 @@ ghost use Rattle.explanation.specs.ToldRuns.{HasOriginsOf};
 
 use counterexample::origins_along;
 use csp_moves::Origin;
+use csp_replay::StuckRun;
 use csp_term::{AllocHandle, Memory, Script};
-use stuck_runs::StuckRun;
 
 /// A run to a stuck state, with where each of its steps comes from.
 #[derive(Drop)]

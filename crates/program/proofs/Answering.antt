@@ -2,12 +2,12 @@
 use Rattle.std.proofs.Common.{◌≡◌, ℕ, ◌+◌, ◌<◌, List, [], ◌∷◌, ◌++◌, length, get_or, take, map, refl, sym, ◌∙◌, ap, subst}
 use Rattle.std.proofs.lemmas.List.{map-append, take_more}
 use Rattle.std.specs.List.{All, AllZip}
-use Rattle.csp_answers.specs.Terms.{IsAssertionOf}
-use Rattle.csp_syntax.specs.Process.{Assertion, Script}
-use Rattle.csp_semantics.specs.Meaning.Evaluation.{Cause}
-use Rattle.csp_semantics.specs.Meaning.Violations.{Violation, IsViolation}
-use Rattle.csp_answers.specs.Outcome.{Bounds, TooManyPairs, TooManyNodes, LargeTerm, Fault, NoMemory, Outcome, Holds, Fails, Unknown, Denied}
-use Rattle.csp_answers.specs.Telling.{HoldsSoundlyBy, HoldsWithoutStuck}
+use Rattle.theory_search.specs.Terms.{IsAssertionOf}
+use Rattle.theory_syntax.specs.Process.{Assertion, Script}
+use Rattle.theory_semantics.specs.Meaning.Evaluation.{Cause}
+use Rattle.theory_semantics.specs.Meaning.Violations.{Violation, IsViolation}
+use Rattle.theory_search.specs.Outcome.{Bounds, TooManyPairs, TooManyNodes, LargeTerm, Fault, NoMemory, Outcome, Holds, Fails, Unknown, Denied}
+use Rattle.theory_search.specs.Telling.{HoldsSoundlyBy, HoldsWithoutStuck}
 use Rattle.explore.specs.Answering.{IsAnswerOrNoMemory, IsReason, IsRightAsWritten, IsTrueAsWritten}
 use Rattle.program.specs.Answering.{AreRight}
 

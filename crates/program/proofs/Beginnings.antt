@@ -1,13 +1,13 @@
 -- The first 65,537 bytes of a text decide whether it is a script.
 use Rattle.std.proofs.Common.{◌≡◌, ℕ, ◌≤◌, ◌<◌, List, length, take, min, ap, sym, ◌∙◌, subst, arith}
 use Rattle.std.proofs.lemmas.List.{length-take, take_all}
-use Rattle.csp_syntax.specs.Process.{Script}
-use Rattle.csp_text.specs.Place.{Place}
-use Rattle.csp_text.specs.Raw.{RawScript}
-use Rattle.csp_text.specs.Reading.{ReadingFault, IsRead, read, IsReadingRefusal, of_text, of_grammar}
-use Rattle.csp_text.specs.Token.{TextFault, IsTextRefusal, long_text, not_utf8, here}
-use Rattle.csp_checking.specs.Checked.{IsCheckedText}
-use Rattle.files.specs.Beginning.{IsBeginning}
+use Rattle.theory_syntax.specs.Process.{Script}
+use Rattle.theory_text.specs.Place.{Place}
+use Rattle.theory_text.specs.Raw.{RawScript}
+use Rattle.theory_text.specs.Reading.{ReadingFault, IsRead, read, IsReadingRefusal, of_text, of_grammar}
+use Rattle.theory_text.specs.Token.{TextFault, IsTextRefusal, long_text, not_utf8, here}
+use Rattle.theory_checking.specs.Checked.{IsCheckedText}
+use Rattle.program.specs.Beginning.{IsBeginning}
 use Rattle.program.specs.Running.{IsScriptOfFile, IsTextRefused, IsCause}
 use Rattle.program.specs.Reading.{IsRefusalOf}
 use Rattle.program.specs.declared.refusal.Refusal.{Refusal}

@@ -1,3 +1,4 @@
+pub mod FileBeginnings
 pub mod Answering
 pub mod Reporting
 pub mod Giving

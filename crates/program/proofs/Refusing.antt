@@ -2,10 +2,10 @@
 use Rattle.std.proofs.Common.{◌≡◌, Result, IfErr, ℕ, List}
 use Rattle.std.specs.Result.{IsErr, IsErrAnd}
 use Rattle.std.proofs.lemmas.Result.{err_from_is_err_and}
-use Rattle.csp_text.specs.Place.{Place}
-use Rattle.csp_text.specs.Raw.{RawScript}
-use Rattle.csp_text.specs.Reading.{IsRead, of_grammar}
-use Rattle.csp_text.specs.Token.{PlacedToken, AreTokens}
+use Rattle.theory_text.specs.Place.{Place}
+use Rattle.theory_text.specs.Raw.{RawScript}
+use Rattle.theory_text.specs.Reading.{IsRead, of_grammar}
+use Rattle.theory_text.specs.Token.{PlacedToken, AreTokens}
 use Rattle.csp_parse.specs.Stopping as parsing
 use Rattle.csp_parse.specs.declared.refusals.Refused as parser
 use Rattle.csp_parse.specs.declared.refusals.Refused.TheVariants as parser_fault

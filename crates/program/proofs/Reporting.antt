@@ -1,6 +1,6 @@
 -- The statuses of outcomes.
 use Rattle.std.proofs.Common.{ℕ, ◌≤◌, List, [], ◌∷◌, arith}
-use Rattle.csp_answers.specs.Outcome.{Outcome, Holds, Fails, Unknown, Denied}
+use Rattle.theory_search.specs.Outcome.{Outcome, Holds, Fails, Unknown, Denied}
 use Rattle.program.specs.Running.{outcome_status, status_of}
 
 outcome_at_most : (o : Outcome) → outcome_status o ≤ 2

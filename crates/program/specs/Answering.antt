@@ -1,8 +1,8 @@
 -- What the outcomes say of the assertions.
 use Rattle.std.specs.Prelude.{List}
 use Rattle.std.specs.List.{AllZip}
-use Rattle.csp_syntax.specs.Process.{Script, Assertion}
-use Rattle.csp_answers.specs.Outcome.{Bounds, Outcome}
+use Rattle.theory_syntax.specs.Process.{Script, Assertion}
+use Rattle.theory_search.specs.Outcome.{Bounds, Outcome}
 use Rattle.explore.specs.Answering.{IsRightAsWritten}
 
 -- the outcomes are right for the assertions, one for each in order

@@ -1,3 +1,4 @@
+pub mod Beginning
 pub mod Reading
 pub mod Refusal
 pub mod Running

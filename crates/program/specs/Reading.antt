@@ -1,8 +1,8 @@
 -- What the reader hands out.
 use Rattle.std.specs.Prelude.{ℕ, List, ⊤}
-use Rattle.csp_text.specs.Reading.{OfGrammar, IsReadingRefusal}
-use Rattle.csp_text.specs.Token.{IsTextRefusal}
-use Rattle.csp_checking.specs.Checked.{IsRefusedText}
+use Rattle.theory_text.specs.Reading.{OfGrammar, IsReadingRefusal}
+use Rattle.theory_text.specs.Token.{IsTextRefusal}
+use Rattle.theory_checking.specs.Checked.{IsRefusedText}
 use Rattle.csp_lex.specs.Places.{place_of}
 use Rattle.csp_lex.specs.Refusals.{fault_of}
 use Rattle.csp_parse.specs.Refusals as grammar

@@ -1,7 +1,7 @@
 -- The line of a refusal.
 use Rattle.std.specs.Prelude.{ℕ, List, [], ◌∷◌, codes, decimal}
 use Rattle.std.specs.List.{concat}
-use Rattle.csp_text.specs.Reading.{text_fault_spelling, grammar_fault_spelling}
+use Rattle.theory_text.specs.Reading.{text_fault_spelling, grammar_fault_spelling}
 use Rattle.csp_lex.specs.declared.places.Place.{Place}
 use Rattle.csp_lex.specs.declared.refusals.Refused.TheVariants as lexer_fault
 use Rattle.csp_lex.specs.declared.refusals.Refused as no_tokens
@@ -9,14 +9,14 @@ use Rattle.csp_lex.specs.Refusals as lexer
 use Rattle.csp_parse.specs.declared.refusals.Refused.TheVariants as parser_fault
 use Rattle.csp_parse.specs.declared.refusals.Refused as no_script
 use Rattle.csp_parse.specs.Refusals as parser
-use Rattle.csp_checking.specs.Checked.{kind_fault_spelling}
+use Rattle.theory_checking.specs.Checked.{kind_fault_spelling}
 use Rattle.csp_names.specs.declared.refusals.Refused.TheVariants as kind_fault
 use Rattle.csp_names.specs.declared.refusals.Refused as no_kinds
 use Rattle.csp_names.specs.Refusals as names
 use Rattle.program.specs.declared.refusal.Refusal.{Refusal}
 use Rattle.program.specs.declared.refusal.Refusal.TheVariants as refusal
-use Rattle.files.specs.declared.files.Unread.{Unread}
-use Rattle.files.specs.declared.files.Unread.TheVariants as unread
+use Rattle.program.specs.declared.files.Unread.{Unread}
+use Rattle.program.specs.declared.files.Unread.TheVariants as unread
 
 -- `refused`, the number of the refusal, and its line and column
 abbrev pub place_line : List ℕ → Place → List ℕ

@@ -1,10 +1,10 @@
 -- What a run of the program prints and answers.
 use Rattle.std.specs.Prelude.{◌≡◌, ℕ, max, Bool, List, [], ◌∷◌, Option, Some, ◌⊎◌, ⊤, codes, map}
 use Rattle.std.specs.Borrow.{Bor}
-use Rattle.csp_syntax.specs.Process.{Script}
-use Rattle.csp_answers.specs.Outcome.{Bounds, Outcome, Holds, Fails, Unknown, Denied}
-use Rattle.csp_answers.specs.Printing.{report}
-use Rattle.csp_checking.specs.Checked.{IsCheckedText}
+use Rattle.theory_syntax.specs.Process.{Script}
+use Rattle.theory_search.specs.Outcome.{Bounds, Outcome, Holds, Fails, Unknown, Denied}
+use Rattle.theory_search.specs.Printing.{report}
+use Rattle.theory_checking.specs.Checked.{IsCheckedText}
 use Rattle.report.specs.Sending.{Sends, Breaks}
 use Rattle.settings.specs.CommandLine.{chosen, given}
 use Rattle.settings.specs.Faults.{AreWrong, AskForHelp, AskForVersion, faults_of}

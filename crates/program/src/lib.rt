@@ -5,12 +5,24 @@
 //! cause: a text that is refused by the rules of the language, a file that cannot be read, an output that has failed, or
 //! want of memory. `holds` means that what the assertion asks is so, and `fails` shows a violation, or stands alone where
 //! there is none and `not` asks for one. Words that ask for the help or the version are answered with it.
+//!
+//! Texts are read from files by their names, each up to its first 65,537 bytes, which is one byte more than a script may
+//! have: so a longer file, and one without an end, is told from a script. `read_beginning` answers so much of what any
+//! reader gives, `MachineFiles` of a file of the machine, and `OneText` of one text in memory.
 #![tactic(auto)]
 
+mod beginning;
+mod files;
+mod machine;
+mod one_text;
 mod reader;
 mod refusal;
 mod running;
 
+pub use beginning::{MOST_BYTES, read_beginning};
+pub use files::{Files, Unread};
+pub use machine::MachineFiles;
+pub use one_text::OneText;
 pub use reader::read;
 pub use refusal::Refusal;
 pub use running::{refuse, refuse_words, run, show};

@@ -2,7 +2,7 @@
 
 ghost use Rattle.std.specs.Prelude.{IfOk, IfErr};
 ghost use Rattle.csp_term.specs.Script.{script_of};
-ghost use Rattle.csp_checking.specs.Checked.{IsCheckedText};
+ghost use Rattle.theory_checking.specs.Checked.{IsCheckedText};
 ghost use Rattle.program.specs.Reading.{IsRefusalOf};
 
 use crate::refusal::Refusal;

@@ -4,10 +4,10 @@ ghost use Rattle.std.specs.Prelude.{◌≡◌, false};
 ghost use Rattle.program.specs.Refusal.{refusal_line, place_line};
 ghost use Rattle.program.specs.Running.{IsGiven};
 
+use crate::files::Unread;
 use csp_kinds::KindFault;
 use csp_lex::{Place, TextFault};
 use csp_parse::GrammarFault;
-use files::Unread;
 use itoa::Buffer;
 use report::{Failed, Sink, push_all, push_each};
 use std::alloc::AllocError;

@@ -11,11 +11,11 @@ ghost use Rattle.program.specs.declared.refusal.Refusal.TheVariants as refusal;
 ghost use Rattle.program.specs.Answering.{AreRight};
 ghost use Rattle.program.specs.Running.{IsCause, IsCheckRefused, IsGiven, IsRefused, IsReported, IsServed, Leaves, limits_of, outcome_status, status_of, texts_of};
 
+use crate::files::Files;
 use crate::reader;
 use crate::refusal::{Refusal, push_line};
 use csp_term::{AllocHandle, Script};
 use explore::{Open, explore};
-use files::Files;
 use pair_store::Limits;
 use report::{Sink, push_all, write};
 use settings::{CommandLineFault, Settings};

@@ -4,8 +4,7 @@
 //! machine, and a thread of its own with a large stack, since values nest as deep as a text is long.
 #![tactic(auto)]
 
-use files::MachineFiles;
-use program::{Refusal, refuse, run};
+use program::{MachineFiles, Refusal, refuse, run};
 use report::Out;
 use std::alloc::{AllocError, Global};
 use std::io::ErrorKind;

@@ -1,8 +1,6 @@
 //! Small shapes, and parts for their holes.
 
-use csp_changes::{
-    ActionId, Bits, EventId, Frame, Images, Part, PartId, PartStep, Shape, SideBits,
-};
+use csp_rows::{ActionId, Bits, EventId, Frame, Images, Part, PartId, PartStep, Shape, SideBits};
 use std::alloc::{AllocError, Global};
 
 /// The event `a`.

@@ -4,7 +4,7 @@ use crate::shapes::{
     A_SKIP, A_STOP, B_STOP, SKIP, STOP, hidden, hidden_beside, interleaved, parts, renamed,
     synchronised,
 };
-use csp_changes::{ActionId, Change, PartId, Shape, Step, keep_shape, shape_steps};
+use csp_rows::{ActionId, Change, PartId, Shape, Step, keep_shape, shape_steps};
 use std::alloc::Global;
 use std::process::Abort;
 use std::test::Fail;

@@ -1,7 +1,7 @@
 //! What a change makes of a row: its bytes, and whether it is within the limits.
 
 use crate::shapes::{A_STOP, B_STOP, STOP, parts};
-use csp_changes::{Change, Place, fits, target};
+use csp_rows::{Change, Place, fits, target};
 use std::test::Fail;
 
 /// Where the two parts of a row stand, behind a byte for the operator and with one between them.

@@ -1,11 +1,11 @@
 //! What is so around a place of a text, and what the first row of a table says of it.
 
-use advice::Condition::{
+use csp_lex::{Place, tokens};
+use diagnostics::Condition::{
     Before, BeforeName, BeforeNumber, Behind, Earlier, Here, HereName, HereNumber, NoneOpen, Open,
     Opening,
 };
-use advice::{Advice, Condition, first_advice, surroundings_at};
-use csp_lex::{Place, tokens};
+use diagnostics::{Advice, Condition, first_advice, surroundings_at};
 use std::test::Fail;
 
 /// The place of the `+`, where the brackets round `n` are closed.

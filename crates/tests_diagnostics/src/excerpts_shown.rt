@@ -1,7 +1,7 @@
 //! Lines of a text with a mark under a place, also under places that the text has not.
 
 use csp_lex::Place;
-use excerpts::{excerpt, line_at, readable};
+use diagnostics::{excerpt, line_at, readable};
 use std::test::Fail;
 
 /// A text, the line and the column of a place, and what is shown.

@@ -1,7 +1,7 @@
 //! Words, and the name that is spelled most like each: one that at most two edits lead to, and no more edits than half
 //! the word's length.
 
-use advice::nearest;
+use diagnostics::nearest;
 use std::test::Fail;
 
 /// A word, names, and the one of them that is meant.

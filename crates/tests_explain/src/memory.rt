@@ -1,7 +1,7 @@
 //! Runs that are refused memory.
 
 use crate::runs::{Told, run_in};
-use files::OneText;
+use program::OneText;
 use refusing_memory::RefusesOnce;
 use std::alloc::Global;
 use std::sync::Wait;

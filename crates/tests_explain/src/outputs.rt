@@ -2,7 +2,7 @@
 
 use crate::full::Full;
 use explain_program::run;
-use files::OneText;
+use program::OneText;
 use report::{Buffer, Out};
 use std::alloc::Global;
 use std::io::Write;

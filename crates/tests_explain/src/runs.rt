@@ -2,7 +2,7 @@
 
 use csp_term::AllocHandle;
 use explain_program::run;
-use files::{Files, OneText};
+use program::{Files, OneText};
 use report::Buffer;
 use std::alloc::Global;
 use std::sync::Wait;

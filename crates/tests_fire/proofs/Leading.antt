@@ -1,10 +1,10 @@
 -- What the first step leads to.
 use Rattle.std.proofs.Common.{List, [], ◌∷◌, ◌<◌, length, get_or, map, arith}
-use Rattle.csp_syntax.specs.Process.{Script}
-use Rattle.csp_syntax.specs.Value.{Action}
-use Rattle.csp_syntax.proofs.Members.{contains_here}
-use Rattle.csp_semantics.specs.Kinds.Scripts.{IsTermOf}
-use Rattle.csp_semantics.specs.Meaning.Expansions.{Fired}
+use Rattle.theory_syntax.specs.Process.{Script}
+use Rattle.theory_syntax.specs.Value.{Action}
+use Rattle.theory_syntax.proofs.Members.{contains_here}
+use Rattle.theory_semantics.specs.Kinds.Scripts.{IsTermOf}
+use Rattle.theory_semantics.specs.Meaning.Expansions.{Fired}
 use Rattle.csp_value.specs.Action.{action_of}
 use Rattle.csp_term.specs.Term.{process_of}
 use Rattle.csp_fire.specs.Form.{step_of}

@@ -1,7 +1,7 @@
 //! Firings, copies, values put in and values of expressions in heaps of more and more bytes, in steps of 32: memory is
 //! refused ever later, and then not at all. Without room, nothing is held.
 
-ghost use Rattle.csp_semantics.specs.Kinds.Scripts.{IsTermOf};
+ghost use Rattle.theory_semantics.specs.Kinds.Scripts.{IsTermOf};
 ghost use Rattle.csp_term.specs.Script.{HasSidesOf, script_of};
 ghost use Rattle.csp_term.specs.Term.{process_of};
 

@@ -1,7 +1,7 @@
 //! Firings whose requests for memory are refused in turn: at the first of them, then at the second, until none is
 //! refused. That is told, or the term is fired as with ample memory, and the script and the term are as they were.
 
-ghost use Rattle.csp_semantics.specs.Kinds.Scripts.{IsTermOf};
+ghost use Rattle.theory_semantics.specs.Kinds.Scripts.{IsTermOf};
 ghost use Rattle.csp_term.specs.Script.{script_of};
 ghost use Rattle.csp_term.specs.Term.{process_of};
 

@@ -15,7 +15,7 @@
 //!
 //! What is not so is told with the name of its text, the term and the line.
 
-ghost use Rattle.csp_semantics.specs.Kinds.Scripts.{IsTermOf};
+ghost use Rattle.theory_semantics.specs.Kinds.Scripts.{IsTermOf};
 ghost use Rattle.csp_term.specs.Script.{HasSidesOf, script_of};
 ghost use Rattle.csp_term.specs.Term.{process_of};
 

@@ -13,7 +13,7 @@ use crate::texts::Line;
 use crate::values::is_for;
 use csp_expression::Binding;
 use csp_fire::Step;
-use csp_rules::{NoValue, RuleStep, Target, steps};
+use csp_steps::{NoValue, RuleStep, Target, steps};
 use csp_term::{Memory, Script, Term, TermForm};
 use std::alloc::Global;
 use std::test::Fail;

@@ -1,7 +1,7 @@
 //! What the first steps of terms lead to.
 
 ghost use Rattle.std.specs.Prelude.{◌≡◌, IfOk, IfSome};
-ghost use Rattle.csp_semantics.specs.Kinds.Scripts.{IsTermOf};
+ghost use Rattle.theory_semantics.specs.Kinds.Scripts.{IsTermOf};
 ghost use Rattle.csp_fire.specs.Form.{form_of};
 ghost use Rattle.csp_fire.specs.Targets.{LeadsToTermsOf};
 ghost use Rattle.csp_term.specs.Script.{script_of};

@@ -1,6 +1,6 @@
 -- What is met of a script.
 use Rattle.std.specs.List.{All}
-use Rattle.csp_semantics.specs.Kinds.Scripts.{IsTermOf}
+use Rattle.theory_semantics.specs.Kinds.Scripts.{IsTermOf}
 use Rattle.csp_term.specs.Script.{script_of}
 use Rattle.csp_term.specs.Term.{process_of}
 use Rattle.tests_firing.specs.declared.met.Met.TheInside.{Inside}

@@ -1,6 +1,6 @@
 //! Forms beside each other.
 
-use csp_packed_expansion::{PackedForm, PackedStep};
+use csp_packed::{PackedForm, PackedStep};
 use std::alloc::Global;
 
 fn is_same_step(step: &PackedStep<Global>, other: &PackedStep<Global>) -> bool {

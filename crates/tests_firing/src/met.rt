@@ -1,7 +1,7 @@
 //! Terms that are met.
 
 ghost use Rattle.std.specs.Prelude.{◌≡◌, IfOk, IfSome};
-ghost use Rattle.csp_semantics.specs.Kinds.Scripts.{IsTermOf};
+ghost use Rattle.theory_semantics.specs.Kinds.Scripts.{IsTermOf};
 ghost use Rattle.csp_term.specs.Script.{script_of};
 ghost use Rattle.csp_term.specs.Term.{process_of};
 
@@ -18,9 +18,9 @@ pub(crate) struct Met<'s> {
 }
 
 impl<'s> Model for Met<'s> {
-    ghost use Rattle.csp_syntax.specs.Process as syntax;
-    ghost use Rattle.csp_syntax.specs.Codes.Coding.{coded};
-    ghost use Rattle.csp_syntax.specs.Codes.Processes.{coding_script};
+    ghost use Rattle.theory_syntax.specs.Process as syntax;
+    ghost use Rattle.theory_syntax.specs.Codes.Coding.{coded};
+    ghost use Rattle.theory_syntax.specs.Codes.Processes.{coding_script};
 
     ghost Value = { syntax.Script };
 

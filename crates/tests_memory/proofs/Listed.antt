@@ -1,11 +1,11 @@
 -- Rows that a level lists.
 use Rattle.std.proofs.Common.{◌≡◌, ◌∙◌, ℕ, ◌<◌, List, map, length, Some, get_or, sym, ap}
 use Rattle.std.proofs.lemmas.Option.{slice_get-get_or}
-use Rattle.csp_syntax.specs.Process.{Script}
-use Rattle.csp_syntax.proofs.Places.{get_some}
-use Rattle.csp_semantics.specs.Kinds.Scripts.{IsTermOf}
-use Rattle.csp_semantics.proofs.Rising.{Contains-from_stands}
-use Rattle.csp_answers.specs.Terms.{AreTermsOf}
+use Rattle.theory_syntax.specs.Process.{Script}
+use Rattle.theory_syntax.proofs.Places.{get_some}
+use Rattle.theory_semantics.specs.Kinds.Scripts.{IsTermOf}
+use Rattle.theory_semantics.proofs.Rising.{Contains-from_stands}
+use Rattle.theory_search.specs.Terms.{AreTermsOf}
 use Rattle.csp_packed.specs.Packed.{kept_process}
 use Rattle.pair_store.specs.Level.{level_row}
 use Rattle.pair_store.specs.declared.level.LevelRow.{LevelRow}

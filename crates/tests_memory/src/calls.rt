@@ -1,7 +1,7 @@
 //! A level of a search and of its twin, by single calls of their stores.
 
 ghost use Rattle.std.specs.Prelude.{◌≡◌, IfOk};
-ghost use Rattle.csp_answers.specs.Terms.{AreTermsOf};
+ghost use Rattle.theory_search.specs.Terms.{AreTermsOf};
 ghost use Rattle.csp_term.specs.Script.{script_of};
 ghost use Rattle.pair_store.specs.Level.{level_of};
 

@@ -6,7 +6,7 @@
 //! once their levels are finished.
 
 ghost use Rattle.std.specs.Prelude.{◌≡◌, IfOk};
-ghost use Rattle.csp_answers.specs.Terms.{AreTermsOf, IsAssertionOf};
+ghost use Rattle.theory_search.specs.Terms.{AreTermsOf, IsAssertionOf};
 ghost use Rattle.csp_term.specs.Script.{assertion_of, script_of};
 ghost use Rattle.pair_store.specs.Level.{level_of};
 

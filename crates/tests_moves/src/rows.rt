@@ -1,6 +1,6 @@
 //! Origins that are written by hand.
 
-ghost use Rattle.csp_semantics.specs.Kinds.Scripts.{IsTermOf};
+ghost use Rattle.theory_semantics.specs.Kinds.Scripts.{IsTermOf};
 ghost use Rattle.csp_term.specs.Script.{HasSidesOf, script_of};
 ghost use Rattle.csp_term.specs.Term.{process_of};
 

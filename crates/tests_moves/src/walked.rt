@@ -1,7 +1,7 @@
 //! Walks along the first steps of terms.
 
 ghost use Rattle.std.specs.List.{AllByRecursion};
-ghost use Rattle.csp_semantics.specs.Kinds.Scripts.{IsTermOf};
+ghost use Rattle.theory_semantics.specs.Kinds.Scripts.{IsTermOf};
 ghost use Rattle.csp_fire.specs.Form.{form_of};
 ghost use Rattle.csp_fire.specs.Targets.{LeadsToTermsOf};
 ghost use Rattle.csp_term.specs.Script.{HasSidesOf, script_of};

@@ -1,8 +1,8 @@
 //! The events of scripts by numbers.
 
 use crate::script::script;
-use alphabet::Alphabet;
-use csp_changes::EventId;
+use csp_numbers::Alphabet;
+use csp_rows::EventId;
 use csp_term::{ChannelId, Event};
 use csp_value::Value;
 use smallvec::SmallVec;

@@ -1,15 +1,15 @@
 //! What operators have by the numbers of events.
 
 ghost use Rattle.std.specs.Prelude.{◌≡◌};
-ghost use Rattle.csp_alphabet.specs.Alphabet.{alphabet as events_of_script};
+ghost use Rattle.theory_shapes.specs.Alphabet.{alphabet as events_of_script};
 ghost use Rattle.csp_term.specs.Script.{script_of_parts};
 
 use crate::shown::{write_bits, write_frame, write_sides};
-use alphabet::{Alphabet, alphabetised, bits_of, generalised, hidden, interleaved, renamed};
-use csp_changes::{Frame, SideBits};
 use csp_event_sets::EventSet;
 use csp_event_tests::EventTest;
 use csp_expression::NoValue;
+use csp_numbers::{Alphabet, alphabetised, bits_of, generalised, hidden, interleaved, renamed};
+use csp_rows::{Frame, SideBits};
 use csp_term::{ScriptParts, Term, TermForm};
 use std::alloc::Global;
 use std::test::Fail;

@@ -1,8 +1,9 @@
 //! Steps in order, and what is accepted by their actions.
 
 use crate::shown::{read_action, write_action};
-use csp_changes::{ActionId, Change, PartId, Run, Step};
-use csp_ordering::{PartOrder, Ranks, actions_of, offers_of, put_in_order};
+use csp_rows::{
+    ActionId, Change, PartId, PartOrder, Ranks, Run, Step, actions_of, offers_of, put_in_order,
+};
 use std::alloc::Global;
 use std::cmp::Ordering;
 use std::test::Fail;

@@ -1,14 +1,14 @@
 //! Scripts and their terms, from texts.
 
 ghost use Rattle.std.specs.Prelude.{◌≡◌, IfOk};
-ghost use Rattle.csp_alphabet.specs.Alphabet.{alphabet as events_of_script};
-ghost use Rattle.csp_parts.specs.Kept.{IsPartOf};
+ghost use Rattle.theory_shapes.specs.Alphabet.{alphabet as events_of_script};
+ghost use Rattle.csp_firing.specs.Kept.{IsPartOf};
 ghost use Rattle.csp_term.specs.Script.{script_of};
 ghost use Rattle.csp_term.specs.Term.{process_of};
 
-use alphabet::Alphabet;
 use csp_kinds::check;
 use csp_lex::tokens;
+use csp_numbers::Alphabet;
 use csp_parse::parse;
 use csp_term::{Script, Term};
 use std::alloc::Global;

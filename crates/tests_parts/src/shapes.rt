@@ -1,16 +1,15 @@
 //! Terms taken apart: what they measure, their parts and the bytes round these, and their shapes.
 
 ghost use Rattle.std.specs.Prelude.{◌≡◌};
-ghost use Rattle.csp_alphabet.specs.Alphabet.{alphabet as events_of_script};
-ghost use Rattle.csp_parts.specs.Kept.{IsPartOf};
+ghost use Rattle.theory_shapes.specs.Alphabet.{alphabet as events_of_script};
+ghost use Rattle.csp_firing.specs.Kept.{IsPartOf};
 ghost use Rattle.csp_term.specs.Script.{script_of};
 ghost use Rattle.csp_term.specs.Term.{process_of};
 
 use crate::script::{DECLARATIONS, alphabet_of, script, term_of};
 use crate::shown::write_shape;
-use csp_measures::{depth_of, size_of};
-use csp_shaping::{levels_of, own_size_of, parts_of, pieces_of, places_of, shape_of};
-use csp_term::{Script, Term};
+use csp_numbers::{levels_of, own_size_of, parts_of, pieces_of, places_of, shape_of};
+use csp_term::{Script, Term, depth_of, size_of};
 use std::alloc::Global;
 use std::process::Abort;
 use std::test::Fail;
@@ -162,7 +161,7 @@ fn has_parts(rt: &impl Abort, alloc: Global, term: &Term<Global>, row: &Row) -> 
 }
 
 /// Whether its parts are spelled at the places of the row.
-#[tactic(auto, using(csp_spelling::proofs::ShortLists::within_is_short))]
+#[tactic(auto, using(theory_spelling::proofs::ShortLists::within_is_short))]
 fn has_places(
     rt: &impl Abort,
     alloc: Global,
@@ -185,7 +184,7 @@ fn has_places(
 }
 
 /// Whether the bytes round its parts are those of the row.
-#[tactic(auto, using(csp_spelling::proofs::ShortLists::within_is_short))]
+#[tactic(auto, using(theory_spelling::proofs::ShortLists::within_is_short))]
 fn has_pieces(
     rt: &impl Abort,
     alloc: Global,

@@ -1,6 +1,6 @@
 //! Shapes and actions by numbers, as texts.
 
-use csp_changes::{ActionId, Bits, EventId, Frame, Shape, SideBits};
+use csp_rows::{ActionId, Bits, EventId, Frame, Shape, SideBits};
 use std::alloc::Global;
 use std::test::Fail;
 

@@ -1,7 +1,7 @@
 //! Readers without an end, and readers that fail.
 
 use crate::runs::check;
-use files::{MOST_BYTES, Unread, read_beginning};
+use program::{MOST_BYTES, Unread, read_beginning};
 use refusing_memory::RefusesOnce;
 use std::io::{Error, ErrorKind, Read, Result as IoResult};
 use std::test::Fail;

@@ -3,7 +3,7 @@
 use crate::outcomes::{BEYOND_STOP, CHAIN, WITHIN_PREFIX};
 use crate::rows::Row;
 use crate::runs::{Told, run_in};
-use files::{Files, OneText, Unread};
+use program::{Files, OneText, Unread};
 use refusing_memory::RefusesOnce;
 use std::alloc::Global;
 use std::process::Abort;

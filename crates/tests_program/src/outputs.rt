@@ -3,8 +3,7 @@
 use crate::full::Full;
 use crate::memory::NoMemory;
 use crate::outcomes::BEYOND_STOP;
-use files::OneText;
-use program::run;
+use program::{OneText, run};
 use report::{Buffer, Out};
 use std::alloc::Global;
 use std::io::Write;

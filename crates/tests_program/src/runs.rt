@@ -1,8 +1,7 @@
 //! Runs of the program over texts in memory.
 
 use csp_term::AllocHandle;
-use files::{Files, OneText};
-use program::run;
+use program::{Files, OneText, run};
 use report::Buffer;
 use std::alloc::Global;
 use std::sync::Wait;

@@ -1,7 +1,7 @@
 //! The rows of a level, and what they do, as batches.
 
 ghost use Rattle.std.specs.Prelude.{◌≡◌, IfOk, IsTrue};
-ghost use Rattle.csp_answers.specs.Terms.{AreTermsOf};
+ghost use Rattle.theory_search.specs.Terms.{AreTermsOf};
 ghost use Rattle.csp_term.specs.Script.{script_of};
 ghost use Rattle.pair_store.specs.Level.{level_of};
 

@@ -37,7 +37,7 @@ fn is_unpacked(rt: &impl Abort, alloc: Global, bytes: &[u8], request: u64) -> Re
 
 /// Whether packing was granted all that it asked for of the narrow heap. Else it says that memory was refused, and that
 /// heap is empty again.
-#[tactic(auto, using(csp_spelling::proofs::OfSpellable::packable))]
+#[tactic(auto, using(theory_spelling::proofs::OfSpellable::packable))]
 fn is_packed<'m, 'h>(
     rt: &impl Abort,
     ample: Memory<'m, 'h>,
@@ -59,7 +59,7 @@ fn is_packed<'m, 'h>(
 }
 
 /// The same of a spelling that is put behind another byte, which stands alone again where memory was refused.
-#[tactic(auto, using(csp_spelling::proofs::OfSpellable::packable))]
+#[tactic(auto, using(theory_spelling::proofs::OfSpellable::packable))]
 fn is_put_behind<'m, 'h>(
     rt: &impl Abort,
     ample: Memory<'m, 'h>,

@@ -9,7 +9,7 @@ use std::process::Abort;
 use std::test::Fail;
 
 /// The term that the bytes spell, none where they spell no term. Packed it has these bytes again.
-#[tactic(auto, using(csp_spelling::proofs::OfSpellable::packable))]
+#[tactic(auto, using(theory_spelling::proofs::OfSpellable::packable))]
 pub(crate) fn term_of(
     rt: &impl Abort,
     alloc: Global,

@@ -24,7 +24,7 @@ fn script(alloc: Global, rows: &[Row<'_>]) -> Result<Script<Global>, Fail> {
 }
 
 /// Whether the term is spelled by the bytes, also behind others, and read from them.
-#[tactic(auto, using(csp_spelling::proofs::ShortLists::within_is_short))]
+#[tactic(auto, using(theory_spelling::proofs::ShortLists::within_is_short))]
 fn is_spelled_so(alloc: Global, term: &Term<Global>, bytes: &[u8]) -> Result<bool, Fail> {
     if !term.fits() {
         return Ok(false);

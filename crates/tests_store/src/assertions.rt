@@ -1,8 +1,8 @@
 //! The assertions of scripts, by their numbers from 0 on. Both sides of each are terms of its script.
 
 ghost use Rattle.std.specs.Prelude.{IfOk, IfSome};
-ghost use Rattle.csp_semantics.specs.Kinds.Scripts.{IsTermOf};
-ghost use Rattle.csp_answers.specs.Terms.{IsAssertionOf};
+ghost use Rattle.theory_semantics.specs.Kinds.Scripts.{IsTermOf};
+ghost use Rattle.theory_search.specs.Terms.{IsAssertionOf};
 ghost use Rattle.csp_term.specs.Script.{HasSidesOf, assertion_of, script_of};
 ghost use Rattle.csp_term.specs.Term.{process_of};
 

@@ -1,7 +1,7 @@
 //! A round of which a worker did a part, and ended early: `finish` does the rest.
 
 ghost use Rattle.std.specs.Prelude.{◌≡◌, IsTrue};
-ghost use Rattle.csp_answers.specs.Terms.{AreTermsOf};
+ghost use Rattle.theory_search.specs.Terms.{AreTermsOf};
 ghost use Rattle.csp_term.specs.Script.{script_of};
 ghost use Rattle.pair_store.specs.Level.{level_of};
 

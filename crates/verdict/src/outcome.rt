@@ -34,7 +34,7 @@ pub enum Outcome<A: AllocHandle> {
 }
 
 impl<A: AllocHandle> Outcome<A> {
-    ghost use Rattle.csp_answers.specs.Answer.{as_written, exchanged};
+    ghost use Rattle.theory_search.specs.Answer.{as_written, exchanged};
     ghost use Rattle.verdict.specs.Outcome.{outcome_of};
 
     /// An equal outcome in the given allocator, or `Memory` where that has no room.

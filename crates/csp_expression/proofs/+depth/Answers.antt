@@ -1,6 +1,6 @@
 -- Each expression so far is within the depth.
 use Rattle.std.proofs.Common.{◌+◌, refl, sym, ◌∙◌, ap, arith}
-use Rattle.csp_semantics.specs.Meaning.Limits.{expression_depth}
+use Rattle.theory_semantics.specs.Meaning.Limits.{expression_depth}
 use Rattle.csp_value.proofs.Walking.{one_more, one_beyond, none_beyond, told_beyond, told_within}
 use Rattle.csp_expression.specs.Expression.{expression_of}
 use Rattle.csp_expression.proofs.ExpressionForms.{of_constructor, of_sequence, of_set}

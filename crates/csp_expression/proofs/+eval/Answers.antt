@@ -4,16 +4,16 @@ use Rattle.std.proofs.lemmas.List.{take_all}
 use Rattle.std.proofs.lemmas.Option.{slice_get_past, slice_get_read}
 use Rattle.std.proofs.lemmas.Result.{err_from_is_err_and}
 use Rattle.std.specs.declared.vec.Vec.{Vec}
-use Rattle.csp_syntax.specs.Value as pure
-use Rattle.csp_syntax.specs.Expression.{ConstructorOf, to_expressions}
-use Rattle.csp_semantics.specs.Meaning.Evaluation.{Cause, ◌and_then◌, constructed, given_values, in_field_set, sequence, set_of, value, values}
+use Rattle.theory_syntax.specs.Value as pure
+use Rattle.theory_syntax.specs.Expression.{ConstructorOf, to_expressions}
+use Rattle.theory_semantics.specs.Meaning.Evaluation.{Cause, ◌and_then◌, constructed, given_values, in_field_set, sequence, set_of, value, values}
 use Rattle.csp_value.specs.declared.value.Value.{Value}
 use Rattle.csp_value.specs.Fields.{field_values, sets_of}
 use Rattle.csp_value.specs.Value.{value_of, values_of}
 use Rattle.csp_expression.specs.declared.no_value.NoValue.{NoValue}
 use Rattle.csp_expression.specs.declared.seen.Seen.{Seen}
 use Rattle.csp_expression.specs.Evaluation.{GivesAll, Sees, seen_value, table_of}
-use Rattle.csp_semantics.specs.Meaning.Substitution.{put_expression}
+use Rattle.theory_semantics.specs.Meaning.Substitution.{put_expression}
 use Rattle.csp_expression.specs.Bindings.{bindings_of, puts}
 use Rattle.csp_expression.specs.Expression.{expression_of}
 use Rattle.csp_expression.proofs.Evaluating.{found_more, found_none, fields_smaller, given_found, none_behind, value_of_constructor, value_of_sequence, value_of_set_form}

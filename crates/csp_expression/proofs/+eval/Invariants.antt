@@ -1,4 +1,4 @@
-use Rattle.csp_semantics.specs.Meaning.Substitution.{put_expression}
+use Rattle.theory_semantics.specs.Meaning.Substitution.{put_expression}
 use Rattle.csp_expression.specs.Bindings.{bindings_of}
 use Rattle.csp_expression.specs.Evaluation.{table_of}
 use Rattle.csp_expression.specs.Expression.{expression_of}

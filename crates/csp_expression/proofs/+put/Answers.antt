@@ -1,8 +1,8 @@
 -- Values are put into one more expression, and what the expressions make up.
 use Rattle.std.proofs.Common.{◌≡◌, List, sym, ◌∙◌, ap}
 use Rattle.std.specs.declared.vec.Vec.{Vec}
-use Rattle.csp_syntax.specs.Expression.{ConstructorOf, SequenceOf, SetOf, to_expressions}
-use Rattle.csp_semantics.specs.Meaning.Substitution.{Bindings, put_expression}
+use Rattle.theory_syntax.specs.Expression.{ConstructorOf, SequenceOf, SetOf, to_expressions}
+use Rattle.theory_semantics.specs.Meaning.Substitution.{Bindings, put_expression}
 use Rattle.csp_value.specs.declared.name.ConId.{ConId}
 use Rattle.csp_expression.specs.declared.expr.Expr.{Expr}
 use Rattle.csp_expression.specs.declared.expr.Expr.TheVariants as views

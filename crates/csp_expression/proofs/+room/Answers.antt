@@ -1,6 +1,6 @@
 -- What one more expression leaves of the room.
 use Rattle.std.proofs.Common.{◌+◌, refl, sym, ◌∙◌, ap}
-use Rattle.csp_semantics.specs.Meaning.Limits.{expression_size}
+use Rattle.theory_semantics.specs.Meaning.Limits.{expression_size}
 use Rattle.csp_value.proofs.Walking.{one_less, one_too_many}
 use Rattle.csp_expression.specs.Expression.{expression_of}
 use Rattle.csp_expression.proofs.ExpressionForms.{of_constructor, of_sequence, of_set}

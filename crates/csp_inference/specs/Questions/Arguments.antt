@@ -1,7 +1,7 @@
 -- What expressions ask that are to have the kinds of numbers in turn.
 use Rattle.std.specs.Prelude.{List, map}
-use Rattle.csp_syntax.specs.Expression.{to_expressions}
-use Rattle.csp_checking.specs.Inference.Expressions.{behind_expressions, of_all, of_first}
+use Rattle.theory_syntax.specs.Expression.{to_expressions}
+use Rattle.theory_checking.specs.Inference.Expressions.{behind_expressions, of_all, of_first}
 use Rattle.csp_expression.specs.declared.expr.Expr.{Expr}
 use Rattle.csp_expression.specs.declared.types.TypeTable.{TypeTable}
 use Rattle.csp_expression.specs.Evaluation.{table_of}

@@ -1,9 +1,9 @@
 -- What expressions ask that are to have a kind, where names have the kinds of their numbers.
 use Rattle.std.specs.Prelude.{List, [], ◌∷◌, slice_get}
-use Rattle.csp_syntax.specs.Expression.{ConstructorOf, to_expressions}
-use Rattle.csp_checking.specs.Inference.Chain.{DatatypeEnd, OpenEnd, SetOver}
-use Rattle.csp_checking.specs.Inference.Equations.{number_of_name, when}
-use Rattle.csp_checking.specs.Inference.Expressions.{behind_expression, behind_expressions, of_expression, of_expressions}
+use Rattle.theory_syntax.specs.Expression.{ConstructorOf, to_expressions}
+use Rattle.theory_checking.specs.Inference.Chain.{DatatypeEnd, OpenEnd, SetOver}
+use Rattle.theory_checking.specs.Inference.Equations.{number_of_name, when}
+use Rattle.theory_checking.specs.Inference.Expressions.{behind_expression, behind_expressions, of_expression, of_expressions}
 use Rattle.csp_value.specs.declared.name.ConId.{ConId}
 use Rattle.csp_expression.specs.declared.expr.Expr.{Expr}
 use Rattle.csp_expression.specs.declared.name.DatatypeId.{DatatypeId}

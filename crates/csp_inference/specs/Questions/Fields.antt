@@ -1,7 +1,7 @@
 -- What the fields of a prefix ask that are to have the kinds of numbers in turn.
 use Rattle.std.specs.Prelude.{List, [], ◌∷◌, map}
-use Rattle.csp_checking.specs.Inference.Equations.{Numbered}
-use Rattle.csp_checking.specs.Inference.Processes.{behind_fields, names_behind, of_fields}
+use Rattle.theory_checking.specs.Inference.Equations.{Numbered}
+use Rattle.theory_checking.specs.Inference.Processes.{behind_fields, names_behind, of_fields}
 use Rattle.csp_expression.specs.declared.types.TypeTable.{TypeTable}
 use Rattle.csp_expression.specs.Evaluation.{table_of}
 use Rattle.csp_term.specs.declared.field.Field.{Field}

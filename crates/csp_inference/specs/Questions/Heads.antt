@@ -1,9 +1,9 @@
 -- What the heads of calls and prefixes ask.
 use Rattle.std.specs.Prelude.{List, slice_get}
-use Rattle.csp_syntax.specs.Expression.{to_expressions}
-use Rattle.csp_checking.specs.Inference.Equations.{Numbered, when}
-use Rattle.csp_checking.specs.Inference.Expressions.{behind_expressions, of_all}
-use Rattle.csp_checking.specs.Inference.Processes.{behind_fields, of_fields}
+use Rattle.theory_syntax.specs.Expression.{to_expressions}
+use Rattle.theory_checking.specs.Inference.Equations.{Numbered, when}
+use Rattle.theory_checking.specs.Inference.Expressions.{behind_expressions, of_all}
+use Rattle.theory_checking.specs.Inference.Processes.{behind_fields, of_fields}
 use Rattle.csp_expression.specs.declared.expr.Expr.{Expr}
 use Rattle.csp_expression.specs.declared.types.TypeTable.{TypeTable}
 use Rattle.csp_expression.specs.Evaluation.{table_of}

@@ -1,10 +1,10 @@
 -- What the equations and the assertions of a script ask.
 use Rattle.std.specs.Prelude.{List, map, Option, option_map}
 use denote.Ref.{Bor}
-use Rattle.csp_syntax.specs.Process.{Process}
+use Rattle.theory_syntax.specs.Process.{Process}
 use Rattle.csp_term.specs.declared.term.Term.{Term}
-use Rattle.csp_checking.specs.Inference.Items.{of_assertion, of_equation, of_specification, behind_assertion, behind_specification}
-use Rattle.csp_checking.specs.Inference.Processes.{behind_process}
+use Rattle.theory_checking.specs.Inference.Items.{of_assertion, of_equation, of_specification, behind_assertion, behind_specification}
+use Rattle.theory_checking.specs.Inference.Processes.{behind_process}
 use Rattle.csp_term.specs.declared.assertion.Assertion.{Assertion}
 use Rattle.csp_term.specs.declared.script.Equation.{Equation}
 use Rattle.csp_term.specs.declared.script.ScriptParts.{ScriptParts}

@@ -1,10 +1,10 @@
 -- What operators, sequences and sets ask whose values are to have a kind.
 use Rattle.std.specs.Prelude.{suc, [], ◌∷◌}
-use Rattle.csp_syntax.specs.declared.operator.BinaryOperator.{BinaryOperator}
-use Rattle.csp_syntax.specs.declared.operator.UnaryOperator.{UnaryOperator}
-use Rattle.csp_syntax.specs.Operators.{binary_of, unary_of}
-use Rattle.csp_checking.specs.Inference.Chain.{OpenEnd, SequenceOver, SetOver}
-use Rattle.csp_checking.specs.Inference.Expressions.{behind_binary, behind_unary, binary_value, unary_value}
+use Rattle.theory_syntax.specs.declared.operator.BinaryOperator.{BinaryOperator}
+use Rattle.theory_syntax.specs.declared.operator.UnaryOperator.{UnaryOperator}
+use Rattle.theory_syntax.specs.Operators.{binary_of, unary_of}
+use Rattle.theory_checking.specs.Inference.Chain.{OpenEnd, SequenceOver, SetOver}
+use Rattle.theory_checking.specs.Inference.Expressions.{behind_binary, behind_unary, binary_value, unary_value}
 use Rattle.csp_inference.specs.declared.chain.Demand.{Demand}
 use Rattle.csp_inference.specs.Chain.{demand_of}
 use Rattle.csp_inference.specs.Question.{Question}

@@ -1,6 +1,6 @@
 -- What processes ask.
 use Rattle.std.specs.Prelude.{List}
-use Rattle.csp_checking.specs.Inference.Processes.{behind_process, of_process}
+use Rattle.theory_checking.specs.Inference.Processes.{behind_process, of_process}
 use Rattle.csp_term.specs.declared.script.ScriptParts.{ScriptParts}
 use Rattle.csp_term.specs.declared.term.Term.{Term}
 use Rattle.csp_term.specs.Script.{script_of_parts}

@@ -1,6 +1,6 @@
 -- What the pairs of renamings ask.
 use Rattle.std.specs.Prelude.{List}
-use Rattle.csp_checking.specs.Inference.Processes.{behind_event, behind_pairs, of_pair, of_pairs}
+use Rattle.theory_checking.specs.Inference.Processes.{behind_event, behind_pairs, of_pair, of_pairs}
 use Rattle.csp_event_sets.specs.declared.renaming_pair.RenamingPair.{RenamingPair}
 use Rattle.csp_event_sets.specs.Events.{event_expression_of, renaming_pair_of, renaming_pairs_of}
 use Rattle.csp_term.specs.declared.script.ScriptParts.{ScriptParts}

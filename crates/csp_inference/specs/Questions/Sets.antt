@@ -1,6 +1,6 @@
 -- What the sets of nametypes and fields ask, whose members are to have the kinds of numbers.
 use Rattle.std.specs.Prelude.{List, map, Some}
-use Rattle.csp_checking.specs.Inference.Items.{behind_copies, behind_set, of_copies, of_set}
+use Rattle.theory_checking.specs.Inference.Items.{behind_copies, behind_set, of_copies, of_set}
 use Rattle.csp_expression.specs.declared.expr.Expr.{Expr}
 use Rattle.csp_expression.specs.declared.types.TypeTable.{TypeTable}
 use Rattle.csp_expression.specs.Evaluation.{table_of}

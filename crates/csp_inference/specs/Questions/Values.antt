@@ -1,7 +1,7 @@
 -- What values ask that are to have a kind.
 use Rattle.std.specs.Prelude.{List, map}
-use Rattle.csp_syntax.specs.Value.{Constructor, to_values}
-use Rattle.csp_checking.specs.Inference.Expressions.{behind_value, behind_values, of_rising, of_value, of_values, of_values_in_turn}
+use Rattle.theory_syntax.specs.Value.{Constructor, to_values}
+use Rattle.theory_checking.specs.Inference.Expressions.{behind_value, behind_values, of_rising, of_value, of_values, of_values_in_turn}
 use Rattle.csp_value.specs.declared.name.ConId.{ConId}
 use Rattle.csp_value.specs.declared.value.Value.{Value}
 use Rattle.csp_value.specs.Value.{value_of, values_of}

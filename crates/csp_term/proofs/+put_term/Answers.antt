@@ -1,8 +1,8 @@
 -- What the parts with the values put in make up.
 use Rattle.std.proofs.Common.{sym, ◌∙◌, ap}
-use Rattle.csp_syntax.specs.Expression.{to_expressions}
-use Rattle.csp_syntax.specs.Process as pure
-use Rattle.csp_semantics.specs.Meaning.Substitution.{put}
+use Rattle.theory_syntax.specs.Expression.{to_expressions}
+use Rattle.theory_syntax.specs.Process as pure
+use Rattle.theory_semantics.specs.Meaning.Substitution.{put}
 use Rattle.csp_expression.specs.Bindings.{bindings_of}
 use Rattle.csp_expression.specs.Expression.{expressions_of}
 use Rattle.csp_event_sets.specs.Events.{renaming_pairs_of}

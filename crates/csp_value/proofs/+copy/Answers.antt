@@ -1,6 +1,6 @@
 -- One more value is copied, and a copy of a constructor or of a sequence is a copy of each of its items.
 use Rattle.std.proofs.Common.{sym, ◌∙◌, ap}
-use Rattle.csp_syntax.specs.Value as pure
+use Rattle.theory_syntax.specs.Value as pure
 use Rattle.csp_value.specs.Value.{value_of, values_of}
 use Rattle.csp_value.proofs.Copying.{map_push}
 use Rattle.csp_value.proofs.Forms.{value_of_con, value_of_seq}

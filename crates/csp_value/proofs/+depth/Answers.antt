@@ -1,6 +1,6 @@
 -- Each value so far is within the depth, and a constructor and a sequence are one deeper than their parts.
 use Rattle.std.proofs.Common.{◌+◌, refl, sym, ◌∙◌, ap, arith, IsTrue}
-use Rattle.csp_semantics.specs.Meaning.Limits.{value_depth}
+use Rattle.theory_semantics.specs.Meaning.Limits.{value_depth}
 use Rattle.csp_value.specs.Value.{value_of}
 use Rattle.csp_value.proofs.Forms.{value_of_con, value_of_seq}
 use Rattle.csp_value.proofs.Measures.{one_depth, depths}

@@ -1,6 +1,6 @@
 -- What one more value leaves of the room, and what a constructor and a sequence do.
 use Rattle.std.proofs.Common.{◌+◌, refl, sym, ◌∙◌, ap}
-use Rattle.csp_semantics.specs.Meaning.Limits.{value_size}
+use Rattle.theory_semantics.specs.Meaning.Limits.{value_size}
 use Rattle.csp_value.specs.Value.{value_of}
 use Rattle.csp_value.proofs.Forms.{value_of_con, value_of_seq}
 use Rattle.csp_value.proofs.Measures.{one_size, sizes}

@@ -1,8 +1,8 @@
 //! For what stands in the brackets of a head or a call.
 
+use crate::conditions::Condition::{Before, BeforeName, Earlier, Here};
 use crate::grammar_tables::texts::PAIRS;
-use advice::Advice;
-use advice::Condition::{Before, BeforeName, Earlier, Here};
+use crate::tables::Advice;
 
 const FUNCTIONS: &str =
     "only `head` `tail` `null` `elem` `member` `card` `union` `inter` `diff` are called in an expression: a call of an equation is a process";

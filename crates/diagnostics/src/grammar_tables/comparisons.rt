@@ -1,7 +1,7 @@
 //! For comparisons.
 
-use advice::Advice;
-use advice::Condition::Here;
+use crate::conditions::Condition::Here;
+use crate::tables::Advice;
 
 const CHAINED: &str =
     "a comparison has no second one behind it: write `0 <= x and x < 3` for `0 <= x < 3`; a field with one stands in brackets, as `c!(x == 0)`";

@@ -1,8 +1,8 @@
 //! For equations that are values.
 
+use crate::conditions::Condition::{BeforeNumber, Earlier, Here, HereName, NoneOpen};
 use crate::grammar_tables::texts::CONSTANT;
-use advice::Advice;
-use advice::Condition::{BeforeNumber, Earlier, Here, HereName, NoneOpen};
+use crate::tables::Advice;
 
 const CONDITION: &str = "behind the condition of an `if` stands `then`, and behind a guard `&`";
 

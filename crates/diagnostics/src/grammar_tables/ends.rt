@@ -1,8 +1,8 @@
 //! For a text that ends within a declaration.
 
+use crate::conditions::Condition::{Before, Earlier, NoneOpen, Opening};
 use crate::grammar_tables::texts::{ASSERTION, EVENT_ALONE};
-use advice::Advice;
-use advice::Condition::{Before, Earlier, NoneOpen, Opening};
+use crate::tables::Advice;
 
 const OPERATOR_END: &str = "behind this operator stands a process";
 

@@ -1,8 +1,8 @@
 //! For events without a process behind them.
 
+use crate::conditions::Condition::{Earlier, Here, HereName, NoneOpen};
 use crate::grammar_tables::texts::EVENT_ALONE;
-use advice::Advice;
-use advice::Condition::{Earlier, Here, HereName, NoneOpen};
+use crate::tables::Advice;
 
 const ROWS: &[Advice] = &[
     Advice {

@@ -1,10 +1,10 @@
 //! For an operator between processes, or the beginning of one, that cannot stand where it does.
 
+use crate::conditions::Condition::{Before, BeforeNumber, Behind, Earlier, Here, Opening};
 use crate::grammar_tables::texts::{
     CONSTANT, EVENT_ALONE, MANY, NO_END, REFINED_FD, REFINED_RV, REFINEMENT,
 };
-use advice::Advice;
-use advice::Condition::{Before, BeforeNumber, Behind, Earlier, Here, Opening};
+use crate::tables::Advice;
 
 const ROWS: &[Advice] = &[
     Advice {

@@ -1,6 +1,6 @@
 //! For a declaration that nests too deep.
 
-use advice::Advice;
+use crate::tables::Advice;
 
 const ROWS: &[Advice] = &[Advice {
     when: &[],

@@ -1,8 +1,10 @@
 //! For signs and words of other notations, and for what keeps declarations apart.
 
+use crate::conditions::Condition::{
+    Before, BeforeName, BeforeNumber, Behind, Earlier, Here, NoneOpen,
+};
 use crate::grammar_tables::texts::NO_END;
-use advice::Advice;
-use advice::Condition::{Before, BeforeName, BeforeNumber, Behind, Earlier, Here, NoneOpen};
+use crate::tables::Advice;
 
 const NO_BRACKET: &str =
     "no bracket is open here: leave it out, or look back for the one that it closes";

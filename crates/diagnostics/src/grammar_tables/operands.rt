@@ -1,7 +1,7 @@
 //! For parameters that are patterns, and for `if`.
 
-use advice::Advice;
-use advice::Condition::{Before, BeforeName, Earlier, Here, HereNumber};
+use crate::conditions::Condition::{Before, BeforeName, Earlier, Here, HereNumber};
+use crate::tables::Advice;
 
 const PATTERN: &str =
     "a parameter is a name, and no pattern: ask for its value in the body, as `P(n) = if n == 0 then Q else R`, with `null`, `head` and `tail` for a sequence";

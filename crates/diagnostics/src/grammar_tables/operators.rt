@@ -1,8 +1,8 @@
 //! For operators in expressions, and for what is missing before a token.
 
+use crate::conditions::Condition::{Before, BeforeName, Earlier, Here, NoneOpen, Opening};
 use crate::grammar_tables::texts::{ASSERTION, NO_END};
-use advice::Advice;
-use advice::Condition::{Before, BeforeName, Earlier, Here, NoneOpen, Opening};
+use crate::tables::Advice;
 
 const CALLED: &str =
     "what stands before this is a process, and has no value: write `#s` for `length(s)`, and `card(S) == 0` for `empty(S)`";

@@ -1,8 +1,8 @@
 //! For sets of events, types and arrows.
 
+use crate::conditions::Condition::{Before, Behind, Here, HereName};
 use crate::grammar_tables::texts::MANY;
-use advice::Advice;
-use advice::Condition::{Before, Behind, Here, HereName};
+use crate::tables::Advice;
 
 const ALPHABET: &str =
     "behind `[` stands a set of events, as in `P [{| a |} || {| b |}] Q`: a set has no name, and for `P [c <-> d] Q` rename both channels to a third, share it and hide it";

@@ -1,8 +1,10 @@
 //! For fields, pairs, sets and sequences.
 
+use crate::conditions::Condition::{
+    Before, BeforeName, Behind, Earlier, Here, NoneOpen, Open, Opening,
+};
 use crate::grammar_tables::texts::PAIRS;
-use advice::Advice;
-use advice::Condition::{Before, BeforeName, Behind, Earlier, Here, NoneOpen, Open, Opening};
+use crate::tables::Advice;
 
 const DOT: &str =
     "fields with a dot come first, as `c.1!2?x`, and an input is one name, as `c?x?y`; a constructor with its fields stands in brackets, as `m!(B.0)`";

@@ -1,8 +1,8 @@
 //! For words of FDR, and for what is asked in an assertion.
 
+use crate::conditions::Condition::{Before, Behind, Earlier, Here, HereName};
 use crate::grammar_tables::texts::{REFINED_FD, REFINED_RV, REFINEMENT};
-use advice::Advice;
-use advice::Condition::{Before, Behind, Earlier, Here, HereName};
+use crate::tables::Advice;
 
 const LET: &str = "there is no `let`: write `[] y:{E} @ P` for `let y = E within P`";
 

@@ -1,7 +1,7 @@
 //! For a name that means nothing where a process or an event is asked for.
 
-use advice::Advice;
-use advice::Condition::Here;
+use crate::conditions::Condition::Here;
+use crate::tables::Advice;
 
 const LEFT_OUT: &str = "leave this out, and keep its argument: compressions change no answer";
 

@@ -1,7 +1,7 @@
 //! For a name that means nothing, by what it may stand for.
 
-use advice::Advice;
-use advice::Condition::{Before, Behind, Here, HereName};
+use crate::conditions::Condition::{Before, Behind, Here, HereName};
+use crate::tables::Advice;
 
 const TRUTH: &str = "the truth values are written `true` and `false`";
 

@@ -1,7 +1,7 @@
 //! For what is of another kind than its place asks for.
 
-use advice::Advice;
-use advice::Condition::{Before, Behind, Earlier, Here, HereName, HereNumber};
+use crate::conditions::Condition::{Before, Behind, Earlier, Here, HereName, HereNumber};
+use crate::tables::Advice;
 
 const CHANNEL: &str =
     "here stands a channel: an event is no value, and no parameter, input or replicated name stands for one";

@@ -1,11 +1,11 @@
 -- The states of the replay, where its steps come from, and what the specification has beside them.
 use Rattle.std.proofs.Common.{◌≡◌, suc, List, Option, Vec, IfSome, IsNone, length, map, option_map, refl, sym, subst, ap, inl, inr, lit≤, lit<, arith}
 use Rattle.std.proofs.lemmas.List.{length-map}
-use Rattle.csp_syntax.specs.Process.{Process}
-use Rattle.csp_semantics.specs.Kinds.Scripts.{IsTermOf}
-use Rattle.csp_runs.specs.States.{IsReplay}
-use Rattle.csp_explanation.specs.Counterexamples.{AreOriginsAlong, IsCounterpartFor}
-use Rattle.csp_explanation.proofs.Replays.{replay_length}
+use Rattle.theory_syntax.specs.Process.{Process}
+use Rattle.theory_semantics.specs.Kinds.Scripts.{IsTermOf}
+use Rattle.theory_runs.specs.States.{IsReplay}
+use Rattle.theory_explanation.specs.Counterexamples.{AreOriginsAlong, IsCounterpartFor}
+use Rattle.theory_explanation.proofs.Replays.{replay_length}
 use Rattle.csp_value.specs.Action.{action_of}
 use Rattle.csp_value.specs.declared.action.Action.{Action}
 use Rattle.csp_term.specs.Script.{script_of}

@@ -1,9 +1,9 @@
 -- The states along the path, and what is told of the last ones.
 use Rattle.std.proofs.Common.{List, map, sym, subst, inl, inr, lit≤}
-use Rattle.csp_semantics.specs.Kinds.Scripts.{IsTermOf}
-use Rattle.csp_runs.specs.Acceptances.{AreLeastAcceptances}
-use Rattle.csp_runs.specs.Initials.{AreInitials}
-use Rattle.csp_runs.specs.Layers.{AreTermsOf}
+use Rattle.theory_semantics.specs.Kinds.Scripts.{IsTermOf}
+use Rattle.theory_runs.specs.Acceptances.{AreLeastAcceptances}
+use Rattle.theory_runs.specs.Initials.{AreInitials}
+use Rattle.theory_runs.specs.Layers.{AreTermsOf}
 use Rattle.csp_value.specs.Action.{action_of}
 use Rattle.csp_term.specs.Script.{script_of}
 use Rattle.csp_term.specs.Term.{process_of}

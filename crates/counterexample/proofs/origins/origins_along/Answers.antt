@@ -1,9 +1,9 @@
 -- One more origin, for one more step.
 use Rattle.std.proofs.Common.{◌≡◌, ◌+◌, ◌<◌, suc, [], ◌∷◌, ◌++◌, length, map, option_map, take, sym, ◌∙◌, ap, subst, arith}
 use Rattle.std.proofs.lemmas.List.{map-append}
-use Rattle.csp_answers.proofs.Adding.{take_whole}
-use Rattle.csp_origins.specs.Telling.{Tells}
-use Rattle.csp_explanation.specs.Counterexamples.{AreOriginsAlong}
+use Rattle.theory_search.proofs.Adding.{take_whole}
+use Rattle.theory_origins.specs.Telling.{Tells}
+use Rattle.theory_explanation.specs.Counterexamples.{AreOriginsAlong}
 use Rattle.csp_value.specs.Action.{action_of}
 use Rattle.csp_term.specs.Script.{script_of, script_of_parts}
 use Rattle.csp_term.specs.Term.{process_of}

@@ -1,6 +1,6 @@
 -- The origins of the steps so far.
 use Rattle.std.proofs.Common.{◌+◌, map, take}
-use Rattle.csp_explanation.specs.Counterexamples.{AreOriginsAlong}
+use Rattle.theory_explanation.specs.Counterexamples.{AreOriginsAlong}
 use Rattle.csp_value.specs.Action.{action_of}
 use Rattle.csp_term.specs.Script.{script_of}
 use Rattle.csp_term.specs.Term.{process_of}

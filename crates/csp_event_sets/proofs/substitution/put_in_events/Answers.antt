@@ -1,6 +1,6 @@
 -- Values are put into one more event.
 use Rattle.std.proofs.Common.{◌+◌, take, sym, ◌∙◌}
-use Rattle.csp_semantics.specs.Meaning.Substitution.{put_event}
+use Rattle.theory_semantics.specs.Meaning.Substitution.{put_event}
 use Rattle.csp_expression.specs.Bindings.{bindings_of}
 use Rattle.csp_event_sets.specs.Events.{event_expression_of}
 use Rattle.csp_value.proofs.Copying.{map_push}

@@ -1,5 +1,5 @@
 use Rattle.std.proofs.Common.{◌≡◌, take}
-use Rattle.csp_semantics.specs.Meaning.Substitution.{put_events}
+use Rattle.theory_semantics.specs.Meaning.Substitution.{put_events}
 use Rattle.csp_expression.specs.Bindings.{bindings_of}
 use Rattle.csp_event_sets.specs.Events.{event_expressions_of}
 use Rattle.csp_event_sets.proofs.substitution.put_in_events.Given as goal

@@ -1,5 +1,5 @@
 use Rattle.std.proofs.Common.{◌≡◌, take}
-use Rattle.csp_semantics.specs.Meaning.Substitution.{put_pairs}
+use Rattle.theory_semantics.specs.Meaning.Substitution.{put_pairs}
 use Rattle.csp_expression.specs.Bindings.{bindings_of}
 use Rattle.csp_event_sets.specs.Events.{renaming_pairs_of}
 use Rattle.csp_event_sets.proofs.substitution.put_in_pairs.Given as goal

@@ -1,7 +1,7 @@
 -- Two sets under an operator have the tests of both.
 use Rattle.std.proofs.Common.{Ok, sym, ◌∙◌, ap, subst}
-use Rattle.csp_syntax.specs.Process as process
-use Rattle.csp_semantics.specs.Meaning.Events.{event_test}
+use Rattle.theory_syntax.specs.Process as process
+use Rattle.theory_semantics.specs.Meaning.Events.{event_test}
 use Rattle.csp_event_sets.specs.declared.event_set.EventSet.{EventSet}
 use Rattle.csp_event_sets.specs.Events.{event_set_of}
 use Rattle.csp_event_sets.proofs.EventForms.{of_combined}

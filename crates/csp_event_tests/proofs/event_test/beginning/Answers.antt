@@ -1,10 +1,10 @@
 -- The sets of the channel, and then the values of the fields.
 use Rattle.std.proofs.Common.{List, Result, Err, sym, ◌∙◌, ap, subst}
 use Rattle.std.proofs.lemmas.Result.{err_from_is_err_and}
-use Rattle.csp_syntax.specs.Value as pure
-use Rattle.csp_syntax.specs.Expression.{to_expressions}
-use Rattle.csp_semantics.specs.Meaning.Evaluation.{Cause, given_values}
-use Rattle.csp_semantics.specs.Meaning.Events.{beginning_of}
+use Rattle.theory_syntax.specs.Value as pure
+use Rattle.theory_syntax.specs.Expression.{to_expressions}
+use Rattle.theory_semantics.specs.Meaning.Evaluation.{Cause, given_values}
+use Rattle.theory_semantics.specs.Meaning.Events.{beginning_of}
 use Rattle.csp_value.specs.declared.action.Event.{Event}
 use Rattle.csp_value.specs.Value.{values_of}
 use Rattle.csp_expression.specs.Evaluation.{table_of}

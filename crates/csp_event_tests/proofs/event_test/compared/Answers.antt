@@ -2,7 +2,7 @@
 use Rattle.std.proofs.Common.{sym, ◌∙◌, ap}
 use Rattle.std.specs.Cmp.Lexicographic.{slice_cmp}
 use Rattle.std.specs.Ordering.{ordering_then}
-use Rattle.csp_syntax.specs.Value as pure
+use Rattle.theory_syntax.specs.Value as pure
 use Rattle.csp_value.specs.Value.{value_of, values_of}
 use Rattle.csp_value.proofs.ValueOrder.{cmp, ordered}
 use Rattle.csp_value.proofs.Slices.{slices_ordered}

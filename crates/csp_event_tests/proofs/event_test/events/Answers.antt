@@ -5,10 +5,10 @@ use Rattle.std.proofs.lemmas.Result.{err_from_is_err_and}
 use Rattle.std.specs.List.{list_any}
 use Rattle.std.specs.declared.cmp.Ordering.{Ordering}
 use Rattle.std.specs.List.Sorted.{IsSorted}
-use Rattle.csp_syntax.specs.Value as pure
-use Rattle.csp_syntax.specs.Process as process
-use Rattle.csp_semantics.specs.Meaning.Evaluation.{◌and_then◌}
-use Rattle.csp_semantics.specs.Meaning.Events as events
+use Rattle.theory_syntax.specs.Value as pure
+use Rattle.theory_syntax.specs.Process as process
+use Rattle.theory_semantics.specs.Meaning.Evaluation.{◌and_then◌}
+use Rattle.theory_semantics.specs.Meaning.Events as events
 use Rattle.csp_value.specs.Action.{event_of}
 use Rattle.csp_value.specs.declared.action.Event.{Event}
 use Rattle.csp_value.proofs.ActionOrder.{event_order, event_ordered}

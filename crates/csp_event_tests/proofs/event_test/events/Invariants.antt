@@ -1,6 +1,6 @@
 -- The events so far.
 use Rattle.std.proofs.Common.{◌≡◌, Ok, map, take}
-use Rattle.csp_semantics.specs.Meaning.Events as events
+use Rattle.theory_semantics.specs.Meaning.Events as events
 use Rattle.csp_value.specs.Action.{event_of}
 use Rattle.csp_event_sets.specs.Events.{event_expressions_of}
 use Rattle.csp_term.specs.Script.{script_of_parts}

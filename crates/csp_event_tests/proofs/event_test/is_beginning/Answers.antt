@@ -1,8 +1,8 @@
 -- The binary search tells whether it is there.
 use Rattle.std.proofs.Common.{◌∙◌}
 use Rattle.std.proofs.lemmas.Fn.{always_returns_same}
-use Rattle.csp_syntax.specs.Value.{event_cmp}
-use Rattle.csp_syntax.proofs.Orders.{event_total}
+use Rattle.theory_syntax.specs.Value.{event_cmp}
+use Rattle.theory_syntax.proofs.Orders.{event_total}
 use Rattle.csp_value.specs.Action.{event_of}
 use Rattle.csp_event_tests.specs.Testing.{event_with}
 use Rattle.csp_event_tests.proofs.Halving.{told_by_halving}

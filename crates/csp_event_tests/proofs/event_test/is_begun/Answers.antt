@@ -1,7 +1,7 @@
 -- The first front that is one of the beginnings decides, and else the whole event.
 use Rattle.std.proofs.Common.{◌≡◌, ℕ, Bool, false, length, map, take, sym, ◌∙◌, ap, arith}
 use Rattle.std.specs.List.{list_any}
-use Rattle.csp_syntax.specs.Value.{Event, event_eq}
+use Rattle.theory_syntax.specs.Value.{Event, event_eq}
 use Rattle.csp_value.specs.Action.{event_of}
 use Rattle.csp_value.specs.Value.{value_of}
 use Rattle.csp_event_tests.specs.Testing.{event_with}

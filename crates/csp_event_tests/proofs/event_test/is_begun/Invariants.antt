@@ -1,7 +1,7 @@
 -- No shorter front is one of the beginnings.
 use Rattle.std.proofs.Common.{◌≡◌, ℕ, ◌<◌, false, map}
 use Rattle.std.specs.List.{list_any}
-use Rattle.csp_syntax.specs.Value.{event_eq}
+use Rattle.theory_syntax.specs.Value.{event_eq}
 use Rattle.csp_value.specs.Action.{event_of}
 use Rattle.csp_event_tests.proofs.Fronts.{front}
 use Rattle.csp_event_tests.proofs.event_test.is_begun.Given as goal

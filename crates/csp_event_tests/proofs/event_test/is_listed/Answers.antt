@@ -2,8 +2,8 @@
 use Rattle.std.proofs.Common.{◌≡◌, ◌∙◌, subst}
 use Rattle.std.specs.declared.cmp.Ordering.{Ordering}
 use Rattle.std.specs.List.Sorted.{IsBinarySearchResult}
-use Rattle.csp_syntax.specs.Value.{event_cmp}
-use Rattle.csp_syntax.proofs.Orders.{event_total}
+use Rattle.theory_syntax.specs.Value.{event_cmp}
+use Rattle.theory_syntax.proofs.Orders.{event_total}
 use Rattle.csp_value.specs.declared.action.Event.{Event}
 use Rattle.csp_value.specs.Action.{event_of}
 use Rattle.csp_value.proofs.ActionOrder.{event_order, event_ordered}

@@ -1,7 +1,7 @@
 -- The beginning is whole where it has as many fields as the channel.
 use Rattle.std.proofs.Common.{Result, Err, sym, ◌∙◌, ap, subst, inl, inr, lit<, arith}
 use Rattle.std.proofs.lemmas.Result.{err_from_is_err_and}
-use Rattle.csp_semantics.specs.Meaning.Events as events
+use Rattle.theory_semantics.specs.Meaning.Events as events
 use Rattle.csp_value.specs.declared.action.Event.{Event}
 use Rattle.csp_value.specs.Action.{event_of}
 use Rattle.csp_value.specs.Value.{value_of}

@@ -1,5 +1,5 @@
 use Rattle.std.proofs.Common.{sym, ◌∙◌, ap, Ok}
-use Rattle.csp_syntax.specs.Value.{Truth}
+use Rattle.theory_syntax.specs.Value.{Truth}
 use Rattle.csp_value.proofs.Forms.{value_of_bool}
 use Rattle.csp_expression.proofs.ValueTests.{same_test}
 use Rattle.csp_expression.proofs.comparison.equals.Goals as goal

@@ -1,9 +1,9 @@
 -- Where the left value of `and` decides.
 use Rattle.std.proofs.Common.{◌≡◌, Bool, true, false, not, refl, sym, ◌∙◌, ap, ap₂}
-use Rattle.csp_syntax.specs.Expression.{And}
-use Rattle.csp_syntax.specs.Value.{Truth}
-use Rattle.csp_syntax.specs.Operators.{binary_of}
-use Rattle.csp_semantics.specs.Meaning.Evaluation.{decides}
+use Rattle.theory_syntax.specs.Expression.{And}
+use Rattle.theory_syntax.specs.Value.{Truth}
+use Rattle.theory_syntax.specs.Operators.{binary_of}
+use Rattle.theory_semantics.specs.Meaning.Evaluation.{decides}
 use Rattle.csp_value.specs.Value.{value_of}
 use Rattle.csp_value.proofs.Forms.{value_of_bool}
 use Rattle.csp_expression.proofs.connectives.decides.Goals as goal

@@ -1,5 +1,5 @@
 use Rattle.std.proofs.Common.{◌≡◌, ◌++◌}
-use Rattle.csp_semantics.specs.Meaning.Evaluation.{with_all_fields}
+use Rattle.theory_semantics.specs.Meaning.Evaluation.{with_all_fields}
 use Rattle.csp_value.specs.Fields.{sets_of}
 use Rattle.csp_value.specs.Value.{values_of}
 use Rattle.csp_expression.specs.Choosing.{lists_of}

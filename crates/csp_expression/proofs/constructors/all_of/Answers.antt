@@ -3,12 +3,12 @@ use Rattle.std.proofs.Common.{◌≡◌, ◌+◌, ◌++◌, suc, List, Result, E
 use Rattle.std.proofs.lemmas.Option.{slice_get-get_or}
 use Rattle.std.proofs.lemmas.Result.{err_from_is_err_and}
 use Rattle.std.specs.declared.vec.Vec.{Vec}
-use Rattle.csp_syntax.specs.Value as pure
-use Rattle.csp_semantics.specs.Meaning.Evaluation.{Cause, datatype_set}
+use Rattle.theory_syntax.specs.Value as pure
+use Rattle.theory_semantics.specs.Meaning.Evaluation.{Cause, datatype_set}
 use Rattle.csp_value.specs.declared.value.Value.{Value}
 use Rattle.csp_value.specs.Fields.{sets_of}
 use Rattle.csp_value.specs.Value.{values_of}
-use Rattle.csp_semantics.specs.Meaning.Evaluation.{with_all_fields}
+use Rattle.theory_semantics.specs.Meaning.Evaluation.{with_all_fields}
 use Rattle.csp_expression.specs.declared.no_value.NoValue.{NoValue}
 use Rattle.csp_expression.specs.Choosing.{HasAll}
 use Rattle.csp_expression.specs.Evaluation.{Gives, constructors_of, table_of}

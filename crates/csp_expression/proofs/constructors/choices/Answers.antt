@@ -2,10 +2,10 @@
 use Rattle.std.proofs.Common.{List, ◌∙◌, sym, ap, subst, Result, Err, arith}
 use Rattle.std.proofs.lemmas.Result.{err_from_is_err_and}
 use Rattle.std.specs.declared.vec.Vec.{Vec}
-use Rattle.csp_semantics.specs.Meaning.Evaluation.{choices}
+use Rattle.theory_semantics.specs.Meaning.Evaluation.{choices}
 use Rattle.csp_value.specs.declared.value.Value.{Value}
 use Rattle.csp_value.specs.Fields.{sets_of}
-use Rattle.csp_syntax.specs.Value as pure
+use Rattle.theory_syntax.specs.Value as pure
 use Rattle.csp_expression.specs.declared.no_value.NoValue.{NoValue}
 use Rattle.csp_expression.specs.Choosing.{HasAll, lists_of}
 use Rattle.csp_expression.proofs.Choosing.{all_choices, next_choices, no_choice, start_choices, too_many_choices}

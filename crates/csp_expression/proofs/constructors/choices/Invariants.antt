@@ -1,5 +1,5 @@
 use Rattle.std.proofs.Common.{◌≡◌, ◌≤◌, drop, length}
-use Rattle.csp_semantics.specs.Meaning.Evaluation.{choices}
+use Rattle.theory_semantics.specs.Meaning.Evaluation.{choices}
 use Rattle.csp_value.specs.Fields.{sets_of}
 use Rattle.csp_expression.specs.Choosing.{lists_of}
 use Rattle.csp_expression.proofs.constructors.choices.Given as goal

@@ -1,7 +1,7 @@
 -- The test of the set decides.
 use Rattle.std.proofs.Common.{Ok, Err, cond, sym, ◌∙◌, ap}
-use Rattle.csp_syntax.specs.Value.{has_value}
-use Rattle.csp_semantics.specs.Meaning.Evaluation.{OutOfRange}
+use Rattle.theory_syntax.specs.Value.{has_value}
+use Rattle.theory_semantics.specs.Meaning.Evaluation.{OutOfRange}
 use Rattle.csp_value.specs.Fields.{field_values}
 use Rattle.csp_expression.specs.Evaluation.{seen_value}
 use Rattle.csp_expression.proofs.eval.within.Goals as goal

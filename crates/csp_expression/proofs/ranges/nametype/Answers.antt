@@ -1,9 +1,9 @@
 -- The set of the table, if there is one.
 use Rattle.std.proofs.Common.{Result, length, slice_get, refl, sym, ◌∙◌, ap, subst}
 use Rattle.std.proofs.lemmas.Option.{slice_get_past, slice_get_read}
-use Rattle.csp_syntax.specs.Value as pure
-use Rattle.csp_syntax.proofs.Places.{get_some}
-use Rattle.csp_semantics.specs.Meaning.Evaluation.{Cause, set_at}
+use Rattle.theory_syntax.specs.Value as pure
+use Rattle.theory_syntax.proofs.Places.{get_some}
+use Rattle.theory_semantics.specs.Meaning.Evaluation.{Cause, set_at}
 use Rattle.csp_expression.specs.Evaluation.{Gives, members_listed}
 use Rattle.csp_expression.proofs.Forming.{get_none}
 use Rattle.csp_expression.proofs.ranges.nametype.Goals as goal

@@ -6,8 +6,8 @@ use Rattle.std.specs.Int.{w32}
 use mir.Val.{of_z, to_z}
 use Rattle.std.specs.Int.RustNames.{FitsSigned}
 use Rattle.std.proofs.lemmas.List.{map-append}
-use Rattle.csp_syntax.specs.Value.{Integer, Set}
-use Rattle.csp_semantics.specs.Meaning.Evaluation.{count_between, max_members, numbers_from}
+use Rattle.theory_syntax.specs.Value.{Integer, Set}
+use Rattle.theory_semantics.specs.Meaning.Evaluation.{count_between, max_members, numbers_from}
 use Rattle.csp_value.specs.Value.{value_of, values_of}
 use Rattle.csp_value.proofs.Forms.{value_of_int, value_of_set}
 use Rattle.csp_expression.proofs.Named.{numbers_more, range_found, sum_fits}

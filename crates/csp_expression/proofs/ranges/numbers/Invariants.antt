@@ -1,5 +1,5 @@
 use Rattle.std.proofs.Common.{◌≡◌}
-use Rattle.csp_semantics.specs.Meaning.Evaluation.{numbers_from}
+use Rattle.theory_semantics.specs.Meaning.Evaluation.{numbers_from}
 use Rattle.csp_value.specs.Value.{values_of}
 use Rattle.csp_expression.proofs.ranges.numbers.Given as goal
 

@@ -1,7 +1,7 @@
 use Rattle.std.proofs.Common.{◌≡◌, ◌++◌, Result, rules, sym, ◌∙◌, subst, refl, ap}
-use Rattle.csp_syntax.specs.Value as pure
-use Rattle.csp_syntax.specs.Expression as operator
-use Rattle.csp_semantics.specs.Meaning.Evaluation.{Cause, combine}
+use Rattle.theory_syntax.specs.Value as pure
+use Rattle.theory_syntax.specs.Expression as operator
+use Rattle.theory_semantics.specs.Meaning.Evaluation.{Cause, combine}
 use Rattle.csp_expression.specs.Evaluation.{Gives}
 use Rattle.csp_expression.proofs.Forming.{concat_is, seq_is}
 use Rattle.csp_value.specs.Value.{value_of, values_of}

@@ -1,7 +1,7 @@
 use Rattle.std.proofs.Common.{Ok, sym, ◌∙◌, ap}
-use Rattle.csp_syntax.specs.Value.{Truth, has_value}
-use Rattle.csp_syntax.specs.Expression as pure
-use Rattle.csp_semantics.specs.Meaning.Evaluation.{combine}
+use Rattle.theory_syntax.specs.Value.{Truth, has_value}
+use Rattle.theory_syntax.specs.Expression as pure
+use Rattle.theory_semantics.specs.Meaning.Evaluation.{combine}
 use Rattle.csp_value.specs.Value.{value_of, values_of}
 use Rattle.csp_value.proofs.Equality.{value_eq, same_test}
 use Rattle.csp_value.proofs.Finding.{any_has}

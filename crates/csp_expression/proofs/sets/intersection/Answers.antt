@@ -1,8 +1,8 @@
 use Rattle.std.proofs.Common.{◌≡◌, rules, Result, filter, sym, ◌∙◌, subst, refl, ap}
-use Rattle.csp_syntax.specs.Value as pure
-use Rattle.csp_syntax.specs.Value.{has_value}
-use Rattle.csp_syntax.specs.Expression as operator
-use Rattle.csp_semantics.specs.Meaning.Evaluation.{Cause, combine}
+use Rattle.theory_syntax.specs.Value as pure
+use Rattle.theory_syntax.specs.Value.{has_value}
+use Rattle.theory_syntax.specs.Expression as operator
+use Rattle.theory_semantics.specs.Meaning.Evaluation.{Cause, combine}
 use Rattle.csp_value.specs.Value.{members_of, value_of}
 use Rattle.csp_expression.specs.Evaluation.{IsAnswer}
 use Rattle.csp_expression.proofs.Forming.{set_listed, sets_are, set_is}

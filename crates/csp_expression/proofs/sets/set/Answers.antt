@@ -1,7 +1,7 @@
 use Rattle.std.proofs.Common.{nat_le, arith, Ok, sym, ◌∙◌, ap}
 use Rattle.std.proofs.lemmas.Bool.{le-leb}
-use Rattle.csp_syntax.specs.Value.{values_list}
-use Rattle.csp_semantics.specs.Meaning.Evaluation.{max_members}
+use Rattle.theory_syntax.specs.Value.{values_list}
+use Rattle.theory_semantics.specs.Meaning.Evaluation.{max_members}
 use Rattle.csp_value.specs.Value.{members_of}
 use Rattle.csp_value.proofs.Forms.{value_of_set}
 use Rattle.csp_expression.proofs.Forming.{as_many, set_few}

@@ -1,6 +1,6 @@
 use Rattle.std.proofs.Common.{Result, subst}
-use Rattle.csp_syntax.specs.Value as pure
-use Rattle.csp_semantics.specs.Meaning.Evaluation.{Cause}
+use Rattle.theory_syntax.specs.Value as pure
+use Rattle.theory_semantics.specs.Meaning.Evaluation.{Cause}
 use Rattle.csp_value.specs.Value.{members_of, values_of}
 use Rattle.csp_expression.specs.Evaluation.{IsAnswer}
 use Rattle.csp_expression.proofs.Forming.{set_listed}

@@ -1,5 +1,5 @@
 use Rattle.std.proofs.Common.{◌≡◌, drop}
-use Rattle.csp_semantics.specs.Meaning.Substitution.{bound}
+use Rattle.theory_semantics.specs.Meaning.Substitution.{bound}
 use Rattle.csp_expression.specs.Bindings.{bindings_of}
 use Rattle.csp_expression.proofs.substitution.bound.Given as goal
 

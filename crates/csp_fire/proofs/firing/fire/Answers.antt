@@ -1,8 +1,8 @@
 -- What is held has a known size, and the term is one of the script that has the parts.
 use Rattle.std.proofs.Common.{inl, inr, lit<, subst, sym}
-use Rattle.csp_syntax.specs.Process.{Script}
-use Rattle.csp_semantics.specs.Kinds.Scripts.{IsTermOf}
-use Rattle.csp_semantics.specs.Meaning.Expansions.{IsFormOf}
+use Rattle.theory_syntax.specs.Process.{Script}
+use Rattle.theory_semantics.specs.Kinds.Scripts.{IsTermOf}
+use Rattle.theory_semantics.specs.Meaning.Expansions.{IsFormOf}
 use Rattle.csp_term.specs.Term.{process_of}
 use Rattle.csp_fire.specs.Form.{form_of}
 use Rattle.csp_fire.proofs.Leading.{leads}

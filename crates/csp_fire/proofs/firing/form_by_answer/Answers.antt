@@ -1,9 +1,9 @@
 -- The form is by the steps that are within the limits.
 use Rattle.std.proofs.Common.{◌≡◌, IfOk, Option, Some, None, map, refl, sym, ◌∙◌, ap, subst, inl, inr, lit<}
 use Rattle.std.specs.Option.{option_map}
-use Rattle.csp_semantics.specs.Meaning.Expansions.{FiredLarge}
-use Rattle.csp_semantics.specs.Meaning.Stepping.{Steps}
-use Rattle.csp_operators.specs.Answering.{all_within, answered_of}
+use Rattle.theory_semantics.specs.Meaning.Expansions.{FiredLarge}
+use Rattle.theory_semantics.specs.Meaning.Stepping.{Steps}
+use Rattle.csp_steps.specs.Answering.{all_within, answered_of}
 use Rattle.csp_fire.specs.Form.{form_of, step_of}
 use Rattle.csp_fire.specs.Offering.{IsFormWithin}
 use Rattle.csp_fire.proofs.firing.form_by_answer.Goals as goal

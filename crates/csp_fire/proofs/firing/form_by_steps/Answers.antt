@@ -1,8 +1,8 @@
 -- The steps sorted and kept once, and the acceptances by them.
 use Rattle.std.proofs.Common.{List, Contains, ◌↔◌, map, sym, ◌∙◌, ap, subst, inl, inr, lit<}
 use Rattle.std.proofs.lemmas.List.Filters.{dedup_is}
-use Rattle.csp_semantics.specs.Meaning.Expansions.{Fired, step_cmp}
-use Rattle.csp_semantics.specs.Meaning.Offers.{RisesBy}
+use Rattle.theory_semantics.specs.Meaning.Expansions.{Fired, step_cmp}
+use Rattle.theory_semantics.specs.Meaning.Offers.{RisesBy}
 use Rattle.csp_fire.specs.declared.form.Step.{Step}
 use Rattle.csp_fire.specs.Form.{step_of}
 use Rattle.csp_fire.specs.Offering.{offers_of}

@@ -1,21 +1,21 @@
 -- The form is by the steps, or says why there are none.
 use Rattle.std.proofs.Common.{rules, ◌≡◌, [], Result, Ok, Err, Some, true, map, subst, sym, ◌∙◌, ap, inl, inr, lit<}
 use Rattle.std.specs.declared.vec.Vec.{Vec}
-use Rattle.csp_semantics.specs.Meaning.Evaluation.{IllKinded}
-use Rattle.csp_semantics.specs.Meaning.Expansions.{IsFormOf}
-use Rattle.csp_semantics.specs.Meaning.Faults.{cause_in}
-use Rattle.csp_semantics.specs.Meaning.Limits.{fits}
-use Rattle.csp_semantics.specs.Meaning.Substitution.{put}
-use Rattle.csp_syntax.specs.Process.{Process}
-use Rattle.csp_semantics.proofs.ClosedTerms.{no_misfit}
-use Rattle.csp_semantics.proofs.Putting.{put_nothing}
+use Rattle.theory_semantics.specs.Meaning.Evaluation.{IllKinded}
+use Rattle.theory_semantics.specs.Meaning.Expansions.{IsFormOf}
+use Rattle.theory_semantics.specs.Meaning.Faults.{cause_in}
+use Rattle.theory_semantics.specs.Meaning.Limits.{fits}
+use Rattle.theory_semantics.specs.Meaning.Substitution.{put}
+use Rattle.theory_syntax.specs.Process.{Process}
+use Rattle.theory_semantics.proofs.ClosedTerms.{no_misfit}
+use Rattle.theory_semantics.proofs.Putting.{put_nothing}
 use Rattle.csp_term.specs.Term.{process_of}
 use Rattle.csp_term.specs.Script.{script_of_parts}
 use Rattle.csp_expression.specs.Cause.{cause_of}
 use Rattle.csp_expression.proofs.Answering.{if_ok-map}
-use Rattle.csp_operators.specs.declared.rule_step.RuleStep.{RuleStep}
+use Rattle.csp_steps.specs.declared.rule_step.RuleStep.{RuleStep}
 use Rattle.csp_expression.specs.declared.no_value.NoValue.{NoValue}
-use Rattle.csp_operators.specs.Answering.{Answers, answered_of}
+use Rattle.csp_steps.specs.Answering.{Answers, answered_of}
 use Rattle.csp_fire.specs.Form.{form_of}
 use Rattle.csp_fire.specs.Offering.{IsFormByAnswer}
 use Rattle.csp_fire.proofs.Exactness.{form_by_answer}

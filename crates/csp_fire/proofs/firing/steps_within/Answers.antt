@@ -5,7 +5,7 @@ use Rattle.std.proofs.lemmas.Iterator.Consumers.{YieldsList-turn, YieldsList-end
 use Rattle.std.proofs.lemmas.List.{drop_all, length_push}
 use Rattle.csp_value.specs.Action.{action_of}
 use Rattle.csp_fire.specs.declared.form.Step.{Step}
-use Rattle.csp_operators.specs.Answering.{target_of}
+use Rattle.csp_steps.specs.Answering.{target_of}
 use Rattle.csp_fire.proofs.Within.{WithinSoFar, all_done, none_yet, one_past, one_within}
 use Rattle.csp_fire.proofs.firing.steps_within.Goals as goal
 

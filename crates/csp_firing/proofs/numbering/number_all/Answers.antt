@@ -1,5 +1,5 @@
-use Rattle.csp_parts.specs.Known.{processes_of, script_in}
-use Rattle.csp_parts.proofs.Showing.{extends_on}
+use Rattle.csp_firing.specs.KnownSteps.{processes_of, script_in}
+use Rattle.csp_firing.proofs.Showing.{extends_on}
 use Rattle.csp_term.specs.Term.{process_of}
 use Rattle.csp_firing.proofs.Numbered.{next_number, next_part}
 use Rattle.csp_firing.proofs.numbering.number_all.Goals as goal

@@ -1,7 +1,7 @@
 use Rattle.std.proofs.Common.{take}
-use Rattle.csp_parts.specs.Changed.{Extends}
-use Rattle.csp_parts.specs.Known.{AreKnown, processes_of}
-use Rattle.csp_shaping.specs.Lists.{processes_of as processes_lent}
+use Rattle.csp_firing.specs.Changed.{Extends}
+use Rattle.csp_firing.specs.KnownSteps.{AreKnown, processes_of}
+use Rattle.csp_numbers.specs.Lists.{processes_of as processes_lent}
 use Rattle.csp_firing.specs.Rows.{AreNumbersOf}
 use Rattle.csp_firing.proofs.numbering.number_all.Given as goal
 

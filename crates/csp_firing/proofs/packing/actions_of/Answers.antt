@@ -1,7 +1,7 @@
 use Rattle.std.proofs.Common.{length, inl, inr, lit≤, refl}
 use Rattle.csp_value.specs.Action.{action_of as action_told}
-use Rattle.csp_changes.specs.Numbering.{IsNumbered}
-use Rattle.csp_parts.specs.Places.{action_in}
+use Rattle.csp_rows.specs.Numbering.{IsNumbered}
+use Rattle.csp_firing.specs.Places.{action_in}
 use Rattle.csp_firing.proofs.Counting.{holds_at, map_push}
 use Rattle.csp_firing.proofs.packing.actions_of.Goals as goal
 

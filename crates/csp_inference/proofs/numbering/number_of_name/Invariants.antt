@@ -1,5 +1,5 @@
 use Rattle.std.proofs.Common.{◌≡◌, drop}
-use Rattle.csp_checking.specs.Inference.Equations.{number_of_name}
+use Rattle.theory_checking.specs.Inference.Equations.{number_of_name}
 use Rattle.csp_inference.specs.Numbering.{names_of}
 use Rattle.csp_inference.proofs.numbering.number_of_name.Given as goal
 

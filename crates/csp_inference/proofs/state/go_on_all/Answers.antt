@@ -1,6 +1,6 @@
 use Rattle.std.proofs.Common.{arith, sym, ◌∙◌, ap}
 use Rattle.std.specs.Prelude.{option_map}
-use Rattle.csp_checking.specs.Inference.Chain.{in_place_of, with_ends}
+use Rattle.theory_checking.specs.Inference.Chain.{in_place_of, with_ends}
 use Rattle.csp_inference.specs.Chain.{chain_of, end_of, over_all}
 use Rattle.csp_inference.proofs.Finding.{slot_more}
 use Rattle.csp_inference.proofs.state.go_on_all.Goals as goal

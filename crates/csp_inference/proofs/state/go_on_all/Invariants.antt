@@ -1,6 +1,6 @@
 use Rattle.std.proofs.Common.{◌≡◌, ◌++◌, map, take, drop}
 use Rattle.std.specs.Prelude.{option_map}
-use Rattle.csp_checking.specs.Inference.Chain.{in_place_of, with_ends}
+use Rattle.theory_checking.specs.Inference.Chain.{in_place_of, with_ends}
 use Rattle.csp_inference.specs.Chain.{end_of, over_all}
 use Rattle.csp_inference.specs.State.{chains_in}
 use Rattle.csp_inference.proofs.state.go_on_all.Given as goal

@@ -1,7 +1,7 @@
 -- The walk stops where a declaration stops it, and goes on behind one that is fine.
 use Rattle.std.specs.Prelude.{IfErr}
 use Rattle.std.proofs.Common.{◌∙◌}
-use Rattle.csp_checking.specs.Sites.{sites}
+use Rattle.theory_checking.specs.Sites.{sites}
 use Rattle.csp_parse.specs.Declarations.{declaration_of, script_of}
 use Rattle.csp_names.specs.Walks.{Stops}
 use Rattle.csp_names.proofs.Walking.{handed_on}

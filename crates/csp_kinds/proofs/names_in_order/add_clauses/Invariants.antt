@@ -1,6 +1,6 @@
 -- The names so far and those of the clauses so far.
 use Rattle.std.proofs.Common.{◌≡◌, ◌++◌, map, take}
-use Rattle.csp_checking.specs.Names.{clause_names}
+use Rattle.theory_checking.specs.Names.{clause_names}
 use Rattle.csp_parse.specs.Declarations.{clause_of}
 use Rattle.csp_parse.specs.Names.{name_of}
 use Rattle.csp_kinds.proofs.names_in_order.add_clauses.Given as goal

@@ -2,7 +2,7 @@
 use Rattle.std.specs.Prelude.{flat_map}
 use Rattle.std.proofs.Common.{[], append-nil, map, sym, ap, ◌∙◌}
 use Rattle.std.proofs.lemmas.List.{map-append}
-use Rattle.csp_checking.specs.Names.{ChannelName, declared_as}
+use Rattle.theory_checking.specs.Names.{ChannelName, declared_as}
 use Rattle.csp_parse.specs.Declarations.{declaration_of}
 use Rattle.csp_parse.specs.Names.{name_of}
 use Rattle.csp_kinds.proofs.Spelling.{all_named, channels_declared, no_channels, some_more_named}

@@ -1,7 +1,7 @@
 -- A declaration's names come behind those of the declarations above it.
 use Rattle.std.specs.Prelude.{flat_map}
 use Rattle.std.proofs.Common.{[], append-nil, map, sym, ap, ◌∙◌}
-use Rattle.csp_checking.specs.Names.{ConstructorName, clause_names, declared_as}
+use Rattle.theory_checking.specs.Names.{ConstructorName, clause_names, declared_as}
 use Rattle.csp_parse.specs.Declarations.{clause_of, declaration_of}
 use Rattle.csp_parse.specs.Names.{name_of}
 use Rattle.csp_kinds.proofs.Spelling.{all_named, constructors_declared, no_constructors, some_more_named}

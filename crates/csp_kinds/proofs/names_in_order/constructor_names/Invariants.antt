@@ -1,5 +1,5 @@
 -- The names so far are those of the declarations so far.
-use Rattle.csp_checking.specs.Names.{ConstructorName, declared_as}
+use Rattle.theory_checking.specs.Names.{ConstructorName, declared_as}
 use Rattle.csp_kinds.proofs.Spelling.{AreNamed}
 use Rattle.csp_kinds.proofs.names_in_order.constructor_names.Given as goal
 

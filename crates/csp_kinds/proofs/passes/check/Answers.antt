@@ -1,9 +1,9 @@
 -- Each pass refuses the tree, or its script is checked.
 use Rattle.std.specs.Prelude.{IfErr}
 use Rattle.std.proofs.Common.{sym, subst}
-use Rattle.csp_checking.specs.Checked.{IsCheckedTree}
-use Rattle.csp_checking.proofs.Walking.{fine_passes}
-use Rattle.csp_checking.proofs.WellKinded.{checked_script}
+use Rattle.theory_checking.specs.Checked.{IsCheckedTree}
+use Rattle.theory_checking.proofs.Walking.{fine_passes}
+use Rattle.theory_checking.proofs.WellKinded.{checked_script}
 use Rattle.csp_parse.specs.Declarations as tree
 use Rattle.csp_term.specs.Script.{script_of_parts}
 use Rattle.csp_names.specs.declared.refusals.Refused.{Refused}

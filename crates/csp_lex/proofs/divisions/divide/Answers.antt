@@ -1,7 +1,7 @@
 use Rattle.std.proofs.Common.{refl, sym, ap, subst, is_ok}
 use Rattle.std.proofs.ResultArms.{chosen}
 use Rattle.csp_lex.specs.Pieces.{ReadsPiece}
-use Rattle.csp_text.proofs.Refusing.{tokens_rise, tokens_in_range}
+use Rattle.theory_text.proofs.Refusing.{tokens_rise, tokens_in_range}
 use Rattle.csp_lex.proofs.Dividing.{DividedSoFar, divided_none, divided_gap, divided_token, tokens_at_end, refused_at, piece_shrinks}
 use Rattle.csp_lex.proofs.divisions.divide.Goals as goal
 

@@ -1,6 +1,6 @@
 use Rattle.std.proofs.Common.{◌≡◌, ◌<◌, ap, subst, ◌∙◌}
 use Rattle.std.specs.Str.{all_ascii_digits}
-use Rattle.csp_text.specs.Token.{digits_value, greatest_number}
+use Rattle.theory_text.specs.Token.{digits_value, greatest_number}
 use Rattle.csp_lex.proofs.Wording.{digits_are_bytes, number_piece, number_refused}
 use Rattle.csp_lex.proofs.numbers.read_number.Goals as goal
 use Rattle.csp_lex.proofs.numbers.read_number.Goals.{After-as_bytes}

@@ -1,5 +1,5 @@
 use Rattle.std.proofs.Common.{◌<◌, subst, arith}
-use Rattle.csp_text.specs.Token.{greatest_number}
+use Rattle.theory_text.specs.Token.{greatest_number}
 use Rattle.csp_lex.proofs.Wording.{large_already}
 use Rattle.csp_lex.proofs.numbers.value_of.Goals as goal
 

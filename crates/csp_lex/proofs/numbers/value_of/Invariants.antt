@@ -1,6 +1,6 @@
 use Rattle.std.proofs.Common.{◌≡◌, ◌≤◌, true, drop}
 use Rattle.std.specs.Str.{all_ascii_digits}
-use Rattle.csp_text.specs.Token.{digits_value}
+use Rattle.theory_text.specs.Token.{digits_value}
 use Rattle.csp_lex.proofs.numbers.value_of.Given as goal
 
 abbrev pub invariant-loop-digit : goal.invariant-loop-digit

@@ -1,6 +1,6 @@
 use Rattle.std.proofs.Common.{◌≡◌, ◌++◌, ap, subst, ◌∙◌, codes}
-use Rattle.csp_text.specs.Token.{IsPiece, IsRefusedHere}
-use Rattle.csp_text.proofs.Pieces.{line_comment_is, mark_comment_is, open_comment_is}
+use Rattle.theory_text.specs.Token.{IsPiece, IsRefusedHere}
+use Rattle.theory_text.proofs.Pieces.{line_comment_is, mark_comment_is, open_comment_is}
 use Rattle.csp_lex.specs.declared.cursors.Cursor.{Cursor}
 use Rattle.csp_lex.specs.declared.marks.Mark.{Mark}
 use Rattle.csp_lex.specs.Cursors.{left_of, Begins}

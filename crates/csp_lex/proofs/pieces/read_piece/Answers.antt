@@ -1,6 +1,6 @@
 use Rattle.std.proofs.Common.{[], ◌∷◌, None, sym, subst, ◌∙◌}
-use Rattle.csp_text.specs.Token.{IsPiece}
-use Rattle.csp_text.proofs.Fronts.{white_longest}
+use Rattle.theory_text.specs.Token.{IsPiece}
+use Rattle.theory_text.proofs.Fronts.{white_longest}
 use Rattle.csp_lex.specs.Cursors.{left_of}
 use Rattle.csp_lex.proofs.pieces.read_piece.Goals as goal
 

@@ -1,6 +1,6 @@
 use Rattle.std.proofs.Common.{◌<◌, ◌≤◌, length, sym, subst, arith}
 use Rattle.std.specs.Str.{IsValidUpTo}
-use Rattle.csp_text.specs.Token.{longest_text, IsTextRefusal, LongText, NotUtf8}
+use Rattle.theory_text.specs.Token.{longest_text, IsTextRefusal, LongText, NotUtf8}
 use Rattle.csp_lex.proofs.texts.text_of.Goals as goal
 
 pub returns-then-bytes-gt-LONGEST_TEXT-clause-refused : goal.returns-then-bytes-gt-LONGEST_TEXT-clause-refused

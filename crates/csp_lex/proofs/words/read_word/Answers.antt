@@ -1,5 +1,5 @@
 use Rattle.std.proofs.Common.{◌++◌, sym, ap, ◌∙◌}
-use Rattle.csp_text.specs.Token.{is_keyword}
+use Rattle.theory_text.specs.Token.{is_keyword}
 use Rattle.csp_lex.specs.Tokens.{keyword_of}
 use Rattle.csp_lex.proofs.Steps.{passes_then}
 use Rattle.csp_lex.proofs.Wording.{name_piece, keyword_piece}

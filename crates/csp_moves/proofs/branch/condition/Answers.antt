@@ -1,7 +1,7 @@
 -- The condition is the truth of its value.
 use Rattle.std.proofs.Common.{Bool, Result, sym, ap, subst}
-use Rattle.csp_semantics.specs.Meaning.Evaluation.{Cause, ◌and_then◌}
-use Rattle.csp_semantics.specs.Meaning.Events.{truth_of}
+use Rattle.theory_semantics.specs.Meaning.Evaluation.{Cause, ◌and_then◌}
+use Rattle.theory_semantics.specs.Meaning.Events.{truth_of}
 use Rattle.csp_expression.specs.Agreement.{AgreesWith}
 use Rattle.csp_moves.proofs.branch.condition.Goals as goal
 

@@ -1,7 +1,7 @@
 -- The law of the operator, with what is found of the target.
-use Rattle.csp_syntax.specs.Process.{ExternalChoice}
+use Rattle.theory_syntax.specs.Process.{ExternalChoice}
 use Rattle.csp_term.specs.Term.{process_of}
-use Rattle.csp_origins.proofs.OperandWays.{external_visible_ways}
+use Rattle.theory_origins.proofs.OperandWays.{external_visible_ways}
 use Rattle.csp_moves.specs.Way.{lent_action}
 use Rattle.csp_moves.proofs.Found.{found_all, two_same}
 use Rattle.csp_moves.proofs.choice.external_by_visible.Goals as goal

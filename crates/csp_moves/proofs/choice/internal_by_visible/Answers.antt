@@ -1,7 +1,7 @@
 -- The only steps are taus.
 use Rattle.std.proofs.Common.{[], refl}
-use Rattle.csp_syntax.specs.Process.{InternalChoice}
-use Rattle.csp_origins.proofs.OperandWays.{no_visible_choice_ways}
+use Rattle.theory_syntax.specs.Process.{InternalChoice}
+use Rattle.theory_origins.proofs.OperandWays.{no_visible_choice_ways}
 use Rattle.csp_moves.proofs.Found.{found_all}
 use Rattle.csp_moves.proofs.choice.internal_by_visible.Goals as goal
 

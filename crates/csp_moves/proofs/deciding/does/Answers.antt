@@ -1,14 +1,14 @@
 -- It does the step where that is among all its steps, and a term with a fault is not told of.
 use Rattle.std.proofs.Common.{◌↔◌, Contains, List, map, Some, Err, IsTrue, inl, inr, lit<, [], sym, ◌∙◌, ap, subst}
-use Rattle.csp_syntax.specs.Process.{Process}
-use Rattle.csp_semantics.specs.Meaning.Faults.{cause_in}
-use Rattle.csp_semantics.specs.Meaning.Substitution.{put}
-use Rattle.csp_semantics.proofs.Putting.{put_nothing}
+use Rattle.theory_syntax.specs.Process.{Process}
+use Rattle.theory_semantics.specs.Meaning.Faults.{cause_in}
+use Rattle.theory_semantics.specs.Meaning.Substitution.{put}
+use Rattle.theory_semantics.proofs.Putting.{put_nothing}
 use Rattle.csp_expression.specs.declared.no_value.NoValue.{NoValue}
 use Rattle.csp_term.specs.Script.{script_of_parts}
 use Rattle.csp_term.specs.Term.{process_of}
-use Rattle.csp_operators.specs.declared.rule_step.RuleStep.{RuleStep}
-use Rattle.csp_operators.specs.Answering.{Answers, IsAnswered, answered_of, answers_of}
+use Rattle.csp_steps.specs.declared.rule_step.RuleStep.{RuleStep}
+use Rattle.csp_steps.specs.Answering.{Answers, IsAnswered, answered_of, answers_of}
 use Rattle.csp_moves.specs.Way.{lent_action}
 use Rattle.csp_moves.proofs.Decided.{decided, faulty}
 use Rattle.csp_moves.proofs.deciding.does.Goals as goal

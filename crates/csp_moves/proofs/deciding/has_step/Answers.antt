@@ -1,7 +1,7 @@
 -- One more step is the one, or is not.
 use Rattle.std.proofs.Common.{◌≡◌, true, false, Some, refl, sym, ◌∙◌, ap, ap₂}
 use Rattle.csp_term.specs.Term.{process_of}
-use Rattle.csp_operators.specs.Answering.{answered_of}
+use Rattle.csp_steps.specs.Answering.{answered_of}
 use Rattle.csp_moves.specs.Way.{lent_action}
 use Rattle.csp_moves.proofs.Looked.{none_at_all, none_before, none_so_far, one_there}
 use Rattle.csp_moves.proofs.deciding.has_step.Goals as goal

@@ -1,7 +1,7 @@
 -- None of the first steps is the one.
 use Rattle.std.proofs.Common.{take, map, Contains, Some}
 use Rattle.csp_term.specs.Term.{process_of}
-use Rattle.csp_operators.specs.Answering.{answered_of}
+use Rattle.csp_steps.specs.Answering.{answered_of}
 use Rattle.csp_moves.specs.Way.{lent_action}
 use Rattle.csp_moves.proofs.deciding.has_step.Given as goal
 

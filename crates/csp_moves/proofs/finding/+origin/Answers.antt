@@ -5,10 +5,10 @@ use Rattle.std.proofs.Math.Nat.{le-max_left, le-max_right}
 use Rattle.std.proofs.lemmas.List.{map-append, take_all, take_more}
 use Rattle.csp_term.specs.Script.{script_of_parts}
 use Rattle.csp_term.specs.Term.{process_of}
-use Rattle.csp_origins.specs.Origin as pure
-use Rattle.csp_origins.specs.Ways as meaning
-use Rattle.csp_origins.specs.Ways.{AreWays, TellsBy, TellsTo, way_weight}
-use Rattle.csp_origins.specs.Weight.{weight}
+use Rattle.theory_origins.specs.Origin as pure
+use Rattle.theory_origins.specs.Ways as meaning
+use Rattle.theory_origins.specs.Ways.{AreWays, TellsBy, TellsTo, way_weight}
+use Rattle.theory_origins.specs.Weight.{weight}
 use Rattle.csp_term.specs.declared.term.Term.{Term}
 use Rattle.csp_moves.specs.declared.origin.Origin.TheVariants as views
 use Rattle.csp_moves.specs.declared.way.Way.{Way}

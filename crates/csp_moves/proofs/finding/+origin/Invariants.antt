@@ -1,8 +1,8 @@
 -- A step is looked for in parts that weigh less, so each call counts less than eight times the weight.
 use Rattle.std.proofs.Common.{suc, ◌+◌, ◌*◌, max, map, take, None}
 use Rattle.std.specs.List.{AllByRecursion}
-use Rattle.csp_origins.specs.Ways.{TellsBy, way_weight}
-use Rattle.csp_origins.specs.Weight.{weight}
+use Rattle.theory_origins.specs.Ways.{TellsBy, way_weight}
+use Rattle.theory_origins.specs.Weight.{weight}
 use Rattle.csp_term.specs.Script.{script_of_parts}
 use Rattle.csp_term.specs.Term.{process_of}
 use Rattle.csp_moves.specs.Way.{way_of}

@@ -1,7 +1,7 @@
 -- A hidden event is none of the whole.
 use Rattle.std.proofs.Common.{[], refl, sym, ◌∙◌}
-use Rattle.csp_syntax.specs.Value.{Ev}
-use Rattle.csp_syntax.specs.Process.{Hiding}
+use Rattle.theory_syntax.specs.Value.{Ev}
+use Rattle.theory_syntax.specs.Process.{Hiding}
 use Rattle.csp_value.specs.Action.{event_of}
 use Rattle.csp_event_sets.specs.Events.{event_set_of}
 use Rattle.csp_event_tests.specs.Testing.{test_of}

@@ -1,7 +1,7 @@
 -- Through the body by tau, and by each of the events.
 use Rattle.std.proofs.Common.{[], map, refl}
-use Rattle.csp_syntax.specs.Value.{Tau}
-use Rattle.csp_syntax.specs.Process.{Hiding}
+use Rattle.theory_syntax.specs.Value.{Tau}
+use Rattle.theory_syntax.specs.Process.{Hiding}
 use Rattle.csp_value.specs.Action.{event_of}
 use Rattle.csp_event_sets.specs.Events.{event_set_of}
 use Rattle.csp_event_tests.specs.Testing.{test_of}

@@ -1,11 +1,11 @@
 -- One way more for each event.
 use Rattle.std.proofs.Common.{◌∷◌, [], refl, ◌∙◌, ap, Some}
-use Rattle.csp_syntax.specs.Value as pure
-use Rattle.csp_syntax.specs.Value.{Ev, Tau}
+use Rattle.theory_syntax.specs.Value as pure
+use Rattle.theory_syntax.specs.Value.{Ev, Tau}
 use Rattle.csp_term.specs.Term.{process_of}
-use Rattle.csp_origins.specs.Origin.{Hides, InBody}
-use Rattle.csp_origins.specs.Ways as meaning
-use Rattle.csp_origins.specs.Ways.{Through, part}
+use Rattle.theory_origins.specs.Origin.{Hides, InBody}
+use Rattle.theory_origins.specs.Ways as meaning
+use Rattle.theory_origins.specs.Ways.{Through, part}
 use Rattle.csp_moves.proofs.Pushed.{all_ways, one_way_more}
 use Rattle.csp_moves.proofs.hiding.through_hidden.Goals as goal
 

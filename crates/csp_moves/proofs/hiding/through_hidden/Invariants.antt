@@ -1,10 +1,10 @@
 -- The way by tau, and one by each event so far.
 use Rattle.std.proofs.Common.{◌≡◌, ◌∷◌, map, take, Some}
-use Rattle.csp_syntax.specs.Value.{Ev, Tau}
+use Rattle.theory_syntax.specs.Value.{Ev, Tau}
 use Rattle.csp_value.specs.Action.{event_of}
 use Rattle.csp_term.specs.Term.{process_of}
-use Rattle.csp_origins.specs.Origin.{Hides, InBody}
-use Rattle.csp_origins.specs.Ways.{Through, part}
+use Rattle.theory_origins.specs.Origin.{Hides, InBody}
+use Rattle.theory_origins.specs.Ways.{Through, part}
 use Rattle.csp_moves.specs.Way.{ways_of}
 use Rattle.csp_moves.proofs.hiding.through_hidden.Given as goal
 

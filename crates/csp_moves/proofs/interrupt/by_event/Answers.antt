@@ -1,9 +1,9 @@
 -- The law of the operator, with what is found of the target.
-use Rattle.csp_syntax.specs.Value.{Ev}
-use Rattle.csp_syntax.specs.Process.{Interrupt}
+use Rattle.theory_syntax.specs.Value.{Ev}
+use Rattle.theory_syntax.specs.Process.{Interrupt}
 use Rattle.csp_value.specs.Action.{event_of}
 use Rattle.csp_term.specs.Term.{process_of}
-use Rattle.csp_origins.proofs.OperandWays.{interrupt_event_ways}
+use Rattle.theory_origins.proofs.OperandWays.{interrupt_event_ways}
 use Rattle.csp_moves.specs.Way.{lent_process}
 use Rattle.csp_moves.proofs.Found.{found_all, two_same}
 use Rattle.csp_moves.proofs.interrupt.by_event.Goals as goal

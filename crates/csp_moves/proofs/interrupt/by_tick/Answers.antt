@@ -1,8 +1,8 @@
 -- The law of the operator, with what is found of the target.
-use Rattle.csp_syntax.specs.Value.{Tick}
-use Rattle.csp_syntax.specs.Process.{Interrupt}
+use Rattle.theory_syntax.specs.Value.{Tick}
+use Rattle.theory_syntax.specs.Process.{Interrupt}
 use Rattle.csp_term.specs.Term.{process_of}
-use Rattle.csp_origins.proofs.OperandWays.{interrupt_tick_ways}
+use Rattle.theory_origins.proofs.OperandWays.{interrupt_tick_ways}
 use Rattle.csp_moves.proofs.Found.{found_all, two_same}
 use Rattle.csp_moves.proofs.interrupt.by_tick.Goals as goal
 

@@ -1,7 +1,7 @@
 -- Nothing is done.
 use Rattle.std.proofs.Common.{[], refl}
-use Rattle.csp_syntax.specs.Process.{Omega, Stop}
-use Rattle.csp_origins.proofs.LeafWays.{omega_ways, stop_ways}
+use Rattle.theory_syntax.specs.Process.{Omega, Stop}
+use Rattle.theory_origins.proofs.LeafWays.{omega_ways, stop_ways}
 use Rattle.csp_moves.proofs.Found.{found_all}
 use Rattle.csp_moves.proofs.leaf.idle_ways.Goals as goal
 

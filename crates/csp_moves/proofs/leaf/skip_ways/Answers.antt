@@ -1,10 +1,10 @@
 -- It ends, and does nothing else.
 use Rattle.std.proofs.Common.{◌≡◌, true, false, [], ◌∷◌, refl, sym, ◌∙◌}
-use Rattle.csp_syntax.specs.Process.{Skip}
+use Rattle.theory_syntax.specs.Process.{Skip}
 use Rattle.csp_term.specs.Term.{process_of}
-use Rattle.csp_origins.specs.Origin.{Ends}
-use Rattle.csp_origins.specs.Ways.{Here}
-use Rattle.csp_origins.proofs.LeafWays as law
+use Rattle.theory_origins.specs.Origin.{Ends}
+use Rattle.theory_origins.specs.Ways.{Here}
+use Rattle.theory_origins.proofs.LeafWays as law
 use Rattle.csp_moves.specs.Way.{lent_action}
 use Rattle.csp_moves.proofs.Found.{found_all}
 use Rattle.csp_moves.proofs.leaf.skip_ways.Goals as goal

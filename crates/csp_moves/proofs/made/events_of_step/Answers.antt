@@ -1,6 +1,6 @@
 -- By the operator of the process, if it has one.
 use Rattle.std.proofs.Common.{IfOk, map, sym, subst, Option, Some}
-use Rattle.csp_syntax.specs.Process.{Process}
+use Rattle.theory_syntax.specs.Process.{Process}
 use Rattle.csp_value.specs.Action.{event_of}
 use Rattle.csp_term.specs.Script.{script_of_parts}
 use Rattle.csp_term.specs.Term.{process_of}

@@ -2,7 +2,7 @@
 use Rattle.std.proofs.Common.{◌≡◌, true, false, map, sym, ◌∙◌}
 use Rattle.csp_value.specs.Action.{event_of}
 use Rattle.csp_term.specs.Term.{process_of}
-use Rattle.csp_operators.specs.Answering.{answered_of}
+use Rattle.csp_steps.specs.Answering.{answered_of}
 use Rattle.csp_moves.specs.Passing.{IsPassing}
 use Rattle.csp_moves.proofs.Events.{none_added, not_added, one_added}
 use Rattle.csp_moves.proofs.passing.add_passing.Goals as goal

@@ -1,6 +1,6 @@
 -- A tau or a tick is no event.
 use Rattle.std.proofs.Common.{◌≡◌, true, false, sym, ◌∙◌, ap, ap₂}
-use Rattle.csp_syntax.specs.Value.{Ev, Tau, Tick}
+use Rattle.theory_syntax.specs.Value.{Ev, Tau, Tick}
 use Rattle.csp_value.specs.Action.{action_of}
 use Rattle.csp_moves.proofs.passing.event_to.Goals as goal
 

@@ -1,17 +1,17 @@
 -- The events of all steps, and none of a body with a fault.
 use Rattle.std.proofs.Common.{List, [], map, Err, inl, inr, lit<, sym, ◌∙◌, ap, subst}
-use Rattle.csp_syntax.specs.Process.{Process}
-use Rattle.csp_syntax.specs.Value as pure
-use Rattle.csp_semantics.specs.Meaning.Faults.{cause_in}
-use Rattle.csp_semantics.specs.Meaning.Substitution.{put}
-use Rattle.csp_semantics.proofs.Putting.{put_nothing}
+use Rattle.theory_syntax.specs.Process.{Process}
+use Rattle.theory_syntax.specs.Value as pure
+use Rattle.theory_semantics.specs.Meaning.Faults.{cause_in}
+use Rattle.theory_semantics.specs.Meaning.Substitution.{put}
+use Rattle.theory_semantics.proofs.Putting.{put_nothing}
 use Rattle.csp_expression.specs.declared.no_value.NoValue.{NoValue}
 use Rattle.csp_value.specs.Action.{event_of}
-use Rattle.csp_origins.specs.Ways.{AreEventsTo}
+use Rattle.theory_origins.specs.Ways.{AreEventsTo}
 use Rattle.csp_term.specs.Script.{script_of_parts}
 use Rattle.csp_term.specs.Term.{process_of}
-use Rattle.csp_operators.specs.declared.rule_step.RuleStep.{RuleStep}
-use Rattle.csp_operators.specs.Answering.{Answers, IsAnswered, answered_of, answers_of}
+use Rattle.csp_steps.specs.declared.rule_step.RuleStep.{RuleStep}
+use Rattle.csp_steps.specs.Answering.{Answers, IsAnswered, answered_of, answers_of}
 use Rattle.csp_moves.specs.Passing.{IsPassing}
 use Rattle.csp_moves.proofs.Found.{if_so}
 use Rattle.csp_moves.proofs.Events.{events_are, no_events}

@@ -1,7 +1,7 @@
 -- It is among the images that are found.
 use Rattle.std.proofs.Common.{◌≡◌, ◌↔◌, IsTrue, Contains, List, map, ◌∙◌, ap, subst}
-use Rattle.csp_syntax.specs.Value as pure
-use Rattle.csp_semantics.specs.Meaning.Events.{or_itself}
+use Rattle.theory_syntax.specs.Value as pure
+use Rattle.theory_semantics.specs.Meaning.Events.{or_itself}
 use Rattle.csp_value.specs.Action.{event_of}
 use Rattle.csp_event_tests.specs.Imaging.{found_images}
 use Rattle.csp_moves.proofs.passing.is_image.Goals as goal

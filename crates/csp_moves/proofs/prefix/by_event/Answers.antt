@@ -1,6 +1,6 @@
 -- It does its event where it does the step.
 use Rattle.std.proofs.Common.{Bool, subst}
-use Rattle.csp_syntax.specs.Value.{Ev}
+use Rattle.theory_syntax.specs.Value.{Ev}
 use Rattle.csp_value.specs.Action.{event_of}
 use Rattle.csp_term.specs.Script.{script_of_parts}
 use Rattle.csp_term.specs.Term.{process_of}

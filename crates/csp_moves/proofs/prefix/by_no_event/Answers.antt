@@ -1,5 +1,5 @@
 -- A prefix does only events.
-use Rattle.csp_syntax.specs.Value.{Tau, Tick}
+use Rattle.theory_syntax.specs.Value.{Tau, Tick}
 use Rattle.csp_moves.proofs.Stepped.{no_event_found}
 use Rattle.csp_moves.proofs.prefix.by_no_event.Goals as goal
 

@@ -1,11 +1,11 @@
 -- Through the body by each of the events.
 use Rattle.std.proofs.Common.{[], map, refl}
-use Rattle.csp_syntax.specs.Value.{Ev}
-use Rattle.csp_syntax.specs.Process.{Renaming}
+use Rattle.theory_syntax.specs.Value.{Ev}
+use Rattle.theory_syntax.specs.Process.{Renaming}
 use Rattle.csp_value.specs.Action.{event_of}
 use Rattle.csp_event_sets.specs.Events.{renaming_pairs_of}
 use Rattle.csp_term.specs.Term.{process_of}
-use Rattle.csp_origins.proofs.BodyWays as law
+use Rattle.theory_origins.proofs.BodyWays as law
 use Rattle.csp_moves.proofs.Bodies as body
 use Rattle.csp_moves.proofs.Found.{found_in}
 use Rattle.csp_moves.proofs.renaming.by_event.Goals as goal

@@ -1,9 +1,9 @@
 -- The law of the operator.
-use Rattle.csp_syntax.specs.Value.{Tick}
-use Rattle.csp_syntax.specs.Process.{Renaming}
+use Rattle.theory_syntax.specs.Value.{Tick}
+use Rattle.theory_syntax.specs.Process.{Renaming}
 use Rattle.csp_event_sets.specs.Events.{renaming_pairs_of}
 use Rattle.csp_term.specs.Term.{process_of}
-use Rattle.csp_origins.proofs.BodyWays as law
+use Rattle.theory_origins.proofs.BodyWays as law
 use Rattle.csp_moves.proofs.Found.{found_all, one_same}
 use Rattle.csp_moves.proofs.renaming.by_tick.Goals as goal
 

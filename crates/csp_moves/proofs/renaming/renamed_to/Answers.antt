@@ -8,7 +8,7 @@ use Rattle.csp_moves.proofs.Bodies as body
 use Rattle.csp_moves.proofs.Found.{if_so}
 use Rattle.csp_event_sets.specs.declared.renaming_pair.RenamingPair.{RenamingPair}
 use Rattle.csp_event_tests.specs.Imaging.{AreMade, found_images}
-use Rattle.csp_semantics.specs.Meaning.Events.{images, or_itself, renaming}
+use Rattle.theory_semantics.specs.Meaning.Events.{images, or_itself, renaming}
 use Rattle.csp_moves.proofs.Events.{image_of_found, passing_as}
 use Rattle.csp_moves.proofs.renaming.renamed_to.Goals as goal
 

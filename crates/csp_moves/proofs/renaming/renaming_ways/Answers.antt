@@ -1,6 +1,6 @@
 -- An event comes by those that are renamed to it.
 use Rattle.std.proofs.Common.{IfOk, map, sym, subst}
-use Rattle.csp_syntax.specs.Process.{Renaming}
+use Rattle.theory_syntax.specs.Process.{Renaming}
 use Rattle.csp_value.specs.Action.{event_of}
 use Rattle.csp_event_sets.specs.Events.{renaming_pairs_of}
 use Rattle.csp_term.specs.Term.{process_of}

@@ -1,12 +1,12 @@
 -- One way more for each event.
 use Rattle.std.proofs.Common.{[], refl, ◌∙◌, Some}
-use Rattle.csp_syntax.specs.Value as pure
-use Rattle.csp_syntax.specs.Value.{Ev}
+use Rattle.theory_syntax.specs.Value as pure
+use Rattle.theory_syntax.specs.Value.{Ev}
 use Rattle.csp_value.specs.Action.{event_of}
 use Rattle.csp_term.specs.Term.{process_of}
-use Rattle.csp_origins.specs.Origin.{Renames}
-use Rattle.csp_origins.specs.Ways as meaning
-use Rattle.csp_origins.specs.Ways.{Through, part}
+use Rattle.theory_origins.specs.Origin.{Renames}
+use Rattle.theory_origins.specs.Ways as meaning
+use Rattle.theory_origins.specs.Ways.{Through, part}
 use Rattle.csp_moves.proofs.Pushed.{all_ways, one_way_more}
 use Rattle.csp_moves.proofs.renaming.through_renamed.Goals as goal
 

@@ -1,10 +1,10 @@
 -- One way by each event so far.
 use Rattle.std.proofs.Common.{◌≡◌, map, take, Some}
-use Rattle.csp_syntax.specs.Value.{Ev}
+use Rattle.theory_syntax.specs.Value.{Ev}
 use Rattle.csp_value.specs.Action.{event_of}
 use Rattle.csp_term.specs.Term.{process_of}
-use Rattle.csp_origins.specs.Origin.{Renames}
-use Rattle.csp_origins.specs.Ways.{Through, part}
+use Rattle.theory_origins.specs.Origin.{Renames}
+use Rattle.theory_origins.specs.Ways.{Through, part}
 use Rattle.csp_moves.specs.Way.{ways_of}
 use Rattle.csp_moves.proofs.renaming.through_renamed.Given as goal
 

@@ -1,9 +1,9 @@
 -- One more instance, and the chain of all.
 use Rattle.std.proofs.Common.{◌≡◌, ◌+◌, ◌∷◌, ◌++◌, [], List, take, sym, ◌∙◌, ap, ap₂, subst, arith}
 use Rattle.std.proofs.lemmas.List.{map-append, take_all, take_more}
-use Rattle.csp_semantics.specs.Meaning.Events.{instances}
-use Rattle.csp_semantics.specs.Meaning.Substitution.{put}
-use Rattle.csp_semantics.specs.Meaning.Transitions.{left_grouped}
+use Rattle.theory_semantics.specs.Meaning.Events.{instances}
+use Rattle.theory_semantics.specs.Meaning.Substitution.{put}
+use Rattle.theory_semantics.specs.Meaning.Transitions.{left_grouped}
 use Rattle.csp_value.specs.declared.value.Value.{Value}
 use Rattle.csp_value.specs.Value.{value_of, values_of}
 use Rattle.csp_term.specs.Term.{process_of}

@@ -1,8 +1,8 @@
 -- The chain of the instances so far.
 use Rattle.std.proofs.Common.{◌≡◌, ◌∷◌, [], take}
-use Rattle.csp_semantics.specs.Meaning.Events.{instances}
-use Rattle.csp_semantics.specs.Meaning.Substitution.{put}
-use Rattle.csp_semantics.specs.Meaning.Transitions.{left_grouped}
+use Rattle.theory_semantics.specs.Meaning.Events.{instances}
+use Rattle.theory_semantics.specs.Meaning.Substitution.{put}
+use Rattle.theory_semantics.specs.Meaning.Transitions.{left_grouped}
 use Rattle.csp_value.specs.Value.{value_of, values_of}
 use Rattle.csp_term.specs.Term.{process_of}
 use Rattle.csp_moves.specs.Chains.{linked}

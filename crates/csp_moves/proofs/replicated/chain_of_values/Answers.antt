@@ -1,10 +1,10 @@
 -- Of no value, and of at least one.
 use Rattle.std.proofs.Common.{◌≡◌, ◌∷◌, [], IfOk, List, length, refl, sym, subst}
-use Rattle.csp_semantics.specs.Meaning.Events.{instances}
+use Rattle.theory_semantics.specs.Meaning.Events.{instances}
 use Rattle.csp_value.specs.declared.value.Value.{Value}
 use Rattle.csp_value.specs.Value.{values_of}
 use Rattle.csp_term.specs.Term.{process_of}
-use Rattle.csp_origins.specs.Telling.{instance_chain}
+use Rattle.theory_origins.specs.Telling.{instance_chain}
 use Rattle.csp_moves.proofs.replicated.chain_of_values.Goals as goal
 
 nothing_in : {X : Type 0} (xs : List X) → length xs ≡ 0 → xs ≡ []

@@ -1,8 +1,8 @@
 -- The members of the value, if there is one.
 use Rattle.std.proofs.Common.{List, Result, Err, sym, ap, subst}
-use Rattle.csp_syntax.specs.Value as pure
-use Rattle.csp_semantics.specs.Meaning.Evaluation.{Cause, value, ◌and_then◌}
-use Rattle.csp_semantics.specs.Meaning.Events.{members_of}
+use Rattle.theory_syntax.specs.Value as pure
+use Rattle.theory_semantics.specs.Meaning.Evaluation.{Cause, value, ◌and_then◌}
+use Rattle.theory_semantics.specs.Meaning.Events.{members_of}
 use Rattle.csp_expression.specs.declared.no_value.NoValue.{NoValue}
 use Rattle.csp_expression.specs.Evaluation.{Gives, table_of}
 use Rattle.csp_expression.specs.Expression.{expression_of}

@@ -1,7 +1,7 @@
 -- Through the chain, if there is one.
 use Rattle.std.proofs.Common.{[], refl, Option, subst}
-use Rattle.csp_syntax.specs.Operators.{replicated_process}
-use Rattle.csp_semantics.specs.Meaning.Events.{elements}
+use Rattle.theory_syntax.specs.Operators.{replicated_process}
+use Rattle.theory_semantics.specs.Meaning.Events.{elements}
 use Rattle.csp_term.specs.Term.{process_of}
 use Rattle.csp_term.specs.declared.term.Term.{Term}
 use Rattle.csp_moves.specs.Chains.{IsChainOf, chain_process}

@@ -1,9 +1,9 @@
 -- The law of the operator, with what is found of the target.
-use Rattle.csp_syntax.specs.Value.{Ev}
-use Rattle.csp_syntax.specs.Process.{Sequential}
+use Rattle.theory_syntax.specs.Value.{Ev}
+use Rattle.theory_syntax.specs.Process.{Sequential}
 use Rattle.csp_value.specs.Action.{event_of}
 use Rattle.csp_term.specs.Term.{process_of}
-use Rattle.csp_origins.proofs.OperandWays.{sequential_event_ways}
+use Rattle.theory_origins.proofs.OperandWays.{sequential_event_ways}
 use Rattle.csp_moves.specs.Way.{lent_process}
 use Rattle.csp_moves.proofs.Found.{found_all, one_same}
 use Rattle.csp_moves.proofs.sequential.by_event.Goals as goal

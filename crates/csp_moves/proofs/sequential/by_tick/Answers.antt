@@ -1,8 +1,8 @@
 -- No tick is seen.
 use Rattle.std.proofs.Common.{[], refl}
-use Rattle.csp_syntax.specs.Value.{Tick}
-use Rattle.csp_syntax.specs.Process.{Sequential}
-use Rattle.csp_origins.proofs.OperandWays.{sequential_tick_ways}
+use Rattle.theory_syntax.specs.Value.{Tick}
+use Rattle.theory_syntax.specs.Process.{Sequential}
+use Rattle.theory_origins.proofs.OperandWays.{sequential_tick_ways}
 use Rattle.csp_moves.proofs.Found.{found_all}
 use Rattle.csp_moves.proofs.sequential.by_tick.Goals as goal
 

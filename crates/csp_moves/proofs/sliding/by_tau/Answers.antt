@@ -1,9 +1,9 @@
 -- The law of the operator, with what is found of the target.
 use Rattle.std.proofs.Common.{◌≡◌, true, false, refl, sym, ◌∙◌}
-use Rattle.csp_syntax.specs.Value.{Tau}
-use Rattle.csp_syntax.specs.Process.{SlidingChoice}
+use Rattle.theory_syntax.specs.Value.{Tau}
+use Rattle.theory_syntax.specs.Process.{SlidingChoice}
 use Rattle.csp_term.specs.Term.{process_of}
-use Rattle.csp_origins.proofs.OperandWays.{sliding_away_ways, sliding_tau_ways}
+use Rattle.theory_origins.proofs.OperandWays.{sliding_away_ways, sliding_tau_ways}
 use Rattle.csp_moves.specs.Way.{lent_process}
 use Rattle.csp_moves.proofs.Found.{found_all, one_same, two_same}
 use Rattle.csp_moves.proofs.sliding.by_tau.Goals as goal

@@ -1,7 +1,7 @@
 -- The law of the operator.
-use Rattle.csp_syntax.specs.Process.{SlidingChoice}
+use Rattle.theory_syntax.specs.Process.{SlidingChoice}
 use Rattle.csp_term.specs.Term.{process_of}
-use Rattle.csp_origins.proofs.OperandWays.{sliding_visible_ways}
+use Rattle.theory_origins.proofs.OperandWays.{sliding_visible_ways}
 use Rattle.csp_moves.specs.Way.{lent_action}
 use Rattle.csp_moves.proofs.Found.{found_all, one_same}
 use Rattle.csp_moves.proofs.sliding.by_visible.Goals as goal

@@ -1,7 +1,7 @@
 -- Nothing is found where nothing may be done.
 use Rattle.std.proofs.Common.{Bool, None, refl, sym, subst}
 use Rattle.csp_term.specs.Term.{process_of}
-use Rattle.csp_origins.specs.Ways.{IsSplitWhere}
+use Rattle.theory_origins.specs.Ways.{IsSplitWhere}
 use Rattle.csp_moves.specs.Sides.{joint_of, joined, sides_split}
 use Rattle.csp_moves.proofs.together.both_where.Goals as goal
 

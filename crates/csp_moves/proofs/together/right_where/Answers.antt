@@ -1,7 +1,7 @@
 -- Nothing is found where nothing may be done.
 use Rattle.std.proofs.Common.{Bool, None, refl, sym, subst}
 use Rattle.csp_term.specs.Term.{process_of}
-use Rattle.csp_origins.specs.Ways.{IsBodyWhere}
+use Rattle.theory_origins.specs.Ways.{IsBodyWhere}
 use Rattle.csp_moves.specs.Sides.{joint_of, joined}
 use Rattle.csp_moves.specs.Way.{lent_process}
 use Rattle.csp_moves.proofs.together.right_where.Goals as goal

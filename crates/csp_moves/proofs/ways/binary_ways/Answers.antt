@@ -1,7 +1,7 @@
 -- The ways of each operator.
 use Rattle.std.proofs.Common.{IfOk, sym, subst}
-use Rattle.csp_syntax.specs.Operators.{binary_process}
-use Rattle.csp_syntax.specs.declared.process_operator.ProcessOperator.{ProcessOperator}
+use Rattle.theory_syntax.specs.Operators.{binary_process}
+use Rattle.theory_syntax.specs.declared.process_operator.ProcessOperator.{ProcessOperator}
 use Rattle.csp_term.specs.Term.{process_of}
 use Rattle.csp_moves.specs.Way.{AreFound, lent_action}
 use Rattle.csp_moves.proofs.ways.binary_ways.Goals as goal

@@ -1,6 +1,6 @@
 -- By the events that were made for the operator.
 use Rattle.std.proofs.Common.{◌≡◌, IfOk, List, map, inl, inr, lit<, sym, subst, Option, Some}
-use Rattle.csp_syntax.specs.Process.{Process}
+use Rattle.theory_syntax.specs.Process.{Process}
 use Rattle.csp_value.specs.Action.{event_of}
 use Rattle.csp_value.specs.declared.action.Event.{Event}
 use Rattle.csp_event_sets.specs.Events.{event_set_of, renaming_pairs_of}

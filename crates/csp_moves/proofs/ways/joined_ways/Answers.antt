@@ -1,6 +1,6 @@
 -- The ways of the operator between the sides.
 use Rattle.std.proofs.Common.{◌≡◌, IfOk, sym, subst}
-use Rattle.csp_syntax.specs.Process.{Process}
+use Rattle.theory_syntax.specs.Process.{Process}
 use Rattle.csp_term.specs.Script.{script_of_parts}
 use Rattle.csp_term.specs.Term.{process_of}
 use Rattle.csp_moves.specs.declared.operator.Joint.{Joint}

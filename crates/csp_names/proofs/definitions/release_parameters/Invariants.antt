@@ -1,5 +1,5 @@
 use Rattle.std.proofs.Common.{map, take}
-use Rattle.csp_checking.specs.Names.{spellings}
+use Rattle.theory_checking.specs.Names.{spellings}
 use Rattle.csp_parse.specs.Names.{name_of}
 use Rattle.csp_names.specs.Scopes.{IsInOrder, Releases}
 use Rattle.csp_names.proofs.definitions.release_parameters.Given as goal

@@ -1,6 +1,6 @@
 -- Two terms with an operator between are the process of both.
 use Rattle.std.proofs.Common.{◌∙◌, ap, sym}
-use Rattle.csp_checking.specs.Resolving.{infix_process}
+use Rattle.theory_checking.specs.Resolving.{infix_process}
 use Rattle.csp_parse.specs.Processes.{infix_of}
 use Rattle.csp_term.specs.Term.{process_of}
 use Rattle.csp_term.proofs.Forms as made

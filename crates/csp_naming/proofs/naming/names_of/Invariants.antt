@@ -1,5 +1,5 @@
 use Rattle.std.proofs.Common.{◌≡◌, map, take}
-use Rattle.csp_checking.specs.Names.{bound_spellings}
+use Rattle.theory_checking.specs.Names.{bound_spellings}
 use Rattle.csp_parse.specs.Declarations.{declaration_of}
 use Rattle.csp_naming.specs.Binding.{met}
 use Rattle.csp_naming.specs.Declaring.{AreDeclaredIn}

@@ -1,6 +1,6 @@
 use Rattle.std.proofs.Common.{◌∙◌, ap₂}
-use Rattle.csp_syntax.specs.Operators.{binary_of}
-use Rattle.csp_text.specs.Raw.{RawCombine}
+use Rattle.theory_syntax.specs.Operators.{binary_of}
+use Rattle.theory_text.specs.Raw.{RawCombine}
 use Rattle.csp_parse.specs.Expressions.{expression_of}
 use Rattle.csp_parse.proofs.Trees.{tree_of_combine}
 use Rattle.csp_parse.proofs.read_expressions.combined.Goals as goal

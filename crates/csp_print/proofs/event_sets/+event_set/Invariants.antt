@@ -1,5 +1,5 @@
 use Rattle.std.proofs.Common.{◌+◌, ◌*◌}
-use Rattle.csp_semantics.specs.Meaning.Limits.{event_set_size}
+use Rattle.theory_semantics.specs.Meaning.Limits.{event_set_size}
 use Rattle.csp_event_sets.specs.Events.{event_set_of}
 use Rattle.csp_print.proofs.event_sets.+event_set.Given as goal
 

@@ -4,7 +4,7 @@ use Rattle.std.specs.Prelude.{codes}
 use Rattle.std.specs.String.{string_bytes}
 use Rattle.csp_event_sets.specs.declared.event_expression.EventExpression.{EventExpression}
 use Rattle.csp_event_sets.specs.Events.{event_expression_of, event_expressions_of}
-use Rattle.csp_notation.specs.EventSets.{event_text, events_behind}
+use Rattle.theory_notation.specs.EventSets.{event_text, events_behind}
 use Rattle.csp_print.specs.Names.{names_of}
 use Rattle.csp_print.proofs.Writing.{comes_to_end, goes_on}
 use Rattle.csp_print.proofs.event_sets.push_events_behind.Goals as goal

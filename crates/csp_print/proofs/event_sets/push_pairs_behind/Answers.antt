@@ -4,7 +4,7 @@ use Rattle.std.specs.Prelude.{codes}
 use Rattle.std.specs.String.{string_bytes}
 use Rattle.csp_event_sets.specs.declared.renaming_pair.RenamingPair.{RenamingPair}
 use Rattle.csp_event_sets.specs.Events.{renaming_pair_of, renaming_pairs_of}
-use Rattle.csp_notation.specs.EventSets.{pair_text, pairs_behind}
+use Rattle.theory_notation.specs.EventSets.{pair_text, pairs_behind}
 use Rattle.csp_print.specs.Names.{names_of}
 use Rattle.csp_print.proofs.Writing.{comes_to_end, goes_on}
 use Rattle.csp_print.proofs.event_sets.push_pairs_behind.Goals as goal

@@ -3,13 +3,13 @@ use Rattle.std.proofs.Common.{List, ◌++◌, drop, ap, ◌∙◌, sym, ◌≡�
 use Rattle.std.proofs.lemmas.List.{drop_all}
 use Rattle.std.specs.Prelude.{codes}
 use Rattle.std.specs.String.{string_bytes}
-use Rattle.csp_answers.specs.Printing.{name_at}
-use Rattle.csp_syntax.specs.Expression.{ConstructorOf, SequenceOf, SetOf, to_expressions}
-use Rattle.csp_semantics.specs.Meaning.Limits.{expression_size, expressions_size}
+use Rattle.theory_search.specs.Printing.{name_at}
+use Rattle.theory_syntax.specs.Expression.{ConstructorOf, SequenceOf, SetOf, to_expressions}
+use Rattle.theory_semantics.specs.Meaning.Limits.{expression_size, expressions_size}
 use Rattle.csp_expression.specs.declared.expr.Expr.{Expr}
 use Rattle.csp_expression.specs.Expression.{expression_of, expressions_of}
 use Rattle.csp_expression.proofs.ExpressionForms.{of_constructor, of_sequence, of_set}
-use Rattle.csp_notation.specs.Expressions.{expression_text, expressions_behind, operand_text}
+use Rattle.theory_notation.specs.Expressions.{expression_text, expressions_behind, operand_text}
 use Rattle.csp_print.specs.Names.{names_of}
 use Rattle.csp_print.proofs.Writing.{alike, behind, comes_to_end, goes_on}
 use Rattle.csp_print.proofs.ExpressionTexts.{part_size, with_fields, without_fields}

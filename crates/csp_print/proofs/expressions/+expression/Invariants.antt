@@ -1,9 +1,9 @@
 use Rattle.std.proofs.Common.{◌≡◌, drop, ◌++◌, ◌+◌, ◌*◌}
 use Rattle.std.specs.String.{string_bytes}
-use Rattle.csp_syntax.specs.Expression.{to_expressions}
-use Rattle.csp_semantics.specs.Meaning.Limits.{expression_size, expressions_size}
+use Rattle.theory_syntax.specs.Expression.{to_expressions}
+use Rattle.theory_semantics.specs.Meaning.Limits.{expression_size, expressions_size}
 use Rattle.csp_expression.specs.Expression.{expression_of, expressions_of}
-use Rattle.csp_notation.specs.Expressions.{expressions_behind}
+use Rattle.theory_notation.specs.Expressions.{expressions_behind}
 use Rattle.csp_print.specs.Names.{names_of}
 use Rattle.csp_print.proofs.expressions.+expression.Given as goal
 

@@ -1,7 +1,7 @@
 use Rattle.std.proofs.Common.{◌≡◌, drop, ◌++◌}
 use Rattle.std.specs.String.{string_bytes}
 use Rattle.csp_term.specs.Field.{fields_of}
-use Rattle.csp_notation.specs.Processes.{fields_text}
+use Rattle.theory_notation.specs.Processes.{fields_text}
 use Rattle.csp_print.specs.Names.{names_of}
 use Rattle.csp_print.proofs.fields.push_fields.Given as goal
 

@@ -2,9 +2,9 @@
 use Rattle.std.proofs.Common.{List, ◌++◌, ap, ◌∙◌, sym}
 use Rattle.std.specs.Prelude.{codes}
 use Rattle.std.specs.String.{string_bytes}
-use Rattle.csp_answers.specs.Printing.{name_at}
-use Rattle.csp_syntax.specs.Expression.{to_expressions}
-use Rattle.csp_syntax.specs.Process.{Call, Prefix, Renaming}
+use Rattle.theory_search.specs.Printing.{name_at}
+use Rattle.theory_syntax.specs.Expression.{to_expressions}
+use Rattle.theory_syntax.specs.Process.{Call, Prefix, Renaming}
 use Rattle.csp_expression.specs.declared.expr.Expr.{Expr}
 use Rattle.csp_expression.specs.Expression.{expression_of, expressions_of}
 use Rattle.csp_event_sets.specs.declared.renaming_pair.RenamingPair.{RenamingPair}
@@ -13,8 +13,8 @@ use Rattle.csp_term.specs.declared.field.Field.{Field}
 use Rattle.csp_term.specs.Field.{fields_of}
 use Rattle.csp_term.specs.Term.{process_of, process_of_form}
 use Rattle.csp_term.proofs.Forms.{of_binary, of_call, of_prefix, of_renaming}
-use Rattle.csp_notation.specs.Expressions.{operand_text}
-use Rattle.csp_notation.specs.Processes.{Operand, fields_text, process_text, text_at}
+use Rattle.theory_notation.specs.Expressions.{operand_text}
+use Rattle.theory_notation.specs.Processes.{Operand, fields_text, process_text, text_at}
 use Rattle.csp_print.specs.Names.{names_of}
 use Rattle.csp_print.specs.Shapes.{replicator_text}
 use Rattle.csp_print.proofs.ProcessTexts.{chained, replicated_over}

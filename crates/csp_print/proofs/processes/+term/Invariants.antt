@@ -1,5 +1,5 @@
 use Rattle.std.proofs.Common.{◌+◌, ◌*◌}
-use Rattle.csp_semantics.specs.Meaning.Limits.{size}
+use Rattle.theory_semantics.specs.Meaning.Limits.{size}
 use Rattle.csp_term.specs.Term.{process_of}
 use Rattle.csp_print.proofs.processes.+term.Given as goal
 

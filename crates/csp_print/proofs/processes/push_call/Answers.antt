@@ -2,12 +2,12 @@
 use Rattle.std.proofs.Common.{List, ◌++◌, ap, sym}
 use Rattle.std.specs.Prelude.{codes}
 use Rattle.std.specs.String.{string_bytes}
-use Rattle.csp_answers.specs.Printing.{name_at}
-use Rattle.csp_syntax.specs.Expression.{to_expressions}
+use Rattle.theory_search.specs.Printing.{name_at}
+use Rattle.theory_syntax.specs.Expression.{to_expressions}
 use Rattle.csp_expression.specs.declared.expr.Expr.{Expr}
 use Rattle.csp_expression.specs.Expression.{expression_of, expressions_of}
-use Rattle.csp_notation.specs.Expressions.{expression_text, expressions_behind}
-use Rattle.csp_notation.specs.Processes.{call_text}
+use Rattle.theory_notation.specs.Expressions.{expression_text, expressions_behind}
+use Rattle.theory_notation.specs.Processes.{call_text}
 use Rattle.csp_print.specs.Names.{names_of}
 use Rattle.csp_print.proofs.Writing.{alike, behind}
 use Rattle.csp_print.proofs.processes.push_call.Goals as goal

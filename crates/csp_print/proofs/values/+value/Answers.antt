@@ -3,12 +3,12 @@ use Rattle.std.proofs.Common.{List, ◌++◌, drop, ap, ◌∙◌, sym, ◌≡�
 use Rattle.std.proofs.lemmas.List.{drop_all}
 use Rattle.std.specs.Prelude.{codes}
 use Rattle.std.specs.String.{string_bytes}
-use Rattle.csp_answers.specs.Printing.{name_at}
-use Rattle.csp_syntax.specs.Value.{to_values}
-use Rattle.csp_semantics.specs.Meaning.Limits.{value_size, values_size}
+use Rattle.theory_search.specs.Printing.{name_at}
+use Rattle.theory_syntax.specs.Value.{to_values}
+use Rattle.theory_semantics.specs.Meaning.Limits.{value_size, values_size}
 use Rattle.csp_value.specs.declared.value.Value.{Value}
 use Rattle.csp_value.specs.Value.{value_of, values_of}
-use Rattle.csp_notation.specs.Values.{value_text, values_behind, values_text}
+use Rattle.theory_notation.specs.Values.{value_text, values_behind, values_text}
 use Rattle.csp_print.specs.Names.{names_of}
 use Rattle.csp_print.proofs.Writing.{alike, behind, comes_to_end, goes_on}
 use Rattle.csp_print.proofs.ValueTexts.{member_size, of_sequence, of_set, with_fields}

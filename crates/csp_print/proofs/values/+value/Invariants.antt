@@ -1,9 +1,9 @@
 use Rattle.std.proofs.Common.{◌≡◌, drop, ◌++◌, ◌+◌, ◌*◌}
 use Rattle.std.specs.String.{string_bytes}
-use Rattle.csp_syntax.specs.Value.{to_values}
-use Rattle.csp_semantics.specs.Meaning.Limits.{value_size, values_size}
+use Rattle.theory_syntax.specs.Value.{to_values}
+use Rattle.theory_semantics.specs.Meaning.Limits.{value_size, values_size}
 use Rattle.csp_value.specs.Value.{value_of, values_of}
-use Rattle.csp_notation.specs.Values.{values_behind}
+use Rattle.theory_notation.specs.Values.{values_behind}
 use Rattle.csp_print.specs.Names.{names_of}
 use Rattle.csp_print.proofs.values.+value.Given as goal
 

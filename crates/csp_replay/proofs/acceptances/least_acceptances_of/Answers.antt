@@ -1,8 +1,8 @@
 -- The least of all acceptances, sorted.
 use Rattle.std.proofs.Common.{[], List, Vec, map, subst}
-use Rattle.csp_runs.specs.Acceptances.{IsLeastAmong}
-use Rattle.csp_runs.specs.Gathering.{Gathers}
-use Rattle.csp_runs.proofs.Acceptances.{least_told}
+use Rattle.theory_runs.specs.Acceptances.{IsLeastAmong}
+use Rattle.theory_runs.specs.Gathering.{Gathers}
+use Rattle.theory_runs.proofs.Acceptances.{least_told}
 use Rattle.csp_value.specs.declared.action.Action.{Action}
 use Rattle.csp_term.specs.Script.{script_of}
 use Rattle.csp_term.specs.Term.{process_of}

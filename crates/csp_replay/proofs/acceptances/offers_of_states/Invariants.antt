@@ -1,8 +1,8 @@
 -- What the first states offer.
 use Rattle.std.proofs.Common.{[], map}
-use Rattle.csp_semantics.specs.Meaning.Offers.{IsAcceptance}
-use Rattle.csp_runs.specs.Gathering.{Gathers}
-use Rattle.csp_runs.proofs.Gathering.{IsOfFirst}
+use Rattle.theory_semantics.specs.Meaning.Offers.{IsAcceptance}
+use Rattle.theory_runs.specs.Gathering.{Gathers}
+use Rattle.theory_runs.proofs.Gathering.{IsOfFirst}
 use Rattle.csp_term.specs.Script.{script_of}
 use Rattle.csp_term.specs.Term.{process_of}
 use Rattle.csp_replay.specs.Offers.{offers_listed}

@@ -1,9 +1,9 @@
 -- One more term shows it, or does not.
 use Rattle.std.proofs.Common.{sym, subst, arith, inl, inr, lit<}
-use Rattle.csp_semantics.proofs.Rising.{Contains-from_stands}
-use Rattle.csp_syntax.specs.Process.{Process, Script}
-use Rattle.csp_runs.specs.States.{Shows}
-use Rattle.csp_runs.proofs.Scanning.{none_zero, none_more, none_at_all}
+use Rattle.theory_semantics.proofs.Rising.{Contains-from_stands}
+use Rattle.theory_syntax.specs.Process.{Process, Script}
+use Rattle.theory_runs.specs.States.{Shows}
+use Rattle.theory_runs.proofs.Scanning.{none_zero, none_more, none_at_all}
 use Rattle.csp_term.specs.Script.{script_of}
 use Rattle.csp_term.specs.Term.{process_of}
 use Rattle.verdict.specs.Outcome.{evidence_of}

@@ -1,6 +1,6 @@
 -- None of the terms so far shows it.
-use Rattle.csp_runs.specs.States.{Shows}
-use Rattle.csp_runs.proofs.Scanning.{NoneBefore}
+use Rattle.theory_runs.specs.States.{Shows}
+use Rattle.theory_runs.proofs.Scanning.{NoneBefore}
 use Rattle.csp_term.specs.Script.{script_of}
 use Rattle.verdict.specs.Outcome.{evidence_of}
 use Rattle.csp_replay.specs.Layer.{terms_of}

@@ -2,9 +2,9 @@
 use Rattle.std.proofs.Common.{◌≡◌, map, Some, refl, sym, ◌∙◌, ap, arith}
 use Rattle.std.proofs.lemmas.List.{length-map}
 use Rattle.std.proofs.lemmas.Option.{slice_get-get_or}
-use Rattle.csp_semantics.proofs.Rising.{Contains-from_stands}
-use Rattle.csp_syntax.proofs.Places.{get_some}
-use Rattle.csp_runs.proofs.Scanning.{none_zero, none_more, none_at_all}
+use Rattle.theory_semantics.proofs.Rising.{Contains-from_stands}
+use Rattle.theory_syntax.proofs.Places.{get_some}
+use Rattle.theory_runs.proofs.Scanning.{none_zero, none_more, none_at_all}
 use Rattle.csp_value.specs.Action.{action_of}
 use Rattle.csp_term.specs.Term.{process_of}
 use Rattle.csp_fire.specs.Form.{step_of}

@@ -1,6 +1,6 @@
 -- None of the steps so far is by the action.
 use Rattle.std.proofs.Common.{◌≡◌, map}
-use Rattle.csp_runs.proofs.Scanning.{NoneBefore}
+use Rattle.theory_runs.proofs.Scanning.{NoneBefore}
 use Rattle.csp_value.specs.Action.{action_of}
 use Rattle.csp_fire.specs.Form.{step_of}
 use Rattle.csp_replay.proofs.evidence.has_step_by.Given as goal

@@ -1,10 +1,10 @@
 -- Each kind of evidence by the steps, or by the offers; none where the term is stuck.
 use Rattle.std.proofs.Common.{◌↔◌, List, Vec, IsTrue, Contains, map, refl, sym, ◌∙◌, ap, subst, inl, inr, lit≤}
-use Rattle.csp_runs.specs.States.{Shows}
-use Rattle.csp_runs.proofs.Firing.{not_both, not_large}
-use Rattle.csp_runs.proofs.Showing.{shows_step, shows_offer, shows_deadlock, stuck_shows_none}
-use Rattle.csp_syntax.specs.Value.{Tau}
-use Rattle.csp_syntax.specs.Process.{Process}
+use Rattle.theory_runs.specs.States.{Shows}
+use Rattle.theory_runs.proofs.Firing.{not_both, not_large}
+use Rattle.theory_runs.proofs.Showing.{shows_step, shows_offer, shows_deadlock, stuck_shows_none}
+use Rattle.theory_syntax.specs.Value.{Tau}
+use Rattle.theory_syntax.specs.Process.{Process}
 use Rattle.csp_value.specs.declared.action.Action.{Action}
 use Rattle.csp_value.specs.Action.{action_of}
 use Rattle.csp_fire.specs.declared.form.Step.{Step}

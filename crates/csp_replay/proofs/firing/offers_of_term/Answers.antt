@@ -1,8 +1,8 @@
 -- The form tells all acceptances.
 use Rattle.std.proofs.Common.{List, Vec, sym, ◌∙◌, ap, subst, inl, inr, lit<}
-use Rattle.csp_runs.specs.Acceptances.{AreOffers}
-use Rattle.csp_runs.proofs.Acceptances.{fired_offers, no_offers}
-use Rattle.csp_runs.proofs.Firing.{not_both, not_large}
+use Rattle.theory_runs.specs.Acceptances.{AreOffers}
+use Rattle.theory_runs.proofs.Acceptances.{fired_offers, no_offers}
+use Rattle.theory_runs.proofs.Firing.{not_both, not_large}
 use Rattle.csp_value.specs.declared.action.Action.{Action}
 use Rattle.csp_term.specs.Script.{script_of}
 use Rattle.csp_term.specs.Term.{process_of}

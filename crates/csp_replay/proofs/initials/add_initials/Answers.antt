@@ -2,13 +2,13 @@
 use Rattle.std.proofs.Common.{◌≡◌, ◌++◌, ◌∷◌, [], map, Contains, Some, sym, ◌∙◌, ap, subst, arith}
 use Rattle.std.proofs.lemmas.List.{length-map, map-append}
 use Rattle.std.proofs.lemmas.Option.{slice_get-get_or}
-use Rattle.csp_syntax.specs.Value as pure
-use Rattle.csp_syntax.specs.Process.{Process}
-use Rattle.csp_syntax.proofs.Places.{get_some}
-use Rattle.csp_semantics.specs.Meaning.Transitions.{IsVisible}
-use Rattle.csp_runs.specs.Initials.{IsInitialBy}
-use Rattle.csp_runs.proofs.Gathering.{gather_none, gather_more, gather_skip, gather_all, gathers_one, gathers_same}
-use Rattle.csp_runs.proofs.Initials.{IsStepBy, initial_steps, step_alone}
+use Rattle.theory_syntax.specs.Value as pure
+use Rattle.theory_syntax.specs.Process.{Process}
+use Rattle.theory_syntax.proofs.Places.{get_some}
+use Rattle.theory_semantics.specs.Meaning.Transitions.{IsVisible}
+use Rattle.theory_runs.specs.Initials.{IsInitialBy}
+use Rattle.theory_runs.proofs.Gathering.{gather_none, gather_more, gather_skip, gather_all, gathers_one, gathers_same}
+use Rattle.theory_runs.proofs.Initials.{IsStepBy, initial_steps, step_alone}
 use Rattle.csp_value.specs.Action.{action_of}
 use Rattle.csp_fire.specs.Form.{step_of}
 use Rattle.csp_replay.proofs.Visible.{is_visible}

@@ -1,8 +1,8 @@
 -- The actions of the first steps.
 use Rattle.std.proofs.Common.{map}
-use Rattle.csp_runs.specs.Gathering.{Gathers}
-use Rattle.csp_runs.proofs.Gathering.{IsOfFirst}
-use Rattle.csp_runs.proofs.Initials.{IsStepBy}
+use Rattle.theory_runs.specs.Gathering.{Gathers}
+use Rattle.theory_runs.proofs.Gathering.{IsOfFirst}
+use Rattle.theory_runs.proofs.Initials.{IsStepBy}
 use Rattle.csp_value.specs.Action.{action_of}
 use Rattle.csp_fire.specs.Form.{step_of}
 use Rattle.csp_replay.proofs.initials.add_initials.Given as goal

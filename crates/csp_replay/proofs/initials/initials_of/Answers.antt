@@ -2,14 +2,14 @@
 use Rattle.std.proofs.Common.{[], List, map, Some, sym, ◌∙◌, ap, subst, arith, inl, inr, lit≤, lit<}
 use Rattle.std.proofs.lemmas.List.{length-map}
 use Rattle.std.proofs.lemmas.Option.{slice_get-get_or}
-use Rattle.csp_syntax.specs.Value as pure
-use Rattle.csp_syntax.proofs.Places.{get_some}
-use Rattle.csp_semantics.specs.Kinds.Scripts.{IsTermOf}
-use Rattle.csp_semantics.proofs.Rising.{Contains-from_stands}
-use Rattle.csp_runs.specs.Gathering.{Gathers}
-use Rattle.csp_runs.specs.Initials.{IsInitialBy}
-use Rattle.csp_runs.proofs.Gathering.{IsOfFirst, gather_none, gather_more, gather_all, gathers_same}
-use Rattle.csp_runs.proofs.Initials.{CanDoVisibly, initial_state, initials_told}
+use Rattle.theory_syntax.specs.Value as pure
+use Rattle.theory_syntax.proofs.Places.{get_some}
+use Rattle.theory_semantics.specs.Kinds.Scripts.{IsTermOf}
+use Rattle.theory_semantics.proofs.Rising.{Contains-from_stands}
+use Rattle.theory_runs.specs.Gathering.{Gathers}
+use Rattle.theory_runs.specs.Initials.{IsInitialBy}
+use Rattle.theory_runs.proofs.Gathering.{IsOfFirst, gather_none, gather_more, gather_all, gathers_same}
+use Rattle.theory_runs.proofs.Initials.{CanDoVisibly, initial_state, initials_told}
 use Rattle.csp_value.specs.Action.{action_of}
 use Rattle.csp_term.specs.Script.{script_of}
 use Rattle.csp_term.specs.Term.{process_of}

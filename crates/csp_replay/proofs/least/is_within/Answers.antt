@@ -2,10 +2,10 @@
 use Rattle.std.proofs.Common.{map, Contains, Some, refl, sym, ◌∙◌, ap, arith}
 use Rattle.std.proofs.lemmas.List.{length-map}
 use Rattle.std.proofs.lemmas.Option.{slice_get-get_or}
-use Rattle.csp_syntax.proofs.Places.{get_some}
-use Rattle.csp_semantics.proofs.Rising.{Contains-from_stands}
-use Rattle.csp_runs.proofs.Acceptances.{members_within, within_by_members}
-use Rattle.csp_runs.proofs.Scanning.{each_zero, each_more, each_at_all}
+use Rattle.theory_syntax.proofs.Places.{get_some}
+use Rattle.theory_semantics.proofs.Rising.{Contains-from_stands}
+use Rattle.theory_runs.proofs.Acceptances.{members_within, within_by_members}
+use Rattle.theory_runs.proofs.Scanning.{each_zero, each_more, each_at_all}
 use Rattle.csp_value.specs.Action.{action_of}
 use Rattle.csp_value.proofs.ActionEquality.{action_tells}
 use Rattle.csp_replay.proofs.Within.{told_there, told_missing}

@@ -1,6 +1,6 @@
 -- Each of the first actions is one of the others.
 use Rattle.std.proofs.Common.{map, Contains}
-use Rattle.csp_runs.proofs.Scanning.{EachBefore}
+use Rattle.theory_runs.proofs.Scanning.{EachBefore}
 use Rattle.csp_value.specs.Action.{action_of}
 use Rattle.csp_replay.proofs.least.is_within.Given as goal
 

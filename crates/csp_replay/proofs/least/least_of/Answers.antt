@@ -2,12 +2,12 @@
 use Rattle.std.proofs.Common.{◌≡◌, ◌↔◌, ◌++◌, ◌∷◌, [], List, map, Contains, Some, IsTrue, sym, ◌∙◌, ap, subst, arith}
 use Rattle.std.proofs.lemmas.List.{length-map, map-append}
 use Rattle.std.proofs.lemmas.Option.{slice_get-get_or}
-use Rattle.csp_syntax.specs.Value as pure
-use Rattle.csp_syntax.proofs.Places.{get_some}
-use Rattle.csp_runs.specs.Acceptances.{IsLeastAmong, LiesAlone}
-use Rattle.csp_runs.specs.Gathering.{Gathers}
-use Rattle.csp_runs.proofs.Acceptances.{IsThisAlone, least_among, this_alone, this_not}
-use Rattle.csp_runs.proofs.Gathering.{IsOfFirst, gather_none, gather_more, gather_skip, gather_all, gathers_one, gathers_same}
+use Rattle.theory_syntax.specs.Value as pure
+use Rattle.theory_syntax.proofs.Places.{get_some}
+use Rattle.theory_runs.specs.Acceptances.{IsLeastAmong, LiesAlone}
+use Rattle.theory_runs.specs.Gathering.{Gathers}
+use Rattle.theory_runs.proofs.Acceptances.{IsThisAlone, least_among, this_alone, this_not}
+use Rattle.theory_runs.proofs.Gathering.{IsOfFirst, gather_none, gather_more, gather_skip, gather_all, gathers_one, gathers_same}
 use Rattle.csp_value.specs.Action.{action_of}
 use Rattle.csp_value.specs.Copies.{AreCopies}
 use Rattle.csp_value.proofs.Copying.{copies_same}

@@ -1,8 +1,8 @@
 -- Those of the first lists in which no other one lies.
 use Rattle.std.proofs.Common.{[]}
-use Rattle.csp_runs.specs.Gathering.{Gathers}
-use Rattle.csp_runs.proofs.Gathering.{IsOfFirst}
-use Rattle.csp_runs.proofs.Acceptances.{IsThisAlone}
+use Rattle.theory_runs.specs.Gathering.{Gathers}
+use Rattle.theory_runs.proofs.Gathering.{IsOfFirst}
+use Rattle.theory_runs.proofs.Acceptances.{IsThisAlone}
 use Rattle.csp_replay.specs.Offers.{offers_listed}
 use Rattle.csp_replay.proofs.least.least_of.Given as goal
 

@@ -2,11 +2,11 @@
 use Rattle.std.proofs.Common.{◌≡◌, ◌↔◌, List, map, Some, IsTrue, refl, sym, ◌∙◌, ap, subst, arith}
 use Rattle.std.proofs.lemmas.List.{length-map}
 use Rattle.std.proofs.lemmas.Option.{slice_get-get_or}
-use Rattle.csp_syntax.specs.Value as pure
-use Rattle.csp_syntax.proofs.Places.{get_some}
-use Rattle.csp_semantics.proofs.Rising.{Contains-from_stands}
-use Rattle.csp_answers.specs.Acceptances.{IsWithin}
-use Rattle.csp_runs.proofs.Scanning.{each_zero, each_more, each_at_all}
+use Rattle.theory_syntax.specs.Value as pure
+use Rattle.theory_syntax.proofs.Places.{get_some}
+use Rattle.theory_semantics.proofs.Rising.{Contains-from_stands}
+use Rattle.theory_search.specs.Acceptances.{IsWithin}
+use Rattle.theory_runs.proofs.Scanning.{each_zero, each_more, each_at_all}
 use Rattle.csp_value.specs.Action.{action_of}
 use Rattle.csp_value.specs.declared.action.Action.{Action}
 use Rattle.csp_value.proofs.ActionEquality.{action_tells}

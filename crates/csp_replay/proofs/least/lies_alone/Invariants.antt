@@ -1,7 +1,7 @@
 -- None of the first lists but the actions themselves lies within them.
 use Rattle.std.proofs.Common.{◌≡◌, map}
-use Rattle.csp_answers.specs.Acceptances.{IsWithin}
-use Rattle.csp_runs.proofs.Scanning.{EachBefore}
+use Rattle.theory_search.specs.Acceptances.{IsWithin}
+use Rattle.theory_runs.proofs.Scanning.{EachBefore}
 use Rattle.csp_value.specs.Action.{action_of}
 use Rattle.csp_replay.specs.Offers.{offers_listed}
 use Rattle.csp_replay.proofs.least.lies_alone.Given as goal

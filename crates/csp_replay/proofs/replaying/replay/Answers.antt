@@ -1,10 +1,10 @@
 -- The layers of the path, a term of the last one, and the way back.
 use Rattle.std.proofs.Common.{ℕ, List, Option, Some, None, map, sym, subst, inl, inr, lit≤}
-use Rattle.csp_semantics.specs.Kinds.Scripts.{IsTermOf}
-use Rattle.csp_semantics.specs.Meaning.Runs.{Run}
-use Rattle.csp_runs.specs.Layers.{AreTermsOf}
-use Rattle.csp_runs.specs.States.{Visits}
-use Rattle.csp_runs.proofs.Layering.{all_there, layer_closed}
+use Rattle.theory_semantics.specs.Kinds.Scripts.{IsTermOf}
+use Rattle.theory_semantics.specs.Meaning.Runs.{Run}
+use Rattle.theory_runs.specs.Layers.{AreTermsOf}
+use Rattle.theory_runs.specs.States.{Visits}
+use Rattle.theory_runs.proofs.Layering.{all_there, layer_closed}
 use Rattle.csp_value.specs.Action.{action_of}
 use Rattle.csp_value.specs.declared.action.Action.{Action}
 use Rattle.csp_term.specs.Script.{script_of}

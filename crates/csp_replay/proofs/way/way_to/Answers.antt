@@ -3,10 +3,10 @@ use Rattle.std.proofs.Common.{◌≡◌, ◌++◌, ◌∷◌, ℕ, [], List, len
 use Rattle.std.proofs.lemmas.List.{map-append, length-append, length-reverse, nil_from_length}
 use Rattle.std.proofs.Math.Seq.{take-append_seam}
 use Rattle.std.proofs.lemmas.Option.{slice_get_within, slice_get-get_or}
-use Rattle.csp_syntax.specs.Process.{Process}
-use Rattle.csp_runs.specs.Layers as runs
-use Rattle.csp_runs.specs.States.{Visits}
-use Rattle.csp_runs.proofs.Returning.{way_start, way_parent, way_back, way_end, reversed}
+use Rattle.theory_syntax.specs.Process.{Process}
+use Rattle.theory_runs.specs.Layers as runs
+use Rattle.theory_runs.specs.States.{Visits}
+use Rattle.theory_runs.proofs.Returning.{way_start, way_parent, way_back, way_end, reversed}
 use Rattle.csp_term.specs.Term.{process_of}
 use Rattle.csp_replay.specs.Layer.{layer_of, terms_of}
 use Rattle.csp_replay.proofs.way.way_to.Goals as goal

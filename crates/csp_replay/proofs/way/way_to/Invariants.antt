@@ -1,8 +1,8 @@
 -- The terms so far are those behind the one at hand, the last one first.
 use Rattle.std.proofs.Common.{List, length, map}
-use Rattle.csp_syntax.specs.Value.{Action}
-use Rattle.csp_syntax.specs.Process.{Process, Script}
-use Rattle.csp_runs.specs.Layers.{IsOnWay}
+use Rattle.theory_syntax.specs.Value.{Action}
+use Rattle.theory_syntax.specs.Process.{Process, Script}
+use Rattle.theory_runs.specs.Layers.{IsOnWay}
 use Rattle.csp_term.specs.Term.{process_of}
 use Rattle.csp_replay.specs.Layer.{layer_of}
 use Rattle.csp_replay.specs.Ways.{EndsAt}

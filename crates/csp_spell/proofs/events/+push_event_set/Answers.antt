@@ -1,10 +1,10 @@
 -- The spelling of each form of set of events.
 use Rattle.std.proofs.Common.{[], ℕ, ◌∷◌, ◌++◌, sym, ap, ◌∙◌, subst, arith}
-use Rattle.csp_syntax.specs.Process as pure
-use Rattle.csp_semantics.specs.Meaning.Limits.{event_set_size}
-use Rattle.csp_spelling.specs.Spelling.{event_spelling, event_set_spelling, list_spelling}
-use Rattle.csp_spelling.specs.Packable.{IsPackableEventSet}
-use Rattle.csp_spelling.specs.Ranges.{IsInRangeEventSet}
+use Rattle.theory_syntax.specs.Process as pure
+use Rattle.theory_semantics.specs.Meaning.Limits.{event_set_size}
+use Rattle.theory_spelling.specs.Spelling.{event_spelling, event_set_spelling, list_spelling}
+use Rattle.theory_spelling.specs.Packable.{IsPackableEventSet}
+use Rattle.theory_spelling.specs.Ranges.{IsInRangeEventSet}
 use Rattle.csp_event_sets.specs.Events.{event_expressions_of, event_set_of}
 use Rattle.csp_event_sets.proofs.EventForms.{of_enumeration, of_productions, of_combined}
 use Rattle.csp_spell.proofs.Pushing.{behind_tag, behind_part, two_parts, also_ok}

@@ -1,4 +1,4 @@
-use Rattle.csp_semantics.specs.Meaning.Limits.{event_set_size}
+use Rattle.theory_semantics.specs.Meaning.Limits.{event_set_size}
 use Rattle.csp_event_sets.specs.Events.{event_set_of}
 use Rattle.csp_spell.proofs.events.+push_event_set.Given as goal
 

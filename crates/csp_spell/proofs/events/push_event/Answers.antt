@@ -1,8 +1,8 @@
 -- An event is spelled by its channel and its fields.
 use Rattle.std.proofs.Common.{rules, ◌++◌, sym, ap, ◌∙◌, subst}
-use Rattle.csp_spelling.specs.Spelling.{event_spelling, expression_spelling, list_spelling, number_spelling}
-use Rattle.csp_spelling.specs.Packable.{IsPackableExpression, IsPackableList}
-use Rattle.csp_spelling.specs.Ranges.{IsInRangeExpression}
+use Rattle.theory_spelling.specs.Spelling.{event_spelling, expression_spelling, list_spelling, number_spelling}
+use Rattle.theory_spelling.specs.Packable.{IsPackableExpression, IsPackableList}
+use Rattle.theory_spelling.specs.Ranges.{IsInRangeExpression}
 use Rattle.std.specs.List.{AllByRecursion}
 use Rattle.csp_expression.specs.Expression.{expressions_of}
 use Rattle.csp_event_sets.specs.Events.{event_expression_of}

@@ -1,8 +1,8 @@
 -- The spelling of one more of them.
-use Rattle.csp_spelling.specs.Spelling.{event_spelling}
-use Rattle.csp_spelling.specs.Packable.{IsPackableEvent}
+use Rattle.theory_spelling.specs.Spelling.{event_spelling}
+use Rattle.theory_spelling.specs.Packable.{IsPackableEvent}
 use Rattle.csp_event_sets.specs.Events.{event_expression_of}
-use Rattle.csp_spelling.specs.Ranges.{IsInRangeEvent}
+use Rattle.theory_spelling.specs.Ranges.{IsInRangeEvent}
 use Rattle.csp_spell.proofs.Pushing.{put_none, put_one, put_all, item_of, gone_one, gone_all}
 use Rattle.csp_spell.proofs.events.push_events.Goals as goal
 

@@ -1,6 +1,6 @@
 use Rattle.csp_event_sets.specs.Events.{event_expression_of}
-use Rattle.csp_spelling.specs.Spelling.{event_spelling}
-use Rattle.csp_spelling.specs.Ranges.{IsInRangeEvent}
+use Rattle.theory_spelling.specs.Spelling.{event_spelling}
+use Rattle.theory_spelling.specs.Ranges.{IsInRangeEvent}
 use Rattle.csp_spell.proofs.Pushing.{Put, Gone}
 use Rattle.csp_spell.proofs.events.push_events.Given as goal
 

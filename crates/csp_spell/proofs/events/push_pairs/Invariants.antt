@@ -1,6 +1,6 @@
 use Rattle.csp_event_sets.specs.Events.{renaming_pair_of}
-use Rattle.csp_spelling.specs.Spelling.{pair_spelling}
-use Rattle.csp_spelling.specs.Ranges.{IsInRangePair}
+use Rattle.theory_spelling.specs.Spelling.{pair_spelling}
+use Rattle.theory_spelling.specs.Ranges.{IsInRangePair}
 use Rattle.csp_spell.proofs.Pushing.{Put, Gone}
 use Rattle.csp_spell.proofs.events.push_pairs.Given as goal
 

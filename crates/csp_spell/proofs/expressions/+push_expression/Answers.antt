@@ -1,16 +1,16 @@
 -- The spelling of each form of expression, and of one more expression of a list.
 use Rattle.std.proofs.Common.{rules, subst, OnOk, ℕ, [], ◌≡◌, ◌∷◌, ◌++◌, sym, ap, ◌∙◌, arith}
-use Rattle.csp_syntax.specs.Expression.{Apply, Combine, ConstructorOf, Range, SequenceOf, SetOf, to_expressions}
-use Rattle.csp_semantics.specs.Meaning.Limits.{expression_size}
-use Rattle.csp_spelling.specs.Spelling.{expression_spelling, list_spelling, number_spelling, value_spelling}
-use Rattle.csp_spelling.specs.Packable.{IsPackableExpression}
+use Rattle.theory_syntax.specs.Expression.{Apply, Combine, ConstructorOf, Range, SequenceOf, SetOf, to_expressions}
+use Rattle.theory_semantics.specs.Meaning.Limits.{expression_size}
+use Rattle.theory_spelling.specs.Spelling.{expression_spelling, list_spelling, number_spelling, value_spelling}
+use Rattle.theory_spelling.specs.Packable.{IsPackableExpression}
 use Rattle.csp_value.specs.Value.{value_of}
-use Rattle.csp_syntax.specs.Operators.{binary_of, unary_of}
+use Rattle.theory_syntax.specs.Operators.{binary_of, unary_of}
 use Rattle.csp_expression.specs.Expression.{expression_of, expressions_of}
 use Rattle.csp_expression.proofs.ExpressionForms.{of_literal, of_name, of_apply, of_combine, of_sequence, of_set, of_range, of_datatype, of_nametype, of_constructor}
 use Rattle.csp_spell.proofs.Pushing.{behind_tag, behind_part, two_parts, put_none, put_one, put_all, item_of, gone_one, gone_all, where_ok, also_ok}
 use Rattle.csp_spell.proofs.PushingExpressions.{packable_fields, fields_smaller, spelled_constructor, ranged_constructor, packable_sequence, packable_set, spelled_sequence, spelled_set, sequence_smaller, set_smaller, item_no_greater, ranged_sequence, ranged_set}
-use Rattle.csp_spelling.specs.Ranges.{IsInRangeExpression}
+use Rattle.theory_spelling.specs.Ranges.{IsInRangeExpression}
 use Rattle.csp_spell.proofs.expressions.+push_expression.Goals as goal
 
 pub push_expression-push_expressions-requires : goal.push_expression-push_expressions-requires

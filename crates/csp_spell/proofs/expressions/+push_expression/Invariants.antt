@@ -1,9 +1,9 @@
 use Rattle.std.proofs.Common.{◌+◌, ◌*◌}
-use Rattle.csp_syntax.specs.Expression.{to_expressions}
-use Rattle.csp_semantics.specs.Meaning.Limits.{expression_size, expressions_size}
+use Rattle.theory_syntax.specs.Expression.{to_expressions}
+use Rattle.theory_semantics.specs.Meaning.Limits.{expression_size, expressions_size}
 use Rattle.csp_expression.specs.Expression.{expression_of, expressions_of}
-use Rattle.csp_spelling.specs.Spelling.{expression_spelling}
-use Rattle.csp_spelling.specs.Ranges.{IsInRangeExpression}
+use Rattle.theory_spelling.specs.Spelling.{expression_spelling}
+use Rattle.theory_spelling.specs.Ranges.{IsInRangeExpression}
 use Rattle.csp_spell.proofs.Pushing.{Put, Gone}
 use Rattle.csp_spell.proofs.expressions.+push_expression.Given as goal
 

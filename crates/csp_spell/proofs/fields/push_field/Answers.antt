@@ -1,7 +1,7 @@
 -- The spelling of each form of field.
 use Rattle.std.proofs.Common.{rules, OnOk, [], ◌≡◌, ◌∷◌, ◌++◌, sym, ap, subst}
-use Rattle.csp_spelling.specs.Spelling.{expression_spelling, field_spelling, number_spelling}
-use Rattle.csp_spelling.specs.Ranges.{IsInRangeField}
+use Rattle.theory_spelling.specs.Spelling.{expression_spelling, field_spelling, number_spelling}
+use Rattle.theory_spelling.specs.Ranges.{IsInRangeField}
 use Rattle.csp_expression.specs.Expression.{expression_of}
 use Rattle.csp_term.specs.Field.{field_of}
 use Rattle.csp_spell.proofs.Pushing.{behind_tag, behind_part, two_parts, where_ok, also_ok}

@@ -1,8 +1,8 @@
 -- The spelling of one more of them.
-use Rattle.csp_spelling.specs.Spelling.{field_spelling}
-use Rattle.csp_spelling.specs.Packable.{IsPackableField}
+use Rattle.theory_spelling.specs.Spelling.{field_spelling}
+use Rattle.theory_spelling.specs.Packable.{IsPackableField}
 use Rattle.csp_term.specs.Field.{field_of}
-use Rattle.csp_spelling.specs.Ranges.{IsInRangeField}
+use Rattle.theory_spelling.specs.Ranges.{IsInRangeField}
 use Rattle.csp_spell.proofs.Pushing.{put_none, put_one, put_all, item_of, gone_one, gone_all}
 use Rattle.csp_spell.proofs.fields.push_fields.Goals as goal
 

@@ -1,6 +1,6 @@
 use Rattle.csp_term.specs.Field.{field_of}
-use Rattle.csp_spelling.specs.Spelling.{field_spelling}
-use Rattle.csp_spelling.specs.Ranges.{IsInRangeField}
+use Rattle.theory_spelling.specs.Spelling.{field_spelling}
+use Rattle.theory_spelling.specs.Ranges.{IsInRangeField}
 use Rattle.csp_spell.proofs.Pushing.{Put, Gone}
 use Rattle.csp_spell.proofs.fields.push_fields.Given as goal
 

@@ -3,7 +3,7 @@ use Rattle.std.proofs.lemmas.Result.{err_from_is_err_and}
 use Rattle.std.proofs.lemmas.List.{map_push}
 use Rattle.csp_expression.specs.Expression.{expression_of, expressions_of}
 use Rattle.csp_expression.proofs.ExpressionForms.{of_constructor, of_sequence, of_set}
-use Rattle.csp_spelling.specs.Reading.{items_at, expression_at, value_at}
+use Rattle.theory_spelling.specs.Reading.{items_at, expression_at, value_at}
 use Rattle.csp_spell.proofs.ReadingExpressions.{constructor_behind, sequence_behind, set_behind}
 use Rattle.csp_spell.proofs.Repeating.{goes_on, ends, is_done}
 use Rattle.csp_spell.proofs.read_expressions.+read_expression.Goals as goal

@@ -1,6 +1,6 @@
 use Rattle.std.proofs.Common.{◌≡◌, ◌+◌, ◌*◌, ◌-◌}
 use Rattle.csp_expression.specs.Expression.{expressions_of}
-use Rattle.csp_spelling.specs.Reading.{items_at, expression_at}
+use Rattle.theory_spelling.specs.Reading.{items_at, expression_at}
 use Rattle.csp_spell.proofs.Repeating.{with_front}
 use Rattle.csp_spell.proofs.read_expressions.+read_expression.Given as goal
 

@@ -2,7 +2,7 @@ use Rattle.std.proofs.Common.{◌≡◌, ◌++◌, ◌∷◌, []}
 use Rattle.std.proofs.lemmas.Result.{err_from_is_err_and}
 use Rattle.std.proofs.lemmas.List.{map_push}
 use Rattle.csp_term.specs.Field.{field_of, fields_of}
-use Rattle.csp_spelling.specs.Reading.{items_at, field_at}
+use Rattle.theory_spelling.specs.Reading.{items_at, field_at}
 use Rattle.csp_spell.proofs.Repeating.{goes_on, ends, is_done}
 use Rattle.csp_spell.proofs.read_fields.read_each_field.Goals as goal
 

@@ -1,6 +1,6 @@
 use Rattle.std.proofs.Common.{◌≡◌, ◌-◌}
 use Rattle.csp_term.specs.Field.{fields_of}
-use Rattle.csp_spelling.specs.Reading.{items_at, field_at}
+use Rattle.theory_spelling.specs.Reading.{items_at, field_at}
 use Rattle.csp_spell.proofs.Repeating.{with_front}
 use Rattle.csp_spell.proofs.read_fields.read_each_field.Given as goal
 

@@ -1,5 +1,5 @@
 use Rattle.std.proofs.Common.{◌∙◌}
-use Rattle.csp_spelling.specs.Reading.{process_at}
+use Rattle.theory_spelling.specs.Reading.{process_at}
 use Rattle.csp_term.specs.Field.{fields_of}
 use Rattle.csp_term.specs.Term.{process_of}
 use Rattle.csp_term.proofs.Forms.{of_prefix}

@@ -3,8 +3,8 @@ use Rattle.std.proofs.lemmas.Result.{err_from_is_err_and}
 use Rattle.std.proofs.lemmas.List.{map_push}
 use Rattle.csp_value.specs.Value.{members_of, value_of, values_of}
 use Rattle.std.specs.Prelude.{◌==◌}
-use Rattle.csp_semantics.specs.Meaning.Offers.{rises}
-use Rattle.csp_spelling.specs.Reading.{items_at, value_at}
+use Rattle.theory_semantics.specs.Meaning.Offers.{rises}
+use Rattle.theory_spelling.specs.Reading.{items_at, value_at}
 use Rattle.csp_value.proofs.Forms.{value_of_con, value_of_set}
 use Rattle.csp_spell.proofs.ReadingValues.{constructor_found, fails_as_fields, fails_as_number, no_constructor_found, fails_as_list, no_set_found, set_found}
 use Rattle.csp_spell.proofs.Repeating.{goes_on, ends, is_done}

@@ -1,6 +1,6 @@
 use Rattle.std.proofs.Common.{◌≡◌, ◌+◌, ◌*◌, ◌-◌}
 use Rattle.csp_value.specs.Value.{values_of}
-use Rattle.csp_spelling.specs.Reading.{items_at, value_at}
+use Rattle.theory_spelling.specs.Reading.{items_at, value_at}
 use Rattle.csp_spell.proofs.Repeating.{with_front}
 use Rattle.csp_spell.proofs.read_values.+read_value.Given as goal
 

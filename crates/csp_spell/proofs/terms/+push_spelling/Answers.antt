@@ -1,12 +1,12 @@
 -- The spelling of each form of term.
 use Rattle.std.proofs.Common.{rules, [], ◌≡◌, ◌∷◌, ◌++◌, OnOk, refl, sym, ap, ◌∙◌, subst, arith}
-use Rattle.csp_syntax.specs.Expression.{to_expressions}
-use Rattle.csp_syntax.specs.Process.{AlphabetisedParallel, Call, GeneralisedParallel, Guard, Hiding, If, Prefix, Renaming, SlidingChoice}
-use Rattle.csp_syntax.specs.Operators.{binary_process, replicated_process}
-use Rattle.csp_semantics.specs.Meaning.Limits.{size}
-use Rattle.csp_spelling.specs.Spelling.{spelling, number_spelling, list_spelling, field_spelling}
-use Rattle.csp_spelling.specs.Packable.{IsPackable}
-use Rattle.csp_spelling.specs.Ranges.{IsInRange}
+use Rattle.theory_syntax.specs.Expression.{to_expressions}
+use Rattle.theory_syntax.specs.Process.{AlphabetisedParallel, Call, GeneralisedParallel, Guard, Hiding, If, Prefix, Renaming, SlidingChoice}
+use Rattle.theory_syntax.specs.Operators.{binary_process, replicated_process}
+use Rattle.theory_semantics.specs.Meaning.Limits.{size}
+use Rattle.theory_spelling.specs.Spelling.{spelling, number_spelling, list_spelling, field_spelling}
+use Rattle.theory_spelling.specs.Packable.{IsPackable}
+use Rattle.theory_spelling.specs.Ranges.{IsInRange}
 use Rattle.csp_expression.specs.Expression.{expression_of, expressions_of}
 use Rattle.csp_event_sets.specs.Events.{event_set_of, renaming_pairs_of}
 use Rattle.csp_term.specs.Field.{fields_of}

@@ -1,7 +1,7 @@
 use Rattle.std.proofs.Common.{◌+◌, ◌*◌}
-use Rattle.csp_syntax.specs.Process.{AlphabetisedParallel, GeneralisedParallel, Guard, Hiding, If, Prefix, Renaming, SlidingChoice}
-use Rattle.csp_syntax.specs.Operators.{binary_process, replicated_process}
-use Rattle.csp_semantics.specs.Meaning.Limits.{size}
+use Rattle.theory_syntax.specs.Process.{AlphabetisedParallel, GeneralisedParallel, Guard, Hiding, If, Prefix, Renaming, SlidingChoice}
+use Rattle.theory_syntax.specs.Operators.{binary_process, replicated_process}
+use Rattle.theory_semantics.specs.Meaning.Limits.{size}
 use Rattle.csp_event_sets.specs.Events.{event_set_of, renaming_pairs_of}
 use Rattle.csp_expression.specs.Expression.{expression_of}
 use Rattle.csp_term.specs.Field.{fields_of}

@@ -1,9 +1,9 @@
 -- The spelling of a call.
 use Rattle.std.proofs.Common.{rules, List, [], ℕ, ◌∷◌, ◌++◌, ap}
-use Rattle.csp_syntax.specs.Expression.{to_expressions}
-use Rattle.csp_syntax.specs.Process.{Call}
-use Rattle.csp_spelling.specs.Spelling.{spelling, expression_spelling, number_spelling, list_spelling}
-use Rattle.csp_spelling.proofs.Taking.{arguments}
+use Rattle.theory_syntax.specs.Expression.{to_expressions}
+use Rattle.theory_syntax.specs.Process.{Call}
+use Rattle.theory_spelling.specs.Spelling.{spelling, expression_spelling, number_spelling, list_spelling}
+use Rattle.theory_spelling.proofs.Taking.{arguments}
 use Rattle.csp_expression.specs.Expression.{expressions_of}
 use Rattle.csp_spell.proofs.Pushing.{behind_part, two_parts, also_ok}
 use Rattle.csp_spell.proofs.PushingExpressions.{packable_arguments, ranged_each}

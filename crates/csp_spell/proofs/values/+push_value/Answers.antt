@@ -1,14 +1,14 @@
 -- The spelling of each form of value, and of one more value of a list.
 use Rattle.std.proofs.lemmas.Int.{to_z-of_z}
 use Rattle.std.proofs.Common.{rules, subst, w32, to_z, of_z, [], ◌∷◌, ◌≡◌, sym, ap, ◌∙◌, arith}
-use Rattle.csp_syntax.specs.Value.{Constructor, Sequence, to_values}
-use Rattle.csp_spelling.specs.Spelling.{value_spelling, list_spelling, whole_spelling, truth_spelling, number_spelling}
-use Rattle.csp_spelling.specs.Packable.{IsPackableValue}
+use Rattle.theory_syntax.specs.Value.{Constructor, Sequence, to_values}
+use Rattle.theory_spelling.specs.Spelling.{value_spelling, list_spelling, whole_spelling, truth_spelling, number_spelling}
+use Rattle.theory_spelling.specs.Packable.{IsPackableValue}
 use Rattle.csp_value.specs.Value.{value_of, values_of, members_of}
 use Rattle.csp_value.proofs.Forms.{value_of_int, value_of_bool, value_of_con, value_of_seq, value_of_set}
 use Rattle.csp_spell.proofs.Pushing.{behind_tag, behind_part, two_parts, put_none, put_one, put_all, item_of, gone_one, gone_all, where_ok, also_ok}
 use Rattle.csp_spell.proofs.PushingValues.{packable_fields, fields_smaller, spelled_constructor, ranged_fields, packable_items, packable_members, spelled_items, spelled_members, items_smaller, members_smaller, item_no_greater, ranged_items, ranged_members}
-use Rattle.csp_spelling.specs.Ranges.{IsInRangeValue}
+use Rattle.theory_spelling.specs.Ranges.{IsInRangeValue}
 use Rattle.csp_spell.proofs.values.+push_value.Goals as goal
 
 pub push_value-push_values-requires : goal.push_value-push_values-requires

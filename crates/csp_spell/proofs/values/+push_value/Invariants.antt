@@ -1,6 +1,6 @@
 use Rattle.std.proofs.Common.{◌+◌, ◌*◌}
-use Rattle.csp_spelling.specs.Spelling.{value_spelling}
-use Rattle.csp_spelling.specs.Ranges.{IsInRangeValue}
+use Rattle.theory_spelling.specs.Spelling.{value_spelling}
+use Rattle.theory_spelling.specs.Ranges.{IsInRangeValue}
 use Rattle.csp_value.specs.Value.{value_of}
 use Rattle.csp_value.proofs.Measures.{one_size, sizes}
 use Rattle.csp_spell.proofs.Pushing.{Put, Gone}

@@ -1,6 +1,6 @@
 -- Values are put into one more field, and what it hides is taken out.
 use Rattle.std.proofs.Common.{[], ◌∷◌, ◌++◌, ◌∙◌, ap, ap₂}
-use Rattle.csp_semantics.specs.Meaning.Substitution.{behind, put_fields}
+use Rattle.theory_semantics.specs.Meaning.Substitution.{behind, put_fields}
 use Rattle.csp_expression.specs.Bindings.{bindings_of}
 use Rattle.csp_term.specs.Field.{field_of, fields_of}
 use Rattle.csp_term.proofs.TermPutting.{all_behind, all_filled, filled, left_behind}

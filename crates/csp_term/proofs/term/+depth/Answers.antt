@@ -1,6 +1,6 @@
 -- How deep the parts of a term are.
 use Rattle.std.proofs.Common.{max}
-use Rattle.csp_semantics.specs.Meaning.Limits.{depth}
+use Rattle.theory_semantics.specs.Meaning.Limits.{depth}
 use Rattle.csp_value.proofs.Walking.{told_beyond, told_within}
 use Rattle.csp_term.specs.Own.{own_depth}
 use Rattle.csp_term.specs.Term.{process_of, process_of_form}

@@ -1,6 +1,6 @@
 use Rattle.std.proofs.Common.{◌≡◌, ◌-◌, ◌≤◌, map, drop}
 use Rattle.csp_value.specs.Value.{value_of, values_of}
-use Rattle.csp_semantics.specs.Meaning.Offers.{rises}
+use Rattle.theory_semantics.specs.Meaning.Offers.{rises}
 use Rattle.csp_value.proofs.rising.is_rising.Given as goal
 
 abbrev pub invariant-loop-place : goal.invariant-loop-place

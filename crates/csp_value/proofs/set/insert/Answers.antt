@@ -1,6 +1,6 @@
 -- The value's place is before the first member that is above it.
 use Rattle.std.proofs.Common.{◌<◌, length, subst, sym, ◌∙◌, ap, ap₂}
-use Rattle.csp_syntax.specs.Value.{insert_value}
+use Rattle.theory_syntax.specs.Value.{insert_value}
 use Rattle.csp_value.specs.Value.{value_of, values_of}
 use Rattle.csp_value.proofs.Inserting.{put_before, put_already, put_later}
 use Rattle.csp_value.proofs.ValueOrder.{ordered}

@@ -1,5 +1,5 @@
 use Rattle.std.proofs.Common.{◌≡◌, ◌++◌, take, drop}
-use Rattle.csp_syntax.specs.Value.{insert_value}
+use Rattle.theory_syntax.specs.Value.{insert_value}
 use Rattle.csp_value.specs.Value.{value_of, values_of}
 use Rattle.csp_value.proofs.set.insert.Given as goal
 

@@ -1,7 +1,7 @@
 -- Each value is put in, in turn.
 use Rattle.std.proofs.Common.{sym, ◌∙◌, ap}
 use Rattle.std.proofs.lemmas.List.{nil_from_length}
-use Rattle.csp_syntax.specs.Value.{insert_values, to_values}
+use Rattle.theory_syntax.specs.Value.{insert_values, to_values}
 use Rattle.csp_value.specs.Value.{values_of}
 use Rattle.csp_value.proofs.Forms.{members_of_made}
 use Rattle.csp_value.proofs.set.insert_each.Goals as goal

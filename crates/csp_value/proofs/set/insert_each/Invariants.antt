@@ -1,5 +1,5 @@
 use Rattle.std.proofs.Common.{◌≡◌}
-use Rattle.csp_syntax.specs.Value.{insert_values}
+use Rattle.theory_syntax.specs.Value.{insert_values}
 use Rattle.csp_value.specs.Value.{values_of}
 use Rattle.csp_value.proofs.set.insert_each.Given as goal
 

@@ -1,7 +1,7 @@
 -- The limits are those that are asked for.
 use denote.Param.Send.{sendable}
 use Rattle.std.proofs.Common.{subst, inl, inr, lit<}
-use Rattle.csp_answers.specs.Outcome.{Bounds}
+use Rattle.theory_search.specs.Outcome.{Bounds}
 use Rattle.csp_term.specs.Script.{assertion_of, script_of}
 use Rattle.explore.specs.Answering.{IsRightAsWritten}
 use Rattle.verdict.specs.Outcome.{outcome_of}

@@ -2,7 +2,7 @@
 use Rattle.std.proofs.Common.{◌++◌}
 use Rattle.std.specs.Prelude.{codes, decimal}
 use Rattle.std.specs.String.{string_bytes}
-use Rattle.csp_explanation.specs.Counting.{plural_text}
+use Rattle.theory_explanation.specs.Counting.{plural_text}
 use Rattle.csp_print.proofs.Writing.{alike, behind}
 use Rattle.explain_program.proofs.counting.push_amount.Goals as goal
 

@@ -3,7 +3,7 @@ use Rattle.std.proofs.Common.{◌++◌}
 use Rattle.std.specs.Prelude.{codes}
 use Rattle.std.specs.String.{string_bytes}
 use Rattle.csp_term.specs.Script.{property_of}
-use Rattle.csp_explanation.specs.Counting.{nodes_text, number_text}
+use Rattle.theory_explanation.specs.Counting.{nodes_text, number_text}
 use Rattle.csp_print.proofs.Writing.{behind}
 use Rattle.explain_program.proofs.counting.push_count.Goals as goal
 

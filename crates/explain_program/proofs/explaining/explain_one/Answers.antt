@@ -3,7 +3,7 @@ use denote.Param.Send.{sendable}
 use Rattle.std.proofs.Common.{◌≡◌, ◌<◌, ℕ, suc, ◌+◌, List, [], ◌∷◌, length, sym, ap, subst, ◌∙◌, arith, inl, inr, lit<}
 use Rattle.std.proofs.lemmas.List.{length-map}
 use Rattle.std.specs.String.{string_bytes}
-use Rattle.csp_syntax.specs.Process as pure
+use Rattle.theory_syntax.specs.Process as pure
 use Rattle.csp_term.specs.Script.{HasSidesOf, assertion_of, script_of}
 use Rattle.csp_print.specs.Names.{names_of}
 use Rattle.report.specs.Sending.{Breaks, Sends}

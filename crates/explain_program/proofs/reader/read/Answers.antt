@@ -1,5 +1,5 @@
 use Rattle.std.proofs.Common.{map}
-use Rattle.csp_text.specs.Reading.{IsRead, read}
+use Rattle.theory_text.specs.Reading.{IsRead, read}
 use Rattle.csp_lex.specs.Places.{place_of}
 use Rattle.csp_lex.specs.Tokens.{placed_token}
 use Rattle.csp_parse.specs.Declarations as raw

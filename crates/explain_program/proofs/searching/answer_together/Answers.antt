@@ -1,8 +1,8 @@
 -- What an ended search shows is right, and so is why none was begun.
 use denote.Param.Send.{sendable}
 use Rattle.std.proofs.Common.{◌≢◌, inl, inr, lit<}
-use Rattle.csp_answers.specs.Search.{Open}
-use Rattle.csp_answers.specs.Sound.{IsFor, ScriptSearch}
+use Rattle.theory_search.specs.Search.{Open}
+use Rattle.theory_search.specs.Sound.{IsFor, ScriptSearch}
 use Rattle.csp_term.specs.Script.{assertion_of, script_of}
 use Rattle.pair_store.specs.Bounds.{bounds_of}
 use Rattle.verdict.specs.Outcome.{outcome_of, why_of}

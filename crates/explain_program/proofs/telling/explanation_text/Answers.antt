@@ -1,8 +1,8 @@
 -- What is told stands with its size, or alone.
 use Rattle.std.proofs.Common.{subst, inl, inr, lit<}
 use Rattle.std.specs.String.{string_bytes}
-use Rattle.csp_explanation.specs.Styles.{Style}
-use Rattle.csp_explanation.specs.Telling.{IsTold}
+use Rattle.theory_explanation.specs.Styles.{Style}
+use Rattle.theory_explanation.specs.Telling.{IsTold}
 use Rattle.csp_term.specs.Script.{assertion_of, script_of}
 use Rattle.csp_print.specs.Names.{names_of}
 use Rattle.verdict.specs.Outcome.{outcome_of}

@@ -1,6 +1,6 @@
 use Rattle.std.proofs.Common.{ap}
-use Rattle.csp_explanation.specs.Cutting.{Width}
-use Rattle.csp_explanation.specs.Styles.{Style}
+use Rattle.theory_explanation.specs.Cutting.{Width}
+use Rattle.theory_explanation.specs.Styles.{Style}
 use Rattle.csp_print.specs.Names.{names_of}
 use Rattle.explain_program.proofs.telling.style.Goals as goal
 

@@ -2,8 +2,8 @@
 use Rattle.std.proofs.Common.{Option, Some, None, option_map, sym, subst, append-nil, inl, inr, lit<}
 use Rattle.std.specs.String.{string_bytes}
 use Rattle.csp_term.specs.Script.{assertion_of, script_of}
-use Rattle.csp_explanation.specs.Faults.{IsFound}
-use Rattle.stuck_runs.specs.Hindrance.{hindrance_of}
+use Rattle.theory_explanation.specs.Faults.{IsFound}
+use Rattle.csp_replay.specs.Hindrance.{hindrance_of}
 use Rattle.explanation.specs.Sides.{side_run_of}
 use Rattle.explanation.specs.declared.sides.SideRun.{SideRun}
 use Rattle.explanation.proofs.faults.push_found.Goals as goal

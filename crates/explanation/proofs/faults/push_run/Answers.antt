@@ -6,12 +6,12 @@ use Rattle.csp_value.specs.declared.action.Action.{Action}
 use Rattle.csp_term.specs.Term.{process_of}
 use Rattle.csp_term.specs.declared.term.Term.{Term}
 use Rattle.csp_moves.specs.declared.origin.Origin.{Origin}
-use Rattle.csp_explanation.specs.Faults.{stuck_line}
-use Rattle.csp_explanation.specs.Paths.{path_text}
+use Rattle.theory_explanation.specs.Faults.{stuck_line}
+use Rattle.theory_explanation.specs.Paths.{path_text}
 use Rattle.csp_print.proofs.Writing.{alike, behind}
 use Rattle.counterexample.specs.Counterexample.{origins_listed}
-use Rattle.counterexample_text.specs.Styles.{style_of}
-use Rattle.stuck_runs.specs.Hindrance.{hindrance_of}
+use Rattle.counterexample.specs.Styles.{style_of}
+use Rattle.csp_replay.specs.Hindrance.{hindrance_of}
 use Rattle.explanation.specs.Sides.{told_text}
 use Rattle.explanation.proofs.faults.push_run.Goals as goal
 

@@ -2,10 +2,10 @@
 use Rattle.std.proofs.Common.{◌≡◌, ◌++◌, OnOk, sym, subst}
 use Rattle.std.specs.Prelude.{codes}
 use Rattle.std.specs.String.{string_bytes}
-use Rattle.csp_explanation.specs.Faults.{fault_run_text, stuck_line}
+use Rattle.theory_explanation.specs.Faults.{fault_run_text, stuck_line}
 use Rattle.csp_print.proofs.Writing.{behind}
-use Rattle.counterexample_text.specs.Styles.{style_of}
-use Rattle.stuck_runs.specs.Hindrance.{hindrance_of}
+use Rattle.counterexample.specs.Styles.{style_of}
+use Rattle.csp_replay.specs.Hindrance.{hindrance_of}
 use Rattle.explanation.specs.Sides.{side_run_of, told_text}
 use Rattle.explanation.specs.declared.sides.SideRun.{SideRun}
 use Rattle.explanation.proofs.faults.push_side_run.Goals as goal

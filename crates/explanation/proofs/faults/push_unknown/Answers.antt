@@ -1,13 +1,13 @@
 -- The reason, and where it is a state that is stuck, what is found of it.
 use Rattle.std.proofs.Common.{◌≡◌, ◌++◌, ℕ, List, Option, Some, None, OnOk, option_map, sym, ◌∙◌, ap, subst}
 use Rattle.std.specs.String.{string_bytes}
-use Rattle.csp_stuck_runs.specs.Stuck.{Hindrance}
+use Rattle.theory_runs.specs.Stuck.{Hindrance}
 use Rattle.csp_term.specs.Script.{assertion_of, script_of}
-use Rattle.csp_explanation.specs.Faults.{hindrance}
-use Rattle.csp_explanation.specs.Reasons.{reason}
-use Rattle.csp_explanation.specs.Telling.{TellsFound}
-use Rattle.counterexample_text.specs.Styles.{style_of}
-use Rattle.stuck_runs.specs.Hindrance.{hindrance_of}
+use Rattle.theory_explanation.specs.Faults.{hindrance}
+use Rattle.theory_explanation.specs.Reasons.{reason}
+use Rattle.theory_explanation.specs.Telling.{TellsFound}
+use Rattle.counterexample.specs.Styles.{style_of}
+use Rattle.csp_replay.specs.Hindrance.{hindrance_of}
 use Rattle.verdict.specs.Outcome.{why_of}
 use Rattle.explanation.proofs.faults.push_unknown.Goals as goal
 

@@ -4,7 +4,7 @@ use Rattle.std.specs.Prelude.{codes, decimal}
 use Rattle.std.specs.String.{string_bytes}
 use Rattle.csp_term.specs.Script.{assertion_of}
 use Rattle.verdict.specs.Outcome.{outcome_of}
-use Rattle.csp_explanation.specs.Headline.{assertion_text, outcome_word}
+use Rattle.theory_explanation.specs.Headline.{assertion_text, outcome_word}
 use Rattle.csp_print.specs.Names.{names_of}
 use Rattle.csp_print.proofs.Writing.{behind}
 use Rattle.explanation.proofs.headline.push_headline.Goals as goal

@@ -1,15 +1,15 @@
 -- A run of the implementation, or what is found of the specification.
 use Rattle.std.proofs.Common.{ℕ, Option, Some, None, Result, Ok, Err, option_map, refl, sym, subst}
 use Rattle.std.specs.Prelude.{IfOk, IfSome, IsNone}
-use Rattle.csp_syntax.specs.Process.{Assertion, Script, specification_of}
-use Rattle.csp_stuck_runs.specs.Runs.{HasNoneWithin}
-use Rattle.csp_stuck_runs.specs.Stuck.{Hindrance}
+use Rattle.theory_syntax.specs.Process.{Assertion, Script, specification_of}
+use Rattle.theory_runs.specs.Runs.{HasNoneWithin}
+use Rattle.theory_runs.specs.Stuck.{Hindrance}
 use Rattle.csp_term.specs.Script.{assertion_of, script_of}
 use Rattle.csp_term.specs.Term.{process_of}
-use Rattle.csp_explanation.specs.Faults as pure
-use Rattle.stuck_runs.specs.Hindrance.{hindrance_of}
-use Rattle.stuck_runs.specs.Running.{IsRunTo}
-use Rattle.stuck_runs.specs.declared.way.StuckRun.{StuckRun}
+use Rattle.theory_explanation.specs.Faults as pure
+use Rattle.csp_replay.specs.Hindrance.{hindrance_of}
+use Rattle.csp_replay.specs.Running.{IsRunTo}
+use Rattle.csp_replay.specs.declared.way_to_stuck.StuckRun.{StuckRun}
 use Rattle.explanation.specs.Sides.{IsSpecificationSide, side_run_of}
 use Rattle.explanation.specs.declared.sides.SideRun.{SideRun}
 use Rattle.explanation.proofs.ToldRuns.{one_state_more, told_of}

@@ -1,9 +1,9 @@
 -- A run of the specification is one of that side.
 use Rattle.std.proofs.Common.{Option, subst}
-use Rattle.csp_syntax.specs.Process.{specification_of}
+use Rattle.theory_syntax.specs.Process.{specification_of}
 use Rattle.csp_term.specs.Script.{property_of, script_of}
-use Rattle.stuck_runs.specs.Hindrance.{hindrance_of}
-use Rattle.stuck_runs.specs.declared.way.StuckRun.{StuckRun}
+use Rattle.csp_replay.specs.Hindrance.{hindrance_of}
+use Rattle.csp_replay.specs.declared.way_to_stuck.StuckRun.{StuckRun}
 use Rattle.explanation.specs.Sides.{IsSpecificationRun}
 use Rattle.explanation.proofs.ToldRuns.{one_state_more, told_of}
 use Rattle.explanation.proofs.sides.specification_side.Goals as goal

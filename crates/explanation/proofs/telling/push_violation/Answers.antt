@@ -2,14 +2,14 @@
 use Rattle.std.proofs.Common.{◌≡◌, ◌++◌, Option, Some, None, Result, Ok, Err, OnOk, subst, refl, inl, inr, lit<}
 use Rattle.std.specs.Prelude.{IfSome, IsNone, IsSome}
 use Rattle.std.specs.String.{string_bytes}
-use Rattle.csp_explanation.specs.Comparing.{counterexample_text}
-use Rattle.csp_explanation.specs.Counterexamples.{IsCounterexample}
-use Rattle.csp_explanation.specs.Telling.{TellsCounterexample}
+use Rattle.theory_explanation.specs.Comparing.{counterexample_text}
+use Rattle.theory_explanation.specs.Counterexamples.{IsCounterexample}
+use Rattle.theory_explanation.specs.Telling.{TellsCounterexample}
 use Rattle.csp_term.specs.Script.{assertion_of, script_of}
 use Rattle.verdict.specs.Outcome.{violation_of}
 use Rattle.counterexample.specs.Counterexample.{counterexample_of}
 use Rattle.counterexample.specs.declared.counterexamples.Counterexample.{Counterexample}
-use Rattle.counterexample_text.specs.Styles.{style_of}
+use Rattle.counterexample.specs.Styles.{style_of}
 use Rattle.explanation.proofs.telling.push_violation.Goals as goal
 
 on_ok_so : {T E : Type 0} (r : Result T E) (X Y : Type 0) → (X → Y) → OnOk r X → OnOk r Y

@@ -1,13 +1,13 @@
 -- What is told by the outcome.
 use Rattle.std.proofs.Common.{sym, subst, refl, inl, inr, lit<, OnOk}
 use Rattle.std.specs.String.{string_bytes}
-use Rattle.csp_runs.specs.States.{HasEnd}
+use Rattle.theory_runs.specs.States.{HasEnd}
 use Rattle.csp_term.specs.Script.{assertion_of, script_of}
 use Rattle.csp_term.specs.Term.{process_of}
 use Rattle.verdict.specs.declared.outcome.Outcome.{Outcome}
 use Rattle.verdict.specs.Outcome.{outcome_of, violation_of}
-use Rattle.csp_explanation.specs.Telling.{TellsWhy}
-use Rattle.counterexample_text.specs.Styles.{style_of}
+use Rattle.theory_explanation.specs.Telling.{TellsWhy}
+use Rattle.counterexample.specs.Styles.{style_of}
 use Rattle.explanation.specs.Running.{HasRun}
 use Rattle.explanation.proofs.telling.push_why.Goals as goal
 

@@ -3,8 +3,8 @@ use Rattle.std.proofs.Common.{ℕ, List, subst}
 use Rattle.std.specs.String.{string_bytes}
 use Rattle.csp_term.specs.Script.{assertion_of, script_of}
 use Rattle.verdict.specs.Outcome.{outcome_of}
-use Rattle.csp_explanation.specs.Telling.{TellsWhy}
-use Rattle.counterexample_text.specs.Styles.{style_of}
+use Rattle.theory_explanation.specs.Telling.{TellsWhy}
+use Rattle.counterexample.specs.Styles.{style_of}
 use Rattle.explanation.proofs.telling.tell.Goals as goal
 
 pub returns : goal.returns

@@ -5,7 +5,7 @@ use Rattle.csp_value.specs.declared.action.Action.{Action}
 use Rattle.csp_term.specs.Script.{script_of}
 use Rattle.csp_term.specs.Term.{process_of}
 use Rattle.csp_term.specs.declared.term.Term.{Term}
-use Rattle.csp_explanation.specs.Counterexamples.{AreOriginsAlong}
+use Rattle.theory_explanation.specs.Counterexamples.{AreOriginsAlong}
 use Rattle.counterexample.specs.Counterexample.{origins_listed}
 use Rattle.explanation.proofs.told_run.told_run.Goals as goal
 

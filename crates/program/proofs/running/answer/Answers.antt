@@ -1,8 +1,8 @@
 use denote.Param.Send.{sendable}
 use Rattle.std.proofs.Common.{◌≡◌, List, map, sym, ap, subst, ◌∙◌, arith, inl, inr, lit<, lit≤}
 use Rattle.std.proofs.lemmas.Result.{err_from_is_err_and}
-use Rattle.csp_answers.specs.Outcome.{Bounds}
-use Rattle.csp_checking.specs.Checked.{IsCheckedText}
+use Rattle.theory_search.specs.Outcome.{Bounds}
+use Rattle.theory_checking.specs.Checked.{IsCheckedText}
 use Rattle.csp_term.specs.Script.{script_of}
 use Rattle.verdict.specs.declared.outcome.Outcome.{Outcome}
 use Rattle.verdict.specs.Outcome.{outcome_of}

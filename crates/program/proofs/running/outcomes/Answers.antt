@@ -1,7 +1,7 @@
 use denote.Param.Send.{sendable}
 use Rattle.std.proofs.Common.{List, map, subst, inl, inr, lit<}
 use Rattle.std.proofs.lemmas.List.{take_all}
-use Rattle.csp_syntax.specs.Process as pure
+use Rattle.theory_syntax.specs.Process as pure
 use Rattle.csp_term.specs.declared.assertion.Assertion.{Assertion}
 use Rattle.csp_term.specs.Script.{HasSidesOf, assertion_of, script_of}
 use Rattle.pair_store.specs.Bounds.{bounds_of}

@@ -1,7 +1,7 @@
 -- Tau has no text.
 use Rattle.std.proofs.Common.{List, ℕ, ◌≡◌, ap, sym, subst, rules}
 use Rattle.std.specs.Prelude.{false}
-use Rattle.csp_answers.specs.Printing.{action_text}
+use Rattle.theory_search.specs.Printing.{action_text}
 use Rattle.csp_value.specs.declared.action.Action.{Action}
 use Rattle.csp_value.specs.Action.{action_of}
 use Rattle.csp_term.specs.Script.{script_of}

@@ -2,8 +2,8 @@
 use Rattle.std.proofs.Common.{List, ◌≡◌, ℕ, ◌++◌, map, ap, sym, subst, ◌∙◌}
 use Rattle.std.proofs.lemmas.Result.{on_ok_weaker, on_err_weaker}
 use Rattle.std.specs.Prelude.{codes}
-use Rattle.csp_semantics.specs.Meaning.Violations as pure
-use Rattle.csp_answers.specs.Printing.{action_text, actions_text, evidence_text}
+use Rattle.theory_semantics.specs.Meaning.Violations as pure
+use Rattle.theory_search.specs.Printing.{action_text, actions_text, evidence_text}
 use Rattle.csp_value.specs.declared.action.Action.{Action}
 use Rattle.csp_value.specs.Action.{action_of}
 use Rattle.csp_term.specs.Script.{script_of}

@@ -1,6 +1,6 @@
 -- The number, the outcome and the end of the line go out one after the other.
 use Rattle.std.specs.Prelude.{codes, ◌++◌}
-use Rattle.csp_answers.specs.Printing.{outcome_text}
+use Rattle.theory_search.specs.Printing.{outcome_text}
 use Rattle.csp_term.specs.Script.{script_of}
 use Rattle.verdict.specs.Outcome.{outcome_of}
 use Rattle.std.proofs.lemmas.Result.{on_ok_weaker, on_err_weaker}

@@ -1,5 +1,5 @@
 use Rattle.std.proofs.lemmas.Result.{on_ok_weaker, on_err_weaker}
-use Rattle.csp_answers.specs.Printing.{action_text}
+use Rattle.theory_search.specs.Printing.{action_text}
 use Rattle.csp_value.specs.Action.{action_of}
 use Rattle.csp_term.specs.Script.{script_of}
 use Rattle.report.proofs.Sending.{both, later, sooner, on_error}

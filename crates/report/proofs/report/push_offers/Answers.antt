@@ -1,6 +1,6 @@
 use Rattle.std.proofs.Common.{◌≡◌, ℕ, ◌+◌, List, ◌∷◌, ◌++◌, map, suc, drop, ap, ◌∙◌, sym, subst, add-one, drop-cons}
 use Rattle.std.proofs.lemmas.List.{drop_all, nil_from_length}
-use Rattle.csp_answers.specs.Printing.{actions_text, action_text}
+use Rattle.theory_search.specs.Printing.{actions_text, action_text}
 use Rattle.csp_value.specs.declared.action.Action.{Action}
 use Rattle.csp_value.specs.Action.{action_of}
 use Rattle.csp_term.specs.Script.{script_of}

@@ -3,8 +3,8 @@ use Rattle.std.proofs.Common.{List, ◌≡◌, ℕ, ◌++◌, map, ap, sym, subs
 use Rattle.std.proofs.lemmas.Result.{on_ok_weaker, on_err_weaker}
 use Rattle.std.specs.Prelude.{codes}
 use Rattle.std.specs.Prelude.{false}
-use Rattle.csp_answers.specs.Outcome as pure
-use Rattle.csp_answers.specs.Printing.{outcome_text, why_text}
+use Rattle.theory_search.specs.Outcome as pure
+use Rattle.theory_search.specs.Printing.{outcome_text, why_text}
 use Rattle.csp_term.specs.Script.{script_of}
 use Rattle.verdict.specs.Outcome.{outcome_of, violation_of, why_of}
 use Rattle.report.specs.Sending.{Sends, Breaks}

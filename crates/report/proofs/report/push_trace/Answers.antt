@@ -1,8 +1,8 @@
 use Rattle.std.proofs.Common.{List, ℕ, ◌≡◌, ◌++◌, ◌∷◌, map, ap, ◌∙◌, sym, subst, inl, inr, lit<, lit≤, rules}
 use Rattle.std.specs.Prelude.{false}
-use Rattle.csp_syntax.specs.Value.{Action}
-use Rattle.csp_semantics.specs.Meaning.Runs.{trace}
-use Rattle.csp_answers.specs.Printing.{actions_text, action_text}
+use Rattle.theory_syntax.specs.Value.{Action}
+use Rattle.theory_semantics.specs.Meaning.Runs.{trace}
+use Rattle.theory_search.specs.Printing.{actions_text, action_text}
 use Rattle.csp_value.specs.Action.{action_of}
 use Rattle.csp_term.specs.Script.{script_of}
 use Rattle.verdict.specs.declared.trace.Trace.{Trace}

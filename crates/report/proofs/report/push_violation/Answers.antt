@@ -1,7 +1,7 @@
 -- The words, the trace and what is shown go out one after the other.
 use Rattle.std.specs.Prelude.{codes, ◌++◌}
-use Rattle.csp_semantics.specs.Meaning.Runs.{trace}
-use Rattle.csp_answers.specs.Printing.{actions_text, evidence_text}
+use Rattle.theory_semantics.specs.Meaning.Runs.{trace}
+use Rattle.theory_search.specs.Printing.{actions_text, evidence_text}
 use Rattle.csp_term.specs.Script.{script_of}
 use Rattle.verdict.specs.Outcome.{violation_of}
 use Rattle.std.proofs.lemmas.Result.{on_ok_weaker, on_err_weaker}

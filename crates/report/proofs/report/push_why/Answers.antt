@@ -1,8 +1,8 @@
 use Rattle.std.proofs.Common.{List, ℕ, ap, sym, subst, ◌∙◌, ◌≡◌, ◌++◌}
 use Rattle.std.proofs.lemmas.Result.{on_err_weaker}
 use Rattle.std.specs.Prelude.{codes}
-use Rattle.csp_answers.specs.Printing.{why_text}
-use Rattle.csp_semantics.specs.Meaning.Causes.{cause_word}
+use Rattle.theory_search.specs.Printing.{why_text}
+use Rattle.theory_semantics.specs.Meaning.Causes.{cause_word}
 use Rattle.csp_expression.specs.Fault.{cause_of}
 use Rattle.verdict.specs.Outcome.{why_of}
 use Rattle.report.specs.Sending.{Breaks}

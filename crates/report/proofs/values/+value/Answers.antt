@@ -3,10 +3,10 @@ use Rattle.std.proofs.Common.{List, map, ◌++◌, drop, ap, ◌∙◌, sym, sub
 use Rattle.std.proofs.lemmas.List.{drop_all}
 use Rattle.std.proofs.lemmas.Result.{on_ok_weaker, on_err_weaker}
 use Rattle.std.specs.Prelude.{codes}
-use Rattle.csp_answers.specs.Printing.{fields_text, name_at, value_text, values_text}
-use Rattle.csp_syntax.specs.Value as pure
-use Rattle.csp_syntax.specs.Value.{to_values}
-use Rattle.csp_semantics.specs.Meaning.Limits.{value_size, values_size}
+use Rattle.theory_search.specs.Printing.{fields_text, name_at, value_text, values_text}
+use Rattle.theory_syntax.specs.Value as pure
+use Rattle.theory_syntax.specs.Value.{to_values}
+use Rattle.theory_semantics.specs.Meaning.Limits.{value_size, values_size}
 use Rattle.csp_value.specs.declared.value.Value.{Value}
 use Rattle.csp_value.specs.Value.{members_of, value_of, values_of}
 use Rattle.csp_value.proofs.Forms.{value_of_set}

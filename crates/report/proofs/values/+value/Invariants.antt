@@ -1,7 +1,7 @@
 use Rattle.std.proofs.Common.{map, drop, ◌+◌, ◌*◌}
-use Rattle.csp_syntax.specs.Value.{to_values}
-use Rattle.csp_semantics.specs.Meaning.Limits.{value_size, values_size}
-use Rattle.csp_answers.specs.Printing.{fields_text, value_text}
+use Rattle.theory_syntax.specs.Value.{to_values}
+use Rattle.theory_semantics.specs.Meaning.Limits.{value_size, values_size}
+use Rattle.theory_search.specs.Printing.{fields_text, value_text}
 use Rattle.csp_value.specs.Value.{value_of, values_of}
 use Rattle.csp_term.specs.Script.{script_of}
 use Rattle.report.proofs.Joining.{following}

@@ -1,6 +1,6 @@
 use Rattle.std.proofs.Common.{[], ◌<◌, length, map, subst, sym, arith}
-use Rattle.csp_semantics.specs.Kinds.Scripts.{IsTermOf}
-use Rattle.csp_semantics.specs.Meaning.Expansions.{Fired}
+use Rattle.theory_semantics.specs.Kinds.Scripts.{IsTermOf}
+use Rattle.theory_semantics.specs.Meaning.Expansions.{Fired}
 use Rattle.csp_fire.specs.Form.{form_of, step_of}
 use Rattle.csp_fire.specs.Targets.{LeadsToTermsOf}
 use Rattle.csp_term.specs.Script.{script_of}

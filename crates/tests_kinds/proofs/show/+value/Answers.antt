@@ -1,6 +1,6 @@
 -- What a value holds is smaller than it.
 use Rattle.std.proofs.Common.{◌+◌, ◌*◌, ◌<◌, ap, rules, arith}
-use Rattle.csp_semantics.specs.Meaning.Limits.{value_size}
+use Rattle.theory_semantics.specs.Meaning.Limits.{value_size}
 use Rattle.csp_value.proofs.Measures.{one_size, sizes}
 use Rattle.csp_inference.proofs.AskingValues.{member_size, of_constructor, of_sequence, of_set}
 use Rattle.tests_kinds.proofs.show.+value.Goals as goal

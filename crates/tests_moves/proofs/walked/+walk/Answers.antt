@@ -1,7 +1,7 @@
 -- Each step leads to a term of the script, whose walk is shorter.
 use Rattle.std.proofs.Common.{[], sym, subst, arith}
 use Rattle.std.specs.List.{AllByRecursion}
-use Rattle.csp_semantics.specs.Kinds.Scripts.{IsTermOf}
+use Rattle.theory_semantics.specs.Kinds.Scripts.{IsTermOf}
 use Rattle.csp_fire.specs.Form.{form_of}
 use Rattle.csp_fire.specs.Targets.{LeadsToTermsOf}
 use Rattle.csp_term.specs.Script.{script_of}

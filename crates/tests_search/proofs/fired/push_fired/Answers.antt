@@ -1,6 +1,6 @@
 use Rattle.std.proofs.Common.{arith, subst, sym}
-use Rattle.csp_syntax.specs.Process.{Process}
-use Rattle.csp_semantics.specs.Kinds.Scripts.{IsTermOf}
+use Rattle.theory_syntax.specs.Process.{Process}
+use Rattle.theory_semantics.specs.Kinds.Scripts.{IsTermOf}
 use Rattle.csp_term.specs.Script.{script_of}
 use Rattle.tests_search.proofs.Listed.{term_of_row}
 use Rattle.tests_search.proofs.fired.push_fired.Goals as goal

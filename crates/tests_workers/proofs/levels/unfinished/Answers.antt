@@ -1,6 +1,6 @@
 use Rattle.std.proofs.Common.{subst}
-use Rattle.csp_syntax.specs.Process.{Script}
-use Rattle.csp_answers.specs.Terms.{AreTermsOf}
+use Rattle.theory_syntax.specs.Process.{Script}
+use Rattle.theory_search.specs.Terms.{AreTermsOf}
 use Rattle.pair_store.specs.Level.{level_of}
 use Rattle.tests_workers.proofs.levels.unfinished.Goals as goal
 

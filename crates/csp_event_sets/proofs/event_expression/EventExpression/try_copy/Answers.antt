@@ -1,8 +1,8 @@
 -- Putting no value in copies.
 use Rattle.std.proofs.Common.{◌≡◌, IfOk, subst}
-use Rattle.csp_syntax.specs.Process as pure
+use Rattle.theory_syntax.specs.Process as pure
 use Rattle.csp_event_sets.specs.Events.{event_expression_of}
-use Rattle.csp_semantics.proofs.Putting.{put_nothing_in_event}
+use Rattle.theory_semantics.proofs.Putting.{put_nothing_in_event}
 use Rattle.csp_event_sets.proofs.event_expression.EventExpression.try_copy.Goals as goal
 
 pub returns : goal.returns

@@ -1,6 +1,6 @@
 -- How deep the events of a set are.
 use Rattle.std.proofs.Common.{◌+◌, sym, ◌∙◌, ap, arith}
-use Rattle.csp_semantics.specs.Meaning.Limits.{event_set_depth}
+use Rattle.theory_semantics.specs.Meaning.Limits.{event_set_depth}
 use Rattle.csp_event_sets.specs.Events.{event_set_of}
 use Rattle.csp_event_sets.proofs.EventForms.{of_enumeration, of_productions}
 use Rattle.csp_event_sets.proofs.EventMeasures.{event_depths}

@@ -1,6 +1,6 @@
 -- What the events with the values put in make up.
 use Rattle.std.proofs.Common.{◌∙◌, ap}
-use Rattle.csp_semantics.specs.Meaning.Substitution.{put_event_set}
+use Rattle.theory_semantics.specs.Meaning.Substitution.{put_event_set}
 use Rattle.csp_expression.specs.Bindings.{bindings_of}
 use Rattle.csp_event_sets.specs.Events.{event_set_of}
 use Rattle.csp_event_sets.proofs.EventPutting.{put_both, put_enumeration, put_productions}

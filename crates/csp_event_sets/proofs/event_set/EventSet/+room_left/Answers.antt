@@ -1,6 +1,6 @@
 -- What the events of a set leave of the room.
 use Rattle.std.proofs.Common.{◌+◌, sym, ◌∙◌, ap}
-use Rattle.csp_semantics.specs.Meaning.Limits.{event_set_size}
+use Rattle.theory_semantics.specs.Meaning.Limits.{event_set_size}
 use Rattle.csp_event_sets.specs.Events.{event_set_of}
 use Rattle.csp_event_sets.proofs.EventForms.{of_enumeration, of_productions}
 use Rattle.csp_event_sets.proofs.EventMeasures.{event_sizes}

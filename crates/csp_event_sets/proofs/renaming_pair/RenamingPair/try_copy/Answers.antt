@@ -1,6 +1,6 @@
 -- Putting no value in copies.
 use Rattle.std.proofs.Common.{◌≡◌, IfOk, subst}
-use Rattle.csp_syntax.specs.Process as pure
+use Rattle.theory_syntax.specs.Process as pure
 use Rattle.csp_event_sets.specs.Events.{renaming_pair_of}
 use Rattle.csp_event_sets.proofs.EventPutting.{put_nothing_in_pair}
 use Rattle.csp_event_sets.proofs.renaming_pair.RenamingPair.try_copy.Goals as goal

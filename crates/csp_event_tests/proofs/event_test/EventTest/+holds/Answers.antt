@@ -3,8 +3,8 @@ use Rattle.std.proofs.Common.{map, not, sym, ◌∙◌, ap, subst, inl, inr, lit
 use Rattle.std.specs.List.{list_any}
 use Rattle.std.specs.List.Sorted.{IsSortedBy}
 use Rattle.std.specs.Ordering.{is_lt}
-use Rattle.csp_syntax.specs.Value.{event_cmp, event_eq}
-use Rattle.csp_semantics.specs.Meaning.Events.{begins_with}
+use Rattle.theory_syntax.specs.Value.{event_cmp, event_eq}
+use Rattle.theory_semantics.specs.Meaning.Events.{begins_with}
 use Rattle.csp_value.specs.Action.{event_of}
 use Rattle.csp_event_tests.specs.Testing.{AreSorted, combined_test, listed_in, test_of}
 use Rattle.csp_event_tests.proofs.Testing.{and_false, and_true, beginnings_sorted, events_sorted, left_smaller, left_sorted, or_false, or_true, right_smaller, right_sorted, test_of_beginnings, test_of_events, test_told}

@@ -4,8 +4,8 @@ use Rattle.std.proofs.lemmas.List.{append-nil}
 use Rattle.std.proofs.lemmas.List.Sorted.{IsPartitionPoint-from_clause}
 use Rattle.std.specs.List.Sorted.{IsPartitionPoint}
 use Rattle.std.specs.Ordering.{is_lt}
-use Rattle.csp_syntax.specs.Value as pure
-use Rattle.csp_syntax.proofs.Orders.{event_total}
+use Rattle.theory_syntax.specs.Value as pure
+use Rattle.theory_syntax.proofs.Orders.{event_total}
 use Rattle.csp_value.specs.declared.action.Event.{Event}
 use Rattle.csp_value.specs.Action.{event_of}
 use Rattle.csp_event_tests.specs.Imaging.{EventsRise, event_image}

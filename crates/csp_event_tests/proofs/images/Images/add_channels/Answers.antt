@@ -1,7 +1,7 @@
 -- Both channels have the same field sets, or that is the cause.
 use Rattle.std.proofs.Common.{Result, Err, sym, ◌∙◌, ap, subst}
 use Rattle.std.proofs.lemmas.Result.{err_from_is_err_and}
-use Rattle.csp_semantics.specs.Meaning.Events.{channel_images, field_sets}
+use Rattle.theory_semantics.specs.Meaning.Events.{channel_images, field_sets}
 use Rattle.csp_term.specs.Script.{script_of_parts}
 use Rattle.csp_expression.specs.declared.no_value.NoValue.{NoValue}
 use Rattle.csp_value.specs.Fields.{sets_of}

@@ -1,7 +1,7 @@
 -- Both events are written whole, or that is the cause.
 use Rattle.std.proofs.Common.{inl, inr, lit<, Result, Err, sym, ◌∙◌, ap, subst}
 use Rattle.std.proofs.lemmas.Result.{err_from_is_err_and}
-use Rattle.csp_semantics.specs.Meaning.Events as events
+use Rattle.theory_semantics.specs.Meaning.Events as events
 use Rattle.csp_value.specs.Action.{event_of}
 use Rattle.csp_term.specs.Script.{script_of_parts}
 use Rattle.csp_event_sets.specs.Events.{event_expression_of}

@@ -1,6 +1,6 @@
 -- Two bare channels, or two events.
 use Rattle.std.proofs.Common.{Result, sym, ◌∙◌, subst}
-use Rattle.csp_semantics.specs.Meaning.Evaluation.{Cause}
+use Rattle.theory_semantics.specs.Meaning.Evaluation.{Cause}
 use Rattle.csp_term.specs.Script.{script_of_parts}
 use Rattle.csp_event_sets.specs.Events.{renaming_pair_of}
 use Rattle.csp_event_tests.specs.Imaging.{MakesMore}

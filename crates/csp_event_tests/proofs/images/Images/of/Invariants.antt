@@ -1,6 +1,6 @@
 -- What the pairs so far make of events.
 use Rattle.std.proofs.Common.{take}
-use Rattle.csp_semantics.specs.Meaning.Events.{renaming}
+use Rattle.theory_semantics.specs.Meaning.Events.{renaming}
 use Rattle.csp_event_sets.specs.Events.{renaming_pairs_of}
 use Rattle.csp_term.specs.Script.{script_of_parts}
 use Rattle.csp_event_tests.specs.Imaging.{AreMade}

@@ -1,6 +1,6 @@
 -- The kinds fit, so that no operand is of the wrong kind.
 use Rattle.std.proofs.Common.{◌≡◌, Err, ◌∙◌, ap, subst}
-use Rattle.csp_semantics.specs.Meaning.Evaluation.{IllKinded, value}
+use Rattle.theory_semantics.specs.Meaning.Evaluation.{IllKinded, value}
 use Rattle.csp_expression.specs.Cause.{cause_of}
 use Rattle.csp_expression.specs.declared.no_value.NoValue.{NoValue}
 use Rattle.csp_expression.specs.Evaluation.{Gives, table_of}

@@ -1,9 +1,9 @@
 -- A value of the expression is compared with the set, and no value stays none.
 use Rattle.std.proofs.Common.{Result, Err, sym, ◌∙◌, ap, subst}
 use Rattle.std.proofs.lemmas.Result.{err_from_is_err_and}
-use Rattle.csp_syntax.specs.Value as pure
-use Rattle.csp_semantics.specs.Meaning.Evaluation.{Cause, in_field_set, value}
-use Rattle.csp_semantics.specs.Meaning.Substitution.{put_expression}
+use Rattle.theory_syntax.specs.Value as pure
+use Rattle.theory_semantics.specs.Meaning.Evaluation.{Cause, in_field_set, value}
+use Rattle.theory_semantics.specs.Meaning.Substitution.{put_expression}
 use Rattle.csp_value.specs.Fields.{field_values}
 use Rattle.csp_expression.specs.declared.no_value.NoValue.{NoValue}
 use Rattle.csp_expression.specs.declared.seen.Seen.{Seen}

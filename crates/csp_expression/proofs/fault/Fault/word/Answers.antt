@@ -1,6 +1,6 @@
 -- The word of a cause.
 use Rattle.std.proofs.Common.{sym, ap}
-use Rattle.csp_semantics.specs.Meaning.Causes.{cause_word}
+use Rattle.theory_semantics.specs.Meaning.Causes.{cause_word}
 use Rattle.csp_expression.specs.Fault.{cause_of}
 use Rattle.csp_expression.proofs.fault.Fault.word.Goals as goal
 

@@ -1,6 +1,6 @@
 -- Each set is copied.
 use Rattle.std.proofs.Common.{◌≡◌, List, subst}
-use Rattle.csp_syntax.specs.Value.{values_list}
+use Rattle.theory_syntax.specs.Value.{values_list}
 use Rattle.csp_value.specs.declared.field_set.FieldSet.{FieldSet}
 use Rattle.csp_value.specs.Copies.{AreCopies}
 use Rattle.csp_value.specs.Value.{members_of}

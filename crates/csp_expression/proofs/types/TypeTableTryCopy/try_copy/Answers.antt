@@ -1,6 +1,6 @@
 -- The datatypes are the same, and each set and the fields of each constructor are copied.
 use Rattle.std.proofs.Common.{◌≡◌, List, map, ◌∙◌, ap, subst}
-use Rattle.csp_syntax.specs.Value.{values_list}
+use Rattle.theory_syntax.specs.Value.{values_list}
 use Rattle.csp_value.specs.declared.set.SetOf.{SetOf}
 use Rattle.csp_value.specs.Copies.{AreCopies}
 use Rattle.csp_value.specs.Fields.{sets_of}

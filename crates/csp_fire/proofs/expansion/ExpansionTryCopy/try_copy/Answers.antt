@@ -1,7 +1,7 @@
 -- The form is exactly what the rules say of the copied term too.
 use Rattle.std.proofs.Common.{◌≡◌, subst, sym}
-use Rattle.csp_semantics.specs.Kinds.Scripts.{IsTermOf}
-use Rattle.csp_semantics.specs.Meaning.Expansions.{Expansion, IsExpansion}
+use Rattle.theory_semantics.specs.Kinds.Scripts.{IsTermOf}
+use Rattle.theory_semantics.specs.Meaning.Expansions.{Expansion, IsExpansion}
 use Rattle.csp_term.specs.Term.{process_of}
 use Rattle.csp_fire.specs.Form.{form_of}
 use Rattle.csp_fire.proofs.expansion.ExpansionTryCopy.try_copy.Goals as goal

@@ -1,6 +1,6 @@
 -- Each step and each acceptance is copied. What is held has a known size.
 use Rattle.std.proofs.Common.{◌≡◌, List, map, sym, ◌∙◌, ap, ap₂, subst, inl, inr, lit<}
-use Rattle.csp_semantics.specs.Meaning.Expansions.{Fired}
+use Rattle.theory_semantics.specs.Meaning.Expansions.{Fired}
 use Rattle.csp_value.specs.Action.{action_of}
 use Rattle.csp_value.specs.Copies.{AreCopies}
 use Rattle.csp_value.proofs.Copying.{copies_same}

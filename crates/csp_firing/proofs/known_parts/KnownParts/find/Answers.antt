@@ -1,7 +1,7 @@
 use Rattle.std.proofs.Common.{Option, subst}
 use Rattle.std.specs.Prelude.{IfSome}
-use Rattle.csp_syntax.specs.Process.{Process}
-use Rattle.csp_row_firing.specs.declared.splitting.SplitRow.{SplitRow}
+use Rattle.theory_syntax.specs.Process.{Process}
+use Rattle.csp_rows.specs.declared.splitting.SplitRow.{SplitRow}
 use Rattle.csp_term.specs.Term.{process_of}
 use Rattle.csp_firing.specs.Known.{shape_in}
 use Rattle.csp_firing.specs.Rows.{IsRowAmong}

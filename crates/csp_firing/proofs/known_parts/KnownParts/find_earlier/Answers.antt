@@ -1,8 +1,8 @@
 use Rattle.std.proofs.Common.{◌<◌, List, Option, length, sym, subst}
 use Rattle.std.specs.Prelude.{IfSome}
 use Rattle.csp_packed.specs.Packed.{packed_process}
-use Rattle.csp_parts.specs.Known.{script_in}
-use Rattle.csp_row_firing.specs.declared.splitting.SplitRow.{SplitRow}
+use Rattle.csp_firing.specs.KnownSteps.{script_in}
+use Rattle.csp_rows.specs.declared.splitting.SplitRow.{SplitRow}
 use Rattle.csp_firing.specs.declared.kept_shapes.EarlierShape.{EarlierShape}
 use Rattle.csp_firing.specs.declared.last_shape.LastShape.{LastShape}
 use Rattle.csp_firing.specs.Known.{IsLastKept, shape_in}

@@ -1,14 +1,14 @@
 use Rattle.std.proofs.Common.{◌∙◌, ◌+◌, ℕ, List, Option, length, refl, sym, ap₂, subst}
 use Rattle.std.specs.Prelude.{IfSome}
 use Rattle.std.specs.List.{sum_by}
-use Rattle.csp_syntax.specs.Value.{Event}
-use Rattle.csp_changes.specs.declared.numbers.PartId.{PartId}
-use Rattle.csp_changes.specs.declared.part.Part.{Part}
-use Rattle.csp_changes.specs.Rows.{size_at}
-use Rattle.csp_changes.proofs.Answered.{by_call}
+use Rattle.theory_syntax.specs.Value.{Event}
+use Rattle.csp_rows.specs.declared.numbers.PartId.{PartId}
+use Rattle.csp_rows.specs.declared.part.Part.{Part}
+use Rattle.csp_rows.specs.Rows.{size_at}
+use Rattle.csp_rows.proofs.Answered.{by_call}
 use Rattle.csp_packed.specs.Packed.{packed_process}
-use Rattle.csp_packed_expansion.specs.declared.packed_form.PackedForm.{PackedForm}
-use Rattle.csp_parts.specs.Known.{script_in}
+use Rattle.csp_packed.specs.declared.packed_form.PackedForm.{PackedForm}
+use Rattle.csp_firing.specs.KnownSteps.{script_in}
 use Rattle.csp_firing.specs.declared.last_shape.LastShape.{LastShape}
 use Rattle.csp_firing.specs.Forms.{IsPackedAs, IsPackedFormOf, IsReadable}
 use Rattle.csp_firing.specs.Known.{shape_in}

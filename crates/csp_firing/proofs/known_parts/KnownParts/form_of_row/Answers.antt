@@ -1,8 +1,8 @@
 use Rattle.std.proofs.Common.{◌<◌, List, length, sym, subst}
 use Rattle.std.specs.List.{AllByRecursion}
-use Rattle.csp_changes.specs.declared.numbers.PartId.{PartId}
+use Rattle.csp_rows.specs.declared.numbers.PartId.{PartId}
 use Rattle.csp_packed.specs.Packed.{packed_process}
-use Rattle.csp_parts.specs.Known.{processes_of}
+use Rattle.csp_firing.specs.KnownSteps.{processes_of}
 use Rattle.csp_firing.specs.Known.{shape_in}
 use Rattle.csp_firing.proofs.Growing.{row_stays}
 use Rattle.csp_firing.proofs.Lending.{has_numbering}

@@ -1,5 +1,5 @@
 use Rattle.std.proofs.Common.{Option, Some, subst}
-use Rattle.csp_spelling.proofs.ShortLists.{within_is_short}
+use Rattle.theory_spelling.proofs.ShortLists.{within_is_short}
 use Rattle.csp_term.specs.Script.{script_of}
 use Rattle.csp_term.specs.Term.{process_of}
 use Rattle.csp_firing.specs.declared.last_shape.LastShape.{LastShape}

@@ -1,9 +1,9 @@
 use Rattle.std.proofs.Common.{List, Option, sym, subst, inl, inr, lit<}
 use Rattle.std.specs.List.{AllByRecursion}
-use Rattle.csp_syntax.specs.Value.{Event}
-use Rattle.csp_alphabet.specs.Alphabet.{alphabet}
+use Rattle.theory_syntax.specs.Value.{Event}
+use Rattle.theory_shapes.specs.Alphabet.{alphabet}
 use Rattle.csp_term.specs.Script.{script_of}
-use Rattle.alphabet.specs.Numbers.{AreWithin}
+use Rattle.csp_numbers.specs.Numbers.{AreWithin}
 use Rattle.csp_firing.specs.declared.kept_shapes.EarlierShape.{EarlierShape}
 use Rattle.csp_firing.specs.Known.{IsLastKept}
 use Rattle.csp_firing.proofs.known_parts.KnownParts.of_script.Goals as goal

@@ -1,11 +1,11 @@
 use Rattle.std.proofs.Common.{◌∙◌, List, Option, sym, ap, subst}
 use Rattle.std.specs.Prelude.{IfSome}
 use Rattle.std.specs.List.{AllByRecursion}
-use Rattle.csp_syntax.specs.Process.{Process, Script}
+use Rattle.theory_syntax.specs.Process.{Process, Script}
 use Rattle.csp_packed.specs.Packed.{packed_process}
-use Rattle.csp_parts.specs.Kept.{IsPartOf}
-use Rattle.csp_row_firing.specs.declared.splitting.SplitRow.{SplitRow}
-use Rattle.csp_shaping.specs.Lists.{processes_of as processes_lent}
+use Rattle.csp_firing.specs.Kept.{IsPartOf}
+use Rattle.csp_rows.specs.declared.splitting.SplitRow.{SplitRow}
+use Rattle.csp_numbers.specs.Lists.{processes_of as processes_lent}
 use Rattle.csp_term.specs.Script.{script_of}
 use Rattle.csp_term.specs.Term.{process_of}
 use Rattle.csp_firing.specs.Known.{shape_in}

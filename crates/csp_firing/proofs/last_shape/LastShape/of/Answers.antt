@@ -1,4 +1,4 @@
-use Rattle.csp_spelling.proofs.ShortLists.{within_is_short}
+use Rattle.theory_spelling.proofs.ShortLists.{within_is_short}
 use Rattle.csp_term.specs.Term.{process_of}
 use Rattle.csp_firing.proofs.last_shape.LastShape.of.Goals as goal
 

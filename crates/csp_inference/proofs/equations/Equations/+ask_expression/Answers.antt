@@ -1,13 +1,13 @@
 -- Each form asks what its parts ask, in order.
 use Rattle.std.proofs.Common.{◌≡◌, ◌≢◌, ◌+◌, ◌*◌, ◌<◌, length, map, refl, ◌∙◌, ap, arith, rules}
-use Rattle.csp_syntax.specs.Expression.{Booleans, ConstructorOf, Datatype, Literal, Name, Nametype, to_expressions}
-use Rattle.csp_semantics.specs.Meaning.Limits.{expression_size, expressions_size}
-use Rattle.csp_checking.specs.Inference.Expressions.{behind_expression, behind_expressions, of_all, of_expression}
+use Rattle.theory_syntax.specs.Expression.{Booleans, ConstructorOf, Datatype, Literal, Name, Nametype, to_expressions}
+use Rattle.theory_semantics.specs.Meaning.Limits.{expression_size, expressions_size}
+use Rattle.theory_checking.specs.Inference.Expressions.{behind_expression, behind_expressions, of_all, of_expression}
 use Rattle.csp_value.specs.Value.{value_of}
 use Rattle.csp_expression.specs.Evaluation.{table_of}
 use Rattle.csp_expression.specs.Expression.{expression_of, expressions_of}
 use Rattle.csp_expression.proofs.ExpressionForms as forms
-use Rattle.csp_syntax.specs.Operators.{binary_of, unary_of}
+use Rattle.theory_syntax.specs.Operators.{binary_of, unary_of}
 use Rattle.csp_inference.specs.Chain.{demand_of}
 use Rattle.csp_inference.specs.Equations.{exactly}
 use Rattle.csp_inference.specs.Numbering.{names_of, numbering_of}

@@ -1,6 +1,6 @@
 use Rattle.std.proofs.Common.{◌+◌, ◌*◌}
-use Rattle.csp_syntax.specs.Expression.{to_expressions}
-use Rattle.csp_semantics.specs.Meaning.Limits.{expression_size, expressions_size}
+use Rattle.theory_syntax.specs.Expression.{to_expressions}
+use Rattle.theory_semantics.specs.Meaning.Limits.{expression_size, expressions_size}
 use Rattle.csp_expression.specs.Evaluation.{table_of}
 use Rattle.csp_expression.specs.Expression.{expression_of, expressions_of}
 use Rattle.csp_inference.specs.Chain.{demand_of}

@@ -1,7 +1,7 @@
 -- Each form asks what its parts ask, in order.
 use Rattle.std.proofs.Common.{◌∷◌, sym, subst, ◌∙◌, ap}
-use Rattle.csp_syntax.specs.Expression.{to_expressions}
-use Rattle.csp_syntax.specs.Process.{Call, Prefix, Renaming}
+use Rattle.theory_syntax.specs.Expression.{to_expressions}
+use Rattle.theory_syntax.specs.Process.{Call, Prefix, Renaming}
 use Rattle.csp_expression.specs.Expression.{expression_of, expressions_of}
 use Rattle.csp_event_sets.specs.Events.{event_set_of, renaming_pairs_of}
 use Rattle.csp_term.specs.Field.{fields_of}

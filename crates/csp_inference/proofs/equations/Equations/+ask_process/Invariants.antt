@@ -1,4 +1,4 @@
-use Rattle.csp_semantics.specs.Meaning.Limits.{size}
+use Rattle.theory_semantics.specs.Meaning.Limits.{size}
 use Rattle.csp_term.specs.Term.{process_of}
 use Rattle.csp_inference.proofs.equations.Equations.+ask_process.Given as goal
 

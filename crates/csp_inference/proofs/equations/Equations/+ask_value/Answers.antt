@@ -1,7 +1,7 @@
 use Rattle.std.proofs.Common.{◌≡◌, ◌≢◌, ◌+◌, ◌*◌, ◌<◌, length, map, ◌∙◌, ap, refl, arith, rules}
-use Rattle.csp_syntax.specs.Value.{Integer, Truth, Constructor, to_values}
-use Rattle.csp_semantics.specs.Meaning.Limits.{value_size, values_size}
-use Rattle.csp_checking.specs.Inference.Expressions.{behind_value, behind_values, of_value, of_values_in_turn}
+use Rattle.theory_syntax.specs.Value.{Integer, Truth, Constructor, to_values}
+use Rattle.theory_semantics.specs.Meaning.Limits.{value_size, values_size}
+use Rattle.theory_checking.specs.Inference.Expressions.{behind_value, behind_values, of_value, of_values_in_turn}
 use Rattle.csp_value.specs.Value.{value_of, values_of}
 use Rattle.csp_value.proofs.Forms.{value_of_bool, value_of_int}
 use Rattle.csp_inference.specs.Chain.{demand_of}

@@ -1,6 +1,6 @@
 use Rattle.std.proofs.Common.{◌+◌, ◌*◌}
-use Rattle.csp_syntax.specs.Value.{to_values}
-use Rattle.csp_semantics.specs.Meaning.Limits.{value_size, values_size}
+use Rattle.theory_syntax.specs.Value.{to_values}
+use Rattle.theory_semantics.specs.Meaning.Limits.{value_size, values_size}
 use Rattle.csp_value.specs.Value.{value_of, values_of}
 use Rattle.csp_inference.specs.Chain.{demand_of}
 use Rattle.csp_inference.specs.Numbering.{numbering_of}

@@ -1,7 +1,7 @@
 use Rattle.std.proofs.Common.{map}
 use Rattle.std.specs.Prelude.{slice_get}
-use Rattle.csp_syntax.specs.Expression.{to_expressions}
-use Rattle.csp_checking.specs.Inference.Expressions.{behind_expressions, of_all}
+use Rattle.theory_syntax.specs.Expression.{to_expressions}
+use Rattle.theory_checking.specs.Inference.Expressions.{behind_expressions, of_all}
 use Rattle.csp_expression.specs.Expression.{expressions_of}
 use Rattle.csp_expression.specs.Evaluation.{table_of}
 use Rattle.csp_inference.specs.Numbering.{names_of, numbering_of}

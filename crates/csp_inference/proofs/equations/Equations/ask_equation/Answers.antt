@@ -1,7 +1,7 @@
 use Rattle.std.proofs.Common.{◌≡◌, ◌≢◌, ◌∙◌, length, map, ap, arith}
 use Rattle.std.proofs.lemmas.List.{length-map}
-use Rattle.csp_checking.specs.Inference.Items.{numbered}
-use Rattle.csp_checking.specs.Inference.Processes.{behind_process}
+use Rattle.theory_checking.specs.Inference.Items.{numbered}
+use Rattle.theory_checking.specs.Inference.Processes.{behind_process}
 use Rattle.csp_term.specs.Script.{equation_of, script_of_parts}
 use Rattle.csp_term.specs.Term.{process_of}
 use Rattle.csp_inference.specs.Numbering.{names_of, numbering_of}

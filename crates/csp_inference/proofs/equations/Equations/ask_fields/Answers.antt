@@ -1,7 +1,7 @@
 use Rattle.std.proofs.Common.{◌≡◌, ◌≢◌, ◌<◌, ◌≤◌, length, map, sym, inl, inr, arith}
 use Rattle.std.proofs.lemmas.List.{length-map}
-use Rattle.csp_checking.specs.Inference.Equations.{never}
-use Rattle.csp_checking.specs.Inference.Processes.{behind_fields, of_fields}
+use Rattle.theory_checking.specs.Inference.Equations.{never}
+use Rattle.theory_checking.specs.Inference.Processes.{behind_fields, of_fields}
 use Rattle.csp_expression.specs.Evaluation.{table_of}
 use Rattle.csp_term.specs.Field.{field_of, fields_of}
 use Rattle.csp_inference.specs.Equations.{equations_of}

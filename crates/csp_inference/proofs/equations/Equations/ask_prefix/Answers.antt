@@ -1,6 +1,6 @@
 use Rattle.std.proofs.Common.{map}
 use Rattle.std.specs.Prelude.{slice_get}
-use Rattle.csp_checking.specs.Inference.Processes.{behind_fields, of_fields}
+use Rattle.theory_checking.specs.Inference.Processes.{behind_fields, of_fields}
 use Rattle.csp_expression.specs.Evaluation.{table_of}
 use Rattle.csp_term.specs.Field.{fields_of}
 use Rattle.csp_inference.specs.Numbering.{names_of, numbering_of}

@@ -1,7 +1,7 @@
 -- The number that the operator leaves open, and the kind of its value.
 use Rattle.std.proofs.Common.{◌∙◌, ap}
-use Rattle.csp_checking.specs.Inference.Expressions.{behind_binary, binary_value}
-use Rattle.csp_syntax.specs.Operators.{binary_of}
+use Rattle.theory_checking.specs.Inference.Expressions.{behind_binary, binary_value}
+use Rattle.theory_syntax.specs.Operators.{binary_of}
 use Rattle.csp_inference.specs.Chain.{demand_of}
 use Rattle.csp_inference.proofs.Adding.{adds_one}
 use Rattle.csp_inference.proofs.equations.Equations.push_binary.Goals as goal

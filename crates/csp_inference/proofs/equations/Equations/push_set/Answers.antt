@@ -1,6 +1,6 @@
 -- A new kind, and the one that is made of it.
 use Rattle.std.proofs.Common.{suc, ap}
-use Rattle.csp_checking.specs.Inference.Chain.{OpenEnd, SetOver}
+use Rattle.theory_checking.specs.Inference.Chain.{OpenEnd, SetOver}
 use Rattle.csp_inference.specs.Chain.{demand_of}
 use Rattle.csp_inference.proofs.Adding.{adds_one}
 use Rattle.csp_inference.proofs.equations.Equations.push_set.Goals as goal

@@ -2,7 +2,7 @@ use Rattle.std.proofs.Common.{◌≡◌, ◌<◌, ◌∙◌, length, map, set, a
 use Rattle.std.specs.Prelude.{Option, option_map, Some}
 use Rattle.std.specs.Vec.{with_items}
 use Rattle.std.proofs.lemmas.List.{map-set, length-map, with_items_is}
-use Rattle.csp_checking.specs.Inference.Chain.{in_place_of, with_ends}
+use Rattle.theory_checking.specs.Inference.Chain.{in_place_of, with_ends}
 use Rattle.csp_inference.specs.declared.chain.Chain.{Chain}
 use Rattle.csp_inference.specs.Chain.{chain_of, end_of, over_all}
 use Rattle.csp_inference.specs.State.{chains_in, chains_of, state_in}

@@ -1,5 +1,5 @@
 use Rattle.std.proofs.Common.{◌≡◌, ◌≢◌, length, refl, rules, ap}
-use Rattle.csp_checking.specs.Inference.State.{bound_to}
+use Rattle.theory_checking.specs.Inference.State.{bound_to}
 use Rattle.csp_inference.specs.declared.chain.End.TheVariants as ending
 use Rattle.csp_inference.specs.Chain.{end_of, over_all}
 use Rattle.csp_inference.specs.State.{state_in}

@@ -1,8 +1,8 @@
 use Rattle.std.proofs.Common.{◌∙◌, ap}
 use Rattle.std.specs.Prelude.{option_map, None, ◌∷◌, []}
 use Rattle.std.proofs.lemmas.List.{map-append}
-use Rattle.csp_checking.specs.Inference.State.{state_of}
-use Rattle.csp_checking.proofs.Unifying.{longer_list}
+use Rattle.theory_checking.specs.Inference.State.{state_of}
+use Rattle.theory_checking.proofs.Unifying.{longer_list}
 use Rattle.csp_inference.specs.Chain.{chain_of}
 use Rattle.csp_inference.specs.State.{chains_in, chains_of}
 use Rattle.csp_inference.proofs.state.State.make_room.Goals as goal

@@ -1,5 +1,5 @@
 use Rattle.std.proofs.Common.{map, take}
-use Rattle.csp_checking.specs.Inference.State.{IsSolved}
+use Rattle.theory_checking.specs.Inference.State.{IsSolved}
 use Rattle.csp_inference.specs.Equations.{equation_of}
 use Rattle.csp_inference.specs.State.{state_in}
 use Rattle.csp_inference.proofs.state.State.solve.Given as goal

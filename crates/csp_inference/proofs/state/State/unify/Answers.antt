@@ -1,5 +1,5 @@
 use Rattle.std.proofs.Common.{◌∙◌, List, sym, subst, ap, ap₂}
-use Rattle.csp_checking.specs.Inference.State.{unify, unify_resolved}
+use Rattle.theory_checking.specs.Inference.State.{unify, unify_resolved}
 use Rattle.csp_inference.specs.declared.chain.Layer.{Layer}
 use Rattle.csp_inference.specs.Chain.{demand_of, end_of, over_all}
 use Rattle.csp_inference.specs.State.{AreUnlike, state_in}

@@ -1,5 +1,5 @@
 use Rattle.std.proofs.Common.{◌≡◌, ◌∙◌, refl, sym, ap₂, rules}
-use Rattle.csp_checking.specs.Inference.State.{unify_resolved}
+use Rattle.theory_checking.specs.Inference.State.{unify_resolved}
 use Rattle.csp_inference.specs.Chain.{end_of, over_all}
 use Rattle.csp_inference.specs.State.{state_in}
 use Rattle.csp_inference.proofs.Uniting.{both_empty, same_chains}

@@ -1,7 +1,7 @@
 use Rattle.std.proofs.Common.{◌++◌, sym, ap, ◌∙◌, arith}
 use Rattle.std.specs.Char.{encode_utf8}
 use Rattle.std.proofs.lemmas.Str.{chars_past_char, IsUtf8-had}
-use Rattle.csp_text.proofs.TextPlaces.{bytes_of_one}
+use Rattle.theory_text.proofs.TextPlaces.{bytes_of_one}
 use Rattle.csp_lex.proofs.cursors.Cursor.next.Goals as goal
 
 pub returns-clause-more : goal.returns-clause-more

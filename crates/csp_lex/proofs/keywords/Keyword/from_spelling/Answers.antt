@@ -1,7 +1,7 @@
 use Rattle.std.proofs.Common.{sym, ◌∙◌, arith}
 use Rattle.std.proofs.lemmas.Slice.Eq.{bytes_eq-Decides}
 use Rattle.std.specs.Str.{chars, bytes_eq}
-use Rattle.csp_text.specs.Token.{keyword_spelling}
+use Rattle.theory_text.specs.Token.{keyword_spelling}
 use Rattle.csp_lex.specs.declared.keywords.TheConstants.Keyword.{ALL}
 use Rattle.csp_lex.specs.declared.keywords.Keyword.TheVariants.{Datatype}
 use Rattle.csp_lex.specs.Tokens.{keyword_of}

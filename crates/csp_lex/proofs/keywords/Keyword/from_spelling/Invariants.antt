@@ -1,7 +1,7 @@
 use Rattle.std.proofs.Common.{◌≡◌, false, take}
 use Rattle.std.specs.List.{list_any}
 use Rattle.std.specs.Str.{chars, bytes_eq}
-use Rattle.csp_text.specs.Token.{keyword_spelling}
+use Rattle.theory_text.specs.Token.{keyword_spelling}
 use Rattle.csp_lex.specs.declared.keywords.TheConstants.Keyword.{ALL}
 use Rattle.csp_lex.specs.Tokens.{keyword_of}
 use Rattle.csp_lex.proofs.keywords.Keyword.from_spelling.Given as goal

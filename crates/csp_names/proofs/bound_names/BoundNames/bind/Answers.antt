@@ -1,6 +1,6 @@
 use Rattle.std.proofs.Common.{◌∷◌, [], ◌≡◌, ◌+◌, ℕ, List, Some, rules, subst, sym, ap, ◌∙◌}
 use Rattle.std.specs.Str.{chars}
-use Rattle.csp_checking.specs.Names.{number_in}
+use Rattle.theory_checking.specs.Names.{number_in}
 use Rattle.csp_names.specs.Scopes.{Binds, bound_spellings}
 use Rattle.csp_names.proofs.BoundRows.{binds_put, IsKnown, known_new, known_there, number_put}
 use Rattle.csp_names.proofs.bound_names.BoundNames.bind.Goals as goal

@@ -1,11 +1,11 @@
 -- A constructor alone is its value without fields.
 use Rattle.std.proofs.Common.{◌≡◌, ◌∙◌, Some, ap, rules, sym}
-use Rattle.csp_syntax.specs.Expression as pure
-use Rattle.csp_syntax.specs.Value as value
+use Rattle.theory_syntax.specs.Expression as pure
+use Rattle.theory_syntax.specs.Value as value
 use Rattle.csp_value.proofs.Forms.{value_of_con}
 use Rattle.csp_value.specs.Value.{values_of}
 use Rattle.csp_expression.proofs.ExpressionForms as forms
-use Rattle.csp_checking.specs.Resolving.{as_expression}
+use Rattle.theory_checking.specs.Resolving.{as_expression}
 use Rattle.csp_names.specs.Meanings.{meaning_of}
 use Rattle.csp_names.proofs.meanings.Meaning.expression.Goals as goal
 

@@ -1,7 +1,7 @@
 use Rattle.std.proofs.Common.{◌∷◌, [], ◌∙◌, ap, refl, subst, sym}
 use Rattle.std.specs.Str.{chars}
-use Rattle.csp_checking.specs.DeclaredRows.{row_spellings}
-use Rattle.csp_checking.specs.Names.{has_spelling}
+use Rattle.theory_checking.specs.DeclaredRows.{row_spellings}
+use Rattle.theory_checking.specs.Names.{has_spelling}
 use Rattle.csp_parse.specs.Names.{name_of}
 use Rattle.csp_names.specs.declared.refusals.Refused.{Refused}
 use Rattle.csp_names.specs.FirstPass.{Redeclares, rows_of}

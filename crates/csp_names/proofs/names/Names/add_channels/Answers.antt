@@ -1,6 +1,6 @@
 use Rattle.std.proofs.Common.{◌≡◌, [], ◌∙◌, arith, length, map, refl, replicate, ℕ, subst, sym}
-use Rattle.csp_checking.specs.DeclaredRows.{numbered_rows}
-use Rattle.csp_checking.specs.Names.{ChannelName}
+use Rattle.theory_checking.specs.DeclaredRows.{numbered_rows}
+use Rattle.theory_checking.specs.Names.{ChannelName}
 use Rattle.csp_parse.specs.Names.{name_of}
 use Rattle.csp_names.specs.FirstPass.{Adds, AddsNames}
 use Rattle.csp_names.proofs.NamesAdded.{all_added, nothing_added, one_more_channel, one_redeclares}

@@ -1,5 +1,5 @@
 use Rattle.std.proofs.Common.{[], length, replicate}
-use Rattle.csp_checking.specs.Names.{ChannelName}
+use Rattle.theory_checking.specs.Names.{ChannelName}
 use Rattle.csp_parse.specs.Names.{name_of}
 use Rattle.csp_names.proofs.NamesAdded.{AddsFirst}
 use Rattle.csp_names.proofs.names.Names.add_channels.Given as goal

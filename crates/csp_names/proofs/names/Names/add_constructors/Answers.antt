@@ -1,6 +1,6 @@
 use Rattle.std.proofs.Common.{[], ◌∙◌, length, map, refl}
-use Rattle.csp_checking.specs.DeclaredRows.{numbered_rows}
-use Rattle.csp_checking.specs.Names.{ConstructorName, clause_names}
+use Rattle.theory_checking.specs.DeclaredRows.{numbered_rows}
+use Rattle.theory_checking.specs.Names.{ConstructorName, clause_names}
 use Rattle.csp_parse.specs.Declarations.{clause_of}
 use Rattle.csp_names.specs.FirstPass.{AddsNames, clause_counts}
 use Rattle.csp_names.proofs.ConstructorsAdded.{all_constructors, constructor_redeclared, one_more_constructor}

@@ -2,9 +2,9 @@
 use Rattle.std.proofs.Common.{◌+◌, ◌*◌, ◌<◌, ◌∙◌, ap, arith, length, refl, rules, sym}
 use Rattle.csp_parse.specs.Expressions.{expression_of, expressions_of}
 use Rattle.csp_parse.specs.Names.{name_of}
-use Rattle.csp_syntax.specs.Expression as pure
-use Rattle.csp_syntax.specs.Operators.{binary_of, unary_of}
-use Rattle.csp_text.specs.Raw.{RawCombine, RawRange, RawSequence, RawSet, RawUse}
+use Rattle.theory_syntax.specs.Expression as pure
+use Rattle.theory_syntax.specs.Operators.{binary_of, unary_of}
+use Rattle.theory_text.specs.Raw.{RawCombine, RawRange, RawSequence, RawSet, RawUse}
 use Rattle.csp_expression.proofs.ExpressionForms as forms
 use Rattle.csp_names.specs.declared.refusals.Refused.TheVariants.{Memory as no_room}
 use Rattle.csp_names.specs.Walks.{ResolvesExpression, ResolvesExpressions}

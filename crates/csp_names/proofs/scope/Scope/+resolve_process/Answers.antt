@@ -1,13 +1,13 @@
 -- Each form is resolved by its parts, in order.
 use Rattle.std.proofs.Common.{map, ◌∙◌}
-use Rattle.csp_syntax.specs.Process as process
+use Rattle.theory_syntax.specs.Process as process
 use Rattle.csp_parse.specs.EventSets.{event_set_of}
 use Rattle.csp_parse.specs.Events.{pair_of}
 use Rattle.csp_parse.specs.Expressions.{expression_of, expressions_of}
 use Rattle.csp_parse.specs.Names.{name_of}
 use Rattle.csp_parse.specs.Processes.{field_of, infix_of, process_of, replicator_of}
-use Rattle.csp_text.specs.Raw.{RawAlphabetisedParallel, RawCall, RawGeneralisedParallel, RawGuard, RawHiding, RawIf, RawInfix, RawPrefix, RawRenaming, RawReplicated}
-use Rattle.csp_checking.specs.Resolving as resolving
+use Rattle.theory_text.specs.Raw.{RawAlphabetisedParallel, RawCall, RawGeneralisedParallel, RawGuard, RawHiding, RawIf, RawInfix, RawPrefix, RawRenaming, RawReplicated}
+use Rattle.theory_checking.specs.Resolving as resolving
 use Rattle.csp_event_sets.specs.Events as sets
 use Rattle.csp_expression.specs.Expression as terms
 use Rattle.csp_term.specs.Field as fields

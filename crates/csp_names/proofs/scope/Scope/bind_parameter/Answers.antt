@@ -1,8 +1,8 @@
 use Rattle.std.specs.Prelude.{is_some}
 use Rattle.std.proofs.Common.{◌≡◌, ◌∙◌, ◌∷◌, [], true, false, rules, sym}
-use Rattle.csp_checking.specs.Names.{Environment}
-use Rattle.csp_checking.specs.Sites.{Parameter}
-use Rattle.csp_checking.specs.Walks.{IsFine, IsStoppedAt}
+use Rattle.theory_checking.specs.Names.{Environment}
+use Rattle.theory_checking.specs.Sites.{Parameter}
+use Rattle.theory_checking.specs.Walks.{IsFine, IsStoppedAt}
 use Rattle.csp_parse.specs.Names.{name_of}
 use Rattle.csp_names.specs.declared.refusals.KindFault.TheVariants as fault
 use Rattle.csp_names.specs.Refusals.{fault_of}

@@ -1,6 +1,6 @@
 use Rattle.std.proofs.Common.{◌∷◌, []}
-use Rattle.csp_checking.specs.Sites.{Used}
-use Rattle.csp_checking.proofs.SingleSites.{unknown_stops}
+use Rattle.theory_checking.specs.Sites.{Used}
+use Rattle.theory_checking.proofs.SingleSites.{unknown_stops}
 use Rattle.csp_parse.specs.Names.{name_of}
 use Rattle.csp_names.specs.declared.refusals.KindFault.TheVariants as fault
 use Rattle.csp_names.specs.Meanings.{meaning_of}

@@ -1,5 +1,5 @@
 use Rattle.std.proofs.Common.{◌∷◌, []}
-use Rattle.csp_checking.specs.Sites.{BoundThere}
+use Rattle.theory_checking.specs.Sites.{BoundThere}
 use Rattle.csp_parse.specs.Names.{name_of}
 use Rattle.csp_names.specs.declared.refusals.KindFault.TheVariants as fault
 use Rattle.csp_names.proofs.ChannelNames.{stops_at}

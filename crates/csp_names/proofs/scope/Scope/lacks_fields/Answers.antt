@@ -1,7 +1,7 @@
 -- A constructor lacks fields where it has some; any other name lacks none.
 use Rattle.std.proofs.Common.{◌∙◌, ◌≡◌, Some, ap, not, sym}
-use Rattle.csp_checking.specs.Names.{ConstructorName, Declared, meaning}
-use Rattle.csp_checking.specs.Resolving as resolving
+use Rattle.theory_checking.specs.Names.{ConstructorName, Declared, meaning}
+use Rattle.theory_checking.specs.Resolving as resolving
 use Rattle.csp_names.specs.Meanings.{meaning_of}
 use Rattle.csp_names.proofs.ConstructorNames.{is_constructor, lacks_by_count, lacks_none}
 use Rattle.csp_names.proofs.NameMeanings.{constructor_has}

@@ -1,6 +1,6 @@
 use Rattle.csp_parse.specs.Expressions.{expressions_of}
 use Rattle.csp_parse.specs.Names.{name_of}
-use Rattle.csp_text.specs.Raw.{RawCall}
+use Rattle.theory_text.specs.Raw.{RawCall}
 use Rattle.csp_names.specs.Walks.{ResolvesProcess}
 use Rattle.csp_names.proofs.Calls.{arguments_stop, call_resolved, equation_stops}
 use Rattle.csp_names.proofs.Walking.{handed_on}

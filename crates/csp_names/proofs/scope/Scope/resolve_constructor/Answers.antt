@@ -1,8 +1,8 @@
 -- A constructor by its name, where as many fields are given as it has.
 use Rattle.std.proofs.Common.{◌∷◌, [], ◌∙◌, ◌≡◌, Some, ap, sym}
-use Rattle.csp_checking.specs.Names.{ConstructorName, Declared, meaning}
-use Rattle.csp_checking.specs.Sites.{AsConstructor, Used}
-use Rattle.csp_checking.proofs.SingleSites.{unknown_stops}
+use Rattle.theory_checking.specs.Names.{ConstructorName, Declared, meaning}
+use Rattle.theory_checking.specs.Sites.{AsConstructor, Used}
+use Rattle.theory_checking.proofs.SingleSites.{unknown_stops}
 use Rattle.csp_parse.specs.Names.{name_of}
 use Rattle.csp_names.specs.declared.refusals.KindFault.TheVariants as fault
 use Rattle.csp_names.specs.Meanings.{meaning_of}

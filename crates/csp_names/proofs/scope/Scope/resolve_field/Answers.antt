@@ -1,6 +1,6 @@
 -- Each form is resolved by its parts, in order.
 use Rattle.std.proofs.Common.{Err, Ok, ap}
-use Rattle.csp_text.specs.Raw.{RawGiven, RawInputFrom}
+use Rattle.theory_text.specs.Raw.{RawGiven, RawInputFrom}
 use Rattle.csp_parse.specs.Expressions.{expression_of}
 use Rattle.csp_parse.specs.Names.{name_of}
 use Rattle.csp_parse.specs.Processes.{field_of}

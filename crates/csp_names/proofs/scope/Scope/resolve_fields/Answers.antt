@@ -1,6 +1,6 @@
 use Rattle.std.proofs.Common.{List, map, refl, sym, subst, arith}
 use Rattle.std.proofs.lemmas.List.{length-map}
-use Rattle.csp_checking.specs.Sites.{in_fields}
+use Rattle.theory_checking.specs.Sites.{in_fields}
 use Rattle.csp_parse.specs.Processes.{field_of}
 use Rattle.csp_term.specs.declared.field.Field.{Field}
 use Rattle.csp_names.specs.declared.refusals.Refused.TheVariants as refused

@@ -1,6 +1,6 @@
 use Rattle.std.specs.Prelude.{◌&&◌}
 use Rattle.std.proofs.Common.{◌≡◌, false, ap, ap₂, sym}
-use Rattle.csp_checking.specs.Sites.{has_no_fields}
+use Rattle.theory_checking.specs.Sites.{has_no_fields}
 use Rattle.csp_parse.specs.Events.{event_of, pair_of}
 use Rattle.csp_parse.specs.Expressions.{expressions_of}
 use Rattle.csp_parse.specs.Names.{name_of}

@@ -1,6 +1,6 @@
 use Rattle.std.proofs.Common.{◌∷◌, [], ap, refl, sym}
-use Rattle.csp_checking.specs.Resolving.{as_channel}
-use Rattle.csp_checking.specs.Sites.{AsProductions, Used}
+use Rattle.theory_checking.specs.Resolving.{as_channel}
+use Rattle.theory_checking.specs.Sites.{AsProductions, Used}
 use Rattle.csp_parse.specs.Names.{name_of}
 use Rattle.csp_names.specs.declared.refusals.KindFault.TheVariants as fault
 use Rattle.csp_names.specs.Walks.{ResolvesChannel}

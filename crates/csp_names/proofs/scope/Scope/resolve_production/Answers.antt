@@ -1,6 +1,6 @@
 use Rattle.std.proofs.Common.{◌≡◌, ◌∙◌, Err, Ok}
-use Rattle.csp_checking.specs.Resolving.{number_of}
-use Rattle.csp_checking.specs.Sites.{AsProductions}
+use Rattle.theory_checking.specs.Resolving.{number_of}
+use Rattle.theory_checking.specs.Sites.{AsProductions}
 use Rattle.csp_parse.specs.Events.{event_of}
 use Rattle.csp_parse.specs.Expressions.{expressions_of}
 use Rattle.csp_parse.specs.Names.{name_of}

@@ -1,7 +1,7 @@
 -- What an assertion asks, form by form.
 use Rattle.std.proofs.Common.{ap, sym, ◌∙◌}
-use Rattle.csp_syntax.specs.Models.{model_of}
-use Rattle.csp_text.specs.Raw.{RawRefinementOf}
+use Rattle.theory_syntax.specs.Models.{model_of}
+use Rattle.theory_text.specs.Raw.{RawRefinementOf}
 use Rattle.csp_parse.specs.Declarations.{property_of}
 use Rattle.csp_parse.specs.Processes.{process_of}
 use Rattle.csp_names.specs.Walks.{ResolvesProperty}

@@ -1,7 +1,7 @@
 -- A name alone is looked up, then its number of fields, then its class.
 use Rattle.std.proofs.Common.{◌∷◌, []}
-use Rattle.csp_checking.specs.Sites.{AsExpression, Used}
-use Rattle.csp_checking.proofs.SingleSites.{unknown_stops}
+use Rattle.theory_checking.specs.Sites.{AsExpression, Used}
+use Rattle.theory_checking.proofs.SingleSites.{unknown_stops}
 use Rattle.csp_expression.specs.Expression.{expression_of}
 use Rattle.csp_parse.specs.Names.{name_of}
 use Rattle.csp_names.specs.declared.refusals.KindFault.TheVariants as fault

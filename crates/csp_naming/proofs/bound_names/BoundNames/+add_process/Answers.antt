@@ -1,5 +1,5 @@
 use Rattle.std.proofs.Common.{◌++◌, ap, map, sym}
-use Rattle.csp_checking.specs.Names.{bound_by_fields, bound_in}
+use Rattle.theory_checking.specs.Names.{bound_by_fields, bound_in}
 use Rattle.csp_parse.specs.Processes.{field_of, process_of}
 use Rattle.csp_names.proofs.WrittenProcesses.{of_prefix}
 use Rattle.csp_naming.proofs.Meeting.{as_written, in_turn}

@@ -1,6 +1,6 @@
 use Rattle.std.proofs.lemmas.List.{take_more}
-use Rattle.csp_checking.specs.Names.{with_spellings}
-use Rattle.csp_checking.proofs.Spellings.{with_more}
+use Rattle.theory_checking.specs.Names.{with_spellings}
+use Rattle.theory_checking.proofs.Spellings.{with_more}
 use Rattle.csp_naming.specs.Binding.{met}
 use Rattle.csp_naming.proofs.Meeting.{met_by_names, names_in_parts}
 use Rattle.csp_naming.proofs.Turns.{one_more}

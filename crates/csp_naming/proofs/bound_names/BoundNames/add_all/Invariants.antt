@@ -1,5 +1,5 @@
 use Rattle.std.proofs.Common.{◌≡◌, take}
-use Rattle.csp_checking.specs.Names.{with_spellings}
+use Rattle.theory_checking.specs.Names.{with_spellings}
 use Rattle.csp_naming.specs.Binding.{met}
 use Rattle.csp_naming.proofs.Meeting.{met_by_names}
 use Rattle.csp_naming.proofs.bound_names.BoundNames.add_all.Given as goal

@@ -1,5 +1,5 @@
-use Rattle.csp_checking.specs.Names.{with_spellings}
-use Rattle.csp_checking.proofs.Spellings.{with_more}
+use Rattle.theory_checking.specs.Names.{with_spellings}
+use Rattle.theory_checking.proofs.Spellings.{with_more}
 use Rattle.csp_naming.specs.Binding.{met}
 use Rattle.csp_naming.proofs.Meeting.{fields_in_parts, met_by_fields}
 use Rattle.csp_naming.proofs.Turns.{cut_at, one_more}

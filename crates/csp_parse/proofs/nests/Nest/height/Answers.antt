@@ -1,5 +1,5 @@
 use Rattle.std.proofs.Common.{◌≡◌, ◌∙◌, ◌∷◌, map, reverse, sym, ap, arith}
-use Rattle.csp_text.specs.Height.{ended_height, nest_height}
+use Rattle.theory_text.specs.Height.{ended_height, nest_height}
 use Rattle.csp_parse.specs.Nests.{group_of, nest_of}
 use Rattle.csp_parse.proofs.Rising.{no_lower, innermost_first}
 use Rattle.csp_parse.proofs.nests.Nest.height.Goals as goal

@@ -5,7 +5,7 @@ use Rattle.csp_lex.specs.Tokens.{keyword_of}
 use Rattle.csp_parse.specs.EventSets.{operator_of}
 use Rattle.csp_parse.proofs.Eventing.{combined_sets}
 use Rattle.csp_parse.proofs.Passing.{renamed, in_any_case}
-use Rattle.csp_text.specs.Token.{CloseRoundSign}
+use Rattle.theory_text.specs.Token.{CloseRoundSign}
 use Rattle.csp_parse.specs.Deciding.{memory}
 use Rattle.csp_parse.proofs.Leaves.{sign_done}
 use Rattle.csp_parse.proofs.Turning.{turn, finished, stopped, sign_behind, word_behind, sign_stops, word_stops, all_done, all_stop}

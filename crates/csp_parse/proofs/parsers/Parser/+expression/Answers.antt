@@ -1,10 +1,10 @@
 use Rattle.std.proofs.Common.{◌∙◌, [], ◌∷◌, ◌++◌, refl, sym, ap, subst, arith, IfOk}
 use Rattle.std.specs.Option.{option_map}
 use Rattle.std.proofs.lemmas.Result.{IfOk-weaker, IfErr-weaker}
-use Rattle.csp_syntax.specs.Operators.{unary_of, binary_of}
-use Rattle.csp_text.specs.Token.{CloseRoundSign, GreaterSign, CloseBraceSign}
-use Rattle.csp_text.specs.Raw.{RawSequence, RawSet}
-use Rattle.csp_text.specs.Grammar.{IsNegation, IsComparison, IsSum}
+use Rattle.theory_syntax.specs.Operators.{unary_of, binary_of}
+use Rattle.theory_text.specs.Token.{CloseRoundSign, GreaterSign, CloseBraceSign}
+use Rattle.theory_text.specs.Raw.{RawSequence, RawSet}
+use Rattle.theory_text.specs.Grammar.{IsNegation, IsComparison, IsSum}
 use Rattle.csp_lex.specs.declared.kinds.TokenKind.TheVariants as kind
 use Rattle.csp_lex.specs.declared.signs.Sign.TheVariants as signs
 use Rattle.csp_lex.specs.Tokens.{keyword_of}

@@ -4,8 +4,8 @@ use Rattle.csp_parse.proofs.Repeating.{Repeats}
 use Rattle.csp_parse.specs.Expressions.{expression_of, expressions_of}
 use Rattle.csp_parse.specs.Levels.{IsAt, AreListed, rank}
 use Rattle.csp_parse.specs.Reading.{left_of, standing_of, Reads, Extends}
-use Rattle.csp_text.specs.Grammar.{IsAtom, AreDotted}
-use Rattle.csp_text.specs.Token.{DotSign}
+use Rattle.theory_text.specs.Grammar.{IsAtom, AreDotted}
+use Rattle.theory_text.specs.Token.{DotSign}
 use Rattle.csp_parse.specs.Deciding.{only}
 use Rattle.csp_parse.specs.Forms.{HasTree, Next}
 use Rattle.csp_parse.proofs.parsers.Parser.+expression.Given as goal

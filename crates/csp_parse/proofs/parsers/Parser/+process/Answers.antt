@@ -1,8 +1,8 @@
 use Rattle.std.proofs.Common.{◌∙◌, [], refl, sym, ap, subst, arith, inl, inr, IfOk, IfErr}
 use Rattle.std.proofs.lemmas.Result.{IfOk-weaker, IfErr-weaker}
-use Rattle.csp_text.specs.Grammar.{IsAtom, IsExpression}
-use Rattle.csp_text.specs.Raw.{RawCall}
-use Rattle.csp_text.specs.Token.{GuardSign, CloseRoundSign}
+use Rattle.theory_text.specs.Grammar.{IsAtom, IsExpression}
+use Rattle.theory_text.specs.Raw.{RawCall}
+use Rattle.theory_text.specs.Token.{GuardSign, CloseRoundSign}
 use Rattle.csp_lex.specs.Tokens.{sign_of}
 use Rattle.csp_parse.specs.Deciding.{only, Done, memory}
 use Rattle.csp_parse.specs.Expressions.{expressions_of}
@@ -13,7 +13,7 @@ use Rattle.csp_parse.specs.Reading.{left_of, standing_of}
 use Rattle.csp_parse.specs.Starts.{ReadsStart, ReadsInner}
 use Rattle.csp_parse.specs.StartForms.{Tells, OnlyStart, OnlyBehindName, OnlyGuard, OnlyInner, OnlyBehindInner, BehindStart, StopsBehind}
 use Rattle.csp_parse.specs.Words.{replicator_sign}
-use Rattle.csp_text.specs.Grammar as grammar
+use Rattle.theory_text.specs.Grammar as grammar
 use Rattle.csp_lex.specs.declared.keywords.Keyword.TheVariants as keyword
 use Rattle.csp_lex.specs.declared.signs.Sign.TheVariants as signs
 use Rattle.csp_parse.specs.declared.starts.Start.TheVariants as start

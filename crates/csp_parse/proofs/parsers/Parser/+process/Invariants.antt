@@ -1,5 +1,5 @@
 use Rattle.std.proofs.Common.{◌≤◌, length, ◌+◌, ◌*◌}
-use Rattle.csp_text.specs.Grammar.{IsOperand, IsChain}
+use Rattle.theory_text.specs.Grammar.{IsOperand, IsChain}
 use Rattle.csp_parse.specs.Processes.{infix_of, process_in}
 use Rattle.csp_parse.specs.Reading.{left_of, standing_of, Continues}
 use Rattle.csp_parse.proofs.JoinTurns.{ChainSoFar}

@@ -1,4 +1,4 @@
-use Rattle.csp_text.specs.Token.{CloseRoundSign}
+use Rattle.theory_text.specs.Token.{CloseRoundSign}
 use Rattle.csp_parse.proofs.Leaves.{sign_done}
 use Rattle.csp_parse.proofs.Listing.{expressions_read}
 use Rattle.csp_parse.proofs.Memory.{handed}

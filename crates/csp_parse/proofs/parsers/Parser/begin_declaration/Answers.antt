@@ -1,6 +1,6 @@
 use Rattle.std.proofs.Common.{◌≤◌, subst, arith}
 use Rattle.std.proofs.lemmas.Result.{IfOk-weaker, IfErr-weaker}
-use Rattle.csp_text.specs.Height.{nest_height, greatest_height}
+use Rattle.theory_text.specs.Height.{nest_height, greatest_height}
 use Rattle.csp_parse.specs.Nests.{nest_of}
 use Rattle.csp_parse.specs.Reading.{left_of, CountsFirst}
 use Rattle.csp_parse.proofs.Rising.{never_over}

@@ -1,5 +1,5 @@
 use Rattle.std.proofs.Common.{ap, map, refl}
-use Rattle.csp_text.specs.Raw.{RawChannels}
+use Rattle.theory_text.specs.Raw.{RawChannels}
 use Rattle.csp_parse.specs.Declarations.{domain_of}
 use Rattle.csp_parse.specs.Names.{name_of}
 use Rattle.csp_parse.proofs.Declaring.{bare_channels_read, channels_read}

@@ -1,6 +1,6 @@
 use Rattle.std.proofs.Common.{[], ◌∷◌, ◌++◌, ◌∙◌, ap, arith}
-use Rattle.csp_text.specs.Grammar.{IsClause}
-use Rattle.csp_text.specs.Token.{BarSign}
+use Rattle.theory_text.specs.Grammar.{IsClause}
+use Rattle.theory_text.specs.Token.{BarSign}
 use Rattle.csp_parse.specs.Declarations.{clause_of}
 use Rattle.csp_parse.proofs.Separating.{first_part, more_parts, clauses_read}
 use Rattle.csp_parse.proofs.Leaves.{sign_first, sign_not_first, sign_done}

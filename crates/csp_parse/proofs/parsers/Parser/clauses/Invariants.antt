@@ -1,6 +1,6 @@
 use Rattle.std.proofs.Common.{◌<◌, length, map}
-use Rattle.csp_text.specs.Grammar.{IsClause}
-use Rattle.csp_text.specs.Token.{BarSign, DotSign}
+use Rattle.theory_text.specs.Grammar.{IsClause}
+use Rattle.theory_text.specs.Token.{BarSign, DotSign}
 use Rattle.csp_parse.specs.Declarations.{clause_of}
 use Rattle.csp_parse.specs.Reading.{left_of, standing_of, Reads}
 use Rattle.csp_parse.specs.Separated.{AreSeparated}

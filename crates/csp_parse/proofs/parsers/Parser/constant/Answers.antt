@@ -2,7 +2,7 @@ use Rattle.csp_parse.proofs.Atoms.{true_atom, false_atom, bool_atom}
 use Rattle.csp_parse.proofs.Passing.{renamed}
 use Rattle.csp_parse.proofs.Trees.{tree_of_truth, tree_of_booleans}
 use Rattle.std.proofs.Common.{true, false, subst}
-use Rattle.csp_text.specs.Token.{TrueWord, FalseWord, BoolWord}
+use Rattle.theory_text.specs.Token.{TrueWord, FalseWord, BoolWord}
 use Rattle.csp_lex.specs.declared.kinds.TokenKind.TheVariants as kind
 use Rattle.csp_parse.specs.Reading.{left_of, IsNext}
 use Rattle.csp_parse.proofs.AtomsTurn.{true_form, false_form, bool_form, no_word_form, no_constant, word_done}

@@ -1,6 +1,6 @@
 use Rattle.std.proofs.Common.{◌∙◌, ◌≤◌, ◌+◌, sym, ap, subst, arith}
 use Rattle.std.specs.Str.{chars}
-use Rattle.csp_text.specs.Height.{after_token, nest_height}
+use Rattle.theory_text.specs.Height.{after_token, nest_height}
 use Rattle.csp_lex.specs.Tokens.{placed_token}
 use Rattle.csp_parse.specs.Deciding.{over}
 use Rattle.csp_parse.specs.Nests.{nesting_is, nest_of}

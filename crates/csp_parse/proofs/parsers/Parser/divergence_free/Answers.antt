@@ -1,5 +1,5 @@
 use Rattle.std.proofs.lemmas.Result.{IfOk-weaker}
-use Rattle.csp_text.specs.Token.{CloseSquareSign}
+use Rattle.theory_text.specs.Token.{CloseSquareSign}
 use Rattle.csp_parse.proofs.Leaves.{sign_done}
 use Rattle.csp_parse.proofs.FreedomTurns.{some_free_close, some_close}
 use Rattle.csp_parse.proofs.Memory.{handed}

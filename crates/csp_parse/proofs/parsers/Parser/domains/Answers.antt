@@ -1,5 +1,5 @@
 use Rattle.std.proofs.Common.{[], ◌∷◌, ◌++◌, ◌∙◌, ap, arith}
-use Rattle.csp_text.specs.Token.{DotSign}
+use Rattle.theory_text.specs.Token.{DotSign}
 use Rattle.csp_parse.specs.declared.levels.Level.TheVariants as level
 use Rattle.csp_parse.specs.Declarations.{domain_of}
 use Rattle.csp_parse.specs.Levels.{IsDomainAt}

@@ -1,5 +1,5 @@
 use Rattle.std.proofs.lemmas.Result.{IfOk-weaker}
-use Rattle.csp_text.specs.Token.{CloseRenamingSign, CloseSquareSign}
+use Rattle.theory_text.specs.Token.{CloseRenamingSign, CloseSquareSign}
 use Rattle.csp_lex.specs.declared.signs.Sign.TheVariants as signs
 use Rattle.csp_parse.specs.Reading.{left_of}
 use Rattle.csp_parse.proofs.FreedomTurns.{joined_here, spaced_here, some_close}

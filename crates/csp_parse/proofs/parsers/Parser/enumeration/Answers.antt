@@ -1,5 +1,5 @@
 use Rattle.std.proofs.Common.{◌∙◌, ap, map}
-use Rattle.csp_text.specs.Raw.{RawEnumeration}
+use Rattle.theory_text.specs.Raw.{RawEnumeration}
 use Rattle.csp_parse.specs.Events.{event_of}
 use Rattle.csp_parse.proofs.Eventing.{empty_events, enumerated}
 use Rattle.csp_parse.proofs.Passing.{renamed}
@@ -9,7 +9,7 @@ use Rattle.csp_parse.proofs.Turning.{turn, finished, stopped, sign_behind, sign_
 use Rattle.csp_lex.specs.declared.signs.Sign.TheVariants as signs
 use Rattle.csp_parse.proofs.Memory.{handed}
 use Rattle.csp_parse.specs.Reading.{left_of}
-use Rattle.csp_text.specs.Token.{CloseBraceSign}
+use Rattle.theory_text.specs.Token.{CloseBraceSign}
 use Rattle.csp_parse.proofs.EventsTurn.{no_events_here, events_here, events_behind, events_stop, some_events_inside}
 use Rattle.csp_parse.proofs.parsers.Parser.enumeration.Goals as goal
 

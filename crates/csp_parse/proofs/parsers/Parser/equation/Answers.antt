@@ -1,6 +1,6 @@
 use Rattle.std.proofs.Common.{ap, map}
 use Rattle.std.proofs.lemmas.Result.{IfOk-weaker}
-use Rattle.csp_text.specs.Raw.{RawEquation}
+use Rattle.theory_text.specs.Raw.{RawEquation}
 use Rattle.csp_parse.specs.Names.{name_of}
 use Rattle.csp_parse.specs.Processes.{process_in}
 use Rattle.csp_lex.specs.declared.signs.Sign.TheVariants as signs

@@ -1,6 +1,6 @@
 use Rattle.std.proofs.Common.{[], ◌∷◌, ◌++◌, ◌∙◌, ap, arith}
-use Rattle.csp_text.specs.Grammar.{IsEvent}
-use Rattle.csp_text.specs.Token.{CommaSign}
+use Rattle.theory_text.specs.Grammar.{IsEvent}
+use Rattle.theory_text.specs.Token.{CommaSign}
 use Rattle.csp_parse.specs.Events.{event_of}
 use Rattle.csp_parse.proofs.Separating.{first_part, more_parts, events_read}
 use Rattle.csp_parse.proofs.Leaves.{sign_first, sign_not_first, sign_done}

@@ -1,6 +1,6 @@
 use Rattle.std.proofs.Common.{◌<◌, length, map}
-use Rattle.csp_text.specs.Grammar.{IsEvent}
-use Rattle.csp_text.specs.Token.{CommaSign, DotSign}
+use Rattle.theory_text.specs.Grammar.{IsEvent}
+use Rattle.theory_text.specs.Token.{CommaSign, DotSign}
 use Rattle.csp_parse.specs.Events.{event_of}
 use Rattle.csp_parse.specs.Reading.{left_of, standing_of, Reads}
 use Rattle.csp_parse.specs.Separated.{AreSeparated}

@@ -1,6 +1,6 @@
 use Rattle.std.proofs.Common.{refl}
 use Rattle.std.proofs.lemmas.Result.{IfOk-weaker}
-use Rattle.csp_text.specs.Grammar.{IsAtom}
+use Rattle.theory_text.specs.Grammar.{IsAtom}
 use Rattle.csp_parse.specs.declared.levels.Level.TheVariants as level
 use Rattle.csp_parse.proofs.Operations.{alone, stay, extended_again}
 use Rattle.csp_parse.proofs.Expressing.{product_behind, product_stops, sum_behind, sum_stops, comparison_behind, comparison_stops, conjunction_behind, conjunction_stops}

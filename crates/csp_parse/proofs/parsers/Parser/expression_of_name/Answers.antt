@@ -1,5 +1,5 @@
 use Rattle.std.proofs.lemmas.Result.{IfOk-weaker}
-use Rattle.csp_text.specs.Grammar.{IsAtom, IsExpression}
+use Rattle.theory_text.specs.Grammar.{IsAtom, IsExpression}
 use Rattle.csp_parse.proofs.Operations.{extended}
 use Rattle.csp_parse.proofs.Passing.{renamed}
 use Rattle.csp_parse.proofs.Trees.{tree_of_use}

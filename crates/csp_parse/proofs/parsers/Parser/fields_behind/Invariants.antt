@@ -1,5 +1,5 @@
 use Rattle.std.proofs.Common.{◌≤◌, length, map}
-use Rattle.csp_text.specs.Grammar.{AreDotted, AreFields}
+use Rattle.theory_text.specs.Grammar.{AreDotted, AreFields}
 use Rattle.csp_parse.specs.Expressions.{expressions_of}
 use Rattle.csp_parse.specs.Forms.{HasTree}
 use Rattle.csp_parse.specs.ProcessForms.{fields_go_on}

@@ -1,6 +1,6 @@
 use Rattle.std.proofs.Common.{◌≤◌, length}
-use Rattle.csp_text.specs.Token.{HidingSign}
-use Rattle.csp_text.specs.Grammar.{IsHidingPart}
+use Rattle.theory_text.specs.Token.{HidingSign}
+use Rattle.theory_text.specs.Grammar.{IsHidingPart}
 use Rattle.csp_parse.specs.Deciding.{only}
 use Rattle.csp_parse.specs.Forms.{HasTree}
 use Rattle.csp_parse.specs.Processes.{process_in}

@@ -1,6 +1,6 @@
 use Rattle.std.specs.Str.{IsUtf8, chars}
 use Rattle.std.proofs.Common.{◌≡◌, ◌∙◌, sym, ap, subst, rules}
-use Rattle.csp_text.specs.Token.{NameToken}
+use Rattle.theory_text.specs.Token.{NameToken}
 use Rattle.csp_lex.specs.Tokens.{token_of, placed_token}
 use Rattle.csp_parse.specs.Reading.{left_of}
 use Rattle.csp_parse.proofs.Leaves.{first_spelled}

@@ -1,5 +1,5 @@
 use Rattle.std.proofs.Common.{[], ◌∷◌, ◌++◌, ◌∙◌, ap, arith}
-use Rattle.csp_text.specs.Grammar.{IsName}
+use Rattle.theory_text.specs.Grammar.{IsName}
 use Rattle.csp_lex.specs.Tokens.{sign_of}
 use Rattle.csp_parse.specs.Names.{name_of}
 use Rattle.csp_parse.specs.Reading.{left_of}

@@ -1,5 +1,5 @@
 use Rattle.std.proofs.Common.{◌<◌, length, map}
-use Rattle.csp_text.specs.Grammar.{IsName}
+use Rattle.theory_text.specs.Grammar.{IsName}
 use Rattle.csp_lex.specs.Tokens.{sign_of}
 use Rattle.csp_parse.specs.Deciding.{nothing, only}
 use Rattle.csp_parse.specs.Forms.{HasTree}

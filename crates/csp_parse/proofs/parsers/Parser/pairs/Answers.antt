@@ -1,5 +1,5 @@
 use Rattle.std.proofs.Common.{[], ◌∷◌, ◌++◌, ◌∙◌, ap, arith}
-use Rattle.csp_text.specs.Token.{CommaSign}
+use Rattle.theory_text.specs.Token.{CommaSign}
 use Rattle.csp_parse.specs.Events.{pair_of}
 use Rattle.csp_parse.specs.Separated.{IsPair}
 use Rattle.csp_parse.proofs.Separating.{first_part, more_parts, pairs_read}

@@ -1,5 +1,5 @@
 use Rattle.std.proofs.Common.{◌<◌, length, map}
-use Rattle.csp_text.specs.Token.{CommaSign, DotSign}
+use Rattle.theory_text.specs.Token.{CommaSign, DotSign}
 use Rattle.csp_parse.specs.Events.{pair_of}
 use Rattle.csp_parse.specs.Separated.{IsPair, AreSeparated}
 use Rattle.csp_parse.specs.Reading.{left_of, standing_of, Reads}

@@ -4,7 +4,7 @@ use Rattle.csp_parse.proofs.ProcessTrees.{set_of_productions}
 use Rattle.csp_parse.proofs.Leaves.{sign_done}
 use Rattle.csp_parse.proofs.Turning.{turn, finished, stopped, sign_behind, sign_stops}
 use Rattle.csp_parse.proofs.Memory.{handed}
-use Rattle.csp_text.specs.Token.{CloseProductionsSign}
+use Rattle.theory_text.specs.Token.{CloseProductionsSign}
 use Rattle.csp_parse.proofs.EventsTurn.{events_behind, events_stop, some_closed_events}
 use Rattle.csp_parse.proofs.parsers.Parser.productions.Goals as goal
 

@@ -2,7 +2,7 @@ use Rattle.std.proofs.Common.{refl, arith}
 use Rattle.csp_parse.specs.Starts.{base}
 use Rattle.csp_parse.proofs.Passing.{renamed}
 use Rattle.csp_parse.proofs.Processing.{read_as, renaming_read}
-use Rattle.csp_text.specs.Token.{OpenRenamingSign, CloseRenamingSign}
+use Rattle.theory_text.specs.Token.{OpenRenamingSign, CloseRenamingSign}
 use Rattle.csp_lex.specs.declared.signs.Sign.TheVariants as signs
 use Rattle.csp_parse.specs.Deciding.{only}
 use Rattle.csp_parse.specs.Reading.{left_of}

@@ -1,6 +1,6 @@
 use Rattle.std.proofs.Common.{◌≤◌, length}
-use Rattle.csp_text.specs.Grammar.{IsBase, IsRenamingPart}
-use Rattle.csp_text.specs.Token.{OpenRenamingSign}
+use Rattle.theory_text.specs.Grammar.{IsBase, IsRenamingPart}
+use Rattle.theory_text.specs.Token.{OpenRenamingSign}
 use Rattle.csp_parse.specs.Deciding.{only}
 use Rattle.csp_parse.specs.Forms.{HasTree}
 use Rattle.csp_parse.specs.Processes.{process_in}

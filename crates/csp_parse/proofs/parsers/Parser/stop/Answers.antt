@@ -1,4 +1,4 @@
-use Rattle.csp_text.specs.Token.{StopWord}
+use Rattle.theory_text.specs.Token.{StopWord}
 use Rattle.csp_parse.proofs.AtomsTurn.{word_done}
 use Rattle.csp_parse.proofs.Memory.{handed, memory_here}
 use Rattle.csp_parse.proofs.Passing.{renamed}

@@ -1,5 +1,5 @@
 use Rattle.std.proofs.Common.{sym, ap}
-use Rattle.csp_text.specs.Reading.{grammar_fault_spelling}
+use Rattle.theory_text.specs.Reading.{grammar_fault_spelling}
 use Rattle.csp_parse.specs.Refusals.{fault_of}
 use Rattle.csp_parse.proofs.refusals.GrammarFault.number.Goals as goal
 

@@ -1,7 +1,7 @@
 -- Both sides of each assertion are terms of the script.
 use Rattle.std.proofs.Common.{List, subst, sym}
 use Rattle.std.specs.List.{All}
-use Rattle.csp_syntax.specs.Process as pure
+use Rattle.theory_syntax.specs.Process as pure
 use Rattle.csp_term.specs.declared.assertion.Assertion.{Assertion}
 use Rattle.csp_term.specs.Script.{HasSidesOf, script_of_parts}
 use Rattle.csp_term.proofs.Sides.{have_sides}

@@ -1,6 +1,6 @@
 -- The kinds that fit a script fit its copy.
 use Rattle.std.proofs.Common.{subst, sym}
-use Rattle.csp_semantics.specs.Kinds.Scripts.{IsCheckedScript}
+use Rattle.theory_semantics.specs.Kinds.Scripts.{IsCheckedScript}
 use Rattle.csp_term.proofs.checked_script.ScriptTryCopy.try_copy.Goals as goal
 
 pub invariant_of-result : goal.invariant_of-result

@@ -1,7 +1,7 @@
 -- The spelling and each field set are copied.
 use Rattle.std.proofs.Common.{rules, ◌≡◌, List, map, subst}
 use Rattle.std.specs.String.{string_bytes}
-use Rattle.csp_syntax.specs.Value.{values_list}
+use Rattle.theory_syntax.specs.Value.{values_list}
 use Rattle.csp_value.specs.declared.field_set.FieldSet.{FieldSet}
 use Rattle.csp_value.specs.Copies.{AreCopies}
 use Rattle.csp_value.specs.Value.{members_of}

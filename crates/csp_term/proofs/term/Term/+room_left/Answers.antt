@@ -1,6 +1,6 @@
 -- What the terms under the head leave of the room.
 use Rattle.std.proofs.Common.{◌+◌, sym, ◌∙◌, ap}
-use Rattle.csp_semantics.specs.Meaning.Limits.{size}
+use Rattle.theory_semantics.specs.Meaning.Limits.{size}
 use Rattle.csp_term.specs.Own.{own_size}
 use Rattle.csp_term.specs.Term.{process_of, process_of_form}
 use Rattle.csp_term.proofs.Forms.{of_form}

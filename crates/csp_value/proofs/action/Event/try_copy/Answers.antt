@@ -1,6 +1,6 @@
 -- A copy has the same channel, and copies of the fields.
 use Rattle.std.proofs.Common.{List, ◌∙◌, ap}
-use Rattle.csp_syntax.specs.Value as pure
+use Rattle.theory_syntax.specs.Value as pure
 use Rattle.csp_value.specs.Value.{values_of}
 use Rattle.csp_value.proofs.action.Event.try_copy.Goals as goal
 

@@ -4,7 +4,7 @@ use Rattle.std.specs.declared.cmp.Ordering.{Ordering}
 use Rattle.std.specs.List.Sorted.{IsSorted}
 use Rattle.std.specs.Ordering.{is_eq}
 use Rattle.std.proofs.lemmas.List.Filters.{dedup_is}
-use Rattle.csp_syntax.specs.Value.{value_cmp, sorted_values, to_values, values_list}
+use Rattle.theory_syntax.specs.Value.{value_cmp, sorted_values, to_values, values_list}
 use Rattle.csp_value.specs.declared.value.Value.{Value}
 use Rattle.csp_value.specs.contracts.value.ValueOrd.TheImpl.Laws as laws
 use Rattle.csp_value.specs.Value.{value_of, values_of}

@@ -1,10 +1,10 @@
 -- Where the other set's members rise all are sorted together, and else each value is put in by itself.
 use Rattle.std.proofs.Common.{◌≡◌, List, sym, ◌∙◌, ap, ap₂, subst, IfOk, Result, Ok, Err}
 use Rattle.std.proofs.lemmas.List.{map-append}
-use Rattle.csp_syntax.specs.Value as pure
-use Rattle.csp_syntax.specs.Value.{insert_values, sorted_values, to_values, values_list}
-use Rattle.csp_semantics.specs.Meaning.Offers.{rises}
-use Rattle.csp_semantics.proofs.RisingValues.{told_rises}
+use Rattle.theory_syntax.specs.Value as pure
+use Rattle.theory_syntax.specs.Value.{insert_values, sorted_values, to_values, values_list}
+use Rattle.theory_semantics.specs.Meaning.Offers.{rises}
+use Rattle.theory_semantics.proofs.RisingValues.{told_rises}
 use Rattle.csp_value.specs.declared.set.SetOf.{SetOf}
 use Rattle.csp_value.specs.Value.{IsRisingSet, members_of, value_of, values_of}
 use Rattle.csp_value.proofs.Forms.{listed, members_listed}

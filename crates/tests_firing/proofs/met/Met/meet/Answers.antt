@@ -1,8 +1,8 @@
 use Rattle.std.proofs.Common.{◌≡◌, subst, sym, Global}
 use Rattle.std.specs.List.{All}
 use Rattle.std.proofs.lemmas.List.Elements.{All-push}
-use Rattle.csp_syntax.specs.Process.{Script}
-use Rattle.csp_semantics.specs.Kinds.Scripts.{IsTermOf}
+use Rattle.theory_syntax.specs.Process.{Script}
+use Rattle.theory_semantics.specs.Kinds.Scripts.{IsTermOf}
 use Rattle.csp_term.specs.Script.{script_of}
 use Rattle.csp_term.specs.Term.{process_of}
 use Rattle.csp_term.specs.declared.term.Term.{Term}

@@ -1,6 +1,6 @@
 use Rattle.std.proofs.Common.{◌≡◌, subst, sym, arith, Global}
-use Rattle.csp_syntax.specs.Process.{Process, Script}
-use Rattle.csp_semantics.specs.Kinds.Scripts.{IsTermOf}
+use Rattle.theory_syntax.specs.Process.{Process, Script}
+use Rattle.theory_semantics.specs.Kinds.Scripts.{IsTermOf}
 use Rattle.csp_term.specs.Script.{script_of}
 use Rattle.csp_term.specs.Term.{process_of}
 use Rattle.csp_term.specs.declared.term.Term.{Term}

@@ -1,6 +1,0 @@
-use Rattle.std.proofs.Common.{◌≡◌, [], drop}
-use Rattle.advice.specs.Brackets.{open_behind}
-use Rattle.advice.proofs.brackets.open_brackets.Given as goal
-
-abbrev pub invariant-loop-token : goal.invariant-loop-token
-invariant-loop-token g l = open_behind l.open.items (drop l.token-index l.tokens) ≡ open_behind [] l.tokens

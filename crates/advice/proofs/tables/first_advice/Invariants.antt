@@ -1,6 +1,0 @@
-use Rattle.std.proofs.Common.{◌≡◌, drop}
-use Rattle.advice.specs.Advice.{first_advice}
-use Rattle.advice.proofs.tables.first_advice.Given as goal
-
-abbrev pub invariant-loop-advice : goal.invariant-loop-advice
-invariant-loop-advice l = first_advice (drop l.advice-index l.table) l.around ≡ first_advice l.table l.around

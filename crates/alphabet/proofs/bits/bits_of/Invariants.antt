@@ -1,7 +1,0 @@
-use Rattle.std.proofs.Common.{◌≡◌, map, take}
-use Rattle.csp_event_tests.specs.Testing.{test_of}
-use Rattle.alphabet.specs.Numbers.{events_of}
-use Rattle.alphabet.proofs.bits.bits_of.Given as goal
-
-abbrev pub invariant-loop-event : goal.invariant-loop-event
-invariant-loop-event g l = l.marks.items ≡ map (test_of l.test) (events_of (take l.event-index l.events))

@@ -1,5 +1,0 @@
-use Rattle.alphabet.proofs.Numbered.{numbered}
-use Rattle.alphabet.proofs.laws.events_are_numbered_by_their_places.Goals as goal
-
-pub returns : goal.returns
-returns c = numbered

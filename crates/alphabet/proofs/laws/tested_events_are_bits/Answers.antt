@@ -1,6 +1,0 @@
-use Rattle.std.proofs.Common.{map, refl}
-use Rattle.alphabet.proofs.Numbered.{bits_by}
-use Rattle.alphabet.proofs.laws.tested_events_are_bits.Goals as goal
-
-pub returns : goal.returns
-returns c = λ es z test numbers. bits_by es z test (map test es) numbers refl

@@ -1,0 +1,167 @@
+//! Where taus come from, in words.
+
+ghost use Rattle.std.specs.Prelude.{◌++◌, codes, option_map};
+ghost use Rattle.theory_syntax.specs.Value.{Tau};
+ghost use Rattle.theory_origins.specs.Origin.{Below, OnSide};
+ghost use Rattle.theory_search.specs.Printing.{name_at};
+ghost use Rattle.csp_value.specs.Action.{action_of, event_of};
+ghost use Rattle.csp_moves.specs.Origin.{origin_of};
+ghost use Rattle.csp_moves.specs.Passage.{passage_of, side_of};
+ghost use Rattle.theory_explanation.specs.Actions.{event_text};
+ghost use Rattle.theory_explanation.specs.Origins.{doers_text, origin_text, side_text, source_text};
+ghost use Rattle.csp_print.specs.Names.{names_of};
+ghost use Rattle.csp_print.specs.Writing.{Writes};
+
+use crate::actions::push_event;
+use crate::doers::push_doers;
+use crate::marks::push_mark;
+use csp_moves::{Origin, Passage, Side};
+use csp_print::Names;
+use csp_term::{Action, AllocHandle, EquationId, Event};
+use std::alloc::AllocError;
+
+/// What stands behind an action: of a tau its origin, if one is told.
+pub(crate) fn push_source<A: AllocHandle>(
+    names: &Names<'_, A>,
+    action: &Action<A>,
+    origin: &Option<Origin<A>>,
+    text: &mut String<A>,
+) -> Result<(), AllocError>
+    ensures { Writes result text.old text.new (source_text (names_of names.now) (action_of action.now) (option_map origin_of origin.now)) }
+{
+    match action {
+        Action::Tau => push_source_of_tau(names, origin, text),
+        Action::Tick => Ok(()),
+        Action::Event(_) => Ok(()),
+    }
+}
+
+// The origin of a tau, if one is told.
+fn push_source_of_tau<A: AllocHandle>(
+    names: &Names<'_, A>,
+    origin: &Option<Origin<A>>,
+    text: &mut String<A>,
+) -> Result<(), AllocError>
+    ensures { Writes result text.old text.new (source_text (names_of names.now) Tau (option_map origin_of origin.now)) }
+{
+    match origin {
+        Some(origin) => push_origin(names, ": ", origin, text),
+        None => Ok(()),
+    }
+}
+
+// The sides on the way down to the part that moves, the first behind the mark, and what moves it.
+#[cycle(origin)]
+fn push_origin<A: AllocHandle>(
+    names: &Names<'_, A>,
+    mark: &str,
+    origin: &Origin<A>,
+    text: &mut String<A>,
+) -> Result<(), AllocError>
+    ensures { Writes result text.old text.new (origin_text (names_of names.now) mark.now (origin_of origin.now)) }
+{
+    match origin {
+        Origin::Does(event) => push_seen(names, event, text),
+        Origin::Ends => push_mark(": ends", text),
+        Origin::Unfolds(equation) => push_call(names, *equation, text),
+        Origin::Chooses(side) => push_choice(*side, text),
+        Origin::Slides => push_mark(": slides to its right side", text),
+        Origin::Below(passage, part) => push_below(names, mark, passage, part, text),
+        Origin::Together(_, _) => push_mark(": both sides", text),
+    }
+}
+
+// A call that becomes the body of the equation.
+fn push_call<A: AllocHandle>(
+    names: &Names<'_, A>,
+    equation: EquationId,
+    text: &mut String<A>,
+) -> Result<(), AllocError>
+    ensures { Writes result text.old text.new (codes ": unfolds " ++ name_at (names_of names.now).equations equation.0) }
+{
+    push_mark(": unfolds ", text)?;
+    names.push_equation(equation, text)
+}
+
+// A choice that becomes the side.
+fn push_choice<A: AllocHandle>(side: Side, text: &mut String<A>) -> Result<(), AllocError>
+    ensures { Writes result text.old text.new (codes ": chooses its " ++ (side_text (side_of side) ++ codes " side")) }
+{
+    push_mark(": chooses its ", text)?;
+    push_side(side, text)?;
+    push_mark(" side", text)
+}
+
+// An event that is seen.
+fn push_seen<A: AllocHandle>(
+    names: &Names<'_, A>,
+    event: &Event<A>,
+    text: &mut String<A>,
+) -> Result<(), AllocError>
+    ensures { Writes result text.old text.new (codes ": " ++ event_text (names_of names.now) (event_of event.now)) }
+{
+    push_mark(": ", text)?;
+    push_event(names, event, text)
+}
+
+// The origin of a part's step, below the passage to the part.
+#[cycle(origin)]
+fn push_below<A: AllocHandle>(
+    names: &Names<'_, A>,
+    mark: &str,
+    passage: &Passage<A>,
+    part: &Origin<A>,
+    text: &mut String<A>,
+) -> Result<(), AllocError>
+    ensures { Writes result text.old text.new (origin_text (names_of names.now) mark.now (Below (passage_of passage.now) (origin_of part.now))) }
+{
+    match passage {
+        Passage::OnSide(side) => push_below_side(names, mark, *side, part, text),
+        Passage::InBody => push_origin(names, mark, part, text),
+        Passage::InChain => push_origin(names, mark, part, text),
+        Passage::SideEnds(side) => push_below_side(names, mark, *side, part, text),
+        Passage::Hides(event) => push_done(names, ": hidden ", event, part, text),
+        Passage::Renames(_, event) => push_done(names, ": ", event, part, text),
+    }
+}
+
+// The event behind the mark, and which sides do it.
+fn push_done<A: AllocHandle>(
+    names: &Names<'_, A>,
+    mark: &str,
+    event: &Event<A>,
+    part: &Origin<A>,
+    text: &mut String<A>,
+) -> Result<(), AllocError>
+    ensures { Writes result text.old text.new (mark.now ++ (event_text (names_of names.now) (event_of event.now) ++ doers_text (codes " by ") (origin_of part.now))) }
+{
+    push_mark(mark, text)?;
+    push_event(names, event, text)?;
+    push_doers(" by ", part, text)
+}
+
+// The same below a side, which is told.
+#[cycle(origin)]
+fn push_below_side<A: AllocHandle>(
+    names: &Names<'_, A>,
+    mark: &str,
+    side: Side,
+    part: &Origin<A>,
+    text: &mut String<A>,
+) -> Result<(), AllocError>
+    ensures { Writes result text.old text.new (origin_text (names_of names.now) mark.now (Below (OnSide (side_of side)) (origin_of part.now))) }
+{
+    push_mark(mark, text)?;
+    push_side(side, text)?;
+    push_origin(names, ", ", part, text)
+}
+
+/// The side in a word.
+pub(crate) fn push_side<A: AllocHandle>(side: Side, text: &mut String<A>) -> Result<(), AllocError>
+    ensures { Writes result text.old text.new (side_text (side_of side)) }
+{
+    match side {
+        Side::Left => push_mark("left", text),
+        Side::Right => push_mark("right", text),
+    }
+}

@@ -1,5 +1,0 @@
-pub mod Acceptances
-pub mod Cuts
-pub mod Parts
-pub mod Putting
-pub mod Sizes

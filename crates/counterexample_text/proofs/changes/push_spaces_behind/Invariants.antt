@@ -1,9 +1,0 @@
-use Rattle.std.proofs.Common.{◌≡◌, drop, ◌++◌, map}
-use Rattle.std.specs.String.{string_bytes}
-use Rattle.csp_explanation.specs.Changing.{spaces_behind}
-use Rattle.counterexample_text.specs.Texts.{texts_of}
-use Rattle.counterexample_text.proofs.changes.push_spaces_behind.Given as goal
-
-abbrev pub invariant-loop-word : goal.invariant-loop-word
-invariant-loop-word g l =
-    string_bytes l.text ++ spaces_behind (texts_of (drop l.word-index l.words)) ≡ string_bytes l.initial.text ++ spaces_behind (texts_of l.words)

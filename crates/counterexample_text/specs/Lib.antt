@@ -1,3 +1,0 @@
-pub mod Styles
-pub mod Texts
-pub mod Widths

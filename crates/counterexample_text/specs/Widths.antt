@@ -1,8 +1,0 @@
--- The width that one of the code stands for.
-use Rattle.csp_explanation.specs.Cutting as pure
-use Rattle.counterexample_text.specs.declared.width.Width.{Width}
-use Rattle.counterexample_text.specs.declared.width.Width.TheVariants as width
-
-abbrev pub width_of : Width → pure.Width
-width_of width.Whole = pure.Whole
-width_of (width.UpTo n) = pure.UpTo n

@@ -1,5 +1,0 @@
-use Rattle.csp_alphabet.proofs.Listing.{alphabet_has, alphabet_is}
-use Rattle.csp_alphabet.proofs.alphabet_has_all_events.Goals as goal
-
-pub returns : goal.returns
-returns c = λ script e. (alphabet_has script e, alphabet_is script e)

@@ -1,6 +1,0 @@
-use Rattle.std.proofs.Common.{◌≡◌, take}
-use Rattle.csp_changes.specs.Framed.{renamed_steps}
-use Rattle.csp_changes.proofs.framed.rename.Given as goal
-
-abbrev pub invariant-loop-step : goal.invariant-loop-step
-invariant-loop-step g l = l.all.items ≡ renamed_steps l.images.images.items (take l.step-index l.steps)

@@ -1,6 +1,0 @@
-use Rattle.std.proofs.Common.{take}
-use Rattle.csp_changes.specs.Holes.{AddsKnown}
-use Rattle.csp_changes.proofs.hole.add_known.Given as goal
-
-abbrev pub invariant-loop-step : goal.invariant-loop-step
-invariant-loop-step g l = AddsKnown l.hole (take l.step-index l.known) l.fn.pool.items l.fn.steps.items l.pool.items l.steps.items

@@ -1,5 +1,0 @@
-use Rattle.csp_checking.proofs.WellKinded.{checked_script}
-use Rattle.csp_checking.proofs.checked_tree_has_checked_script.Goals as goal
-
-pub returns : goal.returns
-returns c = checked_script

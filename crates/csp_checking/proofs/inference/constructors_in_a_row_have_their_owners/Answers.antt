@@ -1,5 +1,0 @@
-use Rattle.csp_checking.proofs.Owning.{rows_have_owners}
-use Rattle.csp_checking.proofs.inference.constructors_in_a_row_have_their_owners.Goals as goal
-
-pub returns : goal.returns
-returns c = λ types o ks rows owners. rows_have_owners types o ks rows owners

@@ -1,5 +1,0 @@
-use Rattle.csp_checking.proofs.CheckedTrees.{outputs_checked}
-use Rattle.csp_checking.proofs.small_tree_is_checked.Goals as goal
-
-pub returns : goal.returns
-returns c = outputs_checked

@@ -1,5 +1,0 @@
-use Rattle.csp_fitting.proofs.Rowing.{OwnersLeft}
-use Rattle.csp_fitting.proofs.numbering.owners_of.Given as goal
-
-abbrev pub invariant-loop-count : goal.invariant-loop-count
-invariant-loop-count g l = OwnersLeft l.owners.items l.datatype l.counts l.count-index

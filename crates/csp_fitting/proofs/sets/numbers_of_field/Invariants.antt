@@ -1,5 +1,0 @@
-use Rattle.csp_fitting.proofs.Columns.{ColumnLeft}
-use Rattle.csp_fitting.proofs.sets.numbers_of_field.Given as goal
-
-abbrev pub invariant-loop-row : goal.invariant-loop-row
-invariant-loop-row g l = ColumnLeft l.numbers.items l.field l.rows l.row-index

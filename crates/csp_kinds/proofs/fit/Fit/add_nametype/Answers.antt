@@ -1,0 +1,19 @@
+-- Kinds fit, or do not, or did not before.
+use Rattle.std.proofs.Common.{refl}
+use Rattle.csp_expression.specs.Evaluation.{table_of}
+use Rattle.csp_inference.specs.Solving.{lent_expression}
+use Rattle.csp_kinds.proofs.Fitting.{nametype_known, nametype_misfit, nametype_unfit}
+use Rattle.csp_kinds.proofs.fit.Fit.add_nametype.Goals as goal
+
+pub returns-then-not-self : goal.returns-then-not-self
+returns-then-not-self g c = nametype_unfit (table_of c.args.types.now) c.args.nametype (lent_expression c.args.set) c.args.self.now _ c.if-not-self.true c.if-not-self.true
+
+pub add_nametype-requires : goal.add_nametype-requires
+add_nametype-requires g c = c.requires c.if-not-self.false
+
+pub returns-in-Ok : goal.returns-in-Ok
+returns-in-Ok g c = nametype_known (table_of c.args.types.now) c.args.nametype (lent_expression c.args.set) c.args.self.now _ c.add_nametype.result c.in-Ok.field-0 c.in-Ok.is c.if-not-self.false c.if-not-self.false c.add_nametype.ensures
+
+pub returns-in-Err-NoKinds : goal.returns-in-Err-NoKinds
+returns-in-Err-NoKinds g c =
+    nametype_misfit (table_of c.args.types.now) c.args.nametype (lent_expression c.args.set) c.args.self.now _ c.add_nametype.result c.in-Err-NoKinds.field-0 c.in-Err-NoKinds.is c.in-Err-NoKinds.field-0-is c.if-not-self.false refl c.add_nametype.ensures

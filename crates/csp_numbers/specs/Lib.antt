@@ -1,0 +1,11 @@
+pub mod Numbers
+pub mod Choosing
+pub mod Pairs
+pub mod Images
+pub mod Sides
+pub mod Operators
+pub mod Cut
+pub mod Heads
+pub mod Lists
+pub mod Placed
+pub mod Shaped

@@ -1,5 +1,0 @@
-pub mod ActionOrder
-pub mod Rows
-pub mod Ordered
-pub mod Acting
-pub mod Loops

@@ -1,5 +1,0 @@
-use Rattle.std.proofs.Common.{◌≡◌, map, take}
-use Rattle.csp_ordering.proofs.actions.each_action.Given as goal
-
-abbrev pub invariant-loop-step : goal.invariant-loop-step
-invariant-loop-step g l = l.actions.items ≡ map (λ s. s.action) (take l.step-index l.steps)

@@ -1,3 +1,0 @@
-pub mod ByOrder
-pub mod Ranks
-pub mod Falling

@@ -1,5 +1,0 @@
-use Rattle.csp_orders.proofs.Steps.{changing_rise, changing_rose, steps_changing}
-use Rattle.csp_orders.proofs.steps_are_ordered_by_changes.Goals as goal
-
-pub returns : goal.returns
-returns c = record { two = λ s parts m n long. steps_changing s parts long m n; rise = λ s parts ms long. (changing_rise s parts long ms, changing_rose s parts long ms) }

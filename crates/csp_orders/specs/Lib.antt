@@ -1,3 +1,0 @@
-pub mod Targets
-pub mod Numbers
-pub mod InOrder

@@ -1,7 +1,0 @@
-use Rattle.std.proofs.Common.{sym, ap, ◌∙◌}
-use Rattle.csp_origins.specs.Action.{action_of}
-use Rattle.csp_origins.proofs.Reading.{tells_action}
-use Rattle.csp_origins.proofs.origins_tell_actions.Goals as goal
-
-pub returns : goal.returns
-returns c = λ script p x t o from. ap action_of (sym from.1) ∙ tells_action from.0

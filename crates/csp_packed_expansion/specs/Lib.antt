@@ -1,4 +1,0 @@
-pub mod Hashing
-pub mod PackedForm
-pub mod PackedExpansion
-pub mod Targets

@@ -1,4 +1,0 @@
-pub mod Lent
-pub mod Told
-pub mod Made
-pub mod Split

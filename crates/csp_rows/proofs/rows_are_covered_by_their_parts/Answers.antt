@@ -1,5 +1,0 @@
-use Rattle.csp_rows.proofs.Covering.{covered}
-use Rattle.csp_rows.proofs.rows_are_covered_by_their_parts.Goals as goal
-
-pub returns : goal.returns
-returns g c = λ z script d are. covered z script d are

@@ -1,5 +1,0 @@
-use Rattle.csp_runs.proofs.Visiting.{reached}
-use Rattle.csp_runs.proofs.visited_states_are_reached.Goals as goal
-
-pub returns : goal.returns
-returns c = λ script t u path states visits. reached script path t u states visits

@@ -1,5 +1,0 @@
-use Rattle.csp_semantics.proofs.ClosedTerms.{no_misfit}
-use Rattle.csp_semantics.proofs.kinds.closed_terms_are_no_misfits.Goals as goal
-
-pub returns : goal.returns
-returns c = no_misfit

@@ -1,5 +1,0 @@
-use Rattle.csp_semantics.proofs.ClosedTerms.{goes_on}
-use Rattle.csp_semantics.proofs.kinds.closed_terms_have_their_steps.Goals as goal
-
-pub returns : goal.returns
-returns c = goes_on

@@ -1,5 +1,0 @@
-use Rattle.csp_shapes.proofs.InPlace.{changed_in_place}
-use Rattle.csp_shapes.proofs.changes_are_spelled_in_place.Goals as goal
-
-pub returns : goal.returns
-returns c = λ s parts cs long rise. changed_in_place s parts long cs rise

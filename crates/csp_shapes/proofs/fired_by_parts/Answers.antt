@@ -1,8 +1,0 @@
-use Rattle.csp_shapes.proofs.Fired.{fired_past, fired_within}
-use Rattle.csp_shapes.proofs.fired_by_parts.Goals as goal
-
-pub returns : goal.returns
-returns c = record {
-  within = λ script s parts known ms is. fired_within script s parts known ms is.filled is.fired is.values is.changing;
-  past = λ script s parts known ms is. fired_past script s parts known ms is.filled is.fired is.values is.changing;
-}

@@ -1,5 +1,0 @@
-use Rattle.csp_shapes.proofs.Measured.{depth_by_parts, level_count, parts_fit, size_by_parts}
-use Rattle.csp_shapes.proofs.measured_by_parts.Goals as goal
-
-pub returns : goal.returns
-returns c = record { size = size_by_parts; depth = depth_by_parts; levels = level_count; parts = parts_fit }

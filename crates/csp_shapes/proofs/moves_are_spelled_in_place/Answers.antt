@@ -1,5 +1,0 @@
-use Rattle.csp_shapes.proofs.MovesInPlace.{moved_in_place}
-use Rattle.csp_shapes.proofs.moves_are_spelled_in_place.Goals as goal
-
-pub returns : goal.returns
-returns c = moved_in_place

@@ -1,5 +1,0 @@
-use Rattle.csp_shapes.proofs.Leaving.{all_changes, only_parts_end}
-use Rattle.csp_shapes.proofs.steps_leave_the_shape.Goals as goal
-
-pub returns : goal.returns
-returns c = record { all = all_changes; ended = only_parts_end }

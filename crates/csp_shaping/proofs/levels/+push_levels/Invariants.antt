@@ -1,6 +1,0 @@
-use Rattle.csp_semantics.specs.Meaning.Limits.{size}
-use Rattle.csp_term.specs.Term.{process_of}
-use Rattle.csp_shaping.proofs.levels.+push_levels.Given as goal
-
-abbrev pub decreases-push_levels : goal.decreases-push_levels
-decreases-push_levels g l = size (process_of l.term.now)

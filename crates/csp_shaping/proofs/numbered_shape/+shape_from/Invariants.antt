@@ -1,6 +1,0 @@
-use Rattle.csp_semantics.specs.Meaning.Limits.{size}
-use Rattle.csp_term.specs.Term.{process_of}
-use Rattle.csp_shaping.proofs.numbered_shape.+shape_from.Given as goal
-
-abbrev pub decreases-shape_from : goal.decreases-shape_from
-decreases-shape_from g l = size (process_of l.term.now)

@@ -1,6 +1,0 @@
-use Rattle.csp_semantics.specs.Meaning.Limits.{size}
-use Rattle.csp_term.specs.Term.{process_of}
-use Rattle.csp_shaping.proofs.own_size.+room_left.Given as goal
-
-abbrev pub decreases-room_left : goal.decreases-room_left
-decreases-room_left g l = size (process_of l.term.now)

@@ -1,6 +1,0 @@
-use Rattle.csp_term.specs.Term.{process_of}
-use Rattle.csp_shaping.proofs.Heads.{small_own}
-use Rattle.csp_shaping.proofs.own_size.own_size_of.Goals as goal
-
-pub returns-in-None : goal.returns-in-None
-returns-in-None g c = absurd (c.in-None.ensures (small_own (process_of c.args.term.now) c.requires))

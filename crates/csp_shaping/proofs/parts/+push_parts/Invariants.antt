@@ -1,6 +1,0 @@
-use Rattle.csp_semantics.specs.Meaning.Limits.{size}
-use Rattle.csp_term.specs.Term.{process_of}
-use Rattle.csp_shaping.proofs.parts.+push_parts.Given as goal
-
-abbrev pub decreases-push_parts : goal.decreases-push_parts
-decreases-push_parts g l = size (process_of l.term.now)

@@ -1,0 +1,10 @@
+pub mod Answering
+pub mod Composing
+pub mod Renaming
+pub mod Sharing
+pub mod Together
+pub mod UnderBindings
+pub mod Arguments
+pub mod Communicating
+pub mod Repeating
+pub mod Replicating

@@ -1,0 +1,30 @@
+//! A conditional process does what the branch does that its condition picks.
+
+ghost use Rattle.theory_syntax.specs.Process.{If};
+ghost use Rattle.csp_expression.specs.Expression.{expression_of};
+ghost use Rattle.csp_term.specs.Term.{process_of};
+ghost use Rattle.csp_steps.specs.UnderBindings.{AnswersUnder};
+
+use crate::rule_step::RuleStep;
+use crate::rules;
+use crate::rules::condition::condition;
+use csp_expression::{Binding, Expr, NoValue};
+use csp_term::{AllocHandle, ScriptParts, Term};
+
+#[cycle(steps)]
+pub(crate) fn steps<'v, A: AllocHandle>(
+    alloc: A,
+    script: &'v ScriptParts<A>,
+    bindings: &[Binding<'v, A>],
+    test: &'v Expr<A>,
+    first: &'v Term<A>,
+    second: &'v Term<A>,
+) -> Result<Vec<RuleStep<A>, A>, NoValue>
+    ensures { AnswersUnder script.now bindings.now (If (expression_of test.now) (process_of first.now) (process_of second.now)) result }
+{
+    if condition(alloc, &script.types, bindings, test)? {
+        rules::steps(alloc, script, bindings, first)
+    } else {
+        rules::steps(alloc, script, bindings, second)
+    }
+}

@@ -1,4 +1,0 @@
-pub mod Forms
-pub mod Meeting
-pub mod Closing
-pub mod Returning

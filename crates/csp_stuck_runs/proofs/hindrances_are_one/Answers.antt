@@ -1,5 +1,0 @@
-use Rattle.csp_stuck_runs.proofs.Forms.{one_hindrance}
-use Rattle.csp_stuck_runs.proofs.hindrances_are_one.Goals as goal
-
-pub returns : goal.returns
-returns c = λ script t h k other first second. other (one_hindrance script t h k first second)

@@ -1,5 +1,0 @@
-use Rattle.csp_stuck_runs.proofs.Meeting.{done_more}
-use Rattle.csp_stuck_runs.proofs.one_more_is_done.Goals as goal
-
-pub returns : goal.returns
-returns c = λ script t h done m after v steps is stands free are put. done_more script t h done m after v steps is stands free are put

@@ -1,5 +1,0 @@
-use Rattle.csp_stuck_runs.proofs.Returning.{way_ends}
-use Rattle.csp_stuck_runs.proofs.ways_back_are_runs.Goals as goal
-
-pub returns : goal.returns
-returns c = λ script t m end here path states met way told. way_ends script t m met end path states here way told

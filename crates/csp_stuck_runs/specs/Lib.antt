@@ -1,4 +1,0 @@
-pub mod Stuck
-pub mod Runs
-pub mod Meeting
-pub mod Returning

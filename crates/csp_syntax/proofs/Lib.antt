@@ -1,6 +1,0 @@
-pub mod Places
-pub mod Equalities
-pub mod Orders
-pub mod ProcessOrder
-pub mod Truths
-pub mod Members

@@ -1,0 +1,54 @@
+-- Runs of a side to a state that is faulty or large, by which an assertion has no answer.
+use Rattle.std.specs.Prelude.{◌≡◌, ℕ, List, [], ◌++◌, codes, Option, Some, None}
+use Rattle.theory_syntax.specs.Value.{Action}
+use Rattle.theory_syntax.specs.Process.{Process, Assertion, specification_of, Script}
+use Rattle.theory_search.specs.Outcome.{Why, TooManyPairs, TooManyNodes, LargeTerm, Fault, NoMemory}
+use Rattle.theory_origins.specs.Origin.{Origin}
+use Rattle.theory_runs.specs.Stuck.{Hindrance, ByCause, BySize}
+use Rattle.theory_runs.specs.Runs.{HasNoneWithin, IsStuckRun}
+use Rattle.theory_explanation.specs.Counterexamples.{AreOriginsAlong}
+use Rattle.theory_explanation.specs.Paths.{path_text}
+use Rattle.theory_explanation.specs.Styles.{Style}
+
+-- what a state of a side is stuck by, where there is no answer for that
+abbrev pub hindrance : Why → Option Hindrance
+hindrance TooManyPairs = None
+hindrance TooManyNodes = None
+hindrance LargeTerm = Some BySize
+hindrance (Fault c) = Some (ByCause c)
+hindrance NoMemory = None
+
+-- a path of a side, with the states on its way, and where its steps come from
+pub data SideRun : Type 0 where
+  OfImplementation : (path : List Action) (states : List Process) (origins : List (Option Origin)) → SideRun
+  OfSpecification : (path : List Action) (states : List Process) (origins : List (Option Origin)) → SideRun
+
+-- the path leads from the process to a state that is stuck so, by these states and steps from there
+pub record IsToldRun (script : Script) (t : Process) (h : Hindrance) (path : List Action) (states : List Process) (origins : List (Option Origin)) : Type 0 where
+  pub run : IsStuckRun script t h path states
+  pub told : AreOriginsAlong script path states origins
+
+-- The run is one of the implementation to a state that is stuck so; or one of the specification, where none of the
+-- implementation is found among n states. Where there is none, none of either is found among so many.
+abbrev pub IsFound : Script → Assertion → Hindrance → ℕ → Option SideRun → Type 0
+IsFound script a h n (Some (OfImplementation path states origins)) = IsToldRun script a.implementation h path states origins
+IsFound script a h n (Some (OfSpecification path states origins)) =
+    HasNoneWithin script a.implementation h n × ((spec : Process) × (specification_of a.property ≡ Some spec) × IsToldRun script spec h path states origins)
+IsFound script a h n None = HasNoneWithin script a.implementation h n × ((spec : Process) → specification_of a.property ≡ Some spec → HasNoneWithin script spec h n)
+
+-- ---- the text
+
+-- what the last state of the run is stuck by
+abbrev pub stuck_line : Hindrance → List ℕ
+stuck_line (ByCause c) = codes "  there a rule lacks a value\n"
+stuck_line BySize = codes "  there it is too large, or what a step leads to\n"
+
+-- the side, its run state by state, and what is wrong at the end
+abbrev pub fault_run_text : Style → Hindrance → SideRun → List ℕ
+fault_run_text style h (OfImplementation path states origins) = codes "  the implementation comes there by\n" ++ (path_text style path states origins ++ stuck_line h)
+fault_run_text style h (OfSpecification path states origins) = codes "  the specification comes there by\n" ++ (path_text style path states origins ++ stuck_line h)
+
+-- of no run nothing is told
+abbrev pub found_text : Style → Hindrance → Option SideRun → List ℕ
+found_text style h (Some run) = fault_run_text style h run
+found_text style h None = []

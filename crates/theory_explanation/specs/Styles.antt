@@ -1,0 +1,12 @@
+-- How assertions are told.
+use Rattle.std.specs.Prelude.{ℕ}
+use Rattle.theory_notation.specs.Names.{Names}
+use Rattle.theory_explanation.specs.Cutting.{Width}
+
+-- By which names, how much of a state, how many states of a specification at a time, and how many it has at most after a
+-- beginning of a path, so that any of them are told.
+pub record Style : Type 0 where
+  pub names : Names
+  pub width : Width
+  pub few : ℕ
+  pub most : ℕ

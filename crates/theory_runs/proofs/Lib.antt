@@ -1,0 +1,17 @@
+pub mod Visiting
+pub mod Layering
+pub mod Returning
+pub mod Scanning
+pub mod Firing
+pub mod Showing
+pub mod Closing
+pub mod Along
+pub mod Closures
+pub mod Gathering
+pub mod Initials
+pub mod Acceptances
+pub mod Sortings
+pub mod Forms
+pub mod Meeting
+pub mod AllDone
+pub mod WayBack

@@ -1,0 +1,10 @@
+pub mod States
+pub mod Layers
+pub mod Within
+pub mod Gathering
+pub mod Initials
+pub mod Acceptances
+pub mod Stuck
+pub mod Runs
+pub mod Meeting
+pub mod Returning

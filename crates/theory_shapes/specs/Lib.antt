@@ -1,0 +1,13 @@
+pub mod Shape
+pub mod Parts
+pub mod Changes
+pub mod Edits
+pub mod Pieces
+pub mod Measures
+pub mod Combining
+pub mod Moves
+pub mod MoveEdits
+pub mod ShapeSteps
+pub mod Operators
+pub mod Examples
+pub mod Alphabet

@@ -1,0 +1,9 @@
+pub mod Places
+pub mod Equalities
+pub mod Orders
+pub mod ProcessOrder
+pub mod Truths
+pub mod Members
+pub mod Expressions
+pub mod EventSets
+pub mod Processes
