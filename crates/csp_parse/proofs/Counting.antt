@@ -1,52 +1,33 @@
--- Scripts, from declarations that are read and counted.
-use Rattle.std.proofs.Common.{◌≡◌, ◌∙◌, ◌≤◌, List, [], ◌∷◌, ◌++◌, map, sym, ap, subst, append_assoc, append-nil, arith}
-use Rattle.std.proofs.lemmas.List.{map-append}
+-- The next token is counted.
+use Rattle.std.proofs.Common.{◌≡◌, ◌∙◌, ◌<◌, ◌≤◌, true, false, cond, List, [], ◌∷◌, refl, sym, ap, Some, None, Ok, Err, arith}
+use Rattle.std.specs.Prelude.{nat_lt}
 use Rattle.theory_text.specs.Token.{PlacedToken}
-use Rattle.theory_text.specs.Raw.{RawDeclaration, RawScript}
-use Rattle.theory_text.specs.Grammar as grammar
-use Rattle.theory_text.specs.Grammar.{IsDeclaration, IsScript}
-use Rattle.theory_text.specs.Height.{Nest, nesting, after_token, after_tokens, nest_height, greatest_height}
-use Rattle.csp_parse.specs.Limits.{IsLow, IsLowScript, none, and_one}
-use Rattle.csp_parse.specs.Reading.{Standing, CountsFirst, AreLow, Reads}
-use Rattle.csp_parse.specs.Nests.{start}
+use Rattle.theory_text.specs.Height.{Nest, Nesting, nesting, after_token, nest_height, greatest_height}
+use Rattle.csp_parse.proofs.Rising.{rises}
+use Rattle.theory_reader.specs.Programs.{first, High, count}
 
--- Declarations within the limit are read.
-pub record ReadsScript (before after : List PlacedToken) (s : RawScript) : Type 0 where
-  pub front : List PlacedToken
-  pub splits : before ≡ front ++ after
-  pub is : IsLowScript front s
+-- a nest that counts one token more has a height that the code holds
+pub small_enough : (x : Nesting) (old new : Nest) → nest_height old ≤ greatest_height → new ≡ after_token x old → nest_height new < 4294967296
+small_enough x old new low is = let up = rises x old in let same = ap nest_height is in omega (arith, low, up, same)
 
-low_front : (n : Nest) (front rest : List PlacedToken) → AreLow n (front ++ rest) → nest_height n ≤ greatest_height → nest_height (after_tokens n front) ≤ greatest_height
-low_front n [] rest h low = low
-low_front n (t ∷ ts) rest h low = low_front (after_token (nesting t.token) n) ts rest h.1 h.0
+pub none_counted : (n : Nest) (ts : List PlacedToken) → None ≡ first ts → count n ts ≡ Ok (tt, record { left = ts; nest = n })
+none_counted n [] e = refl
+none_counted n (t ∷ ts) e = absurd (cc e)
 
-pub is_low : (a : List PlacedToken) → AreLow start a → IsLow a
-is_low a h front rest e = low_front start front rest (subst (AreLow start) e h) (omega arith)
+first_is : {t u : PlacedToken} → Some t ≡ Some u → t ≡ u
+first_is e = cc e
 
-pub last_declaration : (a b : List PlacedToken) (ds : RawScript) (d : RawDeclaration) → IsLowScript a ds → IsDeclaration b d → IsLow b → IsLowScript (a ++ b) (ds ++ d ∷ [])
-last_declaration a b ds d IsLowScript.none h low = subst (λ ts. IsLowScript ts (d ∷ [])) (append-nil ([] ++ b)) (and_one h low none)
-last_declaration a b ds d (IsLowScript.and_one {a = a1} {b = b1} {d = e} {ds = es} k l ks) h low =
-    subst (λ ts. IsLowScript ts (e ∷ es ++ d ∷ [])) (sym (append_assoc a1 b1 b)) (and_one k l (last_declaration b1 b es d ks h low))
+pub low_counted : (n m : Nest) (t : PlacedToken) (ts : List PlacedToken) → Some t ≡ first ts → m ≡ after_token (nesting t.token) n → nest_height m ≤ greatest_height → count n ts ≡ Ok (tt, record { left = ts; nest = m })
+low_counted n m t [] e is low = absurd (cc e)
+low_counted n m t (u ∷ us) e is low =
+    let same : m ≡ after_token (nesting u.token) n = is ∙ ap (λ x. after_token (nesting x.token) n) (first_is e) in
+    let under : nat_lt greatest_height (nest_height m) ≡ false = grind (arith, low) in
+    ap (λ b. cond b (Err (High, u ∷ us)) (Ok (tt, record { left = u ∷ us; nest = after_token (nesting u.token) n }))) (ap (λ x. nat_lt greatest_height (nest_height x)) (sym same) ∙ under)
+    ∙ ap (λ x. Ok (tt, record { left = u ∷ us; nest = x })) (sym same)
 
-pub no_declarations_read : {Y : Type 0} (f : Y → RawDeclaration) (xs : List Y) {a b : List PlacedToken} → b ≡ a → xs ≡ [] → ReadsScript a b (map f xs)
-no_declarations_read f xs same is = record { front = []; splits = sym same; is = subst (λ ys. IsLowScript [] (map f ys)) (sym is) none }
-
--- a declaration is begun and read
-pub more_declarations_read : {Y : Type 0} (f : Y → RawDeclaration) (x : Y) (xs ys : List Y) {a b : List PlacedToken} {c d : Standing} → ReadsScript a b (map f xs) → c.left ≡ b → CountsFirst start c.left c.nest →
-    Reads IsDeclaration c d (f x) → ys ≡ xs ++ x ∷ [] → ReadsScript a d.left (map f ys)
-more_declarations_read f x xs ys {d = d} list same begun r is =
-    let counted = r.splits.counts start begun in
-    record {
-      front = list.front ++ r.front;
-      splits = list.splits ∙ ap (λ ts. list.front ++ ts) (sym same ∙ r.splits.is) ∙ sym (append_assoc list.front r.front d.left);
-      is = subst (IsLowScript (list.front ++ r.front)) (sym (ap (map f) is ∙ map-append f xs (x ∷ [])))
-          (last_declaration list.front r.front (map f xs) (f x) list.is r.is (is_low r.front counted.low));
-    }
-
--- all tokens are read
-pub whole_script : {a b : List PlacedToken} {s : RawScript} → ReadsScript a b s → b ≡ [] → IsLowScript a s
-whole_script {s = s} r end = subst (λ ts. IsLowScript ts s) (sym (r.splits ∙ ap (λ ts. r.front ++ ts) end ∙ append-nil r.front)) r.is
-
-pub is_script : (a : List PlacedToken) (s : RawScript) → IsLowScript a s → IsScript a s
-is_script a s IsLowScript.none = grammar.no_declarations
-is_script a s (IsLowScript.and_one {b = b} {ds = ds} h low rest) = grammar.declarations h (is_script b ds rest)
+pub high_counted : (n m : Nest) (t : PlacedToken) (ts : List PlacedToken) → Some t ≡ first ts → m ≡ after_token (nesting t.token) n → greatest_height < nest_height m → count n ts ≡ Err (High, ts)
+high_counted n m t [] e is high = absurd (cc e)
+high_counted n m t (u ∷ us) e is high =
+    let same : m ≡ after_token (nesting u.token) n = is ∙ ap (λ x. after_token (nesting x.token) n) (first_is e) in
+    let over : nat_lt greatest_height (nest_height m) ≡ true = grind (arith, high) in
+    ap (λ b. cond b (Err (High, u ∷ us)) (Ok (tt, record { left = u ∷ us; nest = after_token (nesting u.token) n }))) (ap (λ x. nat_lt greatest_height (nest_height x)) (sym same) ∙ over)

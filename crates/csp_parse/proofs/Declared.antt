@@ -1,84 +1,109 @@
--- What the readers of declarations tell, from what those of their parts do.
-use Rattle.std.proofs.Common.{◌≡◌, ◌∙◌, List, [], ◌∷◌, ◌++◌, refl, sym, subst}
-use Rattle.theory_syntax.specs.Process.{Model}
-use Rattle.theory_text.specs.Token.{Token, SignToken, Sign, DatatypeWord, EqualsSign, TracesSign, FailuresSign, PlacedToken}
-use Rattle.theory_text.specs.Grammar as grammar
-use Rattle.theory_text.specs.Grammar.{IsWord, IsSign, sign, IsName, AreClauses, IsModel}
-use Rattle.csp_parse.specs.declared.stops.Stopped.{Stopped}
-use Rattle.csp_parse.specs.Deciding.{first, nothing, only, Ends, IsStop, Done}
-use Rattle.csp_parse.specs.DeclarationForms.{IsDatatype, datatype_goes_on}
-use Rattle.csp_parse.specs.Forms.{HasTree, Then}
-use Rattle.csp_parse.specs.Reading.{Standing, Passes, Reads}
-use Rattle.csp_parse.proofs.Deciding.{Inhabited, Narrows, avoids_nothing, done_then, stop_first, stop_second, ended, stop_chosen}
-use Rattle.csp_parse.proofs.Repeating.{IsFirstIn}
-use Rattle.csp_parse.proofs.Singles.{IsSingle, decides, single_done, sign_single, some_sign, word_single, some_name}
+-- What the reader of declarations does where it stands, by what the next token is.
+use Rattle.theory_text.specs.Raw.{RawClause, RawDomain, RawName, RawProcess}
+use Rattle.std.proofs.Common.{◌≡◌, ◌∙◌, Bool, true, false, List, [], ◌∷◌, ◌++◌, map, refl, sym, ap, Option, Some, Ok, codes}
+use Rattle.std.proofs.lemmas.List.{map-append}
+use Rattle.std.specs.Prelude.{option_map}
+use Rattle.theory_text.specs.Token.{PlacedToken, AssertWord, BarSign, ChannelWord, CloseRenamingSign, CloseSquareSign, ColonSign, CommaSign, DatatypeWord, DotSign, NametypeWord, NotWord, OpenRoundSign, OpenSquareSign, TracesSign}
+use Rattle.theory_reader.specs.Forms.{Level, Atom, ClausesBehind, DomainsBehind, DoubleEnd, FreedomEnd, NamesBehind, OfAssertion, OfChannels, OfClause, OfClauses, OfDeclaration, OfDomain, OfDomains, OfEquation, OfFirstSide, OfFreedom, OfModel, OfName, OfNames, OfSign, OfWord}
+use Rattle.theory_reader.specs.Programs.{seen_of, first, Seen, Standing, run}
+use Rattle.theory_reader.specs.Reader.{body, reads, assertion_at, assertion_by, channels_by, clause_by, clauses_by, declaration_by, domain_at, domains_by, double_end_by, equation_by, first_side_by, freedom_by, freedom_end_by, is_name, is_sign, is_spelled, is_word, model_by, names_by}
+use Rattle.theory_reader.proofs.Laws.{reads_is}
+use Rattle.csp_parse.proofs.Loops.{alone}
 
--- some clauses
-pub some_clauses : Inhabited (HasTree AreClauses)
-some_clauses = let n = some_name in (n.0, (_, grammar.one_clause (grammar.bare_clause n.1.1)))
+-- what the next token is
+abbrev next : Standing → Option Seen
+next s = option_map seen_of (first s.left)
 
--- the keyword, the name and the sign of a datatype
-abbrev Named : List PlacedToken → Type 0
-Named = Then (IsWord DatatypeWord) (HasTree IsName)
+pub names_reads : (xs : List RawName) (s : Standing) (b : Bool) → is_sign CommaSign (next s) ≡ b → reads (NamesBehind xs) s ≡ run reads (names_by xs b) s
+unfolding body
+names_reads xs s b is = reads_is (NamesBehind xs) s ∙ ap (λ x. run reads (names_by xs x) s) is
 
-pub datatype_begun : {s t u v : Standing} → Passes (IsWord DatatypeWord) s t → Done (HasTree IsName) nothing t u → Passes (IsSign EqualsSign) u v → Done (Then Named (IsSign EqualsSign)) nothing s v
-datatype_begun w n e =
-    done_then (done_then (single_done (word_single DatatypeWord) w) (avoids_nothing nothing (HasTree IsName)) n) (avoids_nothing nothing (IsSign EqualsSign)) (single_done (sign_single EqualsSign) e)
+pub names_begin : (s q : Standing) (x : RawName) → reads OfName s ≡ Ok (x, q) → reads OfNames s ≡ reads (NamesBehind (x ∷ [])) q
+unfolding body
+names_begin s q x read = rw (reads_is OfNames s, read) (alone (reads (NamesBehind (x ∷ [])) q))
 
-pub datatype_end : {s v z : Standing} → Done (Then Named (IsSign EqualsSign)) nothing s v → Done (HasTree AreClauses) datatype_goes_on v z → Ends IsDatatype datatype_goes_on s z
-datatype_end begun clauses = ended (done_then begun (avoids_nothing datatype_goes_on (HasTree AreClauses)) clauses)
+pub names_more : {X : Type 0} (f : X → RawName) (xs ys : List X) (x : X) (s q p : Standing) → is_sign CommaSign (next s) ≡ true → reads (OfSign CommaSign) s ≡ Ok (tt {0}, q) → reads OfName q ≡ Ok (f x, p) → ys ≡ xs ++ x ∷ [] →
+    reads (NamesBehind (map f xs)) s ≡ reads (NamesBehind (map f ys)) p
+names_more f xs ys x s q p at sign read is =
+    names_reads (map f xs) s true at ∙ rw (sign, read) (alone (reads (NamesBehind (map f xs ++ f x ∷ [])) p)) ∙ ap (λ zs. reads (NamesBehind zs) p) (sym (ap (map f) is ∙ map-append f xs (x ∷ [])))
 
--- the readers of its parts stop, in their turn
-pub datatype_stop_word : {s t : Standing} {e : Stopped} → IsStop (IsWord DatatypeWord) nothing s t e → IsStop IsDatatype datatype_goes_on s t e
-datatype_stop_word stops =
-    stop_first (stop_first (stop_first stops (avoids_nothing nothing (HasTree IsName)) some_name) (avoids_nothing nothing (IsSign EqualsSign)) (some_sign EqualsSign))
-    (avoids_nothing datatype_goes_on (HasTree AreClauses)) some_clauses
+pub domains_reads : (xs : List RawDomain) (s : Standing) (b : Bool) → is_sign DotSign (next s) ≡ b → reads (DomainsBehind xs) s ≡ run reads (domains_by xs b) s
+unfolding body
+domains_reads xs s b is = reads_is (DomainsBehind xs) s ∙ ap (λ x. run reads (domains_by xs x) s) is
 
-pub datatype_stop_name : {s t u : Standing} {e : Stopped} → Passes (IsWord DatatypeWord) s t → IsStop (HasTree IsName) nothing t u e → IsStop IsDatatype datatype_goes_on s u e
-datatype_stop_name w stops =
-    stop_first (stop_first (stop_second (single_done (word_single DatatypeWord) w) (avoids_nothing nothing (HasTree IsName)) stops) (avoids_nothing nothing (IsSign EqualsSign)) (some_sign EqualsSign))
-    (avoids_nothing datatype_goes_on (HasTree AreClauses)) some_clauses
+pub domains_begin : (s q : Standing) (x : RawDomain) → reads (OfDomain Atom) s ≡ Ok (x, q) → reads OfDomains s ≡ reads (DomainsBehind (x ∷ [])) q
+unfolding body
+domains_begin s q x read = rw (reads_is OfDomains s, read) (alone (reads (DomainsBehind (x ∷ [])) q))
 
-pub datatype_stop_sign : {s t u v : Standing} {e : Stopped} → Passes (IsWord DatatypeWord) s t → Done (HasTree IsName) nothing t u → IsStop (IsSign EqualsSign) nothing u v e → IsStop IsDatatype datatype_goes_on s v e
-datatype_stop_sign w n stops =
-    stop_first (stop_second (done_then (single_done (word_single DatatypeWord) w) (avoids_nothing nothing (HasTree IsName)) n) (avoids_nothing nothing (IsSign EqualsSign)) stops)
-    (avoids_nothing datatype_goes_on (HasTree AreClauses)) some_clauses
+pub domains_more : {X : Type 0} (f : X → RawDomain) (xs ys : List X) (x : X) (s q p : Standing) → is_sign DotSign (next s) ≡ true → reads (OfSign DotSign) s ≡ Ok (tt {0}, q) → reads (OfDomain Atom) q ≡ Ok (f x, p) → ys ≡ xs ++ x ∷ [] →
+    reads (DomainsBehind (map f xs)) s ≡ reads (DomainsBehind (map f ys)) p
+domains_more f xs ys x s q p at sign read is =
+    domains_reads (map f xs) s true at ∙ rw (sign, read) (alone (reads (DomainsBehind (map f xs ++ f x ∷ [])) p)) ∙ ap (λ zs. reads (DomainsBehind zs) p) (sym (ap (map f) is ∙ map-append f xs (x ∷ [])))
 
-pub datatype_stop_clauses : {s v z : Standing} {e : Stopped} → Done (Then Named (IsSign EqualsSign)) nothing s v → IsStop (HasTree AreClauses) datatype_goes_on v z e → IsStop IsDatatype datatype_goes_on s z e
-datatype_stop_clauses begun stops = stop_second begun (avoids_nothing datatype_goes_on (HasTree AreClauses)) stops
+pub clauses_reads : (xs : List RawClause) (s : Standing) (b : Bool) → is_sign BarSign (next s) ≡ b → reads (ClausesBehind xs) s ≡ run reads (clauses_by xs b) s
+unfolding body
+clauses_reads xs s b is = reads_is (ClausesBehind xs) s ∙ ap (λ x. run reads (clauses_by xs x) s) is
 
-model_single : IsSingle (HasTree IsModel)
-model_single a (m, IsModel.traces (sign t is)) = (t, refl)
-model_single a (m, IsModel.failures (sign t is)) = (t, refl)
+pub clauses_begin : (s q : Standing) (x : RawClause) → reads OfClause s ≡ Ok (x, q) → reads OfClauses s ≡ reads (ClausesBehind (x ∷ [])) q
+unfolding body
+clauses_begin s q x read = rw (reads_is OfClauses s, read) (alone (reads (ClausesBehind (x ∷ [])) q))
 
-pub model_end : {s t : Standing} {m : Model} → Reads IsModel s t m → Ends (HasTree IsModel) nothing s t
-model_end {t = t} {m = m} r = ended (record { front = r.front; splits = r.splits; is = (m, r.is); ends = decides (HasTree IsModel) model_single nothing r.front t.left (m, r.is) })
+pub clauses_more : {X : Type 0} (f : X → RawClause) (xs ys : List X) (x : X) (s q p : Standing) → is_sign BarSign (next s) ≡ true → reads (OfSign BarSign) s ≡ Ok (tt {0}, q) → reads OfClause q ≡ Ok (f x, p) → ys ≡ xs ++ x ∷ [] →
+    reads (ClausesBehind (map f xs)) s ≡ reads (ClausesBehind (map f ys)) p
+clauses_more f xs ys x s q p at sign read is =
+    clauses_reads (map f xs) s true at ∙ rw (sign, read) (alone (reads (ClausesBehind (map f xs ++ f x ∷ [])) p)) ∙ ap (λ zs. reads (ClausesBehind zs) p) (sym (ap (map f) is ∙ map-append f xs (x ∷ [])))
 
-sign_behind : {s : Sign} {a : List PlacedToken} (b : List PlacedToken) → IsSign s a → IsFirstIn (only s) (a ++ b)
-sign_behind b (sign t is) = is
+pub domain_reads : (l : Level) (s : Standing) (t : Option PlacedToken) → t ≡ first s.left → reads (OfDomain l) s ≡ run reads (domain_at l t) s
+unfolding body
+domain_reads l s t e = reads_is (OfDomain l) s ∙ ap (λ x. run reads (domain_at l x) s) (sym e)
 
-in_left : (f : Token → Type 0) (x left : List PlacedToken) → first x ≡ first left → IsFirstIn f x → IsFirstIn f left
-in_left f [] left e is = absurd is
-in_left f (t ∷ ts) [] e is = absurd (cc e)
-in_left f (t ∷ ts) (u ∷ us) e is = let same : t ≡ u = cc e in subst (λ v. f v.token) same is
+pub clause_reads : (v : RawName) (s q : Standing) (b : Bool) → reads OfName s ≡ Ok (v, q) → is_sign DotSign (next q) ≡ b → reads OfClause s ≡ run reads (clause_by v b) q
+unfolding body
+clause_reads v s q b read e = rw (reads_is OfClause s, read) refl ∙ ap (λ x. run reads (clause_by v x) q) e
 
-other_sign : {x y : Sign} → SignToken x ≡ SignToken y → x ≡ y
-other_sign e = cc e
+pub bare_clause : (v : RawName) (s q : Standing) (ds : List RawDomain) → reads OfName s ≡ Ok (v, q) → is_sign DotSign (next q) ≡ false → ds ≡ [] → reads OfClause s ≡ Ok (record { name = v; fields = ds }, q)
+bare_clause v s q ds read e none = clause_reads v s q false read e ∙ ap (λ zs. Ok (record { name = v; fields = zs }, q)) (sym none)
 
-not_both : (s r : Sign) → (s ≡ r → ⊥) → (left : List PlacedToken) → IsFirstIn (only s) left → IsFirstIn (only r) left → ⊥
-not_both s r differ [] one two = one
-not_both s r differ (t ∷ ts) one two = differ (other_sign (sym one ∙ two))
+pub channels_reads : (ns : List RawName) (s p q : Standing) (b : Bool) → reads (OfWord ChannelWord) s ≡ Ok (tt {0}, p) → reads OfNames p ≡ Ok (ns, q) → is_sign ColonSign (next q) ≡ b → reads OfChannels s ≡ run reads (channels_by ns b) q
+unfolding body
+channels_reads ns s p q b word read e = rw (reads_is OfChannels s, word, read) refl ∙ ap (λ x. run reads (channels_by ns x) q) e
 
-only_traces : (s : Standing) → IsFirstIn (only TracesSign) s.left → Narrows (HasTree IsModel) (IsSign TracesSign) nothing s
-only_traces s next a b alike (m, IsModel.traces h) _ = h
-only_traces s next a b alike (m, IsModel.failures h) _ = absurd (not_both FailuresSign TracesSign (λ e. cc e) s.left (in_left (only FailuresSign) (a ++ b) s.left alike (sign_behind b h)) next)
+pub equation_reads : (v : RawName) (s q : Standing) (b : Bool) → reads OfName s ≡ Ok (v, q) → is_sign OpenRoundSign (next q) ≡ b → reads OfEquation s ≡ run reads (equation_by v b) q
+unfolding body
+equation_reads v s q b read e = rw (reads_is OfEquation s, read) refl ∙ ap (λ x. run reads (equation_by v x) q) e
 
-only_failures : (s : Standing) → ¬ (IsFirstIn (only TracesSign) s.left) → Narrows (HasTree IsModel) (IsSign FailuresSign) nothing s
-only_failures s not a b alike (m, IsModel.traces h) _ = absurd (not (in_left (only TracesSign) (a ++ b) s.left alike (sign_behind b h)))
-only_failures s not a b alike (m, IsModel.failures h) _ = h
+pub declaration_reads : (s : Standing) (a b c d e : Bool) → is_word DatatypeWord (next s) ≡ a → is_word NametypeWord (next s) ≡ b → is_word ChannelWord (next s) ≡ c → is_word AssertWord (next s) ≡ d → is_name (next s) ≡ e →
+    reads OfDeclaration s ≡ run reads (declaration_by a b c d e) s
+unfolding body
+declaration_reads s a b c d e f g h i j =
+    reads_is OfDeclaration s ∙ ap (λ x. run reads (declaration_by x (is_word NametypeWord (next s)) (is_word ChannelWord (next s)) (is_word AssertWord (next s)) (is_name (next s))) s) f
+    ∙ ap (λ x. run reads (declaration_by a x (is_word ChannelWord (next s)) (is_word AssertWord (next s)) (is_name (next s))) s) g ∙ ap (λ x. run reads (declaration_by a b x (is_word AssertWord (next s)) (is_name (next s))) s) h
+    ∙ ap (λ x. run reads (declaration_by a b c x (is_name (next s))) s) i ∙ ap (λ x. run reads (declaration_by a b c d x) s) j
 
-pub traces_stop : {s t : Standing} {e : Stopped} → IsFirstIn (only TracesSign) s.left → IsStop (IsSign TracesSign) nothing s t e → IsStop (HasTree IsModel) nothing s t e
-traces_stop {s} next stops = stop_chosen (only_traces s next) (λ a h. (_, IsModel.traces h)) stops
+pub assertion_begins : (s : Standing) (t : Option PlacedToken) → t ≡ first s.left → reads OfAssertion s ≡ run reads (assertion_at t) s
+unfolding body
+assertion_begins s t e = reads_is OfAssertion s ∙ ap (λ x. run reads (assertion_at x) s) (sym e)
 
-pub failures_stop : {s t : Standing} {e : Stopped} → ¬ (IsFirstIn (only TracesSign) s.left) → IsStop (IsSign FailuresSign) nothing s t e → IsStop (HasTree IsModel) nothing s t e
-failures_stop {s} not stops = stop_chosen (only_failures s not) (λ a h. (_, IsModel.failures h)) stops
+pub assertion_reads : (t : PlacedToken) (side : Bool × RawProcess) (s p q : Standing) (b : Bool) → Some t ≡ first s.left → reads (OfWord AssertWord) s ≡ Ok (tt {0}, p) → reads OfFirstSide p ≡ Ok (side, q) → is_sign ColonSign (next q) ≡ b →
+    reads OfAssertion s ≡ run reads (assertion_by t.place side b) q
+assertion_reads t side s p q b at word read e = assertion_begins s (Some t) at ∙ rw (word, read) refl ∙ ap (λ x. run reads (assertion_by t.place side x) q) e
+
+pub side_reads : (s : Standing) (b : Bool) → is_word NotWord (next s) ≡ b → reads OfFirstSide s ≡ run reads (first_side_by b) s
+unfolding body
+side_reads s b e = reads_is OfFirstSide s ∙ ap (λ x. run reads (first_side_by x) s) e
+
+pub model_reads : (s : Standing) (b : Bool) → is_sign TracesSign (next s) ≡ b → reads OfModel s ≡ run reads (model_by b) s
+unfolding body
+model_reads s b e = reads_is OfModel s ∙ ap (λ x. run reads (model_by x) s) e
+
+pub freedom_reads : (s q : Standing) (b : Bool) → reads (OfSign OpenSquareSign) s ≡ Ok (tt {0}, q) → is_spelled (codes "divergence") (first q.left) ≡ b → reads OfFreedom s ≡ run reads (freedom_by b) q
+unfolding body
+freedom_reads s q b sign e = rw (reads_is OfFreedom s, sign) refl ∙ ap (λ x. run reads (freedom_by x) q) e
+
+pub end_reads : (s : Standing) (b : Bool) → is_sign CloseSquareSign (next s) ≡ b → reads FreedomEnd s ≡ run reads (freedom_end_by b) s
+unfolding body
+end_reads s b e = reads_is FreedomEnd s ∙ ap (λ x. run reads (freedom_end_by x) s) e
+
+pub double_reads : (s : Standing) (b : Bool) → is_sign CloseRenamingSign (next s) ≡ b → reads DoubleEnd s ≡ run reads (double_end_by b) s
+unfolding body
+double_reads s b e = reads_is DoubleEnd s ∙ ap (λ x. run reads (double_end_by x) s) e

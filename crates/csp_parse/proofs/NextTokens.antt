@@ -1,96 +1,83 @@
--- What the next token says of what is read, and what nothing that is read says.
-use Rattle.std.proofs.Common.{◌≡◌, ◌⊎◌, List, [], ◌∷◌, ◌++◌, inl, inr, refl, sym, subst}
-use Rattle.theory_text.specs.Token as text
-use Rattle.theory_text.specs.Token.{Token, KeywordToken, SignToken, ArrowSign, GuardSign, CloseRoundSign, OpenRenamingSign, HidingSign, PlacedToken}
-use Rattle.theory_text.specs.Grammar.{IsSign}
+-- The token that stands next.
+use Rattle.std.proofs.Common.{◌≡◌, ◌∙◌, ℕ, ◌+◌, ◌<◌, ◌≤◌, Bool, true, false, List, [], ◌∷◌, length, map, drop, get_or, refl, sym, ap, subst, drop-cons, drop_of_length-le, add-one, arith, Option, Some, inl, inr}
+use Rattle.std.proofs.lemmas.Bool.{cases_Bool}
+use Rattle.csp_lex.specs.declared.kinds.Token.{Token}
+use Rattle.csp_lex.specs.declared.kinds.TokenKind.{TokenKind}
 use Rattle.csp_lex.specs.declared.kinds.TokenKind.TheVariants as kind
-use Rattle.csp_lex.specs.declared.keywords.Keyword.TheVariants as keyword
-use Rattle.csp_lex.specs.declared.signs.Sign.TheVariants as signs
-use Rattle.csp_parse.specs.declared.levels.Level.TheVariants as level
-use Rattle.csp_parse.specs.Continuing.{continues}
-use Rattle.csp_parse.specs.Deciding.{only, Stops, Done}
-use Rattle.csp_parse.specs.Forms.{Either, Perhaps}
-use Rattle.csp_parse.specs.ProcessForms.{continues_start, continues_process, Guarded, ClosedProcess, ClosedExpression}
-use Rattle.csp_parse.specs.Reading.{Standing, IsNext, Passes}
-use Rattle.csp_parse.specs.StartForms.{BehindBase}
-use Rattle.csp_parse.proofs.Comparing.{perhaps_done, perhaps_stop}
-use Rattle.csp_parse.proofs.Deciding.{Inhabited}
-use Rattle.csp_parse.proofs.JoinTurns.{opens_suffix}
-use Rattle.csp_parse.proofs.NamesTurn.{prefixes, goes_on_expression, empty_done}
-use Rattle.csp_parse.proofs.ProcessTurns.{joins, base_empty, some_process}
-use Rattle.csp_parse.proofs.Repeating.{IsFirstIn}
-use Rattle.csp_parse.proofs.Singles.{some_sign}
-use Rattle.csp_parse.proofs.StartsTurn.{starts_otherwise}
-use Rattle.csp_parse.proofs.Turning.{Turns, not_apart, some_then, some_left}
+use Rattle.csp_lex.specs.declared.kinds.TokenKind.{TokenKind}
+use Rattle.csp_lex.specs.declared.kinds.TokenKind.TheVariants as kind
+use Rattle.csp_lex.specs.declared.kinds.TokenKind.{TokenKind}
+use Rattle.csp_lex.specs.declared.kinds.TokenKind.TheVariants as kind
+use Rattle.csp_lex.specs.declared.keywords.Keyword.{Keyword}
+use Rattle.csp_lex.specs.declared.signs.Sign.{Sign}
+use Rattle.csp_lex.specs.Tokens.{token_of, placed_token, keyword_of, sign_of}
+use Rattle.theory_text.specs.Height.{Nest}
+use Rattle.theory_reader.specs.Programs.{Seen, SeenSign, SeenWord, seen, first, count, pass_from}
+use Rattle.theory_reader.specs.Reader.{is_sign, is_word, is_name}
+use Rattle.theory_reader.proofs.Signs.{is_same_sign, sign_is_seen, is_same_word, word_is_seen}
+use Rattle.csp_parse.specs.Levels.{seen_kind}
+use Rattle.csp_parse.specs.Levels.{seen_kind}
+use Rattle.csp_parse.specs.Levels.{seen_kind}
+use Rattle.csp_parse.proofs.OneKind.{sign_is, word_is}
 
--- a suffix of a base
-pub suffix_next : (left : List PlacedToken) → IsNext (kind.Sign signs.OpenRenaming) left ⊎ IsNext (kind.Sign signs.Hiding) left → IsFirstIn opens_suffix left
-suffix_next [] (inl next) = absurd next
-suffix_next [] (inr next) = absurd next
-suffix_next (t ∷ ts) (inl next) = inl next.1
-suffix_next (t ∷ ts) (inr next) = inr next.1
+-- the tokens from a place on
+pub left_at : (ts : List Token) (n : ℕ) (d : Token) → n < length ts → map placed_token (drop n ts) ≡ placed_token (get_or ts n d) ∷ map placed_token (drop (n + 1) ts)
+left_at ts n d within = ap (map placed_token) (drop-cons ts n d within ∙ ap (λ k. get_or ts n d ∷ drop k ts) (sym (add-one n)))
 
-pub no_suffix_next : (left : List PlacedToken) → ¬ (IsNext (kind.Sign signs.OpenRenaming) left) × ¬ (IsNext (kind.Sign signs.Hiding) left) → IsFirstIn opens_suffix left → ⊥
-no_suffix_next [] not is = is
-no_suffix_next (t ∷ ts) not (inl is) = not.0 ([], is)
-no_suffix_next (t ∷ ts) not (inr is) = not.1 ([], is)
+pub first_at : (ts : List Token) (n : ℕ) (t : Token) → n < length ts → t ≡ get_or ts n t → Some (placed_token t) ≡ first (map placed_token (drop n ts))
+first_at ts n t within read = ap (λ u. Some (placed_token u)) read ∙ ap first (sym (left_at ts n t within))
 
--- what goes on with a prefix
-abbrev pub PrefixNext : List PlacedToken → Type 0
-PrefixNext left = IsNext (kind.Sign signs.Dot) left ⊎ IsNext (kind.Sign signs.Output) left ⊎ IsNext (kind.Sign signs.Input) left ⊎ IsNext (kind.Sign signs.Arrow) left
+pub none_left : (ts : List Token) (n : ℕ) → length ts ≤ n → map placed_token (drop n ts) ≡ []
+none_left ts n past = ap (map placed_token) (drop_of_length-le ts past)
 
-abbrev pub NoPrefixNext : List PlacedToken → Type 0
-NoPrefixNext left = ¬ (IsNext (kind.Sign signs.Dot) left) × ¬ (IsNext (kind.Sign signs.Output) left) × ¬ (IsNext (kind.Sign signs.Input) left) × ¬ (IsNext (kind.Sign signs.Arrow) left)
+not_true : (b c : Bool) → (c ≡ true → b ≡ true) → b ≡ false → b ≡ c
+not_true b true h e = h refl
+not_true b false h e = e
 
-pub prefix_next : (left : List PlacedToken) → PrefixNext left → IsFirstIn prefixes left
-prefix_next [] (inl next) = next
-prefix_next [] (inr (inl next)) = next
-prefix_next [] (inr (inr (inl next))) = next
-prefix_next [] (inr (inr (inr next))) = next
-prefix_next (t ∷ ts) (inl next) = subst prefixes (sym next.1) refl
-prefix_next (t ∷ ts) (inr (inl next)) = subst prefixes (sym next.1) refl
-prefix_next (t ∷ ts) (inr (inr (inl next))) = subst prefixes (sym next.1) refl
-prefix_next (t ∷ ts) (inr (inr (inr next))) = subst prefixes (sym next.1) refl
+pub sign_next : (s u : Sign) (b : Bool) (n : Option Seen) → Some (SeenSign (sign_of s)) ≡ n → (b ≡ true → s ≡ u) → (s ≡ u → b ≡ true) → b ≡ is_sign (sign_of u) n
+sign_next s u b n is so back = subst (λ k. b ≡ is_sign (sign_of u) k) is (elim (cases_Bool b) [
+  | inl e ↦ e ∙ sym (ap (λ r. is_sign (sign_of u) (Some (SeenSign (sign_of r)))) (so e) ∙ is_same_sign (sign_of u))
+  | inr e ↦ not_true b (is_sign (sign_of u) (Some (SeenSign (sign_of s)))) (λ t. back (sign_is s u (let same = sign_is_seen (sign_of u) (Some (SeenSign (sign_of s))) t in cc same))) e
+])
 
-prefix_not : (t : PlacedToken) (ts : List PlacedToken) → NoPrefixNext (t ∷ ts) → (x : Token) → t.token ≡ x → prefixes x → ⊥
-prefix_not t ts not (SignToken text.DotSign) e is = not.0 ([], e)
-prefix_not t ts not (SignToken text.OutputSign) e is = not.1 ([], e)
-prefix_not t ts not (SignToken text.InputSign) e is = not.2 ([], e)
-prefix_not t ts not (SignToken text.ArrowSign) e is = not.3 ([], e)
-prefix_not t ts not _ e is = absurd (cc is)
+pub word_next : (k l : Keyword) (b : Bool) (n : Option Seen) → Some (SeenWord (keyword_of k)) ≡ n → (b ≡ true → k ≡ l) → (k ≡ l → b ≡ true) → b ≡ is_word (keyword_of l) n
+word_next k l b n is so back = subst (λ x. b ≡ is_word (keyword_of l) x) is (elim (cases_Bool b) [
+  | inl e ↦ e ∙ sym (ap (λ r. is_word (keyword_of l) (Some (SeenWord (keyword_of r)))) (so e) ∙ is_same_word (keyword_of l))
+  | inr e ↦ not_true b (is_word (keyword_of l) (Some (SeenWord (keyword_of k)))) (λ t. back (word_is k l (let same = word_is_seen (keyword_of l) (Some (SeenWord (keyword_of k))) t in cc same))) e
+])
 
-pub no_prefix_next : (left : List PlacedToken) → NoPrefixNext left → IsFirstIn prefixes left → ⊥
-no_prefix_next [] not is = is
-no_prefix_next (t ∷ ts) not is = prefix_not t ts not t.token refl is
+-- a token of another kind is none
+pub no_sign : (s : _) (k : TokenKind) (n : Option Seen) → Some (seen_kind k) ≡ n → ((u : Sign) → k ≡ kind.Sign u → ⊥) → false ≡ is_sign s n
+unfolding is_sign
+no_sign s (kind.Sign u) n is not = absurd (not u refl)
+no_sign s (kind.Keyword k) n is not = ap (is_sign s) is
+no_sign s kind.Name n is not = ap (is_sign s) is
+no_sign s (kind.Number v) n is not = ap (is_sign s) is
 
--- neither an operator of expressions nor the sign of a guard
-pub neither_goes_on : (left : List PlacedToken) → Stops (continues level.Disjunction) left → ¬ (IsFirstIn (only GuardSign) left) → IsFirstIn goes_on_expression left → ⊥
-neither_goes_on [] stops guard is = is
-neither_goes_on (t ∷ ts) stops guard (inl is) = stops is
-neither_goes_on (t ∷ ts) stops guard (inr is) = guard is
+pub no_word : (w : _) (k : TokenKind) (n : Option Seen) → Some (seen_kind k) ≡ n → ((l : Keyword) → k ≡ kind.Keyword l → ⊥) → false ≡ is_word w n
+unfolding is_word
+no_word w (kind.Keyword k) n is not = absurd (not k refl)
+no_word w (kind.Sign u) n is not = ap (is_word w) is
+no_word w kind.Name n is not = ap (is_word w) is
+no_word w (kind.Number v) n is not = ap (is_word w) is
 
--- a closing bracket
-closing_sign : {a : List PlacedToken} → IsSign CloseRoundSign a → (b : List PlacedToken) {left : List PlacedToken} → left ≡ a ++ b → IsFirstIn (only CloseRoundSign) left
-closing_sign (IsSign.sign t is) b e = subst (IsFirstIn (only CloseRoundSign)) (sym e) is
+pub seen_as : (k : TokenKind) (cs : List ℕ) → seen (token_of k cs) ≡ seen_kind k
+seen_as (kind.Keyword k) cs = refl
+seen_as (kind.Sign s) cs = refl
+seen_as kind.Name cs = refl
+seen_as (kind.Number n) cs = refl
 
-pub closing_next : {s t : Standing} → Passes (IsSign CloseRoundSign) s t → IsFirstIn (only CloseRoundSign) s.left
-closing_next {t = t} p = closing_sign p.is t.left p.splits.is
+first_of : (ts : List Token) → 0 < length ts → Token
+first_of [] some = absurd (omega (arith, some))
+first_of (t ∷ ts) some = t
 
-pub some_closed_start : Inhabited (Either ClosedProcess ClosedExpression)
-some_closed_start = some_left (some_then some_process (some_sign CloseRoundSign))
+-- the token at a place is passed
+pub pass_at : (ts : List Token) (n : ℕ) (m : Nest) → n < length ts → pass_from (map placed_token (drop n ts)) m ≡ count m (map placed_token (drop (n + 1) ts))
+pass_at ts n m within = ap (λ l. pass_from l m) (left_at ts n (first_of ts (omega (arith, within))) within)
 
--- nothing stands behind a base
-pub none_behind : {s : Standing} → IsFirstIn (only CloseRoundSign) s.left → Done BehindBase continues_process s s
-none_behind {s} is = empty_done joins continues_process refl (inr (inl refl)) base_empty (λ on. not_apart (only CloseRoundSign) joins (λ t k h. let e = subst joins k h in cc e) s.left is on)
-
--- the sign of a guard
-pub guard_here : {s : Standing} → IsFirstIn (only GuardSign) s.left → Turns (Perhaps Guarded) continues_start s Guarded continues_start s
-guard_here next = record { finish = λ after done. perhaps_done (only GuardSign) next (λ t k. subst continues_start (sym k) refl) done; stop = λ after e stop. perhaps_stop (only GuardSign) next (λ t k. subst continues_start (sym k) refl) stop }
-
--- what is next where a start begins otherwise
-pub starts_none : (left : List PlacedToken) → ¬ (IsNext (kind.Keyword keyword.Stop) left) → ¬ (IsNext (kind.Keyword keyword.Skip) left) → ¬ (IsNext kind.Name left) → ¬ (IsNext (kind.Sign signs.OpenRound) left) → IsFirstIn starts_otherwise left → ⊥
-starts_none [] stop skip name bracket is = is
-starts_none (t ∷ ts) stop skip name bracket (inl is) = name is
-starts_none (t ∷ ts) stop skip name bracket (inr (inl is)) = bracket ([], is)
-starts_none (t ∷ ts) stop skip name bracket (inr (inr (inl is))) = stop ([], is)
-starts_none (t ∷ ts) stop skip name bracket (inr (inr (inr is))) = skip ([], is)
+pub no_name : (k : TokenKind) (n : Option Seen) → Some (seen_kind k) ≡ n → (k ≡ kind.Name → ⊥) → false ≡ is_name n
+unfolding is_name
+no_name kind.Name n is not = absurd (not refl)
+no_name (kind.Keyword k) n is not = ap is_name is
+no_name (kind.Sign u) n is not = ap is_name is
+no_name (kind.Number v) n is not = ap is_name is

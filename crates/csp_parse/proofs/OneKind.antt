@@ -1,18 +1,14 @@
--- A token is of one kind: keywords and signs are told apart by what they mean.
-use Rattle.std.proofs.Common.{◌≡◌, ◌∙◌, ℕ, List, [], ◌∷◌, refl, sym, ap}
+-- Keywords and signs of the product are told apart by what they mean.
+use Rattle.std.proofs.Common.{◌≡◌, ◌∙◌, refl, sym, ap}
 use Rattle.theory_text.specs.Token as text
-use Rattle.theory_text.specs.Token.{PlacedToken}
 use Rattle.csp_lex.specs.declared.keywords.Keyword.{Keyword}
 use Rattle.csp_lex.specs.declared.keywords.Keyword.TheVariants as keyword
 use Rattle.csp_lex.specs.declared.signs.Sign.{Sign}
 use Rattle.csp_lex.specs.declared.signs.Sign.TheVariants as sign
-use Rattle.csp_lex.specs.declared.kinds.TokenKind.{TokenKind}
-use Rattle.csp_lex.specs.declared.kinds.TokenKind.TheVariants as kind
-use Rattle.csp_lex.specs.Tokens.{keyword_of, sign_of, token_of}
-use Rattle.csp_parse.specs.Reading.{IsNext}
+use Rattle.csp_lex.specs.Tokens.{keyword_of, sign_of}
 
 -- the keyword and the sign of the product that the definitions' are
-abbrev keyword_from : text.Keyword → Keyword
+abbrev pub keyword_from : text.Keyword → Keyword
 keyword_from text.DatatypeWord = keyword.Datatype
 keyword_from text.NametypeWord = keyword.Nametype
 keyword_from text.ChannelWord = keyword.Channel
@@ -38,7 +34,7 @@ keyword_from text.InterWord = keyword.Inter
 keyword_from text.DiffWord = keyword.Diff
 keyword_from text.CardWord = keyword.Card
 
-abbrev sign_from : text.Sign → Sign
+abbrev pub sign_from : text.Sign → Sign
 sign_from text.ArrowSign = sign.Arrow
 sign_from text.BackArrowSign = sign.BackArrow
 sign_from text.BoxSign = sign.Box
@@ -86,7 +82,7 @@ sign_from text.CloseSquareSign = sign.CloseSquare
 sign_from text.OpenBraceSign = sign.OpenBrace
 sign_from text.CloseBraceSign = sign.CloseBrace
 
-keyword_back : (k : Keyword) → keyword_from (keyword_of k) ≡ k
+pub keyword_back : (k : Keyword) → keyword_from (keyword_of k) ≡ k
 keyword_back keyword.Datatype = refl
 keyword_back keyword.Nametype = refl
 keyword_back keyword.Channel = refl
@@ -112,7 +108,7 @@ keyword_back keyword.Inter = refl
 keyword_back keyword.Diff = refl
 keyword_back keyword.Card = refl
 
-sign_back : (s : Sign) → sign_from (sign_of s) ≡ s
+pub sign_back : (s : Sign) → sign_from (sign_of s) ≡ s
 sign_back sign.Arrow = refl
 sign_back sign.BackArrow = refl
 sign_back sign.Box = refl
@@ -160,39 +156,8 @@ sign_back sign.CloseSquare = refl
 sign_back sign.OpenBrace = refl
 sign_back sign.CloseBrace = refl
 
-same_word : {k l : text.Keyword} → text.KeywordToken k ≡ text.KeywordToken l → k ≡ l
-same_word e = cc e
+pub sign_is : (s u : Sign) → sign_of s ≡ sign_of u → s ≡ u
+sign_is s u e = sym (sign_back s) ∙ ap sign_from e ∙ sign_back u
 
-same_sign : {s r : text.Sign} → text.SignToken s ≡ text.SignToken r → s ≡ r
-same_sign e = cc e
-
-sign_is : (k : TokenKind) (s : Sign) (cs ds : List ℕ) → token_of k cs ≡ token_of (kind.Sign s) ds → k ≡ kind.Sign s
-sign_is (kind.Keyword k) s cs ds e = absurd (cc e)
-sign_is (kind.Sign r) s cs ds e = ap kind.Sign (sym (sign_back r) ∙ ap sign_from (same_sign e) ∙ sign_back s)
-sign_is kind.Name s cs ds e = absurd (cc e)
-sign_is (kind.Number n) s cs ds e = absurd (cc e)
-
-word_is : (k : TokenKind) (w : Keyword) (cs ds : List ℕ) → token_of k cs ≡ token_of (kind.Keyword w) ds → k ≡ kind.Keyword w
-word_is (kind.Keyword k) w cs ds e = ap kind.Keyword (sym (keyword_back k) ∙ ap keyword_from (same_word e) ∙ keyword_back w)
-word_is (kind.Sign r) w cs ds e = absurd (cc e)
-word_is kind.Name w cs ds e = absurd (cc e)
-word_is (kind.Number n) w cs ds e = absurd (cc e)
-
-name_is : (k : TokenKind) (cs ds : List ℕ) → token_of k cs ≡ token_of kind.Name ds → k ≡ kind.Name
-name_is (kind.Keyword k) cs ds e = absurd (cc e)
-name_is (kind.Sign r) cs ds e = absurd (cc e)
-name_is kind.Name cs ds e = refl
-name_is (kind.Number n) cs ds e = absurd (cc e)
-
--- the next token is of one kind
-pub next_sign_is : (k : TokenKind) (s : Sign) (ts : List PlacedToken) → IsNext k ts → IsNext (kind.Sign s) ts → k ≡ kind.Sign s
-next_sign_is k s [] one two = absurd one
-next_sign_is k s (t ∷ ts) one two = sign_is k s one.0 two.0 (sym one.1 ∙ two.1)
-
-pub next_word_is : (k : TokenKind) (w : Keyword) (ts : List PlacedToken) → IsNext k ts → IsNext (kind.Keyword w) ts → k ≡ kind.Keyword w
-next_word_is k w [] one two = absurd one
-next_word_is k w (t ∷ ts) one two = word_is k w one.0 two.0 (sym one.1 ∙ two.1)
-
-pub next_name_is : (k : TokenKind) (ts : List PlacedToken) → IsNext k ts → IsNext kind.Name ts → k ≡ kind.Name
-next_name_is k [] one two = absurd one
-next_name_is k (t ∷ ts) one two = name_is k one.0 two.0 (sym one.1 ∙ two.1)
+pub word_is : (k l : Keyword) → keyword_of k ≡ keyword_of l → k ≡ l
+word_is k l e = sym (keyword_back k) ∙ ap keyword_from e ∙ keyword_back l

@@ -1,14 +1,9 @@
 -- Heights: what a nest's is at least, and how a token raises it.
-use Rattle.std.proofs.Common.{Bool, true, false, cond, ◌≡◌, ◌∙◌, ◌<◌, ◌≤◌, ◌+◌, List, [], ◌∷◌, ◌++◌, map, reverse, refl, sym, ap, subst, arith}
+use Rattle.std.proofs.Common.{Bool, true, false, cond, ◌≡◌, ◌∙◌, ◌≤◌, ◌+◌, List, [], ◌∷◌, ◌++◌, map, reverse, refl, sym, ap, subst, arith}
 use Rattle.std.proofs.lemmas.List.{map-append, reverse-append}
-use Rattle.theory_text.specs.Height.{Group, group_height, one_more, with_group, no_tokens, no_tokens_yet, Nest, Nesting, Opens, OpensSquare, Closes, ClosesDouble, Counts, Plain, closed, nesting, after_token, ended_height, nest_height, greatest_height}
-use Rattle.theory_text.specs.Token.{PlacedToken}
+use Rattle.theory_text.specs.Height.{Group, group_height, one_more, with_group, no_tokens, no_tokens_yet, Nest, Nesting, Opens, OpensSquare, Closes, ClosesDouble, Counts, Plain, closed, after_token, ended_height, nest_height}
 use Rattle.csp_parse.specs.declared.nests.Group as groups
-use Rattle.csp_parse.specs.Nests.{group_of, opened, start}
-use Rattle.csp_parse.specs.declared.stops.Stopped.{Stopped}
-use Rattle.csp_parse.specs.declared.stops.Stopped.TheVariants as stop
-use Rattle.csp_parse.specs.Deciding.{IsOver, IsStopOfCount, over}
-use Rattle.csp_parse.specs.Reading.{IsFirst, CountsFirst}
+use Rattle.csp_parse.specs.Nests.{group_of, opened}
 
 -- a nest is no lower than the group that is open
 pub no_lower : (g : Group) (gs : List Group) → group_height g ≤ ended_height g gs
@@ -58,22 +53,3 @@ shuts old e around = nest_is around refl ∙ ap (closed old.current) (sym e)
 
 pub adds : (x : Nesting) (old : Nest) {g : Group} → x ≡ Counts → g ≡ one_more old.current → nest g old.around ≡ after_token x old
 adds x old {g} is more = subst (λ y. nest g old.around ≡ after_token y old) (sym is) (nest_is more refl)
-
--- the next token is counted, within the limit
-pub counts_next : (n m : Nest) (t : PlacedToken) (ts : List PlacedToken) → IsFirst t ts → m ≡ after_token (nesting t.token) n → nest_height m ≤ greatest_height → CountsFirst n ts m
-counts_next n m t [] first e low = elim first [ ]
-counts_next n m t (u ∷ us) first e low = subst (λ v. CountsFirst n (v ∷ us) m) (sym first) (e, low)
-
--- the next token is counted, above the limit
-pub over_next : (n m : Nest) (t : PlacedToken) (ts : List PlacedToken) → IsFirst t ts → m ≡ after_token (nesting t.token) n → greatest_height < nest_height m → IsOver n ts
-over_next n m t [] first e high = elim first [ ]
-over_next n m t (u ∷ us) first e high = subst (λ v. IsOver n (v ∷ us)) (sym first) (subst (λ k. greatest_height < nest_height k) e high)
-
-not_over : (left : List PlacedToken) → IsOver start left → ⊥
-not_over [] h = h
-not_over (t ∷ ts) h = let up = rises (nesting t.token) start in omega (arith, h, up)
-
--- the first token of a declaration is never too high
-pub never_over : {n : Nest} {left : List PlacedToken} {e : Stopped} → n ≡ start → IsStopOfCount n left e → e ≡ stop.Memory
-never_over {n} {left} is (over counted) = absurd (not_over left (subst (λ m. nest_height m ≤ greatest_height → IsOver m left) is counted (omega arith)))
-never_over is IsStopOfCount.memory = refl

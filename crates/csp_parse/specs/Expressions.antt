@@ -1,17 +1,13 @@
 -- Expressions, as the definitions have them.
-use Rattle.std.specs.Prelude.{List, [], ◌∷◌, map}
+use Rattle.std.specs.Prelude.{List, map}
 use Rattle.std.specs.Box.{box_value}
 use Rattle.theory_syntax.specs.Operators.{unary_of, binary_of}
-use Rattle.theory_text.specs.Raw.{RawExpression, RawNumber, RawTruth, RawBooleans, RawUse, RawApply, RawCombine, RawSequence, RawSet, RawRange, RawConstructor, RawExpressions, no_raw_expressions, raw_expression_and}
+use Rattle.theory_text.specs.Raw.{RawExpression, RawNumber, RawTruth, RawBooleans, RawUse, RawApply, RawCombine, RawSequence, RawSet, RawRange, RawConstructor, RawExpressions}
+use Rattle.theory_reader.specs.Forms.{raw_list}
 use Rattle.csp_parse.specs.declared.expressions.Expression.{Expression}
 use Rattle.csp_parse.specs.declared.expressions.Expression.TheOpen as layer
 use Rattle.csp_parse.specs.declared.expressions.Expression.TheFolds.{fold-Expression}
 use Rattle.csp_parse.specs.Names.{name_of}
-
--- a list of expressions in the definitions' form
-abbrev pub raw_list : List RawExpression → RawExpressions
-raw_list [] = no_raw_expressions
-raw_list (e ∷ es) = raw_expression_and e (raw_list es)
 
 -- one layer, with the trees of the parts in their places
 abbrev pub expression_step : {A : Type 0} → layer.Expression-F A RawExpression → RawExpression
@@ -29,5 +25,8 @@ expression_step (layer.Constructor n es) = RawConstructor (name_of n) (raw_list 
 abbrev pub expression_of : {A : Type 0} → Expression A → RawExpression
 expression_of {A} = fold-Expression A RawExpression expression_step
 
+abbrev pub expressions_in : {A : Type 0} → List (Expression A) → List RawExpression
+expressions_in es = map expression_of es
+
 abbrev pub expressions_of : {A : Type 0} → List (Expression A) → RawExpressions
-expressions_of es = raw_list (map expression_of es)
+expressions_of es = raw_list (expressions_in es)

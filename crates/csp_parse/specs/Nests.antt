@@ -1,5 +1,5 @@
 -- The groups that are open, as the definitions have them.
-use Rattle.std.specs.Prelude.{Bool, [], ◌∷◌, map, reverse}
+use Rattle.std.specs.Prelude.{Bool, ◌∷◌, map, reverse}
 use Rattle.theory_text.specs.Height as height
 use Rattle.csp_parse.specs.declared.nests.Group.{Group}
 use Rattle.csp_parse.specs.declared.nests.Nest.{Nest}
@@ -23,7 +23,3 @@ nest_of n = record { current = group_of n.current; around = reverse (map group_o
 -- a group is opened, by `[` or not, and its bracket is counted in the one around it
 abbrev pub opened : Bool → height.Nest → height.Nest
 opened square n = record { current = height.no_tokens_yet square; around = height.one_more n.current ∷ n.around }
-
--- before the first token of a declaration
-abbrev pub start : height.Nest
-start = record { current = height.no_tokens; around = [] }

@@ -1,10 +1,12 @@
 //! How strongly operators between expressions bind.
 
-ghost use Rattle.std.specs.Prelude.{◌≡◌, ℕ, List};
+ghost use Rattle.std.specs.Prelude.{◌≡◌, Some};
 ghost use Rattle.std.specs.Option.{option_map};
 ghost use Rattle.theory_syntax.specs.Operators.{unary_of, binary_of};
-ghost use Rattle.csp_lex.specs.Tokens.{keyword_of, token_of};
-ghost use Rattle.csp_parse.specs.Words.{unary_word, binary_word, comparison_of};
+ghost use Rattle.csp_lex.specs.Tokens.{keyword_of};
+ghost use Rattle.theory_reader.specs.Forms as reader;
+ghost use Rattle.theory_reader.specs.Reader.{operator_at, comparison_of, unary_word, binary_word};
+ghost use Rattle.csp_parse.specs.Levels.{level_of, seen_kind};
 
 use csp_lex::{Keyword, Sign, TokenKind};
 use theory_syntax::{BinaryOperator, UnaryOperator};
@@ -28,12 +30,9 @@ pub(crate) enum Level {
 }
 
 impl Level {
-    ghost use Rattle.csp_parse.specs.Levels.{stronger};
-    ghost use Rattle.csp_parse.specs.Words.{operator_at};
-
     /// The level of the operands of this one's operators.
     pub(crate) fn stronger(self) -> Level
-        ensures { result ≡ stronger self }
+        ensures { level_of result ≡ reader.stronger (level_of self) }
     {
         match self {
             Level::Disjunction => Level::Conjunction,
@@ -47,7 +46,7 @@ impl Level {
 
     /// The operator of this level's chains that a token is, if it is one.
     pub(crate) fn operator(self, kind: TokenKind) -> Option<BinaryOperator>
-        ensures { (cs : List ℕ) → option_map binary_of result ≡ operator_at self (token_of kind cs) }
+        ensures { option_map binary_of result ≡ operator_at (level_of self) (Some (seen_kind kind)) }
     {
         match (self, kind) {
             (Level::Disjunction, TokenKind::Keyword(Keyword::Or)) => Some(BinaryOperator::Or),
@@ -64,7 +63,7 @@ impl Level {
 
 /// The comparison that a token is, if it is one.
 pub(crate) fn comparison(kind: TokenKind) -> Option<BinaryOperator>
-    ensures { (cs : List ℕ) → option_map binary_of result ≡ comparison_of (token_of kind cs) }
+    ensures { option_map binary_of result ≡ comparison_of (Some (seen_kind kind)) }
 {
     match kind {
         TokenKind::Sign(Sign::Same) => Some(BinaryOperator::Equals),

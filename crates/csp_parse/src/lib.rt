@@ -1,7 +1,6 @@
 //! The tree of a script, from its tokens.
 //!
-//! `parse` reads the tokens once, and each of its choices is made by the next token, or in round brackets by the next
-//! two. By its contract a
+//! `parse` reads the tokens once, and each of its choices is made by the next token. By its contract a
 //! tree that it answers is one that the grammar gives these tokens, with each name's spelling and place,
 //! and no token is too high for its declaration; and a refusal is the one that the definitions give these
 //! tokens, at its place. So every script within the limit of heights is read, as long as there is memory.

@@ -1,11 +1,12 @@
 //! The heights of declarations, counted token by token.
 
-ghost use Rattle.std.specs.Prelude.{◌≡◌, ◌≤◌, ◌<◌, ◌+◌, ℕ, List, IfOk};
+ghost use Rattle.std.specs.Prelude.{◌≡◌, ◌≤◌, ◌<◌, ◌+◌, ℕ, List, IfOk, IfErr};
 ghost use Rattle.theory_text.specs.Height.{nesting, nest_height, group_height, no_tokens_yet, after_token, closed, closed_double, greatest_height};
 ghost use Rattle.theory_text.specs.Height as height;
 ghost use Rattle.theory_text.specs.Token.{SignToken, KeywordToken};
 ghost use Rattle.csp_lex.specs.Tokens.{keyword_of, sign_of, token_of};
-ghost use Rattle.csp_parse.specs.Nests.{nesting_is, group_of, nest_of, opened, start};
+ghost use Rattle.theory_reader.specs.Programs.{start};
+ghost use Rattle.csp_parse.specs.Nests.{nesting_is, group_of, nest_of, opened};
 
 use csp_lex::{Keyword, Sign, TokenKind};
 use std::alloc::{AllocFailed, Allocator};
@@ -171,7 +172,8 @@ impl<A: Allocator> Nest<A> {
 
     /// Counts one more token.
     pub(crate) fn count(&mut self, nesting: Nesting) -> Result<(), AllocFailed<Group>>
-        ensures { IfOk result (λ _. nest_height (nest_of self.old) ≤ greatest_height → nest_of self.new ≡ after_token (nesting_is nesting) (nest_of self.old)) }
+        ensures counts { IfOk result (λ _. nest_height (nest_of self.old) ≤ greatest_height → nest_of self.new ≡ after_token (nesting_is nesting) (nest_of self.old)) }
+        ensures stays { IfErr result (λ _. nest_of self.new ≡ nest_of self.old) }
     {
         match nesting {
             Nesting::Opens => self.open(false)?,
@@ -186,7 +188,8 @@ impl<A: Allocator> Nest<A> {
 
     /// Opens a group, and counts its bracket in the one around it.
     fn open(&mut self, square: bool) -> Result<(), AllocFailed<Group>>
-        ensures { IfOk result (λ _. nest_height (nest_of self.old) ≤ greatest_height → nest_of self.new ≡ opened square (nest_of self.old)) }
+        ensures opens { IfOk result (λ _. nest_height (nest_of self.old) ≤ greatest_height → nest_of self.new ≡ opened square (nest_of self.old)) }
+        ensures stays { IfErr result (λ _. nest_of self.new ≡ nest_of self.old) }
     {
         self.around.push(self.current.one_more())?;
         self.current = Group::empty(square);

@@ -3,8 +3,8 @@
 ghost use Rattle.std.specs.Prelude.{◌≡◌, IfOk, IfErr, map};
 ghost use Rattle.csp_lex.specs.Tokens.{sign_of};
 ghost use Rattle.csp_parse.specs.Processes.{infix_of, replicator_of};
-ghost use Rattle.csp_parse.specs.Words as words;
-ghost use Rattle.csp_parse.specs.Words.{replicator_sign};
+ghost use Rattle.theory_reader.specs.Reader as reader;
+ghost use Rattle.theory_reader.specs.Reader.{replicator_sign};
 
 use crate::event_sets::EventSet;
 use crate::events::Pair;
@@ -37,7 +37,7 @@ pub enum Infix {
 
 /// How an operator between processes is written.
 pub(crate) fn infix_sign(operator: Infix) -> Sign
-    ensures { sign_of result ≡ words.infix_sign (infix_of operator) }
+    ensures { sign_of result ≡ reader.infix_sign (infix_of operator) }
 {
     match operator {
         Infix::Operator(ProcessOperator::ExternalChoice) => Sign::Box,

@@ -1,15 +1,10 @@
 //! Reading declarations.
 
-ghost use Rattle.std.specs.Prelude.{◌≡◌, ◌<◌, ◌≤◌, IfOk, IfErr, length, map};
-ghost use Rattle.theory_syntax.specs.Models.{model_of};
-ghost use Rattle.theory_text.specs.Grammar.{IsName, IsExpression, AreDomains, IsClause, AreClauses, IsModel, IsDeclaration};
-ghost use Rattle.theory_text.specs.Token.{DotSign, BarSign};
-ghost use Rattle.csp_lex.specs.Tokens.{sign_of};
-ghost use Rattle.csp_parse.specs.Declarations.{domain_of, clause_of, declaration_of, script_of};
-ghost use Rattle.csp_parse.specs.Levels.{IsDomainAt};
-ghost use Rattle.csp_parse.specs.Limits.{IsLowScript};
+ghost use Rattle.std.specs.Prelude.{map};
+ghost use Rattle.csp_parse.specs.Declarations.{domain_of, clause_of, declaration_of};
+ghost use Rattle.csp_parse.specs.Levels.{level_of};
 ghost use Rattle.csp_parse.specs.Names.{name_of};
-ghost use Rattle.csp_parse.specs.Separated.{AreSeparated};
+ghost use Rattle.csp_parse.specs.Stopping.{GivesScript};
 
 use crate::declarations::{Clause, Declaration, Domain, Raw};
 use crate::levels::Level;
@@ -20,19 +15,12 @@ use csp_lex::{Keyword, Sign};
 use std::alloc::Allocator;
 
 impl<'t, 'a, A: Allocator + Copy> Parser<'t, 'a, A> {
-    ghost use Rattle.csp_parse.specs.Continuing.{continues};
-    ghost use Rattle.csp_parse.specs.Deciding.{nothing, only, Ends, Done, IsStop};
-    ghost use Rattle.csp_parse.specs.DeclarationForms.{IsDatatype, IsNametype, IsChannels, IsEquation, Parameters, IsAssertion, datatype_goes_on, channels_go_on, declaration_goes_on};
-    ghost use Rattle.csp_parse.specs.Forms.{HasTree};
-    ghost use Rattle.csp_parse.specs.ProcessForms.{continues_process};
-    ghost use Rattle.csp_parse.specs.Reading.{left_of, standing_of, Standing, Reads};
-    ghost use Rattle.csp_parse.specs.Stopping.{IsScriptStop};
-    ghost use Rattle.csp_parse.specs.declared.levels.Level.TheVariants.{Disjunction};
+    ghost use Rattle.theory_reader.specs.Forms as form;
+    ghost use Rattle.csp_parse.specs.Reading.{Reads, Shortens};
 
     /// All declarations that are left.
     pub(crate) fn script(&mut self) -> Result<Raw<'a, A>, Stopped>
-        ensures reads { IfOk result (λ raw. IsLowScript (left_of self.old) (script_of raw)) }
-        ensures stops { IfErr result (λ stopped. IsScriptStop (left_of self.old) (left_of self.new) stopped) }
+        ensures reads { GivesScript self.old result self.new }
     {
         let mut declarations = Vec::new(self.alloc);
         'script: loop {
@@ -46,10 +34,8 @@ impl<'t, 'a, A: Allocator + Copy> Parser<'t, 'a, A> {
     }
 
     fn declaration(&mut self) -> Result<Declaration<'a, A>, Stopped>
-        ensures reads { IfOk result (λ r. Reads IsDeclaration (standing_of self.old) (standing_of self.new) (declaration_of r)) }
-        ensures done { IfOk result (λ _. Done (HasTree IsDeclaration) declaration_goes_on (standing_of self.old) (standing_of self.new)) }
-        ensures stops { IfErr result (λ stopped. IsStop (HasTree IsDeclaration) declaration_goes_on (standing_of self.old) (standing_of self.new) stopped) }
-        ensures shorter { IfOk result (λ _. length (left_of self.new) < length (left_of self.old)) }
+        ensures reads { Reads form.OfDeclaration declaration_of self.old result self.new }
+        ensures shorter { Shortens self.old result self.new }
     {
         if self.is_at_word(Keyword::Datatype) {
             return self.datatype();
@@ -71,10 +57,8 @@ impl<'t, 'a, A: Allocator + Copy> Parser<'t, 'a, A> {
 
     /// A datatype, whose keyword is next.
     fn datatype(&mut self) -> Result<Declaration<'a, A>, Stopped>
-        ensures reads { IfOk result (λ r. Reads IsDeclaration (standing_of self.old) (standing_of self.new) (declaration_of r)) }
-        ensures ends { IfOk result (λ _. Ends IsDatatype datatype_goes_on (standing_of self.old) (standing_of self.new)) }
-        ensures stops { IfErr result (λ stopped. IsStop IsDatatype datatype_goes_on (standing_of self.old) (standing_of self.new) stopped) }
-        ensures shorter { IfOk result (λ _. length (left_of self.new) < length (left_of self.old)) }
+        ensures reads { Reads form.OfDatatype declaration_of self.old result self.new }
+        ensures shorter { Shortens self.old result self.new }
     {
         self.word(Keyword::Datatype)?;
         let name = self.name()?;
@@ -85,10 +69,8 @@ impl<'t, 'a, A: Allocator + Copy> Parser<'t, 'a, A> {
 
     /// The clauses of a datatype, with a bar between.
     fn clauses(&mut self) -> Result<Vec<Clause<'a, A>, A>, Stopped>
-        ensures reads { IfOk result (λ r. Reads AreClauses (standing_of self.old) (standing_of self.new) (map clause_of r.items)) }
-        ensures done { IfOk result (λ _. Done (HasTree AreClauses) datatype_goes_on (standing_of self.old) (standing_of self.new)) }
-        ensures stops { IfErr result (λ stopped. IsStop (HasTree AreClauses) datatype_goes_on (standing_of self.old) (standing_of self.new) stopped) }
-        ensures shorter { IfOk result (λ _. length (left_of self.new) < length (left_of self.old)) }
+        ensures reads { Reads form.OfClauses (λ r. map clause_of r.items) self.old result self.new }
+        ensures shorter { Shortens self.old result self.new }
     {
         let mut clauses = Vec::new(self.alloc);
         let first = self.clause()?;
@@ -103,10 +85,8 @@ impl<'t, 'a, A: Allocator + Copy> Parser<'t, 'a, A> {
 
     /// A constructor, with the sets of its fields.
     fn clause(&mut self) -> Result<Clause<'a, A>, Stopped>
-        ensures reads { IfOk result (λ r. Reads IsClause (standing_of self.old) (standing_of self.new) (clause_of r)) }
-        ensures done { IfOk result (λ _. Done (HasTree IsClause) (only DotSign) (standing_of self.old) (standing_of self.new)) }
-        ensures stops { IfErr result (λ stopped. IsStop (HasTree IsClause) (only DotSign) (standing_of self.old) (standing_of self.new) stopped) }
-        ensures shorter { IfOk result (λ _. length (left_of self.new) < length (left_of self.old)) }
+        ensures reads { Reads form.OfClause clause_of self.old result self.new }
+        ensures shorter { Shortens self.old result self.new }
     {
         let name = self.name()?;
         if !self.is_at(Sign::Dot) {
@@ -122,10 +102,8 @@ impl<'t, 'a, A: Allocator + Copy> Parser<'t, 'a, A> {
 
     /// A nametype, whose keyword is next.
     fn nametype(&mut self) -> Result<Declaration<'a, A>, Stopped>
-        ensures reads { IfOk result (λ r. Reads IsDeclaration (standing_of self.old) (standing_of self.new) (declaration_of r)) }
-        ensures done { IfOk result (λ _. Done IsNametype (continues Disjunction) (standing_of self.old) (standing_of self.new)) }
-        ensures stops { IfErr result (λ stopped. IsStop IsNametype (continues Disjunction) (standing_of self.old) (standing_of self.new) stopped) }
-        ensures shorter { IfOk result (λ _. length (left_of self.new) < length (left_of self.old)) }
+        ensures reads { Reads form.OfNametype declaration_of self.old result self.new }
+        ensures shorter { Shortens self.old result self.new }
     {
         self.word(Keyword::Nametype)?;
         let name = self.name()?;
@@ -136,13 +114,11 @@ impl<'t, 'a, A: Allocator + Copy> Parser<'t, 'a, A> {
 
     /// Channels, whose keyword is next.
     fn channels(&mut self) -> Result<Declaration<'a, A>, Stopped>
-        ensures reads { IfOk result (λ r. Reads IsDeclaration (standing_of self.old) (standing_of self.new) (declaration_of r)) }
-        ensures done { IfOk result (λ _. Done IsChannels channels_go_on (standing_of self.old) (standing_of self.new)) }
-        ensures stops { IfErr result (λ stopped. IsStop IsChannels channels_go_on (standing_of self.old) (standing_of self.new) stopped) }
-        ensures shorter { IfOk result (λ _. length (left_of self.new) < length (left_of self.old)) }
+        ensures reads { Reads form.OfChannels declaration_of self.old result self.new }
+        ensures shorter { Shortens self.old result self.new }
     {
         self.word(Keyword::Channel)?;
-        let names = self.names(Sign::Comma)?;
+        let names = self.names()?;
         if !self.is_at(Sign::Colon) {
             let domains = Vec::new(self.alloc);
             return Ok(Declaration::Channels { names, domains });
@@ -154,10 +130,8 @@ impl<'t, 'a, A: Allocator + Copy> Parser<'t, 'a, A> {
 
     /// An equation, whose name is next.
     fn equation(&mut self) -> Result<Declaration<'a, A>, Stopped>
-        ensures reads { IfOk result (λ r. Reads IsDeclaration (standing_of self.old) (standing_of self.new) (declaration_of r)) }
-        ensures done { IfOk result (λ _. Done IsEquation continues_process (standing_of self.old) (standing_of self.new)) }
-        ensures stops { IfErr result (λ stopped. IsStop IsEquation continues_process (standing_of self.old) (standing_of self.new) stopped) }
-        ensures shorter { IfOk result (λ _. length (left_of self.new) < length (left_of self.old)) }
+        ensures reads { Reads form.OfEquation declaration_of self.old result self.new }
+        ensures shorter { Shortens self.old result self.new }
     {
         let name = self.name()?;
         if self.is_at(Sign::OpenRound) {
@@ -173,13 +147,11 @@ impl<'t, 'a, A: Allocator + Copy> Parser<'t, 'a, A> {
 
     /// The rest of an equation, behind its name, whose parameters are next.
     fn equation_with(&mut self, name: Name<'a>) -> Result<Declaration<'a, A>, Stopped>
-        ensures continues { IfOk result (λ r. (before : Standing) → Reads IsName before (standing_of self.old) (name_of name.entry) → Reads IsDeclaration before (standing_of self.new) (declaration_of r)) }
-        ensures done { IfOk result (λ _. Done Parameters continues_process (standing_of self.old) (standing_of self.new)) }
-        ensures stops { IfErr result (λ stopped. IsStop Parameters continues_process (standing_of self.old) (standing_of self.new) stopped) }
-        ensures not_longer { IfOk result (λ _. length (left_of self.new) ≤ length (left_of self.old)) }
+        ensures reads { Reads (form.EquationWith (name_of name.entry)) declaration_of self.old result self.new }
+        ensures shorter { Shortens self.old result self.new }
     {
         self.sign(Sign::OpenRound)?;
-        let parameters = self.names(Sign::Comma)?;
+        let parameters = self.names()?;
         self.sign(Sign::CloseRound)?;
         let body = self.process_behind(Sign::Equals)?;
         Ok(Declaration::Equation {
@@ -189,18 +161,17 @@ impl<'t, 'a, A: Allocator + Copy> Parser<'t, 'a, A> {
         })
     }
 
-    /// Names with a sign between.
-    fn names(&mut self, between: Sign) -> Result<Vec<Name<'a>, A>, Stopped>
-        ensures reads { IfOk result (λ r. Reads (AreSeparated (sign_of between) IsName) (standing_of self.old) (standing_of self.new) (map name_of r.items)) }
-        ensures ends { IfOk result (λ _. Ends (HasTree (AreSeparated (sign_of between) IsName)) (only (sign_of between)) (standing_of self.old) (standing_of self.new)) }
-        ensures stops { IfErr result (λ stopped. IsStop (HasTree (AreSeparated (sign_of between) IsName)) (only (sign_of between)) (standing_of self.old) (standing_of self.new) stopped) }
-        ensures shorter { IfOk result (λ _. length (left_of self.new) < length (left_of self.old)) }
+    /// Names with a comma between.
+    fn names(&mut self) -> Result<Vec<Name<'a>, A>, Stopped>
+        ensures reads { Reads form.OfNames (λ r. map name_of r.items) self.old result self.new }
+        ensures shorter { Shortens self.old result self.new }
     {
         let mut names = Vec::new(self.alloc);
         let first = self.name()?;
         names.push(first)?;
-        while self.is_at(between) {
-            let name = self.name_behind(between)?;
+        while self.is_at(Sign::Comma) {
+            self.sign(Sign::Comma)?;
+            let name = self.name()?;
             names.push(name)?;
         }
         Ok(names)
@@ -208,10 +179,8 @@ impl<'t, 'a, A: Allocator + Copy> Parser<'t, 'a, A> {
 
     /// The set that an expression of a level is.
     fn domain(&mut self, level: Level) -> Result<Domain<'a, A>, Stopped>
-        ensures reads { IfOk result (λ r. Reads (IsDomainAt level) (standing_of self.old) (standing_of self.new) (domain_of r)) }
-        ensures done { IfOk result (λ _. Done (HasTree (IsDomainAt level)) (continues level) (standing_of self.old) (standing_of self.new)) }
-        ensures stops { IfErr result (λ stopped. IsStop (HasTree (IsDomainAt level)) (continues level) (standing_of self.old) (standing_of self.new) stopped) }
-        ensures shorter { IfOk result (λ _. length (left_of self.new) < length (left_of self.old)) }
+        ensures reads { Reads (form.OfDomain (level_of level)) domain_of self.old result self.new }
+        ensures shorter { Shortens self.old result self.new }
     {
         let Some(first) = self.next() else {
             return Err(Stopped::Here);
@@ -225,10 +194,8 @@ impl<'t, 'a, A: Allocator + Copy> Parser<'t, 'a, A> {
 
     /// The sets of the fields of a constructor or channel, with a dot between.
     fn domains(&mut self) -> Result<Vec<Domain<'a, A>, A>, Stopped>
-        ensures reads { IfOk result (λ r. Reads AreDomains (standing_of self.old) (standing_of self.new) (map domain_of r.items)) }
-        ensures done { IfOk result (λ _. Done (HasTree AreDomains) (only DotSign) (standing_of self.old) (standing_of self.new)) }
-        ensures stops { IfErr result (λ stopped. IsStop (HasTree AreDomains) (only DotSign) (standing_of self.old) (standing_of self.new) stopped) }
-        ensures shorter { IfOk result (λ _. length (left_of self.new) < length (left_of self.old)) }
+        ensures reads { Reads form.OfDomains (λ r. map domain_of r.items) self.old result self.new }
+        ensures shorter { Shortens self.old result self.new }
     {
         let mut domains = Vec::new(self.alloc);
         let first = self.domain(Level::Atom)?;

@@ -1,23 +1,14 @@
 //! Reading events, sets of events and renamings.
 
-ghost use Rattle.std.specs.Prelude.{◌≡◌, ◌<◌, ◌≤◌, IfOk, IfErr, length, map};
+ghost use Rattle.std.specs.Prelude.{◌≡◌, IfOk, IfErr};
 ghost use Rattle.std.specs.Option.{option_map};
-ghost use Rattle.theory_text.specs.Token.{DotSign};
-ghost use Rattle.theory_text.specs.Grammar.{IsSign, AreDotted, IsEvent, AreEvents, ArePairs, IsEventSet};
-ghost use Rattle.theory_text.specs.Raw.{RawEnumeration, RawProductions};
-ghost use Rattle.csp_lex.specs.Tokens.{keyword_of, sign_of};
-ghost use Rattle.csp_lex.specs.declared.kinds.TokenKind.TheVariants as kinds;
+ghost use Rattle.csp_lex.specs.Tokens.{keyword_of};
+ghost use Rattle.theory_reader.specs.Reader.{set_word};
 ghost use Rattle.csp_parse.specs.declared.stops.Stopped.TheVariants.{Memory};
-ghost use Rattle.csp_parse.specs.Events.{event_of, pair_of};
 ghost use Rattle.csp_parse.specs.EventSets.{event_set_of, operator_of};
-ghost use Rattle.csp_parse.specs.Expressions.{expressions_of};
-ghost use Rattle.csp_parse.specs.Separated.{IsPair};
-ghost use Rattle.csp_parse.specs.Words.{set_word};
 
 use crate::event_sets::EventSet;
 use crate::events::{Event, Pair};
-use crate::expressions::Expression;
-use crate::levels::Level;
 use crate::parsers::Parser;
 use crate::stops::Stopped;
 use csp_lex::{Keyword, Sign, TokenKind};
@@ -25,16 +16,15 @@ use std::alloc::Allocator;
 use theory_syntax::EventSetOperator;
 
 impl<'t, 'a, A: Allocator + Copy> Parser<'t, 'a, A> {
-    ghost use Rattle.csp_parse.specs.Deciding.{nothing, only, Done, IsStop};
-    ghost use Rattle.csp_parse.specs.EventForms.{lists_events, Enumeration, Productions};
-    ghost use Rattle.csp_parse.specs.Forms.{HasTree, Next};
-    ghost use Rattle.csp_parse.specs.Reading.{left_of, standing_of, IsNext, Reads, ReadsBehind};
+    ghost use Rattle.std.specs.Prelude.{map};
+    ghost use Rattle.csp_lex.specs.Tokens.{sign_of};
+    ghost use Rattle.theory_reader.specs.Forms as form;
+    ghost use Rattle.csp_parse.specs.Events.{event_of, pair_of};
+    ghost use Rattle.csp_parse.specs.Reading.{Reads, Shortens};
 
     fn event(&mut self) -> Result<Event<'a, A>, Stopped>
-        ensures reads { IfOk result (λ r. Reads IsEvent (standing_of self.old) (standing_of self.new) (event_of r)) }
-        ensures done { IfOk result (λ _. Done (HasTree IsEvent) (only DotSign) (standing_of self.old) (standing_of self.new)) }
-        ensures stops { IfErr result (λ stopped. IsStop (HasTree IsEvent) (only DotSign) (standing_of self.old) (standing_of self.new) stopped) }
-        ensures shorter { IfOk result (λ _. length (left_of self.new) < length (left_of self.old)) }
+        ensures reads { Reads form.OfEvent event_of self.old result self.new }
+        ensures shorter { Shortens self.old result self.new }
     {
         let channel = self.name()?;
         let fields = self.dotted()?;
@@ -43,10 +33,8 @@ impl<'t, 'a, A: Allocator + Copy> Parser<'t, 'a, A> {
 
     /// Events with a comma between.
     fn events(&mut self) -> Result<Vec<Event<'a, A>, A>, Stopped>
-        ensures reads { IfOk result (λ r. Reads AreEvents (standing_of self.old) (standing_of self.new) (map event_of r.items)) }
-        ensures done { IfOk result (λ _. Done (HasTree AreEvents) lists_events (standing_of self.old) (standing_of self.new)) }
-        ensures stops { IfErr result (λ stopped. IsStop (HasTree AreEvents) lists_events (standing_of self.old) (standing_of self.new) stopped) }
-        ensures shorter { IfOk result (λ _. length (left_of self.new) < length (left_of self.old)) }
+        ensures reads { Reads form.OfEvents (λ es. map event_of es.items) self.old result self.new }
+        ensures shorter { Shortens self.old result self.new }
     {
         let mut events = Vec::new(self.alloc);
         let first = self.event()?;
@@ -60,10 +48,8 @@ impl<'t, 'a, A: Allocator + Copy> Parser<'t, 'a, A> {
     }
 
     fn pair(&mut self) -> Result<Pair<'a, A>, Stopped>
-        ensures reads { IfOk result (λ r. Reads IsPair (standing_of self.old) (standing_of self.new) (pair_of r)) }
-        ensures done { IfOk result (λ _. Done (HasTree IsPair) (only DotSign) (standing_of self.old) (standing_of self.new)) }
-        ensures stops { IfErr result (λ stopped. IsStop (HasTree IsPair) (only DotSign) (standing_of self.old) (standing_of self.new) stopped) }
-        ensures shorter { IfOk result (λ _. length (left_of self.new) < length (left_of self.old)) }
+        ensures reads { Reads form.OfPair pair_of self.old result self.new }
+        ensures shorter { Shortens self.old result self.new }
     {
         let from = self.event()?;
         self.sign(Sign::BackArrow)?;
@@ -73,10 +59,8 @@ impl<'t, 'a, A: Allocator + Copy> Parser<'t, 'a, A> {
 
     /// The pairs of a renaming, with a comma between.
     pub(crate) fn pairs(&mut self) -> Result<Vec<Pair<'a, A>, A>, Stopped>
-        ensures reads { IfOk result (λ r. Reads ArePairs (standing_of self.old) (standing_of self.new) (map pair_of r.items)) }
-        ensures done { IfOk result (λ _. Done (HasTree ArePairs) lists_events (standing_of self.old) (standing_of self.new)) }
-        ensures stops { IfErr result (λ stopped. IsStop (HasTree ArePairs) lists_events (standing_of self.old) (standing_of self.new) stopped) }
-        ensures shorter { IfOk result (λ _. length (left_of self.new) < length (left_of self.old)) }
+        ensures reads { Reads form.OfPairs (λ ps. map pair_of ps.items) self.old result self.new }
+        ensures shorter { Shortens self.old result self.new }
     {
         let mut pairs = Vec::new(self.alloc);
         let first = self.pair()?;
@@ -92,10 +76,8 @@ impl<'t, 'a, A: Allocator + Copy> Parser<'t, 'a, A> {
     /// A set of events.
     #[cycle(event_set)]
     pub(crate) fn event_set(&mut self) -> Result<EventSet<'a, A>, Stopped>
-        ensures reads { IfOk result (λ r. Reads IsEventSet (standing_of self.old) (standing_of self.new) (event_set_of r)) }
-        ensures done { IfOk result (λ _. Done (HasTree IsEventSet) nothing (standing_of self.old) (standing_of self.new)) }
-        ensures stops { IfErr result (λ stopped. IsStop (HasTree IsEventSet) nothing (standing_of self.old) (standing_of self.new) stopped) }
-        ensures shorter { IfOk result (λ _. length (left_of self.new) < length (left_of self.old)) }
+        ensures reads { Reads form.OfEventSet event_set_of self.old result self.new }
+        ensures shorter { Shortens self.old result self.new }
     {
         if self.is_at(Sign::OpenProductions) {
             return self.productions();
@@ -115,10 +97,8 @@ impl<'t, 'a, A: Allocator + Copy> Parser<'t, 'a, A> {
     /// This sign, and a set of events behind it.
     #[cycle(event_set)]
     pub(crate) fn event_set_behind(&mut self, sign: Sign) -> Result<EventSet<'a, A>, Stopped>
-        ensures reads { IfOk result (λ r. ReadsBehind (IsSign (sign_of sign)) IsEventSet (standing_of self.old) (standing_of self.new) (event_set_of r)) }
-        ensures done { IfOk result (λ _. Done (Next (sign_of sign) (HasTree IsEventSet)) nothing (standing_of self.old) (standing_of self.new)) }
-        ensures stops { IfErr result (λ stopped. IsStop (Next (sign_of sign) (HasTree IsEventSet)) nothing (standing_of self.old) (standing_of self.new) stopped) }
-        ensures shorter { IfOk result (λ _. length (left_of self.new) < length (left_of self.old)) }
+        ensures reads { Reads (form.EventSetBehind (sign_of sign)) event_set_of self.old result self.new }
+        ensures shorter { Shortens self.old result self.new }
     {
         self.sign(sign)?;
         self.event_set()
@@ -126,10 +106,8 @@ impl<'t, 'a, A: Allocator + Copy> Parser<'t, 'a, A> {
 
     /// `{|`, events and `|}`.
     fn productions(&mut self) -> Result<EventSet<'a, A>, Stopped>
-        ensures reads { IfOk result (λ r. Reads IsEventSet (standing_of self.old) (standing_of self.new) (event_set_of r)) }
-        ensures done { IfOk result (λ _. Done Productions nothing (standing_of self.old) (standing_of self.new)) }
-        ensures stops { IfErr result (λ stopped. IsStop Productions nothing (standing_of self.old) (standing_of self.new) stopped) }
-        ensures shorter { IfOk result (λ _. length (left_of self.new) < length (left_of self.old)) }
+        ensures reads { Reads form.Productions event_set_of self.old result self.new }
+        ensures shorter { Shortens self.old result self.new }
     {
         self.sign(Sign::OpenProductions)?;
         let events = self.events()?;
@@ -139,10 +117,8 @@ impl<'t, 'a, A: Allocator + Copy> Parser<'t, 'a, A> {
 
     /// `{`, events and `}`.
     fn enumeration(&mut self) -> Result<EventSet<'a, A>, Stopped>
-        ensures reads { IfOk result (λ r. Reads IsEventSet (standing_of self.old) (standing_of self.new) (event_set_of r)) }
-        ensures done { IfOk result (λ _. Done Enumeration nothing (standing_of self.old) (standing_of self.new)) }
-        ensures stops { IfErr result (λ stopped. IsStop Enumeration nothing (standing_of self.old) (standing_of self.new) stopped) }
-        ensures shorter { IfOk result (λ _. length (left_of self.new) < length (left_of self.old)) }
+        ensures reads { Reads form.Enumeration event_set_of self.old result self.new }
+        ensures shorter { Shortens self.old result self.new }
     {
         self.sign(Sign::OpenBrace)?;
         if self.is_at(Sign::CloseBrace) {
@@ -157,10 +133,8 @@ impl<'t, 'a, A: Allocator + Copy> Parser<'t, 'a, A> {
     /// Two sets of events that this keyword joins.
     #[cycle(event_set)]
     fn combined_set(&mut self, keyword: Keyword) -> Result<EventSet<'a, A>, Stopped>
-        ensures reads { IfOk result (λ r. Reads IsEventSet (standing_of self.old) (standing_of self.new) (event_set_of r)) }
-        ensures done { IfOk result (λ _. IsNext (kinds.Keyword keyword) (left_of self.old) → Done (HasTree IsEventSet) nothing (standing_of self.old) (standing_of self.new)) }
-        ensures stops { IfErr result (λ stopped. IsNext (kinds.Keyword keyword) (left_of self.old) → IsStop (HasTree IsEventSet) nothing (standing_of self.old) (standing_of self.new) stopped) }
-        ensures shorter { IfOk result (λ _. length (left_of self.new) < length (left_of self.old)) }
+        ensures reads { Reads (form.CombinedSet (keyword_of keyword)) event_set_of self.old result self.new }
+        ensures shorter { Shortens self.old result self.new }
     {
         let Some(operator) = set_operator(keyword) else {
             return Err(Stopped::Here);

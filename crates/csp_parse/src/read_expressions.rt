@@ -1,15 +1,10 @@
 //! Reading expressions.
 
-ghost use Rattle.std.specs.Prelude.{◌≡◌, ◌<◌, ◌≤◌, None, IfOk, IfErr, length};
+ghost use Rattle.std.specs.Prelude.{◌≡◌, IfOk, IfErr};
 ghost use Rattle.theory_syntax.specs.Operators.{unary_of, binary_of};
-ghost use Rattle.theory_text.specs.Token.{DotSign, RangeSign, CloseBraceSign, LessSign, OpenBraceSign};
-ghost use Rattle.theory_text.specs.Grammar.{IsSign, IsExpression, IsNegation, IsComparison, IsSum, IsAtom, AreDotted};
 ghost use Rattle.theory_text.specs.Raw.{RawApply, RawCombine, RawRange};
-ghost use Rattle.csp_lex.specs.Tokens.{keyword_of, sign_of};
 ghost use Rattle.csp_parse.specs.declared.stops.Stopped.TheVariants.{Memory};
-ghost use Rattle.csp_lex.specs.declared.kinds.TokenKind.TheVariants as kinds;
-ghost use Rattle.csp_parse.specs.Expressions.{expression_of, expressions_of};
-ghost use Rattle.csp_parse.specs.Levels.{IsAt, stronger, AreListed, IsConstructed, IsEnclosed, ReadsSigned, ReadsOperation, ReadsBracketed, ReadsRound, ReadsTwo};
+ghost use Rattle.csp_parse.specs.Expressions.{expression_of, expressions_in};
 
 use crate::expressions::Expression;
 use crate::levels::{Level, binary_function, comparison, unary_function};
@@ -20,21 +15,17 @@ use std::alloc::Allocator;
 use theory_syntax::{BinaryOperator, UnaryOperator};
 
 impl<'t, 'a, A: Allocator + Copy> Parser<'t, 'a, A> {
-    ghost use Rattle.csp_parse.specs.AtomForms.{Whole, Bracketed, Round, Enclosed, TwoBracketed, Items, Members, Inside};
-    ghost use Rattle.csp_parse.specs.Continuing.{continues, lists, enclosed_goes_on, HasOperators, IsChained, DoneOperation, IsStopOfOperation, IsRest, IsItem, IsAgainst, BehindAtom};
-    ghost use Rattle.csp_parse.specs.Deciding.{nothing, only, Done, IsStop};
-    ghost use Rattle.csp_parse.specs.Forms.{HasTree, Then, Repeated, Perhaps, Next};
-    ghost use Rattle.csp_parse.specs.Reading.{left_of, standing_of, Standing, IsNext, IsDottedNext, Passes, Reads, ReadsBehind, Extends};
-    ghost use Rattle.csp_parse.specs.Words.{unary_word, binary_word};
-    ghost use Rattle.csp_parse.specs.declared.levels.Level.TheVariants.{Disjunction, Negation, Comparison};
+    ghost use Rattle.std.specs.Prelude.{[], ◌∷◌};
+    ghost use Rattle.csp_lex.specs.Tokens.{keyword_of, sign_of};
+    ghost use Rattle.theory_reader.specs.Forms as form;
+    ghost use Rattle.csp_parse.specs.Levels.{level_of};
+    ghost use Rattle.csp_parse.specs.Reading.{Reads, Shortens, Keeps};
 
     /// An expression of a level.
     #[cycle(expression)]
     pub(crate) fn expression(&mut self, level: Level) -> Result<Expression<'a, A>, Stopped>
-        ensures reads { IfOk result (λ e. Reads (IsAt level) (standing_of self.old) (standing_of self.new) (expression_of e)) }
-        ensures done { IfOk result (λ _. Done (HasTree (IsAt level)) (continues level) (standing_of self.old) (standing_of self.new)) }
-        ensures stops { IfErr result (λ stopped. IsStop (HasTree (IsAt level)) (continues level) (standing_of self.old) (standing_of self.new) stopped) }
-        ensures shorter { IfOk result (λ _. length (left_of self.new) < length (left_of self.old)) }
+        ensures reads { Reads (form.AtLevel (level_of level)) expression_of self.old result self.new }
+        ensures shorter { Shortens self.old result self.new }
     {
         match level {
             Level::Atom => self.atom(),
@@ -57,10 +48,8 @@ impl<'t, 'a, A: Allocator + Copy> Parser<'t, 'a, A> {
         sign: Sign,
         level: Level,
     ) -> Result<Expression<'a, A>, Stopped>
-        ensures reads { IfOk result (λ e. ReadsBehind (IsSign (sign_of sign)) (IsAt level) (standing_of self.old) (standing_of self.new) (expression_of e)) }
-        ensures done { IfOk result (λ _. Done (Next (sign_of sign) (HasTree (IsAt level))) (continues level) (standing_of self.old) (standing_of self.new)) }
-        ensures stops { IfErr result (λ stopped. IsStop (Next (sign_of sign) (HasTree (IsAt level))) (continues level) (standing_of self.old) (standing_of self.new) stopped) }
-        ensures shorter { IfOk result (λ _. length (left_of self.new) < length (left_of self.old)) }
+        ensures reads { Reads (form.Behind (sign_of sign) (level_of level)) expression_of self.old result self.new }
+        ensures shorter { Shortens self.old result self.new }
     {
         self.sign(sign)?;
         self.expression(level)
@@ -69,10 +58,8 @@ impl<'t, 'a, A: Allocator + Copy> Parser<'t, 'a, A> {
     /// A chain of a level, whose operands are of the next stronger one.
     #[cycle(expression)]
     fn chain_of(&mut self, level: Level, operands: Level) -> Result<Expression<'a, A>, Stopped>
-        ensures reads { IfOk result (λ e. operands ≡ stronger level → Reads (IsAt level) (standing_of self.old) (standing_of self.new) (expression_of e)) }
-        ensures done { IfOk result (λ _. operands ≡ stronger level → HasOperators level → Done (IsChained level) (continues level) (standing_of self.old) (standing_of self.new)) }
-        ensures stops { IfErr result (λ stopped. operands ≡ stronger level → HasOperators level → IsStop (IsChained level) (continues level) (standing_of self.old) (standing_of self.new) stopped) }
-        ensures shorter { IfOk result (λ _. length (left_of self.new) < length (left_of self.old)) }
+        ensures reads { Reads (form.ChainOf (level_of level) (level_of operands)) expression_of self.old result self.new }
+        ensures shorter { Shortens self.old result self.new }
     {
         let first = self.expression(operands)?;
         self.chained(level, first)
@@ -85,10 +72,8 @@ impl<'t, 'a, A: Allocator + Copy> Parser<'t, 'a, A> {
         level: Level,
         first: Expression<'a, A>,
     ) -> Result<Expression<'a, A>, Stopped>
-        ensures extends { IfOk result (λ e. Extends (IsAt level) (IsAt level) (standing_of self.old) (standing_of self.new) (expression_of first.entry) (expression_of e)) }
-        ensures done { IfOk result (λ _. Done (IsRest level) (continues level) (standing_of self.old) (standing_of self.new)) }
-        ensures stops { IfErr result (λ stopped. IsStop (IsRest level) (continues level) (standing_of self.old) (standing_of self.new) stopped) }
-        ensures not_longer { IfOk result (λ _. length (left_of self.new) ≤ length (left_of self.old)) }
+        ensures reads { Reads (form.Chained (level_of level) (expression_of first.entry)) expression_of self.old result self.new }
+        ensures shorter { Keeps self.old result self.new }
     {
         let mut chain = first;
         while let Some(kind) = self.kind() {
@@ -106,10 +91,8 @@ impl<'t, 'a, A: Allocator + Copy> Parser<'t, 'a, A> {
         &mut self,
         first: Expression<'a, A>,
     ) -> Result<Expression<'a, A>, Stopped>
-        ensures extends { IfOk result (λ e. Extends IsSum IsComparison (standing_of self.old) (standing_of self.new) (expression_of first.entry) (expression_of e)) }
-        ensures done { IfOk result (λ _. Done (Perhaps IsAgainst) (continues Comparison) (standing_of self.old) (standing_of self.new)) }
-        ensures stops { IfErr result (λ stopped. IsStop (Perhaps IsAgainst) (continues Comparison) (standing_of self.old) (standing_of self.new) stopped) }
-        ensures not_longer { IfOk result (λ _. length (left_of self.new) ≤ length (left_of self.old)) }
+        ensures reads { Reads (form.Compared (expression_of first.entry)) expression_of self.old result self.new }
+        ensures shorter { Keeps self.old result self.new }
     {
         let Some(kind) = self.kind() else {
             return Ok(first);
@@ -128,10 +111,8 @@ impl<'t, 'a, A: Allocator + Copy> Parser<'t, 'a, A> {
         first: Expression<'a, A>,
         level: Level,
     ) -> Result<Expression<'a, A>, Stopped>
-        ensures reads { IfOk result (λ e. ReadsOperation level (binary_of operator) (expression_of first.entry) (standing_of self.old) (standing_of self.new) (expression_of e)) }
-        ensures done { IfOk result (λ _. DoneOperation level (standing_of self.old) (standing_of self.new)) }
-        ensures stops { IfErr result (λ stopped. IsStopOfOperation level (standing_of self.old) (standing_of self.new) stopped) }
-        ensures shorter { IfOk result (λ _. length (left_of self.new) < length (left_of self.old)) }
+        ensures reads { Reads (form.Operation (binary_of operator) (expression_of first.entry) (level_of level)) expression_of self.old result self.new }
+        ensures shorter { Shortens self.old result self.new }
     {
         self.pass()?;
         let second = self.expression(level)?;
@@ -141,10 +122,8 @@ impl<'t, 'a, A: Allocator + Copy> Parser<'t, 'a, A> {
     /// `not` any number of times, and a comparison.
     #[cycle(expression)]
     fn negation(&mut self) -> Result<Expression<'a, A>, Stopped>
-        ensures reads { IfOk result (λ e. Reads IsNegation (standing_of self.old) (standing_of self.new) (expression_of e)) }
-        ensures done { IfOk result (λ _. Done (HasTree IsNegation) (continues Negation) (standing_of self.old) (standing_of self.new)) }
-        ensures stops { IfErr result (λ stopped. IsStop (HasTree IsNegation) (continues Negation) (standing_of self.old) (standing_of self.new) stopped) }
-        ensures shorter { IfOk result (λ _. length (left_of self.new) < length (left_of self.old)) }
+        ensures reads { Reads form.OfNegation expression_of self.old result self.new }
+        ensures shorter { Shortens self.old result self.new }
     {
         if !self.is_at_word(Keyword::Not) {
             return self.expression(Level::Comparison);
@@ -157,10 +136,8 @@ impl<'t, 'a, A: Allocator + Copy> Parser<'t, 'a, A> {
     /// An expression without operators around it.
     #[cycle(expression)]
     fn atom(&mut self) -> Result<Expression<'a, A>, Stopped>
-        ensures reads { IfOk result (λ e. Reads IsAtom (standing_of self.old) (standing_of self.new) (expression_of e)) }
-        ensures done { IfOk result (λ _. Done (HasTree IsAtom) nothing (standing_of self.old) (standing_of self.new)) }
-        ensures stops { IfErr result (λ stopped. IsStop (HasTree IsAtom) nothing (standing_of self.old) (standing_of self.new) stopped) }
-        ensures shorter { IfOk result (λ _. length (left_of self.new) < length (left_of self.old)) }
+        ensures reads { Reads form.OfAtom expression_of self.old result self.new }
+        ensures shorter { Shortens self.old result self.new }
     {
         let Some(kind) = self.kind() else {
             return Err(Stopped::Here);
@@ -182,10 +159,8 @@ impl<'t, 'a, A: Allocator + Copy> Parser<'t, 'a, A> {
     /// The atom that begins with this keyword.
     #[cycle(expression)]
     fn atom_of_word(&mut self, keyword: Keyword) -> Result<Expression<'a, A>, Stopped>
-        ensures reads { IfOk result (λ e. Reads IsAtom (standing_of self.old) (standing_of self.new) (expression_of e)) }
-        ensures done { IfOk result (λ _. IsNext (kinds.Keyword keyword) (left_of self.old) → Done (HasTree IsAtom) nothing (standing_of self.old) (standing_of self.new)) }
-        ensures stops { IfErr result (λ stopped. IsNext (kinds.Keyword keyword) (left_of self.old) → IsStop (HasTree IsAtom) nothing (standing_of self.old) (standing_of self.new) stopped) }
-        ensures shorter { IfOk result (λ _. length (left_of self.new) < length (left_of self.old)) }
+        ensures reads { Reads (form.AtomOfWord (keyword_of keyword)) expression_of self.old result self.new }
+        ensures shorter { Shortens self.old result self.new }
     {
         if let Some(operator) = unary_function(keyword) {
             self.word(keyword)?;
@@ -202,10 +177,8 @@ impl<'t, 'a, A: Allocator + Copy> Parser<'t, 'a, A> {
 
     /// The constant that this keyword is.
     fn constant(&mut self, keyword: Keyword) -> Result<Expression<'a, A>, Stopped>
-        ensures reads { IfOk result (λ e. Reads IsAtom (standing_of self.old) (standing_of self.new) (expression_of e)) }
-        ensures done { IfOk result (λ _. IsNext (kinds.Keyword keyword) (left_of self.old) → unary_word (keyword_of keyword) ≡ None → binary_word (keyword_of keyword) ≡ None → Done (HasTree IsAtom) nothing (standing_of self.old) (standing_of self.new)) }
-        ensures stops { IfErr result (λ stopped. IsNext (kinds.Keyword keyword) (left_of self.old) → unary_word (keyword_of keyword) ≡ None → binary_word (keyword_of keyword) ≡ None → IsStop (HasTree IsAtom) nothing (standing_of self.old) (standing_of self.new) stopped) }
-        ensures shorter { IfOk result (λ _. length (left_of self.new) < length (left_of self.old)) }
+        ensures reads { Reads (form.Constant (keyword_of keyword)) expression_of self.old result self.new }
+        ensures shorter { Shortens self.old result self.new }
     {
         match keyword {
             Keyword::True => {
@@ -227,10 +200,8 @@ impl<'t, 'a, A: Allocator + Copy> Parser<'t, 'a, A> {
     /// An expression in brackets.
     #[cycle(expression)]
     fn bracketed(&mut self) -> Result<Expression<'a, A>, Stopped>
-        ensures reads { IfOk result (λ e. ReadsBracketed (standing_of self.old) (standing_of self.new) (expression_of e)) }
-        ensures done { IfOk result (λ _. Done Bracketed nothing (standing_of self.old) (standing_of self.new)) }
-        ensures stops { IfErr result (λ stopped. IsStop Bracketed nothing (standing_of self.old) (standing_of self.new) stopped) }
-        ensures shorter { IfOk result (λ _. length (left_of self.new) < length (left_of self.old)) }
+        ensures reads { Reads form.Bracketed expression_of self.old result self.new }
+        ensures shorter { Shortens self.old result self.new }
     {
         let inner = self.expression_behind(Sign::OpenRound, Level::Disjunction)?;
         self.sign(Sign::CloseRound)?;
@@ -240,10 +211,8 @@ impl<'t, 'a, A: Allocator + Copy> Parser<'t, 'a, A> {
     /// An atom in round brackets: an expression, or a constructor with its fields.
     #[cycle(expression)]
     fn round(&mut self) -> Result<Expression<'a, A>, Stopped>
-        ensures reads { IfOk result (λ e. ReadsRound (standing_of self.old) (standing_of self.new) (expression_of e)) }
-        ensures done { IfOk result (λ _. Done Round nothing (standing_of self.old) (standing_of self.new)) }
-        ensures stops { IfErr result (λ stopped. IsStop Round nothing (standing_of self.old) (standing_of self.new) stopped) }
-        ensures shorter { IfOk result (λ _. length (left_of self.new) < length (left_of self.old)) }
+        ensures reads { Reads form.Round expression_of self.old result self.new }
+        ensures shorter { Shortens self.old result self.new }
     {
         self.sign(Sign::OpenRound)?;
         let inner = self.enclosed()?;
@@ -254,26 +223,16 @@ impl<'t, 'a, A: Allocator + Copy> Parser<'t, 'a, A> {
     /// What is an atom with round brackets around it.
     #[cycle(expression)]
     fn enclosed(&mut self) -> Result<Expression<'a, A>, Stopped>
-        ensures reads { IfOk result (λ e. Reads IsEnclosed (standing_of self.old) (standing_of self.new) (expression_of e)) }
-        ensures done { IfOk result (λ _. Done Enclosed enclosed_goes_on (standing_of self.old) (standing_of self.new)) }
-        ensures stops { IfErr result (λ stopped. IsStop Enclosed enclosed_goes_on (standing_of self.old) (standing_of self.new) stopped) }
-        ensures shorter { IfOk result (λ _. length (left_of self.new) < length (left_of self.old)) }
+        ensures reads { Reads form.Enclosed expression_of self.old result self.new }
+        ensures shorter { Shortens self.old result self.new }
     {
-        if self.is_at_dotted_name() {
-            return self.constructed();
+        if !self.is_at_name() {
+            return self.expression(Level::Disjunction);
         }
-        self.expression(Level::Disjunction)
-    }
-
-    /// A constructor with its fields, without the brackets around them. Its name and a dot are next.
-    #[cycle(expression)]
-    fn constructed(&mut self) -> Result<Expression<'a, A>, Stopped>
-        ensures reads { IfOk result (λ e. IsDottedNext (left_of self.old) → Reads IsConstructed (standing_of self.old) (standing_of self.new) (expression_of e)) }
-        ensures done { IfOk result (λ _. IsDottedNext (left_of self.old) → Done (HasTree IsConstructed) (only DotSign) (standing_of self.old) (standing_of self.new)) }
-        ensures stops { IfErr result (λ stopped. IsDottedNext (left_of self.old) → IsStop (HasTree IsConstructed) (only DotSign) (standing_of self.old) (standing_of self.new) stopped) }
-        ensures shorter { IfOk result (λ _. length (left_of self.new) < length (left_of self.old)) }
-    {
         let name = self.name()?;
+        if !self.is_at(Sign::Dot) {
+            return self.expression_from(Expression::Use(name));
+        }
         let fields = self.dotted()?;
         Ok(Expression::Constructor(name, fields))
     }
@@ -281,10 +240,8 @@ impl<'t, 'a, A: Allocator + Copy> Parser<'t, 'a, A> {
     /// Atoms with a dot before each.
     #[cycle(expression)]
     pub(crate) fn dotted(&mut self) -> Result<Vec<Expression<'a, A>, A>, Stopped>
-        ensures reads { IfOk result (λ r. Reads AreDotted (standing_of self.old) (standing_of self.new) (expressions_of r.items)) }
-        ensures done { IfOk result (λ _. Done (HasTree AreDotted) (only DotSign) (standing_of self.old) (standing_of self.new)) }
-        ensures stops { IfErr result (λ stopped. IsStop (HasTree AreDotted) (only DotSign) (standing_of self.old) (standing_of self.new) stopped) }
-        ensures not_longer { IfOk result (λ _. length (left_of self.new) ≤ length (left_of self.old)) }
+        ensures reads { Reads (form.Dotted []) (λ r. expressions_in r.items) self.old result self.new }
+        ensures shorter { Keeps self.old result self.new }
     {
         let mut fields = Vec::new(self.alloc);
         while self.is_at(Sign::Dot) {
@@ -297,10 +254,8 @@ impl<'t, 'a, A: Allocator + Copy> Parser<'t, 'a, A> {
     /// Two expressions in brackets.
     #[cycle(expression)]
     fn two_arguments(&mut self) -> Result<(Expression<'a, A>, Expression<'a, A>), Stopped>
-        ensures reads { IfOk result (λ r. ReadsTwo (standing_of self.old) (standing_of self.new) (expression_of r.0) (expression_of r.1)) }
-        ensures done { IfOk result (λ _. Done TwoBracketed nothing (standing_of self.old) (standing_of self.new)) }
-        ensures stops { IfErr result (λ stopped. IsStop TwoBracketed nothing (standing_of self.old) (standing_of self.new) stopped) }
-        ensures shorter { IfOk result (λ _. length (left_of self.new) < length (left_of self.old)) }
+        ensures reads { Reads form.TwoArguments (λ r. (expression_of r.0, expression_of r.1)) self.old result self.new }
+        ensures shorter { Shortens self.old result self.new }
     {
         let first = self.expression_behind(Sign::OpenRound, Level::Disjunction)?;
         let second = self.expression_behind(Sign::Comma, Level::Disjunction)?;
@@ -311,10 +266,8 @@ impl<'t, 'a, A: Allocator + Copy> Parser<'t, 'a, A> {
     /// The atom that begins with this sign.
     #[cycle(expression)]
     fn atom_of_sign(&mut self, sign: Sign) -> Result<Expression<'a, A>, Stopped>
-        ensures reads { IfOk result (λ e. Reads IsAtom (standing_of self.old) (standing_of self.new) (expression_of e)) }
-        ensures done { IfOk result (λ _. IsNext (kinds.Sign sign) (left_of self.old) → Done (HasTree IsAtom) nothing (standing_of self.old) (standing_of self.new)) }
-        ensures stops { IfErr result (λ stopped. IsNext (kinds.Sign sign) (left_of self.old) → IsStop (HasTree IsAtom) nothing (standing_of self.old) (standing_of self.new) stopped) }
-        ensures shorter { IfOk result (λ _. length (left_of self.new) < length (left_of self.old)) }
+        ensures reads { Reads (form.AtomOfSign (sign_of sign)) expression_of self.old result self.new }
+        ensures shorter { Shortens self.old result self.new }
     {
         match sign {
             Sign::Minus => self.signed(Sign::Minus, UnaryOperator::Negate),
@@ -329,10 +282,8 @@ impl<'t, 'a, A: Allocator + Copy> Parser<'t, 'a, A> {
     /// This sign, and an atom behind it that the sign's operator is applied to.
     #[cycle(expression)]
     fn signed(&mut self, sign: Sign, operator: UnaryOperator) -> Result<Expression<'a, A>, Stopped>
-        ensures reads { IfOk result (λ e. ReadsSigned (sign_of sign) (unary_of operator) (standing_of self.old) (standing_of self.new) (expression_of e)) }
-        ensures done { IfOk result (λ _. Done (Next (sign_of sign) (HasTree IsAtom)) nothing (standing_of self.old) (standing_of self.new)) }
-        ensures stops { IfErr result (λ stopped. IsStop (Next (sign_of sign) (HasTree IsAtom)) nothing (standing_of self.old) (standing_of self.new) stopped) }
-        ensures shorter { IfOk result (λ _. length (left_of self.new) < length (left_of self.old)) }
+        ensures reads { Reads (form.Signed (sign_of sign) (unary_of operator)) expression_of self.old result self.new }
+        ensures shorter { Shortens self.old result self.new }
     {
         let operand = self.expression_behind(sign, Level::Atom)?;
         applied(self.alloc, operator, operand)
@@ -341,10 +292,8 @@ impl<'t, 'a, A: Allocator + Copy> Parser<'t, 'a, A> {
     /// A sequence.
     #[cycle(expression)]
     fn sequence(&mut self) -> Result<Expression<'a, A>, Stopped>
-        ensures reads { IfOk result (λ e. Reads IsAtom (standing_of self.old) (standing_of self.new) (expression_of e)) }
-        ensures done { IfOk result (λ _. Done (Then (IsSign LessSign) Items) nothing (standing_of self.old) (standing_of self.new)) }
-        ensures stops { IfErr result (λ stopped. IsStop (Then (IsSign LessSign) Items) nothing (standing_of self.old) (standing_of self.new) stopped) }
-        ensures shorter { IfOk result (λ _. length (left_of self.new) < length (left_of self.old)) }
+        ensures reads { Reads form.Sequence expression_of self.old result self.new }
+        ensures shorter { Shortens self.old result self.new }
     {
         self.sign(Sign::Less)?;
         if self.is_at(Sign::Greater) {
@@ -360,10 +309,8 @@ impl<'t, 'a, A: Allocator + Copy> Parser<'t, 'a, A> {
     /// A set.
     #[cycle(expression)]
     fn set(&mut self) -> Result<Expression<'a, A>, Stopped>
-        ensures reads { IfOk result (λ e. Reads IsAtom (standing_of self.old) (standing_of self.new) (expression_of e)) }
-        ensures done { IfOk result (λ _. Done (Then (IsSign OpenBraceSign) Inside) nothing (standing_of self.old) (standing_of self.new)) }
-        ensures stops { IfErr result (λ stopped. IsStop (Then (IsSign OpenBraceSign) Inside) nothing (standing_of self.old) (standing_of self.new) stopped) }
-        ensures shorter { IfOk result (λ _. length (left_of self.new) < length (left_of self.old)) }
+        ensures reads { Reads form.OfSet expression_of self.old result self.new }
+        ensures shorter { Shortens self.old result self.new }
     {
         self.sign(Sign::OpenBrace)?;
         if !self.is_at(Sign::CloseBrace) {
@@ -376,10 +323,8 @@ impl<'t, 'a, A: Allocator + Copy> Parser<'t, 'a, A> {
     /// What stands behind the opening brace of a set that is not empty.
     #[cycle(expression)]
     fn members(&mut self) -> Result<Expression<'a, A>, Stopped>
-        ensures continues { IfOk result (λ e. (before : Standing) → Passes (IsSign OpenBraceSign) before (standing_of self.old) → Reads IsAtom before (standing_of self.new) (expression_of e)) }
-        ensures done { IfOk result (λ _. Done (Then Whole Members) nothing (standing_of self.old) (standing_of self.new)) }
-        ensures stops { IfErr result (λ stopped. IsStop (Then Whole Members) nothing (standing_of self.old) (standing_of self.new) stopped) }
-        ensures shorter { IfOk result (λ _. length (left_of self.new) < length (left_of self.old)) }
+        ensures reads { Reads form.Members expression_of self.old result self.new }
+        ensures shorter { Shortens self.old result self.new }
     {
         let first = self.expression(Level::Disjunction)?;
         if self.is_at(Sign::Range) {
@@ -393,10 +338,8 @@ impl<'t, 'a, A: Allocator + Copy> Parser<'t, 'a, A> {
     /// The rest of a set from one number to another, behind the first one.
     #[cycle(expression)]
     fn range(&mut self, first: Expression<'a, A>) -> Result<Expression<'a, A>, Stopped>
-        ensures continues { IfOk result (λ e. (before behind : Standing) → Passes (IsSign OpenBraceSign) before behind → Reads IsExpression behind (standing_of self.old) (expression_of first.entry) → Reads IsAtom before (standing_of self.new) (expression_of e)) }
-        ensures done { IfOk result (λ _. Done (Next RangeSign (Then Whole (IsSign CloseBraceSign))) nothing (standing_of self.old) (standing_of self.new)) }
-        ensures stops { IfErr result (λ stopped. IsStop (Next RangeSign (Then Whole (IsSign CloseBraceSign))) nothing (standing_of self.old) (standing_of self.new) stopped) }
-        ensures not_longer { IfOk result (λ _. length (left_of self.new) ≤ length (left_of self.old)) }
+        ensures reads { Reads (form.Range (expression_of first.entry)) expression_of self.old result self.new }
+        ensures shorter { Shortens self.old result self.new }
     {
         let last = self.expression_behind(Sign::Range, Level::Disjunction)?;
         self.sign(Sign::CloseBrace)?;
@@ -410,10 +353,8 @@ impl<'t, 'a, A: Allocator + Copy> Parser<'t, 'a, A> {
         level: Level,
         first: Expression<'a, A>,
     ) -> Result<Vec<Expression<'a, A>, A>, Stopped>
-        ensures extends { IfOk result (λ all. Extends (IsAt level) (AreListed level) (standing_of self.old) (standing_of self.new) (expression_of first.entry) (expressions_of all.items)) }
-        ensures done { IfOk result (λ _. Done (Repeated (IsItem level)) (lists level) (standing_of self.old) (standing_of self.new)) }
-        ensures stops { IfErr result (λ stopped. IsStop (Repeated (IsItem level)) (lists level) (standing_of self.old) (standing_of self.new) stopped) }
-        ensures not_longer { IfOk result (λ _. length (left_of self.new) ≤ length (left_of self.old)) }
+        ensures reads { Reads (form.Listed (level_of level) (expression_of first.entry ∷ [])) (λ r. expressions_in r.items) self.old result self.new }
+        ensures shorter { Keeps self.old result self.new }
     {
         let mut items = Vec::new(self.alloc);
         items.push(first)?;
@@ -425,14 +366,13 @@ impl<'t, 'a, A: Allocator + Copy> Parser<'t, 'a, A> {
     }
 
     /// The rest of an expression that begins with an atom.
+    #[cycle(expression)]
     pub(crate) fn expression_from(
         &mut self,
         atom: Expression<'a, A>,
     ) -> Result<Expression<'a, A>, Stopped>
-        ensures extends { IfOk result (λ e. Extends IsAtom IsExpression (standing_of self.old) (standing_of self.new) (expression_of atom.entry) (expression_of e)) }
-        ensures done { IfOk result (λ _. Done BehindAtom (continues Disjunction) (standing_of self.old) (standing_of self.new)) }
-        ensures stops { IfErr result (λ stopped. IsStop BehindAtom (continues Disjunction) (standing_of self.old) (standing_of self.new) stopped) }
-        ensures not_longer { IfOk result (λ _. length (left_of self.new) ≤ length (left_of self.old)) }
+        ensures reads { Reads (form.ExpressionFrom (expression_of atom.entry)) expression_of self.old result self.new }
+        ensures shorter { Keeps self.old result self.new }
     {
         let product = self.chained(Level::Product, atom)?;
         let sum = self.chained(Level::Sum, product)?;

@@ -1,12 +1,8 @@
 //! Reading the fields of a prefix.
 
-ghost use Rattle.std.specs.Prelude.{◌≡◌, ◌<◌, ◌≤◌, IfOk, IfErr, length, map};
-ghost use Rattle.theory_text.specs.Grammar.{AreDotted, AreFields, AreLaterFields};
-ghost use Rattle.theory_text.specs.Token.{ColonSign};
-ghost use Rattle.csp_parse.specs.Expressions.{expressions_of};
-ghost use Rattle.csp_parse.specs.Processes.{field_of, fields_given};
-ghost use Rattle.csp_parse.specs.Starts.{IsLaterField};
+ghost use Rattle.std.specs.Prelude.{◌≡◌, IfOk, IfErr, map};
 ghost use Rattle.csp_parse.specs.declared.stops.Stopped.TheVariants.{Memory};
+ghost use Rattle.csp_parse.specs.Processes.{field_of, fields_given};
 
 use crate::expressions::Expression;
 use crate::levels::Level;
@@ -17,20 +13,16 @@ use csp_lex::Sign;
 use std::alloc::Allocator;
 
 impl<'t, 'a, A: Allocator + Copy> Parser<'t, 'a, A> {
-    ghost use Rattle.csp_parse.specs.Deciding.{only, Done, IsStop};
-    ghost use Rattle.csp_parse.specs.Forms.{HasTree};
-    ghost use Rattle.csp_parse.specs.ProcessForms.{fields_go_on};
-    ghost use Rattle.csp_parse.specs.Reading.{left_of, standing_of, Reads, Extends};
+    ghost use Rattle.theory_reader.specs.Forms as form;
+    ghost use Rattle.csp_parse.specs.Reading.{Reads, Shortens, Keeps};
 
     /// The fields of a prefix, behind those that are given with a dot.
     pub(crate) fn fields_behind(
         &mut self,
         values: Vec<Expression<'a, A>, A>,
     ) -> Result<Vec<Field<'a, A>, A>, Stopped>
-        ensures extends { IfOk result (λ r. Extends AreDotted AreFields (standing_of self.old) (standing_of self.new) (expressions_of values.entry.items) (map field_of r.items)) }
-        ensures done { IfOk result (λ _. Done (HasTree AreLaterFields) fields_go_on (standing_of self.old) (standing_of self.new)) }
-        ensures stops { IfErr result (λ stopped. IsStop (HasTree AreLaterFields) fields_go_on (standing_of self.old) (standing_of self.new) stopped) }
-        ensures not_longer { IfOk result (λ _. length (left_of self.new) ≤ length (left_of self.old)) }
+        ensures reads { Reads (form.FieldsBehind (fields_given values.entry.items)) (λ fs. map field_of fs.items) self.old result self.new }
+        ensures shorter { Keeps self.old result self.new }
     {
         let mut fields = given(self.alloc, values)?;
         while self.is_at(Sign::Output) || self.is_at(Sign::Input) {
@@ -42,10 +34,8 @@ impl<'t, 'a, A: Allocator + Copy> Parser<'t, 'a, A> {
 
     /// An output or an input.
     fn field(&mut self) -> Result<Field<'a, A>, Stopped>
-        ensures reads { IfOk result (λ r. Reads IsLaterField (standing_of self.old) (standing_of self.new) (field_of r)) }
-        ensures done { IfOk result (λ _. Done (HasTree IsLaterField) (only ColonSign) (standing_of self.old) (standing_of self.new)) }
-        ensures stops { IfErr result (λ stopped. IsStop (HasTree IsLaterField) (only ColonSign) (standing_of self.old) (standing_of self.new) stopped) }
-        ensures shorter { IfOk result (λ _. length (left_of self.new) < length (left_of self.old)) }
+        ensures reads { Reads form.OfField field_of self.old result self.new }
+        ensures shorter { Shortens self.old result self.new }
     {
         if self.is_at(Sign::Output) {
             let value = self.expression_behind(Sign::Output, Level::Atom)?;

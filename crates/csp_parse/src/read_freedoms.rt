@@ -2,10 +2,6 @@
 //!
 //! Its words are no keywords: they are names that are spelled so.
 
-ghost use Rattle.std.specs.Prelude.{◌≡◌, ◌<◌, IfOk, IfErr, length};
-ghost use Rattle.std.specs.Str.{chars};
-ghost use Rattle.theory_text.specs.Grammar.{IsFreedom, IsFreedomEnd};
-ghost use Rattle.theory_text.specs.Raw.{RawDeadlockFree, RawDivergenceFree};
 ghost use Rattle.csp_parse.specs.Declarations.{property_of};
 
 use crate::declarations::Property;
@@ -15,17 +11,13 @@ use csp_lex::Sign;
 use std::alloc::Allocator;
 
 impl<'t, 'a, A: Allocator + Copy> Parser<'t, 'a, A> {
-    ghost use Rattle.csp_parse.specs.Deciding.{nothing, Done, IsStop};
-    ghost use Rattle.csp_parse.specs.Forms.{HasTree};
-    ghost use Rattle.csp_parse.specs.FreedomForms.{DeadlockFreed, DivergenceFreed, DoubleEnd};
-    ghost use Rattle.csp_parse.specs.Reading.{left_of, standing_of, Passes, Reads};
+    ghost use Rattle.theory_reader.specs.Forms as form;
+    ghost use Rattle.csp_parse.specs.Reading.{Reads, Shortens};
 
     /// A freedom, in its square brackets.
     pub(crate) fn freedom(&mut self) -> Result<Property<'a, A>, Stopped>
-        ensures reads { IfOk result (λ r. Reads IsFreedom (standing_of self.old) (standing_of self.new) (property_of r)) }
-        ensures done { IfOk result (λ _. Done (HasTree IsFreedom) nothing (standing_of self.old) (standing_of self.new)) }
-        ensures stops { IfErr result (λ stopped. IsStop (HasTree IsFreedom) nothing (standing_of self.old) (standing_of self.new) stopped) }
-        ensures shorter { IfOk result (λ _. length (left_of self.new) < length (left_of self.old)) }
+        ensures reads { Reads form.OfFreedom property_of self.old result self.new }
+        ensures shorter { Shortens self.old result self.new }
     {
         self.sign(Sign::OpenSquare)?;
         if self.is_at_spelling("divergence") {
@@ -38,9 +30,8 @@ impl<'t, 'a, A: Allocator + Copy> Parser<'t, 'a, A> {
 
     /// `divergence free` and the closing bracket.
     fn divergence_free(&mut self) -> Result<(), Stopped>
-        ensures done { IfOk result (λ _. Done DivergenceFreed nothing (standing_of self.old) (standing_of self.new)) }
-        ensures stops { IfErr result (λ stopped. IsStop DivergenceFreed nothing (standing_of self.old) (standing_of self.new) stopped) }
-        ensures shorter { IfOk result (λ _. length (left_of self.new) < length (left_of self.old)) }
+        ensures reads { Reads form.DivergenceFree (λ _. tt) self.old result self.new }
+        ensures shorter { Shortens self.old result self.new }
     {
         self.spelling("divergence")?;
         self.spelling("free")?;
@@ -49,9 +40,8 @@ impl<'t, 'a, A: Allocator + Copy> Parser<'t, 'a, A> {
 
     /// `deadlock free` and its end.
     fn deadlock_free(&mut self) -> Result<(), Stopped>
-        ensures done { IfOk result (λ _. Done DeadlockFreed nothing (standing_of self.old) (standing_of self.new)) }
-        ensures stops { IfErr result (λ stopped. IsStop DeadlockFreed nothing (standing_of self.old) (standing_of self.new) stopped) }
-        ensures shorter { IfOk result (λ _. length (left_of self.new) < length (left_of self.old)) }
+        ensures reads { Reads form.DeadlockFree (λ _. tt) self.old result self.new }
+        ensures shorter { Shortens self.old result self.new }
     {
         self.spelling("deadlock")?;
         self.spelling("free")?;
@@ -60,9 +50,8 @@ impl<'t, 'a, A: Allocator + Copy> Parser<'t, 'a, A> {
 
     /// The closing bracket, perhaps with `[F]` in front.
     fn freedom_end(&mut self) -> Result<(), Stopped>
-        ensures done { IfOk result (λ _. Done IsFreedomEnd nothing (standing_of self.old) (standing_of self.new)) }
-        ensures stops { IfErr result (λ stopped. IsStop IsFreedomEnd nothing (standing_of self.old) (standing_of self.new) stopped) }
-        ensures shorter { IfOk result (λ _. length (left_of self.new) < length (left_of self.old)) }
+        ensures reads { Reads form.FreedomEnd (λ _. tt) self.old result self.new }
+        ensures shorter { Shortens self.old result self.new }
     {
         if self.is_at(Sign::CloseSquare) {
             return self.sign(Sign::CloseSquare);
@@ -74,9 +63,8 @@ impl<'t, 'a, A: Allocator + Copy> Parser<'t, 'a, A> {
 
     /// Two closing brackets, written as one or as two.
     fn double_end(&mut self) -> Result<(), Stopped>
-        ensures done { IfOk result (λ _. Done DoubleEnd nothing (standing_of self.old) (standing_of self.new)) }
-        ensures stops { IfErr result (λ stopped. IsStop DoubleEnd nothing (standing_of self.old) (standing_of self.new) stopped) }
-        ensures shorter { IfOk result (λ _. length (left_of self.new) < length (left_of self.old)) }
+        ensures reads { Reads form.DoubleEnd (λ _. tt) self.old result self.new }
+        ensures shorter { Shortens self.old result self.new }
     {
         if self.is_at(Sign::CloseRenaming) {
             return self.sign(Sign::CloseRenaming);

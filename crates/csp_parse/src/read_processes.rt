@@ -1,12 +1,12 @@
 //! Reading processes.
 
-ghost use Rattle.std.specs.Prelude.{◌≡◌, ◌<◌, ◌≤◌, ◌⊎◌, true, false, IfOk, IfErr, IfSome, IfNone, length};
-ghost use Rattle.theory_text.specs.Grammar.{IsSign, IsWord, IsExpression, IsRenamingPart, IsHidingPart, IsBase, IsOperand, IsProcess};
-ghost use Rattle.theory_text.specs.Token.{IfWord, OpenRenamingSign, HidingSign};
+ghost use Rattle.std.specs.Prelude.{◌≡◌};
+ghost use Rattle.std.specs.Option.{option_map};
 ghost use Rattle.csp_lex.specs.Tokens.{keyword_of, sign_of};
+ghost use Rattle.theory_reader.specs.Reader.{begins_process, is_suffix, infix_at, replicator_at};
 ghost use Rattle.csp_parse.specs.Expressions.{expression_of};
 ghost use Rattle.csp_parse.specs.Processes.{infix_of, replicator_of, process_in};
-ghost use Rattle.csp_parse.specs.Starts.{ReadsStart, IsRenamedBase, IsHiddenBase};
+ghost use Rattle.csp_parse.specs.Starts.{start_of};
 
 use crate::expressions::Expression;
 use crate::levels::Level;
@@ -20,28 +20,14 @@ use std::alloc::Allocator;
 use theory_syntax::{ProcessOperator, ReplicatedOperator};
 
 impl<'t, 'a, A: Allocator + Copy> Parser<'t, 'a, A> {
-    ghost use Rattle.theory_syntax.specs.declared.process_operator.ReplicatedOperator as over_sets;
-    ghost use Rattle.csp_lex.specs.declared.kinds.TokenKind.TheVariants as kinds;
-    ghost use Rattle.csp_lex.specs.declared.keywords.Keyword.TheVariants as keyword;
-    ghost use Rattle.csp_lex.specs.declared.signs.Sign.TheVariants as sign;
-    ghost use Rattle.csp_parse.specs.Continuing.{continues};
-    ghost use Rattle.csp_parse.specs.Deciding.{only, Done, IsStop};
-    ghost use Rattle.csp_parse.specs.Forms.{HasTree, Then, Repeated, Next};
-    ghost use Rattle.csp_parse.specs.ProcessForms.{continues_start, continues_process, Operand, Expressed, Conditional, ReplicatedBy, Shared, Alphabets, ChainOf, BehindOperand};
-    ghost use Rattle.csp_parse.specs.Reading.{left_of, standing_of, Standing, IsNext, Reads, ReadsBehind, Continues};
-    ghost use Rattle.csp_parse.specs.StartForms.{BehindBase, BehindStart, StopsBehind, infix_written, replicator_written};
-    ghost use Rattle.csp_parse.specs.Words as words;
-    ghost use Rattle.csp_parse.specs.Words.{replicator_sign};
-    ghost use Rattle.csp_parse.specs.declared.levels.Level.TheVariants.{Disjunction};
-    ghost use Rattle.csp_parse.specs.declared.processes.Infix as infixes;
+    ghost use Rattle.theory_reader.specs.Forms as form;
+    ghost use Rattle.csp_parse.specs.Reading.{next_of, Reads, Shortens, Keeps};
 
     /// A process.
     #[cycle(process)]
     pub(crate) fn process(&mut self) -> Result<Box<Process<'a, A>, A>, Stopped>
-        ensures reads { IfOk result (λ r. Reads IsProcess (standing_of self.old) (standing_of self.new) (process_in r)) }
-        ensures done { IfOk result (λ _. Done (HasTree IsProcess) continues_process (standing_of self.old) (standing_of self.new)) }
-        ensures stops { IfErr result (λ stopped. IsStop (HasTree IsProcess) continues_process (standing_of self.old) (standing_of self.new) stopped) }
-        ensures shorter { IfOk result (λ _. length (left_of self.new) < length (left_of self.old)) }
+        ensures reads { Reads form.OfProcess process_in self.old result self.new }
+        ensures shorter { Shortens self.old result self.new }
     {
         if self.is_at_word(Keyword::If) {
             return self.conditional();
@@ -56,10 +42,8 @@ impl<'t, 'a, A: Allocator + Copy> Parser<'t, 'a, A> {
     /// A conditional process, whose `if` is next.
     #[cycle(process)]
     fn conditional(&mut self) -> Result<Box<Process<'a, A>, A>, Stopped>
-        ensures reads { IfOk result (λ r. Reads IsProcess (standing_of self.old) (standing_of self.new) (process_in r)) }
-        ensures done { IfOk result (λ _. Done Conditional continues_process (standing_of self.old) (standing_of self.new)) }
-        ensures stops { IfErr result (λ stopped. IsStop Conditional continues_process (standing_of self.old) (standing_of self.new) stopped) }
-        ensures shorter { IfOk result (λ _. length (left_of self.new) < length (left_of self.old)) }
+        ensures reads { Reads form.Conditional process_in self.old result self.new }
+        ensures shorter { Shortens self.old result self.new }
     {
         let condition = self.condition()?;
         let first = self.process_behind_word(Keyword::Then)?;
@@ -69,10 +53,8 @@ impl<'t, 'a, A: Allocator + Copy> Parser<'t, 'a, A> {
 
     /// `if`, and an expression behind it.
     fn condition(&mut self) -> Result<Expression<'a, A>, Stopped>
-        ensures reads { IfOk result (λ e. ReadsBehind (IsWord IfWord) IsExpression (standing_of self.old) (standing_of self.new) (expression_of e)) }
-        ensures done { IfOk result (λ _. Done (Then (IsWord IfWord) Expressed) (continues Disjunction) (standing_of self.old) (standing_of self.new)) }
-        ensures stops { IfErr result (λ stopped. IsStop (Then (IsWord IfWord) Expressed) (continues Disjunction) (standing_of self.old) (standing_of self.new) stopped) }
-        ensures shorter { IfOk result (λ _. length (left_of self.new) < length (left_of self.old)) }
+        ensures reads { Reads form.OfCondition expression_of self.old result self.new }
+        ensures shorter { Shortens self.old result self.new }
     {
         self.word(Keyword::If)?;
         self.expression(Level::Disjunction)
@@ -81,10 +63,8 @@ impl<'t, 'a, A: Allocator + Copy> Parser<'t, 'a, A> {
     /// This keyword, and a process behind it.
     #[cycle(process)]
     fn process_behind_word(&mut self, keyword: Keyword) -> Result<Box<Process<'a, A>, A>, Stopped>
-        ensures reads { IfOk result (λ r. ReadsBehind (IsWord (keyword_of keyword)) IsProcess (standing_of self.old) (standing_of self.new) (process_in r)) }
-        ensures done { IfOk result (λ _. Done (Then (IsWord (keyword_of keyword)) (HasTree IsProcess)) continues_process (standing_of self.old) (standing_of self.new)) }
-        ensures stops { IfErr result (λ stopped. IsStop (Then (IsWord (keyword_of keyword)) (HasTree IsProcess)) continues_process (standing_of self.old) (standing_of self.new) stopped) }
-        ensures shorter { IfOk result (λ _. length (left_of self.new) < length (left_of self.old)) }
+        ensures reads { Reads (form.ProcessBehindWord (keyword_of keyword)) process_in self.old result self.new }
+        ensures shorter { Shortens self.old result self.new }
     {
         self.word(keyword)?;
         self.process()
@@ -93,10 +73,8 @@ impl<'t, 'a, A: Allocator + Copy> Parser<'t, 'a, A> {
     /// This sign, and a process behind it.
     #[cycle(process)]
     pub(crate) fn process_behind(&mut self, sign: Sign) -> Result<Box<Process<'a, A>, A>, Stopped>
-        ensures reads { IfOk result (λ r. ReadsBehind (IsSign (sign_of sign)) IsProcess (standing_of self.old) (standing_of self.new) (process_in r)) }
-        ensures done { IfOk result (λ _. Done (Next (sign_of sign) (HasTree IsProcess)) continues_process (standing_of self.old) (standing_of self.new)) }
-        ensures stops { IfErr result (λ stopped. IsStop (Next (sign_of sign) (HasTree IsProcess)) continues_process (standing_of self.old) (standing_of self.new) stopped) }
-        ensures shorter { IfOk result (λ _. length (left_of self.new) < length (left_of self.old)) }
+        ensures reads { Reads (form.ProcessBehind (sign_of sign)) process_in self.old result self.new }
+        ensures shorter { Shortens self.old result self.new }
     {
         self.sign(sign)?;
         self.process()
@@ -108,10 +86,8 @@ impl<'t, 'a, A: Allocator + Copy> Parser<'t, 'a, A> {
         &mut self,
         replicator: ReplicatedOperator,
     ) -> Result<Box<Process<'a, A>, A>, Stopped>
-        ensures reads { IfOk result (λ r. Reads IsProcess (standing_of self.old) (standing_of self.new) (process_in r)) }
-        ensures done { IfOk result (λ _. Done (ReplicatedBy (replicator_sign (replicator_of replicator))) continues_process (standing_of self.old) (standing_of self.new)) }
-        ensures stops { IfErr result (λ stopped. IsStop (ReplicatedBy (replicator_sign (replicator_of replicator))) continues_process (standing_of self.old) (standing_of self.new) stopped) }
-        ensures shorter { IfOk result (λ _. length (left_of self.new) < length (left_of self.old)) }
+        ensures reads { Reads (form.ReplicatedOver (replicator_of replicator)) process_in self.old result self.new }
+        ensures shorter { Shortens self.old result self.new }
     {
         let written = replicated_sign(replicator);
         let name = self.name_behind(written)?;
@@ -126,10 +102,8 @@ impl<'t, 'a, A: Allocator + Copy> Parser<'t, 'a, A> {
         &mut self,
         start: Start<'a, A>,
     ) -> Result<Box<Process<'a, A>, A>, Stopped>
-        ensures continues { IfOk result (λ r. (before : Standing) → ReadsStart before (standing_of self.old) start.entry → Reads IsProcess before (standing_of self.new) (process_in r)) }
-        ensures done { IfOk result (λ _. Done (BehindStart start.entry) continues_process (standing_of self.old) (standing_of self.new)) }
-        ensures stops { IfErr result (λ stopped. StopsBehind start.entry (standing_of self.old) (standing_of self.new) stopped) }
-        ensures not_longer { IfOk result (λ _. length (left_of self.new) ≤ length (left_of self.old)) }
+        ensures reads { Reads (form.ProcessFrom (start_of start.entry)) process_in self.old result self.new }
+        ensures shorter { Keeps self.old result self.new }
     {
         match start {
             Start::Name(name) => {
@@ -148,10 +122,8 @@ impl<'t, 'a, A: Allocator + Copy> Parser<'t, 'a, A> {
         &mut self,
         base: Box<Process<'a, A>, A>,
     ) -> Result<Box<Process<'a, A>, A>, Stopped>
-        ensures continues { IfOk result (λ r. Continues IsBase IsProcess (standing_of self.old) (standing_of self.new) (process_in base.entry) (process_in r)) }
-        ensures done { IfOk result (λ _. Done BehindBase continues_process (standing_of self.old) (standing_of self.new)) }
-        ensures stops { IfErr result (λ stopped. IsStop BehindBase continues_process (standing_of self.old) (standing_of self.new) stopped) }
-        ensures not_longer { IfOk result (λ _. length (left_of self.new) ≤ length (left_of self.old)) }
+        ensures reads { Reads (form.FromBase (process_in base.entry)) process_in self.old result self.new }
+        ensures shorter { Keeps self.old result self.new }
     {
         if self.is_at_suffix() {
             let renamed = self.renamed(base)?;
@@ -162,10 +134,8 @@ impl<'t, 'a, A: Allocator + Copy> Parser<'t, 'a, A> {
 
     /// The renamings of a process.
     fn renamed(&mut self, base: Box<Process<'a, A>, A>) -> Result<Box<Process<'a, A>, A>, Stopped>
-        ensures continues { IfOk result (λ r. Continues IsBase IsRenamedBase (standing_of self.old) (standing_of self.new) (process_in base.entry) (process_in r)) }
-        ensures done { IfOk result (λ _. Done (Repeated (HasTree IsRenamingPart)) (only OpenRenamingSign) (standing_of self.old) (standing_of self.new)) }
-        ensures stops { IfErr result (λ stopped. IsStop (Repeated (HasTree IsRenamingPart)) (only OpenRenamingSign) (standing_of self.old) (standing_of self.new) stopped) }
-        ensures not_longer { IfOk result (λ _. length (left_of self.new) ≤ length (left_of self.old)) }
+        ensures reads { Reads (form.RenamedFrom (process_in base.entry)) process_in self.old result self.new }
+        ensures shorter { Keeps self.old result self.new }
     {
         let mut process = base;
         while self.is_at(Sign::OpenRenaming) {
@@ -179,10 +149,8 @@ impl<'t, 'a, A: Allocator + Copy> Parser<'t, 'a, A> {
 
     /// The hidings of a process.
     fn hidden(&mut self, renamed: Box<Process<'a, A>, A>) -> Result<Box<Process<'a, A>, A>, Stopped>
-        ensures continues { IfOk result (λ r. Continues IsRenamedBase IsHiddenBase (standing_of self.old) (standing_of self.new) (process_in renamed.entry) (process_in r)) }
-        ensures done { IfOk result (λ _. Done (Repeated (HasTree IsHidingPart)) (only HidingSign) (standing_of self.old) (standing_of self.new)) }
-        ensures stops { IfErr result (λ stopped. IsStop (Repeated (HasTree IsHidingPart)) (only HidingSign) (standing_of self.old) (standing_of self.new) stopped) }
-        ensures not_longer { IfOk result (λ _. length (left_of self.new) ≤ length (left_of self.old)) }
+        ensures reads { Reads (form.HiddenFrom (process_in renamed.entry)) process_in self.old result self.new }
+        ensures shorter { Keeps self.old result self.new }
     {
         let mut process = renamed;
         while self.is_at(Sign::Hiding) {
@@ -198,10 +166,8 @@ impl<'t, 'a, A: Allocator + Copy> Parser<'t, 'a, A> {
         &mut self,
         first: Box<Process<'a, A>, A>,
     ) -> Result<Box<Process<'a, A>, A>, Stopped>
-        ensures continues { IfOk result (λ r. Continues IsOperand IsProcess (standing_of self.old) (standing_of self.new) (process_in first.entry) (process_in r)) }
-        ensures done { IfOk result (λ _. Done BehindOperand continues_process (standing_of self.old) (standing_of self.new)) }
-        ensures stops { IfErr result (λ stopped. IsStop BehindOperand continues_process (standing_of self.old) (standing_of self.new) stopped) }
-        ensures not_longer { IfOk result (λ _. length (left_of self.new) ≤ length (left_of self.old)) }
+        ensures reads { Reads (form.FromOperand (process_in first.entry)) process_in self.old result self.new }
+        ensures shorter { Keeps self.old result self.new }
     {
         if let Some(operator) = self.next_infix() {
             return self.chain(operator, first);
@@ -221,10 +187,8 @@ impl<'t, 'a, A: Allocator + Copy> Parser<'t, 'a, A> {
         &mut self,
         left: Box<Process<'a, A>, A>,
     ) -> Result<Box<Process<'a, A>, A>, Stopped>
-        ensures continues { IfOk result (λ r. Continues IsOperand IsProcess (standing_of self.old) (standing_of self.new) (process_in left.entry) (process_in r)) }
-        ensures done { IfOk result (λ _. Done Shared continues_process (standing_of self.old) (standing_of self.new)) }
-        ensures stops { IfErr result (λ stopped. IsStop Shared continues_process (standing_of self.old) (standing_of self.new) stopped) }
-        ensures not_longer { IfOk result (λ _. length (left_of self.new) ≤ length (left_of self.old)) }
+        ensures reads { Reads (form.GeneralisedFrom (process_in left.entry)) process_in self.old result self.new }
+        ensures shorter { Keeps self.old result self.new }
     {
         let shared = self.event_set_behind(Sign::OpenShared)?;
         let right = self.operand_behind(Sign::CloseShared)?;
@@ -237,10 +201,8 @@ impl<'t, 'a, A: Allocator + Copy> Parser<'t, 'a, A> {
         &mut self,
         left: Box<Process<'a, A>, A>,
     ) -> Result<Box<Process<'a, A>, A>, Stopped>
-        ensures continues { IfOk result (λ r. Continues IsOperand IsProcess (standing_of self.old) (standing_of self.new) (process_in left.entry) (process_in r)) }
-        ensures done { IfOk result (λ _. Done Alphabets continues_process (standing_of self.old) (standing_of self.new)) }
-        ensures stops { IfErr result (λ stopped. IsStop Alphabets continues_process (standing_of self.old) (standing_of self.new) stopped) }
-        ensures not_longer { IfOk result (λ _. length (left_of self.new) ≤ length (left_of self.old)) }
+        ensures reads { Reads (form.AlphabetisedFrom (process_in left.entry)) process_in self.old result self.new }
+        ensures shorter { Keeps self.old result self.new }
     {
         let of_left = self.event_set_behind(Sign::OpenSquare)?;
         let of_right = self.event_set_behind(Sign::DoubleBar)?;
@@ -255,10 +217,8 @@ impl<'t, 'a, A: Allocator + Copy> Parser<'t, 'a, A> {
         operator: Infix,
         first: Box<Process<'a, A>, A>,
     ) -> Result<Box<Process<'a, A>, A>, Stopped>
-        ensures continues { IfOk result (λ r. Continues IsOperand IsProcess (standing_of self.old) (standing_of self.new) (process_in first.entry) (process_in r)) }
-        ensures done { IfOk result (λ _. Done (ChainOf (words.infix_sign (infix_of operator))) continues_process (standing_of self.old) (standing_of self.new)) }
-        ensures stops { IfErr result (λ stopped. IsStop (ChainOf (words.infix_sign (infix_of operator))) continues_process (standing_of self.old) (standing_of self.new) stopped) }
-        ensures not_longer { IfOk result (λ _. length (left_of self.new) ≤ length (left_of self.old)) }
+        ensures reads { Reads (form.ChainOver (infix_of operator) (process_in first.entry)) process_in self.old result self.new }
+        ensures shorter { Keeps self.old result self.new }
     {
         let written = infix_sign(operator);
         let second = self.operand_behind(written)?;
@@ -273,10 +233,8 @@ impl<'t, 'a, A: Allocator + Copy> Parser<'t, 'a, A> {
     /// An operand.
     #[cycle(process)]
     fn operand(&mut self) -> Result<Box<Process<'a, A>, A>, Stopped>
-        ensures reads { IfOk result (λ r. Reads IsOperand (standing_of self.old) (standing_of self.new) (process_in r)) }
-        ensures done { IfOk result (λ _. Done Operand continues_start (standing_of self.old) (standing_of self.new)) }
-        ensures stops { IfErr result (λ stopped. IsStop Operand continues_start (standing_of self.old) (standing_of self.new) stopped) }
-        ensures shorter { IfOk result (λ _. length (left_of self.new) < length (left_of self.old)) }
+        ensures reads { Reads form.OfOperand process_in self.old result self.new }
+        ensures shorter { Shortens self.old result self.new }
     {
         match self.start()? {
             Start::Name(name) => Process::call(self.alloc, name, Vec::new(self.alloc)),
@@ -289,10 +247,8 @@ impl<'t, 'a, A: Allocator + Copy> Parser<'t, 'a, A> {
     /// This sign, and an operand behind it.
     #[cycle(process)]
     pub(crate) fn operand_behind(&mut self, sign: Sign) -> Result<Box<Process<'a, A>, A>, Stopped>
-        ensures reads { IfOk result (λ r. ReadsBehind (IsSign (sign_of sign)) IsOperand (standing_of self.old) (standing_of self.new) (process_in r)) }
-        ensures done { IfOk result (λ _. Done (Next (sign_of sign) Operand) continues_start (standing_of self.old) (standing_of self.new)) }
-        ensures stops { IfErr result (λ stopped. IsStop (Next (sign_of sign) Operand) continues_start (standing_of self.old) (standing_of self.new) stopped) }
-        ensures shorter { IfOk result (λ _. length (left_of self.new) < length (left_of self.old)) }
+        ensures reads { Reads (form.OperandBehind (sign_of sign)) process_in self.old result self.new }
+        ensures shorter { Shortens self.old result self.new }
     {
         self.sign(sign)?;
         self.operand()
@@ -300,8 +256,7 @@ impl<'t, 'a, A: Allocator + Copy> Parser<'t, 'a, A> {
 
     /// Whether the next token begins a process that is no operand: `if`, or an operator over a set.
     pub(crate) fn is_at_process(&self) -> bool
-        ensures yes { result ≡ true → IsNext (kinds.Keyword keyword.If) (left_of self.now) ⊎ ((o : over_sets.ReplicatedOperator) × IsNext (kinds.Sign (replicator_written o)) (left_of self.now)) }
-        ensures no { result ≡ false → ¬ (IsNext (kinds.Keyword keyword.If) (left_of self.now)) × ((o : over_sets.ReplicatedOperator) → ¬ (IsNext (kinds.Sign (replicator_written o)) (left_of self.now))) }
+        ensures { result ≡ begins_process (next_of self.now) }
     {
         match self.next_replicator() {
             Some(_) => true,
@@ -311,16 +266,14 @@ impl<'t, 'a, A: Allocator + Copy> Parser<'t, 'a, A> {
 
     /// Whether the next token begins a renaming or a hiding, which go on with a base.
     fn is_at_suffix(&self) -> bool
-        ensures yes { result ≡ true → IsNext (kinds.Sign sign.OpenRenaming) (left_of self.now) ⊎ IsNext (kinds.Sign sign.Hiding) (left_of self.now) }
-        ensures no { result ≡ false → ¬ (IsNext (kinds.Sign sign.OpenRenaming) (left_of self.now)) × ¬ (IsNext (kinds.Sign sign.Hiding) (left_of self.now)) }
+        ensures { result ≡ is_suffix (next_of self.now) }
     {
         self.is_at(Sign::OpenRenaming) || self.is_at(Sign::Hiding)
     }
 
     /// The operator between processes that the next token is, if it is one.
     fn next_infix(&self) -> Option<Infix>
-        ensures some { IfSome result (λ o. IsNext (kinds.Sign (infix_written o)) (left_of self.now)) }
-        ensures none { IfNone result ((o : infixes.Infix) → ¬ (IsNext (kinds.Sign (infix_written o)) (left_of self.now))) }
+        ensures { option_map infix_of result ≡ infix_at (next_of self.now) }
     {
         match self.kind()? {
             TokenKind::Sign(Sign::Box) => Some(Infix::Operator(ProcessOperator::ExternalChoice)),
@@ -339,8 +292,7 @@ impl<'t, 'a, A: Allocator + Copy> Parser<'t, 'a, A> {
 
     /// The operator over a set that the next token is, if it is one.
     fn next_replicator(&self) -> Option<ReplicatedOperator>
-        ensures some { IfSome result (λ o. IsNext (kinds.Sign (replicator_written o)) (left_of self.now)) }
-        ensures none { IfNone result ((o : over_sets.ReplicatedOperator) → ¬ (IsNext (kinds.Sign (replicator_written o)) (left_of self.now))) }
+        ensures { option_map replicator_of result ≡ replicator_at (next_of self.now) }
     {
         match self.kind()? {
             TokenKind::Sign(Sign::Box) => Some(ReplicatedOperator::ExternalChoice),

@@ -1,11 +1,11 @@
 //! Reading what stands where an operand or an expression begins.
 
-ghost use Rattle.std.specs.Prelude.{◌≡◌, ◌<◌, ◌≤◌, ◌⊎◌, true, false, IfOk, IfErr, length};
-ghost use Rattle.theory_text.specs.Grammar.{IsWord, IsName, IsAtom, IsExpression, AreDotted};
-ghost use Rattle.theory_text.specs.Token.{StopWord, SkipWord};
-ghost use Rattle.csp_parse.specs.Expressions.{expression_of, expressions_of};
+ghost use Rattle.std.specs.Prelude.{◌≡◌};
+ghost use Rattle.theory_text.specs.Raw.{RawUse};
+ghost use Rattle.theory_reader.specs.Reader.{is_prefix, is_operator};
+ghost use Rattle.csp_parse.specs.Expressions.{expression_of, expressions_in};
 ghost use Rattle.csp_parse.specs.Names.{name_of};
-ghost use Rattle.csp_parse.specs.Starts.{ReadsName, ReadsStart, ReadsInner, ReadsArguments};
+ghost use Rattle.csp_parse.specs.Starts.{start_of, inner_of};
 
 use crate::expressions::Expression;
 use crate::levels::{Level, comparison};
@@ -18,25 +18,14 @@ use csp_lex::{Keyword, Sign};
 use std::alloc::Allocator;
 
 impl<'t, 'a, A: Allocator + Copy> Parser<'t, 'a, A> {
-    ghost use Rattle.csp_lex.specs.declared.kinds.TokenKind.TheVariants as kinds;
-    ghost use Rattle.csp_lex.specs.declared.signs.Sign.TheVariants as sign;
-    ghost use Rattle.csp_parse.specs.Continuing.{continues, BehindAtom};
-    ghost use Rattle.csp_parse.specs.Deciding.{nothing, only, Stops, Done, IsStop};
-    ghost use Rattle.csp_parse.specs.Forms.{HasTree, Then, Perhaps};
-    ghost use Rattle.csp_parse.specs.ProcessForms as forms;
-    ghost use Rattle.csp_parse.specs.ProcessForms.{continues_start, continues_process, Operand, Starting, Guarded, BehindName, Arguments, Prefixed, PrefixedLater, Named, Expressed, BracketedStart};
-    ghost use Rattle.csp_parse.specs.Reading.{left_of, standing_of, Standing, IsNext, IsDottedNext, Reads};
-    ghost use Rattle.csp_parse.specs.StartForms.{Tells, IsBaseStart, IsOperandStart, IsProcessInner, OnlyStart, OnlyAtom, OnlyBehindName, OnlyGuard, OnlyInner, OnlyBehindInner, ReadsInBrackets, BehindBase, BehindStart, StopsBehind};
-    ghost use Rattle.csp_parse.specs.declared.levels.Level.TheVariants.{Disjunction};
+    ghost use Rattle.theory_reader.specs.Forms as form;
+    ghost use Rattle.csp_parse.specs.Reading.{next_of, Reads, Shortens, Keeps};
 
     /// An operand, or an expression without a guard sign behind it.
     #[cycle(process)]
     pub(crate) fn start(&mut self) -> Result<Start<'a, A>, Stopped>
-        ensures reads { IfOk result (λ r. ReadsStart (standing_of self.old) (standing_of self.new) r) }
-        ensures done { IfOk result (λ _. Done Starting continues_start (standing_of self.old) (standing_of self.new)) }
-        ensures only { IfOk result (λ r. Tells (OnlyStart r) (standing_of self.old) (standing_of self.new)) }
-        ensures stops { IfErr result (λ stopped. IsStop Starting continues_start (standing_of self.old) (standing_of self.new) stopped) }
-        ensures shorter { IfOk result (λ _. length (left_of self.new) < length (left_of self.old)) }
+        ensures reads { Reads form.OfStart start_of self.old result self.new }
+        ensures shorter { Shortens self.old result self.new }
     {
         if self.is_at_word(Keyword::Stop) {
             return self.stop();
@@ -55,11 +44,8 @@ impl<'t, 'a, A: Allocator + Copy> Parser<'t, 'a, A> {
 
     /// `STOP`
     fn stop(&mut self) -> Result<Start<'a, A>, Stopped>
-        ensures reads { IfOk result (λ r. ReadsStart (standing_of self.old) (standing_of self.new) r) }
-        ensures base { IfOk result (λ r. IsBaseStart r) }
-        ensures done { IfOk result (λ _. Done (IsWord StopWord) nothing (standing_of self.old) (standing_of self.new)) }
-        ensures stops { IfErr result (λ stopped. IsStop (IsWord StopWord) nothing (standing_of self.old) (standing_of self.new) stopped) }
-        ensures shorter { IfOk result (λ _. length (left_of self.new) < length (left_of self.old)) }
+        ensures reads { Reads form.StopStart start_of self.old result self.new }
+        ensures shorter { Shortens self.old result self.new }
     {
         self.word(Keyword::Stop)?;
         let stop = Process::stop(self.alloc)?;
@@ -68,11 +54,8 @@ impl<'t, 'a, A: Allocator + Copy> Parser<'t, 'a, A> {
 
     /// `SKIP`
     fn skip(&mut self) -> Result<Start<'a, A>, Stopped>
-        ensures reads { IfOk result (λ r. ReadsStart (standing_of self.old) (standing_of self.new) r) }
-        ensures base { IfOk result (λ r. IsBaseStart r) }
-        ensures done { IfOk result (λ _. Done (IsWord SkipWord) nothing (standing_of self.old) (standing_of self.new)) }
-        ensures stops { IfErr result (λ stopped. IsStop (IsWord SkipWord) nothing (standing_of self.old) (standing_of self.new) stopped) }
-        ensures shorter { IfOk result (λ _. length (left_of self.new) < length (left_of self.old)) }
+        ensures reads { Reads form.SkipStart start_of self.old result self.new }
+        ensures shorter { Shortens self.old result self.new }
     {
         self.word(Keyword::Skip)?;
         let skip = Process::skip(self.alloc)?;
@@ -82,11 +65,8 @@ impl<'t, 'a, A: Allocator + Copy> Parser<'t, 'a, A> {
     /// What begins with an expression.
     #[cycle(process)]
     fn start_of_expression(&mut self) -> Result<Start<'a, A>, Stopped>
-        ensures reads { IfOk result (λ r. ReadsStart (standing_of self.old) (standing_of self.new) r) }
-        ensures done { IfOk result (λ _. Done (Then Expressed (Perhaps Guarded)) continues_start (standing_of self.old) (standing_of self.new)) }
-        ensures only { IfOk result (λ r. Tells (OnlyAtom Expressed r) (standing_of self.old) (standing_of self.new)) }
-        ensures stops { IfErr result (λ stopped. IsStop (Then Expressed (Perhaps Guarded)) continues_start (standing_of self.old) (standing_of self.new) stopped) }
-        ensures shorter { IfOk result (λ _. length (left_of self.new) < length (left_of self.old)) }
+        ensures reads { Reads form.StartOfExpression start_of self.old result self.new }
+        ensures shorter { Shortens self.old result self.new }
     {
         let expression = self.expression(Level::Disjunction)?;
         self.guarded(expression)
@@ -95,13 +75,19 @@ impl<'t, 'a, A: Allocator + Copy> Parser<'t, 'a, A> {
     /// What begins with a name, which is next.
     #[cycle(process)]
     fn start_of_name(&mut self) -> Result<Start<'a, A>, Stopped>
-        ensures reads { IfOk result (λ r. ReadsStart (standing_of self.old) (standing_of self.new) r) }
-        ensures done { IfOk result (λ _. Done (Then (HasTree IsName) Named) continues_start (standing_of self.old) (standing_of self.new)) }
-        ensures only { IfOk result (λ r. Tells (OnlyStart r) (standing_of self.old) (standing_of self.new)) }
-        ensures stops { IfErr result (λ stopped. IsStop (Then (HasTree IsName) Named) continues_start (standing_of self.old) (standing_of self.new) stopped) }
-        ensures shorter { IfOk result (λ _. length (left_of self.new) < length (left_of self.old)) }
+        ensures reads { Reads form.StartOfName start_of self.old result self.new }
+        ensures shorter { Shortens self.old result self.new }
     {
         let name = self.name()?;
+        self.start_behind_name(name)
+    }
+
+    /// What begins with a name, behind it.
+    #[cycle(process)]
+    fn start_behind_name(&mut self, name: Name<'a>) -> Result<Start<'a, A>, Stopped>
+        ensures reads { Reads (form.StartBehindName (name_of name.entry)) start_of self.old result self.new }
+        ensures shorter { Keeps self.old result self.new }
+    {
         if self.is_at(Sign::OpenRound) {
             return self.call_of(name);
         }
@@ -113,11 +99,8 @@ impl<'t, 'a, A: Allocator + Copy> Parser<'t, 'a, A> {
 
     /// The call of this name, whose arguments are next.
     fn call_of(&mut self, name: Name<'a>) -> Result<Start<'a, A>, Stopped>
-        ensures continues { IfOk result (λ r. (before : Standing) → Reads IsName before (standing_of self.old) (name_of name.entry) → ReadsStart before (standing_of self.new) r) }
-        ensures base { IfOk result (λ r. IsBaseStart r) }
-        ensures done { IfOk result (λ _. Done Arguments nothing (standing_of self.old) (standing_of self.new)) }
-        ensures stops { IfErr result (λ stopped. IsStop Arguments nothing (standing_of self.old) (standing_of self.new) stopped) }
-        ensures not_longer { IfOk result (λ _. length (left_of self.new) ≤ length (left_of self.old)) }
+        ensures reads { Reads (form.CallOf (name_of name.entry)) start_of self.old result self.new }
+        ensures shorter { Shortens self.old result self.new }
     {
         let arguments = self.arguments()?;
         let call = Process::call(self.alloc, name, arguments)?;
@@ -127,11 +110,8 @@ impl<'t, 'a, A: Allocator + Copy> Parser<'t, 'a, A> {
     /// The prefix of this channel, whose fields are next.
     #[cycle(process)]
     fn prefix_of(&mut self, channel: Name<'a>) -> Result<Start<'a, A>, Stopped>
-        ensures continues { IfOk result (λ r. (before : Standing) → Reads IsName before (standing_of self.old) (name_of channel.entry) → ReadsStart before (standing_of self.new) r) }
-        ensures operand { IfOk result (λ r. IsOperandStart r) }
-        ensures done { IfOk result (λ _. Done Prefixed continues_start (standing_of self.old) (standing_of self.new)) }
-        ensures stops { IfErr result (λ stopped. IsStop Prefixed continues_start (standing_of self.old) (standing_of self.new) stopped) }
-        ensures not_longer { IfOk result (λ _. length (left_of self.new) ≤ length (left_of self.old)) }
+        ensures reads { Reads (form.PrefixOf (name_of channel.entry)) start_of self.old result self.new }
+        ensures shorter { Shortens self.old result self.new }
     {
         let values = self.dotted()?;
         self.prefix_behind(channel, values)
@@ -144,11 +124,8 @@ impl<'t, 'a, A: Allocator + Copy> Parser<'t, 'a, A> {
         channel: Name<'a>,
         values: Vec<Expression<'a, A>, A>,
     ) -> Result<Start<'a, A>, Stopped>
-        ensures continues { IfOk result (λ r. (before behind : Standing) → Reads IsName before behind (name_of channel.entry) → Reads AreDotted behind (standing_of self.old) (expressions_of values.entry.items) → ReadsStart before (standing_of self.new) r) }
-        ensures operand { IfOk result (λ r. IsOperandStart r) }
-        ensures done { IfOk result (λ _. Done PrefixedLater continues_start (standing_of self.old) (standing_of self.new)) }
-        ensures stops { IfErr result (λ stopped. IsStop PrefixedLater continues_start (standing_of self.old) (standing_of self.new) stopped) }
-        ensures not_longer { IfOk result (λ _. length (left_of self.new) ≤ length (left_of self.old)) }
+        ensures reads { Reads (form.PrefixBehind (name_of channel.entry) (expressions_in values.entry.items)) start_of self.old result self.new }
+        ensures shorter { Shortens self.old result self.new }
     {
         let fields = self.fields_behind(values)?;
         let body = self.operand_behind(Sign::Arrow)?;
@@ -157,10 +134,8 @@ impl<'t, 'a, A: Allocator + Copy> Parser<'t, 'a, A> {
 
     /// The arguments of a call, in brackets.
     fn arguments(&mut self) -> Result<Vec<Expression<'a, A>, A>, Stopped>
-        ensures reads { IfOk result (λ r. ReadsArguments (standing_of self.old) (standing_of self.new) (expressions_of r.items)) }
-        ensures done { IfOk result (λ _. Done Arguments nothing (standing_of self.old) (standing_of self.new)) }
-        ensures stops { IfErr result (λ stopped. IsStop Arguments nothing (standing_of self.old) (standing_of self.new) stopped) }
-        ensures shorter { IfOk result (λ _. length (left_of self.new) < length (left_of self.old)) }
+        ensures reads { Reads form.Arguments (λ r. expressions_in r.items) self.old result self.new }
+        ensures shorter { Shortens self.old result self.new }
     {
         let first = self.expression_behind(Sign::OpenRound, Level::Disjunction)?;
         let arguments = self.listed(Level::Disjunction, first)?;
@@ -171,11 +146,8 @@ impl<'t, 'a, A: Allocator + Copy> Parser<'t, 'a, A> {
     /// What begins with a name, perhaps in brackets, that is no call with arguments and no channel.
     #[cycle(process)]
     fn start_from_name(&mut self, name: Name<'a>) -> Result<Start<'a, A>, Stopped>
-        ensures continues { IfOk result (λ r. (before : Standing) → ReadsName before (standing_of self.old) (name_of name.entry) → ReadsStart before (standing_of self.new) r) }
-        ensures done { IfOk result (λ _. Done BehindName continues_start (standing_of self.old) (standing_of self.new)) }
-        ensures only { IfOk result (λ r. Tells (OnlyBehindName r) (standing_of self.old) (standing_of self.new)) }
-        ensures stops { IfErr result (λ stopped. IsStop BehindName continues_start (standing_of self.old) (standing_of self.new) stopped) }
-        ensures not_longer { IfOk result (λ _. length (left_of self.new) ≤ length (left_of self.old)) }
+        ensures reads { Reads (form.StartFromName (name_of name.entry)) start_of self.old result self.new }
+        ensures shorter { Keeps self.old result self.new }
     {
         if !self.is_at_operator() && !self.is_at(Sign::Guard) {
             return Ok(Start::Name(name));
@@ -186,10 +158,8 @@ impl<'t, 'a, A: Allocator + Copy> Parser<'t, 'a, A> {
 
     /// The expression that begins with a name, perhaps in brackets.
     fn expression_of_name(&mut self, name: Name<'a>) -> Result<Expression<'a, A>, Stopped>
-        ensures continues { IfOk result (λ e. (before : Standing) → ReadsName before (standing_of self.old) (name_of name.entry) → Reads IsExpression before (standing_of self.new) (expression_of e)) }
-        ensures done { IfOk result (λ _. Done BehindAtom (continues Disjunction) (standing_of self.old) (standing_of self.new)) }
-        ensures stops { IfErr result (λ stopped. IsStop BehindAtom (continues Disjunction) (standing_of self.old) (standing_of self.new) stopped) }
-        ensures not_longer { IfOk result (λ _. length (left_of self.new) ≤ length (left_of self.old)) }
+        ensures reads { Reads (form.ExpressionFrom (RawUse (name_of name.entry))) expression_of self.old result self.new }
+        ensures shorter { Keeps self.old result self.new }
     {
         self.expression_from(Expression::Use(name))
     }
@@ -197,11 +167,8 @@ impl<'t, 'a, A: Allocator + Copy> Parser<'t, 'a, A> {
     /// What begins with an opening bracket, which is next.
     #[cycle(process)]
     fn start_of_brackets(&mut self) -> Result<Start<'a, A>, Stopped>
-        ensures reads { IfOk result (λ r. ReadsStart (standing_of self.old) (standing_of self.new) r) }
-        ensures done { IfOk result (λ _. Done BracketedStart continues_start (standing_of self.old) (standing_of self.new)) }
-        ensures only { IfOk result (λ r. Tells (OnlyStart r) (standing_of self.old) (standing_of self.new)) }
-        ensures stops { IfErr result (λ stopped. IsStop BracketedStart continues_start (standing_of self.old) (standing_of self.new) stopped) }
-        ensures shorter { IfOk result (λ _. length (left_of self.new) < length (left_of self.old)) }
+        ensures reads { Reads form.StartOfBrackets start_of self.old result self.new }
+        ensures shorter { Shortens self.old result self.new }
     {
         let inner = self.bracketed_inner()?;
         match inner {
@@ -214,9 +181,8 @@ impl<'t, 'a, A: Allocator + Copy> Parser<'t, 'a, A> {
     /// What stands in brackets, and the brackets.
     #[cycle(process)]
     fn bracketed_inner(&mut self) -> Result<Inner<'a, A>, Stopped>
-        ensures reads { IfOk result (λ r. ReadsInBrackets (standing_of self.old) (standing_of self.new) r) }
-        ensures stops { IfErr result (λ stopped. IsStop BracketedStart continues_start (standing_of self.old) (standing_of self.new) stopped) }
-        ensures shorter { IfOk result (λ _. length (left_of self.new) < length (left_of self.old)) }
+        ensures reads { Reads form.BracketedInner inner_of self.old result self.new }
+        ensures shorter { Shortens self.old result self.new }
     {
         self.sign(Sign::OpenRound)?;
         let inner = self.inner()?;
@@ -227,11 +193,8 @@ impl<'t, 'a, A: Allocator + Copy> Parser<'t, 'a, A> {
     /// What begins with an atom.
     #[cycle(process)]
     fn start_from_atom(&mut self, atom: Expression<'a, A>) -> Result<Start<'a, A>, Stopped>
-        ensures continues { IfOk result (λ r. (before : Standing) → Reads IsAtom before (standing_of self.old) (expression_of atom.entry) → ReadsStart before (standing_of self.new) r) }
-        ensures done { IfOk result (λ _. Done BehindName continues_start (standing_of self.old) (standing_of self.new)) }
-        ensures only { IfOk result (λ r. Tells (OnlyAtom BehindAtom r) (standing_of self.old) (standing_of self.new)) }
-        ensures stops { IfErr result (λ stopped. IsStop BehindName continues_start (standing_of self.old) (standing_of self.new) stopped) }
-        ensures not_longer { IfOk result (λ _. length (left_of self.new) ≤ length (left_of self.old)) }
+        ensures reads { Reads (form.StartFromAtom (expression_of atom.entry)) start_of self.old result self.new }
+        ensures shorter { Keeps self.old result self.new }
     {
         let expression = self.expression_from(atom)?;
         self.guarded(expression)
@@ -240,38 +203,41 @@ impl<'t, 'a, A: Allocator + Copy> Parser<'t, 'a, A> {
     /// What stands behind an opening bracket.
     #[cycle(process)]
     fn inner(&mut self) -> Result<Inner<'a, A>, Stopped>
-        ensures reads { IfOk result (λ r. ReadsInner (standing_of self.old) (standing_of self.new) r) }
-        ensures done { IfOk result (λ _. Done forms.Inner continues_process (standing_of self.old) (standing_of self.new)) }
-        ensures only { IfOk result (λ r. Tells (OnlyInner (left_of self.new) r) (standing_of self.old) (standing_of self.new)) }
-        ensures stops { IfErr result (λ stopped. IsStop forms.Inner continues_process (standing_of self.old) (standing_of self.new) stopped) }
-        ensures shorter { IfOk result (λ _. length (left_of self.new) < length (left_of self.old)) }
+        ensures reads { Reads form.OfInner inner_of self.old result self.new }
+        ensures shorter { Shortens self.old result self.new }
     {
         if self.is_at_process() {
             let process = self.process()?;
             return Ok(Inner::Process(process));
         }
-        if self.is_at_dotted_name() {
-            return self.inner_of_dotted();
+        if self.is_at_name() {
+            return self.inner_of_name();
         }
-        match self.start()? {
-            Start::Name(name) => self.inner_from_name(name),
-            Start::Expression(expression) => Ok(Inner::Expression(expression)),
-            Start::Base(base) => self.inner_process(Start::Base(base)),
-            Start::Operand(operand) => self.inner_process(Start::Operand(operand)),
-        }
+        let start = self.start()?;
+        self.inner_from(start)
     }
 
-    /// What stands behind an opening bracket and begins with a name and a dot, which are next: a constructor with its
-    /// fields, or a process that begins with a prefix.
+    /// What stands behind an opening bracket and begins with a name, which is next.
     #[cycle(process)]
-    fn inner_of_dotted(&mut self) -> Result<Inner<'a, A>, Stopped>
-        ensures reads { IfOk result (λ r. IsDottedNext (left_of self.old) → ReadsInner (standing_of self.old) (standing_of self.new) r) }
-        ensures done { IfOk result (λ _. IsDottedNext (left_of self.old) → Done forms.Inner continues_process (standing_of self.old) (standing_of self.new)) }
-        ensures only { IfOk result (λ r. IsDottedNext (left_of self.old) → Tells (OnlyInner (left_of self.new) r) (standing_of self.old) (standing_of self.new)) }
-        ensures stops { IfErr result (λ stopped. IsDottedNext (left_of self.old) → IsStop forms.Inner continues_process (standing_of self.old) (standing_of self.new) stopped) }
-        ensures shorter { IfOk result (λ _. length (left_of self.new) < length (left_of self.old)) }
+    fn inner_of_name(&mut self) -> Result<Inner<'a, A>, Stopped>
+        ensures reads { Reads form.InnerOfName inner_of self.old result self.new }
+        ensures shorter { Shortens self.old result self.new }
     {
         let name = self.name()?;
+        if self.is_at(Sign::Dot) {
+            return self.inner_of_dotted(name);
+        }
+        let start = self.start_behind_name(name)?;
+        self.inner_from(start)
+    }
+
+    /// What stands behind an opening bracket and begins with a name, behind which a dot is next: a constructor with its
+    /// fields, or a process that begins with a prefix.
+    #[cycle(process)]
+    fn inner_of_dotted(&mut self, name: Name<'a>) -> Result<Inner<'a, A>, Stopped>
+        ensures reads { Reads (form.InnerOfDotted (name_of name.entry)) inner_of self.old result self.new }
+        ensures shorter { Keeps self.old result self.new }
+    {
         let values = self.dotted()?;
         if !self.is_at_prefix() {
             return Ok(Inner::Expression(Expression::Constructor(name, values)));
@@ -280,14 +246,25 @@ impl<'t, 'a, A: Allocator + Copy> Parser<'t, 'a, A> {
         self.inner_process(prefix)
     }
 
+    /// What stands behind an opening bracket and begins so.
+    #[cycle(process)]
+    fn inner_from(&mut self, start: Start<'a, A>) -> Result<Inner<'a, A>, Stopped>
+        ensures reads { Reads (form.InnerFrom (start_of start.entry)) inner_of self.old result self.new }
+        ensures shorter { Keeps self.old result self.new }
+    {
+        match start {
+            Start::Name(name) => self.inner_from_name(name),
+            Start::Expression(expression) => Ok(Inner::Expression(expression)),
+            Start::Base(base) => self.inner_process(Start::Base(base)),
+            Start::Operand(operand) => self.inner_process(Start::Operand(operand)),
+        }
+    }
+
     /// The process behind an opening bracket that begins so.
     #[cycle(process)]
     fn inner_process(&mut self, start: Start<'a, A>) -> Result<Inner<'a, A>, Stopped>
-        ensures continues { IfOk result (λ r. (before : Standing) → ReadsStart before (standing_of self.old) start.entry → ReadsInner before (standing_of self.new) r) }
-        ensures process { IfOk result (λ r. IsProcessInner r) }
-        ensures done { IfOk result (λ _. Done (BehindStart start.entry) continues_process (standing_of self.old) (standing_of self.new)) }
-        ensures stops { IfErr result (λ stopped. StopsBehind start.entry (standing_of self.old) (standing_of self.new) stopped) }
-        ensures not_longer { IfOk result (λ _. length (left_of self.new) ≤ length (left_of self.old)) }
+        ensures reads { Reads (form.InnerFromStart (start_of start.entry)) inner_of self.old result self.new }
+        ensures shorter { Keeps self.old result self.new }
     {
         let process = self.process_from(start)?;
         Ok(Inner::Process(process))
@@ -296,11 +273,8 @@ impl<'t, 'a, A: Allocator + Copy> Parser<'t, 'a, A> {
     /// What stands behind an opening bracket and begins with a name, perhaps in brackets.
     #[cycle(process)]
     fn inner_from_name(&mut self, name: Name<'a>) -> Result<Inner<'a, A>, Stopped>
-        ensures continues { IfOk result (λ r. (before : Standing) → ReadsName before (standing_of self.old) (name_of name.entry) → ReadsInner before (standing_of self.new) r) }
-        ensures done { IfOk result (λ _. Done BehindBase continues_process (standing_of self.old) (standing_of self.new)) }
-        ensures only { IfOk result (λ r. Tells (OnlyBehindInner (left_of self.new) r) (standing_of self.old) (standing_of self.new)) }
-        ensures stops { IfErr result (λ stopped. IsStop BehindBase continues_process (standing_of self.old) (standing_of self.new) stopped) }
-        ensures not_longer { IfOk result (λ _. length (left_of self.new) ≤ length (left_of self.old)) }
+        ensures reads { Reads (form.InnerFromName (name_of name.entry)) inner_of self.old result self.new }
+        ensures shorter { Keeps self.old result self.new }
     {
         if self.is_at(Sign::CloseRound) {
             return Ok(Inner::Name(name));
@@ -311,11 +285,8 @@ impl<'t, 'a, A: Allocator + Copy> Parser<'t, 'a, A> {
     /// An expression, or with `&` behind it the process that it guards.
     #[cycle(process)]
     fn guarded(&mut self, expression: Expression<'a, A>) -> Result<Start<'a, A>, Stopped>
-        ensures continues { IfOk result (λ r. (before : Standing) → Reads IsExpression before (standing_of self.old) (expression_of expression.entry) → ReadsStart before (standing_of self.new) r) }
-        ensures done { IfOk result (λ _. Done (Perhaps Guarded) continues_start (standing_of self.old) (standing_of self.new)) }
-        ensures only { IfOk result (λ r. Tells (OnlyGuard r) (standing_of self.old) (standing_of self.new)) }
-        ensures stops { IfErr result (λ stopped. IsStop (Perhaps Guarded) continues_start (standing_of self.old) (standing_of self.new) stopped) }
-        ensures not_longer { IfOk result (λ _. length (left_of self.new) ≤ length (left_of self.old)) }
+        ensures reads { Reads (form.GuardOf (expression_of expression.entry)) start_of self.old result self.new }
+        ensures shorter { Keeps self.old result self.new }
     {
         if !self.is_at(Sign::Guard) {
             return Ok(Start::Expression(expression));
@@ -326,8 +297,7 @@ impl<'t, 'a, A: Allocator + Copy> Parser<'t, 'a, A> {
 
     /// Whether the next token goes on with a prefix behind its channel: a field or the arrow.
     fn is_at_prefix(&self) -> bool
-        ensures yes { result ≡ true → IsNext (kinds.Sign sign.Dot) (left_of self.now) ⊎ IsNext (kinds.Sign sign.Output) (left_of self.now) ⊎ IsNext (kinds.Sign sign.Input) (left_of self.now) ⊎ IsNext (kinds.Sign sign.Arrow) (left_of self.now) }
-        ensures no { result ≡ false → ¬ (IsNext (kinds.Sign sign.Dot) (left_of self.now)) × ¬ (IsNext (kinds.Sign sign.Output) (left_of self.now)) × ¬ (IsNext (kinds.Sign sign.Input) (left_of self.now)) × ¬ (IsNext (kinds.Sign sign.Arrow) (left_of self.now)) }
+        ensures { result ≡ is_prefix (next_of self.now) }
     {
         self.is_at(Sign::Dot)
             || self.is_at(Sign::Output)
@@ -337,8 +307,7 @@ impl<'t, 'a, A: Allocator + Copy> Parser<'t, 'a, A> {
 
     /// Whether the next token is an operator between expressions.
     fn is_at_operator(&self) -> bool
-        ensures yes { result ≡ true → ¬ (Stops (continues Disjunction) (left_of self.now)) }
-        ensures no { result ≡ false → Stops (continues Disjunction) (left_of self.now) }
+        ensures { result ≡ is_operator (next_of self.now) }
     {
         let Some(kind) = self.kind() else {
             return false;

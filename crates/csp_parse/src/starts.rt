@@ -1,14 +1,12 @@
 //! What stands where an operand or an expression begins.
 
 ghost use Rattle.std.specs.Prelude.{◌≡◌, IfOk, IfErr, map};
-ghost use Rattle.theory_text.specs.Grammar.{IsOperand};
 ghost use Rattle.theory_text.specs.Raw.{RawPrefix, RawGuard};
+ghost use Rattle.theory_reader.specs.Forms.{StartOperand};
 ghost use Rattle.csp_parse.specs.Expressions.{expression_of};
 ghost use Rattle.csp_parse.specs.Names.{name_of};
 ghost use Rattle.csp_parse.specs.Processes.{field_of, process_in};
-ghost use Rattle.csp_parse.specs.Reading.{Standing, Reads};
-ghost use Rattle.csp_parse.specs.Starts.{ReadsStart};
-ghost use Rattle.csp_parse.specs.StartForms.{IsOperandStart};
+ghost use Rattle.csp_parse.specs.Starts.{start_of};
 ghost use Rattle.csp_parse.specs.declared.stops.Stopped.TheVariants.{Memory};
 
 use crate::expressions::Expression;
@@ -38,8 +36,7 @@ impl<'a, A: Allocator + Copy> Start<'a, A> {
         fields: Vec<Field<'a, A>, A>,
         body: Box<Process<'a, A>, A>,
     ) -> Result<Start<'a, A>, Stopped>
-        ensures makes { IfOk result (λ s. (before after : Standing) → Reads IsOperand before after (RawPrefix (name_of channel.entry) (map field_of fields.entry.items) (process_in body.entry)) → ReadsStart before after s) }
-        ensures operand { IfOk result (λ s. IsOperandStart s) }
+        ensures makes { IfOk result (λ s. start_of s ≡ StartOperand (RawPrefix (name_of channel.entry) (map field_of fields.entry.items) (process_in body.entry))) }
         ensures stops { IfErr result (λ stopped. stopped ≡ Memory) }
     {
         let prefix = Process::prefix(alloc, channel, fields, body)?;
@@ -52,8 +49,7 @@ impl<'a, A: Allocator + Copy> Start<'a, A> {
         condition: Expression<'a, A>,
         body: Box<Process<'a, A>, A>,
     ) -> Result<Start<'a, A>, Stopped>
-        ensures makes { IfOk result (λ s. (before after : Standing) → Reads IsOperand before after (RawGuard (expression_of condition.entry) (process_in body.entry)) → ReadsStart before after s) }
-        ensures operand { IfOk result (λ s. IsOperandStart s) }
+        ensures makes { IfOk result (λ s. start_of s ≡ StartOperand (RawGuard (expression_of condition.entry) (process_in body.entry))) }
         ensures stops { IfErr result (λ stopped. stopped ≡ Memory) }
     {
         let guard = Process::guard(alloc, condition, body)?;

@@ -3,7 +3,8 @@ use Rattle.std.proofs.Common.{◌≡◌, ℕ, List, subst}
 use Rattle.theory_syntax.specs.Process.{Script}
 use Rattle.theory_text.specs.Place.{Place}
 use Rattle.theory_text.specs.Reading.{ReadingFault, IsReadingRefusal, IsUnrefusedText}
-use Rattle.theory_text.proofs.ReadTexts.{read_same, read_not_refused, unrefused_read}
+use Rattle.theory_text.proofs.ReadTexts.{read_not_refused}
+use Rattle.theory_reader.proofs.Trees.{read_same, unrefused_read}
 use Rattle.theory_checking.specs.Faults.{KindFault}
 use Rattle.theory_checking.specs.Refusals.{IsKindRefusal}
 use Rattle.theory_checking.specs.Checked.{IsCheckedTree, IsCheckedText, IsRefusedText}

@@ -1,11 +1,10 @@
 -- Tokens have one refusal of the grammar at most, or a tree within the limit of heights.
-use Rattle.std.proofs.Common.{◌≡◌, List, [], ◌∷◌, ◌++◌, length, refl, sym, ap, subst, ◌∙◌, arith, append_assoc, append-nil, length-append}
+use Rattle.std.proofs.Common.{◌≡◌, List, [], ◌∷◌, ◌++◌, refl, sym, ap, subst, ◌∙◌, append_assoc}
 use Rattle.theory_text.specs.Place.{Place}
 use Rattle.theory_text.specs.Token.{PlacedToken}
 use Rattle.theory_text.specs.Raw.{RawScript}
-use Rattle.theory_text.specs.Grammar.{IsScript, no_declarations, BeginsScript}
+use Rattle.theory_text.specs.Grammar.{IsScript, BeginsScript}
 use Rattle.theory_text.specs.Height.{IsTooHigh, HasNoneTooHigh, IsParsed, GrammarFault, token_fault, IsGrammarRefusal}
-use Rattle.theory_text.specs.Reading.{AreUnrefused}
 use Rattle.theory_text.proofs.Heights.{latest_begins}
 
 -- Where two tokens of a list stand: at one place, or one of them among those before the other.
@@ -39,10 +38,6 @@ up_to a t c = append_assoc a (t ∷ []) c
 -- where the tokens before a token begin a script, so do those up to an earlier one
 earlier_begins : (a b : List PlacedToken) (t : PlacedToken) (more : List PlacedToken) → b ≡ a ++ t ∷ more → BeginsScript b → BeginsScript (a ++ t ∷ [])
 earlier_begins a b t more e h = front_begins (a ++ t ∷ []) more (subst BeginsScript (e ∙ sym (up_to a t more)) h)
-
--- tokens of which none is too high, and a token among them
-low_within : (a c ts : List PlacedToken) (t : PlacedToken) → ts ≡ a ++ t ∷ c → HasNoneTooHigh ts → ¬ (IsTooHigh a t)
-low_within a c ts t e low = low a c t e
 
 -- a token that is among the first ones is among all
 among_more : (a b : List PlacedToken) (t u : PlacedToken) (more : List PlacedToken) → b ≡ a ++ t ∷ more → b ++ u ∷ [] ≡ a ++ t ∷ (more ++ u ∷ [])
@@ -99,44 +94,3 @@ parsed_not_refused ts s end p f (h, low) (IsGrammarRefusal.nested a c t e high l
 parsed_not_refused ts s end p f (h, low) (IsGrammarRefusal.at_end k lower unfit) = unfit s h
 
 -- TOKENS THAT ARE NOT REFUSED
-
-none_high : HasNoneTooHigh []
-none_high [] c t e = absurd (cc e)
-none_high (x ∷ a) c t e = absurd (cc e)
-
-too_long : (a : List PlacedToken) (t : PlacedToken) (more : List PlacedToken) (u : PlacedToken) (c : List PlacedToken) → ¬ (a ++ t ∷ [] ≡ a ++ t ∷ (more ++ u ∷ c))
-too_long a t [] u c e = let l = ap length e in absurd (omega (arith, l, length-append a (t ∷ []), length-append a (t ∷ u ∷ c)))
-too_long a t (x ∷ more) u c e = let l = ap length e in absurd (omega (arith, l, length-append a (t ∷ []), length-append a (t ∷ x ∷ (more ++ u ∷ c))))
-
-no_more : (a : List PlacedToken) (t : PlacedToken) (b more : List PlacedToken) (u : PlacedToken) (c : List PlacedToken) → b ≡ a ++ t ∷ more → ¬ (a ++ t ∷ [] ≡ b ++ u ∷ c)
-no_more a t b more u c g e = too_long a t more u c (e ∙ ap (λ x. x ++ u ∷ c) g ∙ append_assoc a (t ∷ more) (u ∷ c))
-
-high_at : (a : List PlacedToken) (t : PlacedToken) (b c : List PlacedToken) (u : PlacedToken) → a ++ t ∷ [] ≡ b ++ u ∷ c → HasNoneTooHigh a → ¬ (IsTooHigh a t) → ¬ (IsTooHigh b u)
-high_at a t b c u e low not high = elim (order a [] t b c u e) [
-  | same g h ↦ not (subst (λ x. IsTooHigh x t) (sym g) (subst (λ x. IsTooHigh b x) (sym h) high))
-  | before more g ↦ absurd (no_more a t b more u c g e)
-  | behind more g ↦ low b more u g high
-]
-
--- none of some tokens is too high, and it is not so that they begin no script
-abbrev IsFine : List PlacedToken → Type 0
-IsFine a = HasNoneTooHigh a × ¬ (¬ (BeginsScript a))
-
-one_more : (ts : List PlacedToken) (end : Place) (a c : List PlacedToken) (t : PlacedToken) → ts ≡ a ++ t ∷ c → AreUnrefused ts end → IsFine a → IsFine (a ++ t ∷ [])
-one_more ts end a c t e un (low, begins) =
-    let not : ¬ (IsTooHigh a t) = λ high. un GrammarFault.Nested t.place (IsGrammarRefusal.nested a c t e high low) in
-    let lower : HasNoneTooHigh (a ++ t ∷ []) = λ b d u i. high_at a t b d u i low not in
-    (lower, λ none. begins (λ h. un (token_fault t.token) t.place (IsGrammarRefusal.at_token a c t e h none lower)))
-
-all_fine : (ts : List PlacedToken) (end : Place) (a c : List PlacedToken) → ts ≡ a ++ c → AreUnrefused ts end → IsFine a → IsFine ts
-all_fine ts end a [] e un fine = subst IsFine (sym (append-nil a) ∙ sym e) fine
-all_fine ts end a (t ∷ c) e un fine = all_fine ts end (a ++ t ∷ []) c (e ∙ sym (up_to a t c)) un (one_more ts end a c t e un fine)
-
-pub unrefused_fine : (ts : List PlacedToken) (end : Place) → AreUnrefused ts end → IsFine ts
-unrefused_fine ts end un = all_fine ts end [] ts refl un (none_high, λ none. none ([], [], no_declarations))
-
--- tokens that are not refused are not without a tree
-pub unrefused_tree : (ts : List PlacedToken) (end : Place) → AreUnrefused ts end → ¬ ((s : RawScript) → ¬ (IsParsed ts s))
-unrefused_tree ts end un none =
-    let fine = unrefused_fine ts end un in
-    fine.1 (λ h. un GrammarFault.UnexpectedEnd end (IsGrammarRefusal.at_end h fine.0 (λ s i. none s (i, fine.0))))

@@ -10,14 +10,4 @@ pub mod Deciding
 pub mod Refusing
 pub mod Asserting
 pub mod GrammarRefusing
-pub mod Readers
-pub mod ReadingExpressions
-pub mod ReadingEvents
-pub mod ReadingProcesses
-pub mod ReadingScripts
 pub mod ReadTexts
-pub mod SoundReaders
-pub mod SoundExpressions
-pub mod SoundEvents
-pub mod SoundProcesses
-pub mod SoundScripts

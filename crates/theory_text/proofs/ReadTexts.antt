@@ -1,20 +1,13 @@
--- A text has at most one tree, or one refusal.
-use Rattle.std.proofs.Common.{◌≡◌, ℕ, List, sym, ap, subst, inl, inr}
+-- A text has at most one refusal, and none where it has a tree.
+use Rattle.std.proofs.Common.{◌≡◌, ℕ, List, sym, ap, subst}
 use Rattle.theory_text.specs.Place.{Place}
 use Rattle.theory_text.specs.Token.{PlacedToken, AreTokens}
 use Rattle.theory_text.specs.Raw.{RawScript}
 use Rattle.theory_text.specs.Height.{IsParsed, GrammarFault, IsGrammarRefusal}
-use Rattle.theory_text.specs.Reading.{ReadingFault, OfText, OfGrammar, IsRead, IsReadingRefusal, IsUnrefusedText}
+use Rattle.theory_text.specs.Reading.{ReadingFault, OfText, OfGrammar, IsRead, IsReadingRefusal}
 use Rattle.theory_text.proofs.Division.{tokens_same, tokens_not_refused}
 use Rattle.theory_text.proofs.Refusing.{refusal_same}
 use Rattle.theory_text.proofs.GrammarRefusing.{grammar_refusal_same, parsed_not_refused}
-use Rattle.theory_text.proofs.Deciding.{text_decided}
-use Rattle.theory_text.proofs.ReadingScripts.{tree_same}
-use Rattle.theory_text.proofs.SoundScripts.{unrefused_has_tree}
-
-pub read_same : (bytes : List ℕ) (s u : RawScript) → IsRead bytes s → IsRead bytes u → s ≡ u
-read_same bytes s u (IsRead.read {tokens = ts} {end = p} are h) (IsRead.read {tokens = us} {end = q} were k) =
-    tree_same ts s u h.0 (subst (λ x. IsParsed x u) (sym (tokens_same bytes ts us p q are were).0) k).0
 
 grammar_same : (bytes : List ℕ) (ts us : List PlacedToken) (end last p q : Place) (f g : GrammarFault) → AreTokens bytes ts end → AreTokens bytes us last → IsGrammarRefusal ts end f p → IsGrammarRefusal us last g q → (f ≡ g) × (p ≡ q)
 grammar_same bytes ts us end last p q f g are were h k =
@@ -32,10 +25,3 @@ pub read_not_refused : (bytes : List ℕ) (s : RawScript) (f : ReadingFault) (p 
 read_not_refused bytes s f p (IsRead.read {tokens = ts} {end = end} are h) (IsReadingRefusal.of_text {f = x} k) = tokens_not_refused bytes ts end p x are k
 read_not_refused bytes s f p (IsRead.read {tokens = ts} {end = end} are h) (IsReadingRefusal.of_grammar {tokens = us} {end = last} {f = x} were k) =
     parsed_not_refused us s last p x (subst (λ y. IsParsed y s) (tokens_same bytes ts us end last are were).0 h) k
-
--- a text that is not refused has a tree
-pub unrefused_read : (bytes : List ℕ) → IsUnrefusedText bytes → (s : RawScript) × IsRead bytes s
-unrefused_read bytes un = elim (text_decided bytes) [
-  | inl (ts, end, are) ↦ let found = unrefused_has_tree ts end (λ f p h. un (OfGrammar f) p (IsReadingRefusal.of_grammar are h)) in (found.0, IsRead.read are found.1)
-  | inr (f, p, h) ↦ absurd (un (OfText f) p (IsReadingRefusal.of_text h))
-]

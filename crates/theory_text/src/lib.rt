@@ -41,12 +41,6 @@ pub fn tokens_rise()
     ensures numbers { (bytes : List ℕ) (ts : List PlacedToken) (end : Place) → AreTokens bytes ts end → AreInRange ts }
 {}
 
-/// Tokens have at most one tree, and so has a text.
-pub fn tree_is_one()
-    ensures tokens { (ts : List PlacedToken) (s u : RawScript) → IsScript ts s → IsScript ts u → s ≡ u }
-    ensures text { (bytes : List ℕ) (s u : RawScript) → IsRead bytes s → IsRead bytes u → s ≡ u }
-{}
-
 /// Tokens have at most one refusal of the grammar, at one place.
 pub fn grammar_refusal_is_one()
     ensures { (ts : List PlacedToken) (end : Place) (f g : GrammarFault) (p q : Place) → IsGrammarRefusal ts end f p → IsGrammarRefusal ts end g q
@@ -62,12 +56,6 @@ pub fn reading_refusal_is_one()
 pub fn read_text_is_not_refused()
     ensures tokens { (ts : List PlacedToken) (s : RawScript) (end p : Place) (f : GrammarFault) → IsParsed ts s → ¬ IsGrammarRefusal ts end f p }
     ensures text { (bytes : List ℕ) (s : RawScript) (f : ReadingFault) (p : Place) → IsRead bytes s → ¬ IsReadingRefusal bytes f p }
-{}
-
-/// Tokens that are not refused have a tree within the limit of heights, and so has a text that is not refused.
-pub fn unrefused_text_is_read()
-    ensures tokens { (ts : List PlacedToken) (end : Place) → AreUnrefused ts end → (s : RawScript) × IsParsed ts s }
-    ensures text { (bytes : List ℕ) → IsUnrefusedText bytes → (s : RawScript) × IsRead bytes s }
 {}
 
 /// What `{-1}`, `--1`, `|]]`, `[>=` and `or' ` begin with, that `~` begins nothing, and that 2147483648 is too large.

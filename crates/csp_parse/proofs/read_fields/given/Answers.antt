@@ -1,6 +1,6 @@
 use Rattle.std.proofs.Common.{refl}
 use Rattle.csp_parse.specs.declared.processes.Field.TheVariants as field
-use Rattle.csp_parse.proofs.Fielding.{more_given}
+use Rattle.csp_parse.proofs.Fields.{more_given}
 use Rattle.csp_parse.proofs.read_fields.given.Goals as goal
 
 pub loop-value-preserved : goal.loop-value-preserved

@@ -1,8 +1,8 @@
-use Rattle.std.proofs.Common.{◌≤◌, length, ◌+◌, ◌*◌}
-use Rattle.theory_text.specs.Grammar.{IsOperand, IsChain}
+use Rattle.std.proofs.Common.{◌≡◌, ◌≤◌, length, ◌+◌, ◌*◌}
+use Rattle.theory_reader.specs.Forms.{ChainOver, ChainMore}
+use Rattle.theory_reader.specs.Reader.{reads}
 use Rattle.csp_parse.specs.Processes.{infix_of, process_in}
-use Rattle.csp_parse.specs.Reading.{left_of, standing_of, Continues}
-use Rattle.csp_parse.proofs.JoinTurns.{ChainSoFar}
+use Rattle.csp_parse.specs.Reading.{left_of, standing_of}
 use Rattle.csp_parse.proofs.parsers.Parser.+process.Given as goal
 
 abbrev pub decreases-process : goal.decreases-process
@@ -82,8 +82,7 @@ decreases-inner_process g l = 32 * length (left_of l.self.now) + 32
 
 abbrev pub invariant-chain-loop-operator : goal.invariant-chain-loop-operator
 invariant-chain-loop-operator g l = record {
-  continues : Continues IsOperand (IsChain (infix_of l.operator)) (standing_of l.fn.self) (standing_of l.self) (process_in l.fn.first) (process_in l.chain);
-  links : ChainSoFar (infix_of l.operator) (standing_of l.fn.self) (standing_of l.self);
+  same : reads (ChainOver (infix_of l.operator) (process_in l.fn.first)) (standing_of l.fn.self) ≡ reads (ChainMore (infix_of l.operator) (process_in l.chain)) (standing_of l.self);
   not_longer : length (left_of l.self) ≤ length (left_of l.fn.self);
 }
 
@@ -91,7 +90,16 @@ abbrev pub decreases-chain-loop-operator : goal.decreases-chain-loop-operator
 decreases-chain-loop-operator g l = length (left_of l.self)
 
 abbrev pub decreases-inner_of_dotted : goal.decreases-inner_of_dotted
-decreases-inner_of_dotted g l = 32 * length (left_of l.self.now) + 3
+decreases-inner_of_dotted g l = 32 * length (left_of l.self.now) + 34
+
+abbrev pub decreases-inner_of_name : goal.decreases-inner_of_name
+decreases-inner_of_name g l = 32 * length (left_of l.self.now) + 3
+
+abbrev pub decreases-inner_from : goal.decreases-inner_from
+decreases-inner_from g l = 32 * length (left_of l.self.now) + 34
+
+abbrev pub decreases-start_behind_name : goal.decreases-start_behind_name
+decreases-start_behind_name g l = 32 * length (left_of l.self.now) + 31
 
 abbrev pub decreases-prefix_behind : goal.decreases-prefix_behind
 decreases-prefix_behind g l = 32 * length (left_of l.self.now) + 1

@@ -1,36 +1,31 @@
-use Rattle.std.proofs.Common.{refl}
-use Rattle.csp_lex.specs.declared.signs.Sign.TheVariants as signs
-use Rattle.csp_parse.specs.Reading.{left_of}
-use Rattle.csp_parse.proofs.ClausesTurn.{bare_clause_read, clause_read, clause_form, clause_name, clause_name_stops, no_domains, domains_here, dot_stops}
-use Rattle.csp_parse.proofs.Leaves.{name_done, sign_first, sign_not_first}
-use Rattle.csp_parse.proofs.Memory.{handed}
-use Rattle.csp_parse.proofs.Turning.{turn, finished, stopped, sign_behind}
+use Rattle.std.proofs.Common.{◌∙◌, true, map, refl, sym, ap}
+use Rattle.theory_reader.specs.Reader.{body}
+use Rattle.theory_reader.proofs.Laws.{reads_is}
+use Rattle.csp_parse.specs.Declarations.{domain_of}
+use Rattle.csp_parse.proofs.Steps.{hands}
+use Rattle.csp_parse.proofs.Declared.{clause_reads, bare_clause}
 use Rattle.csp_parse.proofs.parsers.Parser.clause.Goals as goal
 
-pub returns-then-not-is_at-clause-reads : goal.returns-then-not-is_at-clause-reads
-returns-then-not-is_at-clause-reads g c = bare_clause_read c.in_ok-name.ensures.reads c.new.result.items c.new.ensures.items
+pub returns-in_err-name-clause-reads : goal.returns-in_err-name-clause-reads
+unfolding body
+returns-in_err-name-clause-reads g c = hands _ _ _ _ _ _ c.from_residual.ensures c.in_err-name.ensures.reads (λ h e. rw (reads_is, e) refl)
 
-pub returns-then-not-is_at-clause-done : goal.returns-then-not-is_at-clause-done
-returns-then-not-is_at-clause-done g c =
-    finished (turn clause_form (clause_name (name_done c.in_ok-name.ensures.reads))) (no_domains refl (sign_not_first signs.Dot (left_of c.name.new.self) (c.is_at.ensures.no c.if-not-is_at.true)))
+pub returns-then-not-is_at-clause-reads : goal.returns-then-not-is_at-clause-reads
+unfolding body
+returns-then-not-is_at-clause-reads g c =
+    bare_clause _ _ _ _ c.in_ok-name.ensures.reads (sym c.is_at.ensures ∙ c.if-not-is_at.true) (ap (map domain_of) c.new.ensures.items)
+
+pub returns-in_err-sign-clause-reads : goal.returns-in_err-sign-clause-reads
+unfolding body
+returns-in_err-sign-clause-reads g c =
+    hands _ _ _ _ _ _ c.from_residual-in_err-sign.ensures c.in_err-sign.ensures.reads (λ h e. clause_reads _ _ _ true c.in_ok-name.ensures.reads (sym c.is_at.ensures ∙ c.if-not-is_at.false) ∙ rw e refl)
+
+pub returns-in_err-fields-clause-reads : goal.returns-in_err-fields-clause-reads
+unfolding body
+returns-in_err-fields-clause-reads g c =
+    hands _ _ _ _ _ _ c.from_residual-in_err-fields.ensures c.in_err-fields.ensures.reads (λ h e. clause_reads _ _ _ true c.in_ok-name.ensures.reads (sym c.is_at.ensures ∙ c.if-not-is_at.false) ∙ rw (c.in_ok-sign.ensures.reads, e) refl)
 
 pub returns-clause-reads : goal.returns-clause-reads
-returns-clause-reads g c = clause_read c.in_ok-name.ensures.reads c.in_ok-sign.ensures.passes c.in_ok-fields.ensures.reads
-
-pub returns-clause-done : goal.returns-clause-done
-returns-clause-done g c =
-    finished (turn (turn (turn clause_form (clause_name (name_done c.in_ok-name.ensures.reads))) (domains_here (sign_first signs.Dot (left_of c.name.new.self) (c.is_at.ensures.yes c.if-not-is_at.false)))) (sign_behind c.in_ok-sign.ensures.passes)) c.in_ok-fields.ensures.done
-
-pub returns-in_err-name-clause-stops : goal.returns-in_err-name-clause-stops
-returns-in_err-name-clause-stops g c =
-    handed c.from_residual.result _ c.from_residual.ensures (stopped clause_form (clause_name_stops c.in_err-name.ensures.stops))
-
-pub returns-in_err-sign-clause-stops : goal.returns-in_err-sign-clause-stops
-returns-in_err-sign-clause-stops g c =
-    handed c.from_residual-in_err-sign.result _ c.from_residual-in_err-sign.ensures
-    (stopped (turn (turn clause_form (clause_name (name_done c.in_ok-name.ensures.reads))) (domains_here (sign_first signs.Dot (left_of c.name.new.self) (c.is_at.ensures.yes c.if-not-is_at.false)))) (dot_stops c.in_err-sign.ensures.stops))
-
-pub returns-in_err-fields-clause-stops : goal.returns-in_err-fields-clause-stops
-returns-in_err-fields-clause-stops g c =
-    handed c.from_residual-in_err-fields.result _ c.from_residual-in_err-fields.ensures
-    (stopped (turn (turn (turn clause_form (clause_name (name_done c.in_ok-name.ensures.reads))) (domains_here (sign_first signs.Dot (left_of c.name.new.self) (c.is_at.ensures.yes c.if-not-is_at.false)))) (sign_behind c.in_ok-sign.ensures.passes)) c.in_err-fields.ensures.stops)
+unfolding body
+returns-clause-reads g c =
+    clause_reads _ _ _ true c.in_ok-name.ensures.reads (sym c.is_at.ensures ∙ c.if-not-is_at.false) ∙ rw (c.in_ok-sign.ensures.reads, c.in_ok-fields.ensures.reads) refl

@@ -1,58 +1,38 @@
-use Rattle.std.proofs.Common.{[], ◌∷◌, ◌++◌, ◌∙◌, ap, arith}
-use Rattle.theory_text.specs.Grammar.{IsClause}
-use Rattle.theory_text.specs.Token.{BarSign}
+use Rattle.std.proofs.Common.{◌∙◌, ◌++◌, ◌∷◌, [], true, false, map, refl, sym, ap, arith}
+use Rattle.theory_reader.specs.Forms.{ClausesBehind}
+use Rattle.theory_reader.specs.Reader.{body, reads}
+use Rattle.theory_reader.proofs.Laws.{reads_is}
 use Rattle.csp_parse.specs.Declarations.{clause_of}
-use Rattle.csp_parse.proofs.Separating.{first_part, more_parts, clauses_read}
-use Rattle.csp_parse.proofs.Leaves.{sign_first, sign_not_first, sign_done}
-use Rattle.csp_parse.proofs.Turning.{finished, stopped}
-use Rattle.csp_lex.specs.declared.signs.Sign.TheVariants as signs
-use Rattle.csp_parse.proofs.Memory.{handed, memory_stops}
-use Rattle.csp_parse.specs.Reading.{left_of}
-use Rattle.csp_parse.proofs.Chaining.{list_first, list_more, list_end, list_none, list_stop, list_stop_behind}
-use Rattle.csp_parse.proofs.ClausesTurn.{told_clauses, clauses_form}
+use Rattle.csp_parse.specs.Reading.{standing_of}
+use Rattle.csp_parse.proofs.Declared.{clauses_reads, clauses_begin, clauses_more}
+use Rattle.csp_parse.proofs.Steps.{hands}
 use Rattle.csp_parse.proofs.parsers.Parser.clauses.Goals as goal
 
 pub loop-self-init : goal.loop-self-init
-loop-self-init g c =
-    record {
-      list = first_part BarSign IsClause clause_of c.in_ok-first.first c.push.new.self.items c.in_ok-first.ensures.reads
-          (c.in_ok-push.ensures.items ∙ ap (λ xs. xs ++ c.in_ok-first.first ∷ []) c.new-clauses.ensures.items);
-      told = list_first c.in_ok-first.ensures.done;
-      shorter = omega (arith, c.in_ok-first.ensures.shorter);
-    }
+loop-self-init g c = record {
+  same = clauses_begin _ _ _ c.in_ok-first.ensures.reads
+      ∙ ap (λ xs. reads (ClausesBehind (map clause_of xs)) (standing_of c.clause.new.self)) (sym (c.in_ok-push.ensures.items ∙ ap (λ xs. xs ++ c.in_ok-first.first ∷ []) c.new-clauses.ensures.items));
+  shorter = omega (arith, c.in_ok-first.ensures.shorter);
+}
 
 pub loop-self-preserved : goal.loop-self-preserved
-loop-self-preserved g c =
-    record {
-      list = more_parts BarSign IsClause clause_of c.in_ok-clause.clause c.loop-self.clauses.items c.push-in-loop-self.new.self.items c.loop-self.invariant.list c.in_ok-sign.ensures.passes
-          c.in_ok-clause.ensures.reads c.in_ok-push-2.ensures.items;
-      told = list_more told_clauses c.loop-self.invariant.told (sign_first signs.Bar (left_of c.loop-self.self) (c.is_at.ensures.yes c.loop-self-test.true)) (sign_done BarSign c.in_ok-sign.ensures.passes) c.in_ok-clause.ensures.done;
-      shorter = omega (arith, c.loop-self.invariant.shorter, c.in_ok-sign.ensures.shorter, c.in_ok-clause.ensures.shorter);
-    }
+loop-self-preserved g c = record {
+  same = c.loop-self.invariant.same ∙ clauses_more clause_of _ _ _ _ _ _ (sym c.is_at.ensures ∙ c.loop-self-test.true) c.in_ok-sign.ensures.reads c.in_ok-clause.ensures.reads c.in_ok-push-2.ensures.items;
+  shorter = omega (arith, c.loop-self.invariant.shorter, c.in_ok-sign.ensures.shorter, c.in_ok-clause.ensures.shorter);
+}
 
 pub returns-clause-reads : goal.returns-clause-reads
-returns-clause-reads g c = clauses_read c.loop-self.invariant.list
+returns-clause-reads g c = c.loop-self.invariant.same ∙ clauses_reads (map clause_of c.loop-self.clauses.items) (standing_of c.loop-self.self) false (sym c.is_at.ensures ∙ c.loop-self-test.false)
 
-pub returns-clause-done : goal.returns-clause-done
-returns-clause-done g c =
-    finished clauses_form (list_end told_clauses c.loop-self.invariant.told (sign_not_first signs.Bar (left_of c.loop-self.self) (c.is_at.ensures.no c.loop-self-test.false)))
+pub returns-in_err-first-clause-reads : goal.returns-in_err-first-clause-reads
+unfolding body
+returns-in_err-first-clause-reads g c = hands _ _ _ _ _ _ c.from_residual.ensures c.in_err-first.ensures.reads (λ h e. rw (reads_is, e) refl)
 
-pub returns-in_err-first-clause-stops : goal.returns-in_err-first-clause-stops
-returns-in_err-first-clause-stops g c =
-    handed c.from_residual.result _ c.from_residual.ensures (stopped clauses_form (list_none told_clauses c.in_err-first.ensures.stops))
+pub returns-in_err-sign-clause-reads : goal.returns-in_err-sign-clause-reads
+returns-in_err-sign-clause-reads g c =
+    hands _ _ _ _ _ _ c.from_residual-in_err-sign.ensures c.in_err-sign.ensures.reads (λ h e. c.loop-self.invariant.same ∙ clauses_reads (map clause_of c.loop-self.clauses.items) (standing_of c.loop-self.self) true (sym c.is_at.ensures ∙ c.loop-self-test.true) ∙ rw e refl)
 
-pub returns-in_err-push-clause-stops : goal.returns-in_err-push-clause-stops
-returns-in_err-push-clause-stops g c =
-    memory_stops c.from_residual-in_err-push.result _ _ _ _ c.from_residual-in_err-push.ensures
-
-pub returns-in_err-sign-clause-stops : goal.returns-in_err-sign-clause-stops
-returns-in_err-sign-clause-stops g c =
-    handed c.from_residual-in_err-sign.result _ c.from_residual-in_err-sign.ensures (stopped clauses_form (list_stop told_clauses c.loop-self.invariant.told (sign_first signs.Bar (left_of c.loop-self.self) (c.is_at.ensures.yes c.loop-self-test.true)) c.in_err-sign.ensures.stops))
-
-pub returns-in_err-clause-clause-stops : goal.returns-in_err-clause-clause-stops
-returns-in_err-clause-clause-stops g c =
-    handed c.from_residual-in_err-clause.result _ c.from_residual-in_err-clause.ensures (stopped clauses_form (list_stop_behind told_clauses c.loop-self.invariant.told (sign_first signs.Bar (left_of c.loop-self.self) (c.is_at.ensures.yes c.loop-self-test.true)) (sign_done BarSign c.in_ok-sign.ensures.passes) c.in_err-clause.ensures.stops))
-
-pub returns-in_err-push-2-clause-stops : goal.returns-in_err-push-2-clause-stops
-returns-in_err-push-2-clause-stops g c =
-    memory_stops c.from_residual-in_err-push-2.result _ _ _ _ c.from_residual-in_err-push-2.ensures
+pub returns-in_err-clause-clause-reads : goal.returns-in_err-clause-clause-reads
+returns-in_err-clause-clause-reads g c =
+    hands _ _ _ _ _ _ c.from_residual-in_err-clause.ensures c.in_err-clause.ensures.reads
+    (λ h e. c.loop-self.invariant.same ∙ clauses_reads (map clause_of c.loop-self.clauses.items) (standing_of c.loop-self.self) true (sym c.is_at.ensures ∙ c.loop-self-test.true) ∙ rw (c.in_ok-sign.ensures.reads, e) refl)

@@ -1,18 +1,13 @@
-use Rattle.std.proofs.lemmas.Result.{IfOk-weaker}
-use Rattle.csp_parse.specs.declared.levels.Level.TheVariants as level
-use Rattle.csp_parse.proofs.Expressing.{some_at}
-use Rattle.csp_parse.proofs.Memory.{handed}
-use Rattle.csp_parse.proofs.Turning.{word_behind, word_stops, all_done, all_stop}
+use Rattle.std.proofs.Common.{refl}
+use Rattle.theory_reader.specs.Reader.{body}
+use Rattle.theory_reader.proofs.Laws.{reads_is}
+use Rattle.csp_parse.proofs.Steps.{hands, goes_on}
 use Rattle.csp_parse.proofs.parsers.Parser.condition.Goals as goal
 
+pub returns-in_err-word-clause-reads : goal.returns-in_err-word-clause-reads
+unfolding body
+returns-in_err-word-clause-reads g c = hands _ _ _ _ _ _ c.from_residual.ensures c.in_err-word.ensures.reads (λ h e. rw (reads_is, e) refl)
+
 pub returns-clause-reads : goal.returns-clause-reads
-returns-clause-reads g c = IfOk-weaker c.expression.result _ _ (λ e r. record { between = _; passes = c.in_ok-word.ensures.passes; reads = r }) c.expression.ensures.reads
-
-pub returns-in_err-word-clause-stops : goal.returns-in_err-word-clause-stops
-returns-in_err-word-clause-stops g c = handed c.from_residual.result _ c.from_residual.ensures (word_stops (some_at level.Disjunction) c.in_err-word.ensures.stops)
-
-pub returns-clause-done : goal.returns-clause-done
-returns-clause-done g c = all_done c.expression.result _ (word_behind c.in_ok-word.ensures.passes) c.expression.ensures.done
-
-pub returns-clause-stops : goal.returns-clause-stops
-returns-clause-stops g c = all_stop c.expression.result _ (word_behind c.in_ok-word.ensures.passes) c.expression.ensures.stops
+unfolding body
+returns-clause-reads g c = goes_on _ _ _ _ _ c.expression.ensures.reads (rw (reads_is, c.in_ok-word.ensures.reads) refl)

@@ -1,50 +1,36 @@
-use Rattle.csp_lex.specs.declared.keywords.Keyword.TheVariants as keyword
-use Rattle.csp_parse.specs.Reading.{left_of}
-use Rattle.csp_parse.proofs.DeclarationTurns.{datatype_here, datatype_done, nametype_here, channels_here, assertion_here, equation_here, none_declared, declares_none}
-use Rattle.csp_parse.proofs.StartCases.{both_told, word_first}
-use Rattle.csp_parse.proofs.Turning.{all_done, all_stop}
+use Rattle.std.proofs.Common.{◌∙◌, true, false, refl, sym}
+use Rattle.theory_reader.specs.Reader.{body}
+use Rattle.csp_parse.specs.Reading.{standing_of}
+use Rattle.csp_parse.proofs.Steps.{goes_on}
+use Rattle.csp_parse.proofs.Declared.{declaration_reads}
 use Rattle.csp_parse.proofs.parsers.Parser.declaration.Goals as goal
 
-pub returns-then-is_at_word-clause-done : goal.returns-then-is_at_word-clause-done
-returns-then-is_at_word-clause-done g c =
-    both_told c.datatype.result c.datatype.ensures.reads c.datatype.ensures.ends (λ _ r ends. datatype_done (word_first keyword.Datatype (left_of c.args.self.now) (c.is_at_word.ensures.yes c.if-is_at_word.true)) r ends)
+pub returns-then-is_at_word-clause-reads : goal.returns-then-is_at_word-clause-reads
+unfolding body
+returns-then-is_at_word-clause-reads g c =
+    goes_on _ _ _ _ _ c.datatype.ensures.reads (declaration_reads (standing_of c.args.self.now) true _ _ _ _ (sym c.is_at_word.ensures ∙ c.if-is_at_word.true) refl refl refl refl)
 
-pub returns-then-is_at_word-clause-stops : goal.returns-then-is_at_word-clause-stops
-returns-then-is_at_word-clause-stops g c =
-    all_stop c.datatype.result _ (datatype_here (word_first keyword.Datatype (left_of c.args.self.now) (c.is_at_word.ensures.yes c.if-is_at_word.true))) c.datatype.ensures.stops
+pub returns-then-is_at_word-2-clause-reads : goal.returns-then-is_at_word-2-clause-reads
+unfolding body
+returns-then-is_at_word-2-clause-reads g c =
+    goes_on _ _ _ _ _ c.nametype.ensures.reads (declaration_reads (standing_of c.args.self.now) false true _ _ _ (sym c.is_at_word.ensures ∙ c.if-is_at_word.false) (sym c.is_at_word-2.ensures ∙ c.if-is_at_word-2.true) refl refl refl)
 
-pub returns-then-is_at_word-2-clause-done : goal.returns-then-is_at_word-2-clause-done
-returns-then-is_at_word-2-clause-done g c =
-    all_done c.nametype.result _ (nametype_here (word_first keyword.Nametype (left_of c.args.self.now) (c.is_at_word-2.ensures.yes c.if-is_at_word-2.true))) c.nametype.ensures.done
+pub returns-then-is_at_word-3-clause-reads : goal.returns-then-is_at_word-3-clause-reads
+unfolding body
+returns-then-is_at_word-3-clause-reads g c =
+    goes_on _ _ _ _ _ c.channels.ensures.reads (declaration_reads (standing_of c.args.self.now) false false true _ _ (sym c.is_at_word.ensures ∙ c.if-is_at_word.false) (sym c.is_at_word-2.ensures ∙ c.if-is_at_word-2.false) (sym c.is_at_word-3.ensures ∙ c.if-is_at_word-3.true) refl refl)
 
-pub returns-then-is_at_word-2-clause-stops : goal.returns-then-is_at_word-2-clause-stops
-returns-then-is_at_word-2-clause-stops g c =
-    all_stop c.nametype.result _ (nametype_here (word_first keyword.Nametype (left_of c.args.self.now) (c.is_at_word-2.ensures.yes c.if-is_at_word-2.true))) c.nametype.ensures.stops
+pub returns-then-is_at_word-4-clause-reads : goal.returns-then-is_at_word-4-clause-reads
+unfolding body
+returns-then-is_at_word-4-clause-reads g c =
+    goes_on _ _ _ _ _ c.assertion.ensures.reads (declaration_reads (standing_of c.args.self.now) false false false true _ (sym c.is_at_word.ensures ∙ c.if-is_at_word.false) (sym c.is_at_word-2.ensures ∙ c.if-is_at_word-2.false) (sym c.is_at_word-3.ensures ∙ c.if-is_at_word-3.false) (sym c.is_at_word-4.ensures ∙ c.if-is_at_word-4.true) refl)
 
-pub returns-then-is_at_word-3-clause-done : goal.returns-then-is_at_word-3-clause-done
-returns-then-is_at_word-3-clause-done g c =
-    all_done c.channels.result _ (channels_here (word_first keyword.Channel (left_of c.args.self.now) (c.is_at_word-3.ensures.yes c.if-is_at_word-3.true))) c.channels.ensures.done
+pub returns-then-is_at_name-clause-reads : goal.returns-then-is_at_name-clause-reads
+unfolding body
+returns-then-is_at_name-clause-reads g c =
+    goes_on _ _ _ _ _ c.equation.ensures.reads (declaration_reads (standing_of c.args.self.now) false false false false true (sym c.is_at_word.ensures ∙ c.if-is_at_word.false) (sym c.is_at_word-2.ensures ∙ c.if-is_at_word-2.false) (sym c.is_at_word-3.ensures ∙ c.if-is_at_word-3.false) (sym c.is_at_word-4.ensures ∙ c.if-is_at_word-4.false) (sym c.is_at_name.ensures ∙ c.if-is_at_name.true))
 
-pub returns-then-is_at_word-3-clause-stops : goal.returns-then-is_at_word-3-clause-stops
-returns-then-is_at_word-3-clause-stops g c =
-    all_stop c.channels.result _ (channels_here (word_first keyword.Channel (left_of c.args.self.now) (c.is_at_word-3.ensures.yes c.if-is_at_word-3.true))) c.channels.ensures.stops
-
-pub returns-then-is_at_word-4-clause-done : goal.returns-then-is_at_word-4-clause-done
-returns-then-is_at_word-4-clause-done g c =
-    all_done c.assertion.result _ (assertion_here (word_first keyword.Assert (left_of c.args.self.now) (c.is_at_word-4.ensures.yes c.if-is_at_word-4.true))) c.assertion.ensures.done
-
-pub returns-then-is_at_word-4-clause-stops : goal.returns-then-is_at_word-4-clause-stops
-returns-then-is_at_word-4-clause-stops g c =
-    all_stop c.assertion.result _ (assertion_here (word_first keyword.Assert (left_of c.args.self.now) (c.is_at_word-4.ensures.yes c.if-is_at_word-4.true))) c.assertion.ensures.stops
-
-pub returns-then-is_at_name-clause-done : goal.returns-then-is_at_name-clause-done
-returns-then-is_at_name-clause-done g c =
-    all_done c.equation.result _ (equation_here (c.is_at_name.ensures.yes c.if-is_at_name.true)) c.equation.ensures.done
-
-pub returns-then-is_at_name-clause-stops : goal.returns-then-is_at_name-clause-stops
-returns-then-is_at_name-clause-stops g c =
-    all_stop c.equation.result _ (equation_here (c.is_at_name.ensures.yes c.if-is_at_name.true)) c.equation.ensures.stops
-
-pub returns-clause-stops : goal.returns-clause-stops
-returns-clause-stops g c =
-    none_declared (declares_none (left_of c.args.self.now) (c.is_at_word.ensures.no c.if-is_at_word.false) (c.is_at_word-2.ensures.no c.if-is_at_word-2.false) (c.is_at_word-3.ensures.no c.if-is_at_word-3.false) (c.is_at_word-4.ensures.no c.if-is_at_word-4.false) (c.is_at_name.ensures.no c.if-is_at_name.false))
+pub returns-clause-reads : goal.returns-clause-reads
+unfolding body
+returns-clause-reads g c =
+    declaration_reads (standing_of c.args.self.now) false false false false false (sym c.is_at_word.ensures ∙ c.if-is_at_word.false) (sym c.is_at_word-2.ensures ∙ c.if-is_at_word-2.false) (sym c.is_at_word-3.ensures ∙ c.if-is_at_word-3.false) (sym c.is_at_word-4.ensures ∙ c.if-is_at_word-4.false) (sym c.is_at_name.ensures ∙ c.if-is_at_name.false)

@@ -1,18 +1,13 @@
-use Rattle.std.proofs.Common.{◌≤◌, length}
-use Rattle.theory_text.specs.Token.{HidingSign}
-use Rattle.theory_text.specs.Grammar.{IsHidingPart}
-use Rattle.csp_parse.specs.Deciding.{only}
-use Rattle.csp_parse.specs.Forms.{HasTree}
+use Rattle.std.proofs.Common.{◌≡◌, ◌≤◌, length}
+use Rattle.theory_reader.specs.Forms.{HiddenFrom}
+use Rattle.theory_reader.specs.Reader.{reads}
 use Rattle.csp_parse.specs.Processes.{process_in}
-use Rattle.csp_parse.specs.Reading.{left_of, standing_of, Continues}
-use Rattle.csp_parse.specs.Starts.{IsRenamedBase, IsHiddenBase}
-use Rattle.csp_parse.proofs.Repeating.{Repeats}
+use Rattle.csp_parse.specs.Reading.{left_of, standing_of}
 use Rattle.csp_parse.proofs.parsers.Parser.hidden.Given as goal
 
 abbrev pub invariant-loop-self : goal.invariant-loop-self
 invariant-loop-self g l = record {
-  continues : Continues IsRenamedBase IsHiddenBase (standing_of l.fn.self) (standing_of l.self) (process_in l.fn.renamed) (process_in l.process);
-  rest : Repeats (HasTree IsHidingPart) (only HidingSign) (standing_of l.fn.self) (standing_of l.self);
+  same : reads (HiddenFrom (process_in l.fn.renamed)) (standing_of l.fn.self) ≡ reads (HiddenFrom (process_in l.process)) (standing_of l.self);
   not_longer : length (left_of l.self) ≤ length (left_of l.fn.self);
 }
 

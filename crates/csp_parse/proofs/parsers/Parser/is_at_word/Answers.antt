@@ -1,11 +1,19 @@
-use Rattle.std.proofs.Common.{◌≡◌, ◌∙◌, sym, rules}
-use Rattle.csp_parse.specs.Reading.{left_of}
-use Rattle.csp_parse.proofs.OneKind.{next_word_is}
+use Rattle.std.proofs.Common.{◌∙◌, sym, ap, Some, rules}
+use Rattle.csp_lex.specs.Tokens.{keyword_of}
+use Rattle.theory_reader.specs.Reader.{is_word}
+use Rattle.csp_parse.specs.Levels.{seen_kind}
+use Rattle.csp_parse.specs.Reading.{next_of}
+use Rattle.csp_parse.proofs.NextTokens.{word_next, no_word}
 use Rattle.csp_parse.proofs.parsers.Parser.is_at_word.Goals as goal
 
-pub returns-in-Some-Keyword-clause-no : goal.returns-in-Some-Keyword-clause-no
-returns-in-Some-Keyword-clause-no g c = λ differs next.
-    let told = next_word_is c.in-Some-Keyword.field-0 c.args.keyword (left_of c.args.self.now) c.in-Some-Keyword.ensures.some next in
-    let both = sym c.in-Some-Keyword.field-0-is ∙ told in
-    let same : c.in-Some-Keyword.next ≡ c.args.keyword = cc both in
-    search (rules, same, differs, c.eq.ensures)
+pub returns : goal.returns
+returns g c =
+    word_next c.in-Keyword.next c.args.keyword c.eq.result (next_of c.args.self.now) (ap (λ k. Some (seen_kind k)) (sym c.in-Keyword.is) ∙ c.in-Some.ensures)
+    (λ e. search (rules, e, c.eq.ensures)) (λ e. search (rules, e, c.eq.ensures))
+
+pub returns-in_default : goal.returns-in_default
+unfolding is_word
+returns-in_default g c = ap (is_word (keyword_of c.args.keyword)) c.in_default.ensures
+
+pub returns-in_default-kind : goal.returns-in_default-kind
+returns-in_default-kind g c = no_word (keyword_of c.args.keyword) c.in-Some.kind (next_of c.args.self.now) c.in-Some.ensures c.in_default-kind.not-Keyword

@@ -1,53 +1,38 @@
-use Rattle.std.proofs.Common.{[], ◌∷◌, ◌++◌, ◌∙◌, ap, arith}
-use Rattle.theory_text.specs.Grammar.{IsName}
-use Rattle.csp_lex.specs.Tokens.{sign_of}
+use Rattle.std.proofs.Common.{◌∙◌, ◌++◌, ◌∷◌, [], true, false, map, refl, sym, ap, arith}
+use Rattle.theory_reader.specs.Forms.{NamesBehind}
+use Rattle.theory_reader.specs.Reader.{body, reads}
+use Rattle.theory_reader.proofs.Laws.{reads_is}
 use Rattle.csp_parse.specs.Names.{name_of}
-use Rattle.csp_parse.specs.Reading.{left_of}
-use Rattle.csp_parse.proofs.Chaining.{list_first, list_step, list_step_stop, list_end, list_none, separated_end, separated_stop}
-use Rattle.csp_parse.proofs.Leaves.{told_names, sign_first, sign_not_first}
-use Rattle.csp_parse.proofs.Memory.{handed, memory_stops}
-use Rattle.csp_parse.proofs.Separating.{first_part, more_parts}
-use Rattle.csp_parse.proofs.Singles.{read}
+use Rattle.csp_parse.specs.Reading.{standing_of}
+use Rattle.csp_parse.proofs.Declared.{names_reads, names_begin, names_more}
+use Rattle.csp_parse.proofs.Steps.{hands}
 use Rattle.csp_parse.proofs.parsers.Parser.names.Goals as goal
 
-pub loop-between-init : goal.loop-between-init
-loop-between-init g c =
-    record {
-      list = first_part (sign_of c.args.between) IsName name_of c.in_ok-first.first c.push.new.self.items c.in_ok-first.ensures.reads
-          (c.in_ok-push.ensures.items ∙ ap (λ xs. xs ++ c.in_ok-first.first ∷ []) c.new-names.ensures.items);
-      told = list_first (read c.in_ok-first.ensures.reads c.in_ok-first.ensures.ends);
-      shorter = omega (arith, c.in_ok-first.ensures.shorter);
-    }
+pub loop-self-init : goal.loop-self-init
+loop-self-init g c = record {
+  same = names_begin _ _ _ c.in_ok-first.ensures.reads
+      ∙ ap (λ xs. reads (NamesBehind (map name_of xs)) (standing_of c.name.new.self)) (sym (c.in_ok-push.ensures.items ∙ ap (λ xs. xs ++ c.in_ok-first.first ∷ []) c.new-names.ensures.items));
+  shorter = omega (arith, c.in_ok-first.ensures.shorter);
+}
 
-pub loop-between-preserved : goal.loop-between-preserved
-loop-between-preserved g c =
-    let s = sign_of c.args.between in
-    record {
-      list = more_parts s IsName name_of c.in_ok-name.name c.loop-between.names.items c.push-in-loop-between.new.self.items c.loop-between.invariant.list c.in_ok-name.ensures.reads.passes
-          c.in_ok-name.ensures.reads.reads c.in_ok-push-2.ensures.items;
-      told = list_step (told_names s) c.loop-between.invariant.told (sign_first c.args.between (left_of c.loop-between.self) (c.is_at.ensures.yes c.loop-between-test.true)) c.in_ok-name.ensures.done;
-      shorter = omega (arith, c.loop-between.invariant.shorter, c.in_ok-name.ensures.shorter);
-    }
+pub loop-self-preserved : goal.loop-self-preserved
+loop-self-preserved g c = record {
+  same = c.loop-self.invariant.same ∙ names_more name_of _ _ _ _ _ _ (sym c.is_at.ensures ∙ c.loop-self-test.true) c.in_ok-sign.ensures.reads c.in_ok-name.ensures.reads c.in_ok-push-2.ensures.items;
+  shorter = omega (arith, c.loop-self.invariant.shorter, c.in_ok-sign.ensures.shorter, c.in_ok-name.ensures.shorter);
+}
 
 pub returns-clause-reads : goal.returns-clause-reads
-returns-clause-reads g c = c.loop-between.invariant.list
+returns-clause-reads g c = c.loop-self.invariant.same ∙ names_reads (map name_of c.loop-self.names.items) (standing_of c.loop-self.self) false (sym c.is_at.ensures ∙ c.loop-self-test.false)
 
-pub returns-clause-ends : goal.returns-clause-ends
-returns-clause-ends g c =
-    let s = sign_of c.args.between in
-    separated_end (list_end (told_names s) c.loop-between.invariant.told (sign_not_first c.args.between (left_of c.loop-between.self) (c.is_at.ensures.no c.loop-between-test.false)))
+pub returns-in_err-first-clause-reads : goal.returns-in_err-first-clause-reads
+unfolding body
+returns-in_err-first-clause-reads g c = hands _ _ _ _ _ _ c.from_residual.ensures c.in_err-first.ensures.reads (λ h e. rw (reads_is, e) refl)
 
-pub returns-in_err-first-clause-stops : goal.returns-in_err-first-clause-stops
-returns-in_err-first-clause-stops g c =
-    handed c.from_residual.result _ c.from_residual.ensures (separated_stop (list_none (told_names (sign_of c.args.between)) c.in_err-first.ensures.stops))
+pub returns-in_err-sign-clause-reads : goal.returns-in_err-sign-clause-reads
+returns-in_err-sign-clause-reads g c =
+    hands _ _ _ _ _ _ c.from_residual-in_err-sign.ensures c.in_err-sign.ensures.reads (λ h e. c.loop-self.invariant.same ∙ names_reads (map name_of c.loop-self.names.items) (standing_of c.loop-self.self) true (sym c.is_at.ensures ∙ c.loop-self-test.true) ∙ rw e refl)
 
-pub returns-in_err-push-clause-stops : goal.returns-in_err-push-clause-stops
-returns-in_err-push-clause-stops g c = memory_stops c.from_residual-in_err-push.result _ _ _ _ c.from_residual-in_err-push.ensures
-
-pub returns-in_err-name-clause-stops : goal.returns-in_err-name-clause-stops
-returns-in_err-name-clause-stops g c =
-    let first = sign_first c.args.between (left_of c.loop-between.self) (c.is_at.ensures.yes c.loop-between-test.true) in
-    handed c.from_residual-in_err-name.result _ c.from_residual-in_err-name.ensures (separated_stop (list_step_stop (told_names (sign_of c.args.between)) c.loop-between.invariant.told first c.in_err-name.ensures.stops))
-
-pub returns-in_err-push-2-clause-stops : goal.returns-in_err-push-2-clause-stops
-returns-in_err-push-2-clause-stops g c = memory_stops c.from_residual-in_err-push-2.result _ _ _ _ c.from_residual-in_err-push-2.ensures
+pub returns-in_err-name-clause-reads : goal.returns-in_err-name-clause-reads
+returns-in_err-name-clause-reads g c =
+    hands _ _ _ _ _ _ c.from_residual-in_err-name.ensures c.in_err-name.ensures.reads
+    (λ h e. c.loop-self.invariant.same ∙ names_reads (map name_of c.loop-self.names.items) (standing_of c.loop-self.self) true (sym c.is_at.ensures ∙ c.loop-self-test.true) ∙ rw (c.in_ok-sign.ensures.reads, e) refl)

@@ -1,49 +1,40 @@
-use Rattle.std.proofs.Common.{refl, arith}
-use Rattle.csp_parse.specs.Starts.{base}
-use Rattle.csp_parse.proofs.Passing.{renamed}
-use Rattle.csp_parse.proofs.Processing.{read_as, renaming_read}
-use Rattle.theory_text.specs.Token.{OpenRenamingSign, CloseRenamingSign}
-use Rattle.csp_lex.specs.declared.signs.Sign.TheVariants as signs
-use Rattle.csp_parse.specs.Deciding.{only}
-use Rattle.csp_parse.specs.Reading.{left_of}
-use Rattle.csp_parse.proofs.Leaves.{sign_done, sign_first, sign_not_first}
-use Rattle.csp_parse.proofs.Memory.{handed, memory_here}
-use Rattle.csp_parse.proofs.Repeating.{repeats_none}
-use Rattle.csp_parse.proofs.SuffixesTurn.{renaming_form, renaming_sign_stops, pairs_behind, pairs_stop, renamings_end, one_suffix, suffix_stop}
-use Rattle.csp_parse.proofs.Turning.{turn, finished, stopped, sign_behind}
+use Rattle.std.proofs.Common.{◌∙◌, true, false, refl, sym, arith}
+use Rattle.theory_reader.specs.Reader.{body}
+use Rattle.csp_parse.specs.Processes.{process_in}
+use Rattle.csp_parse.specs.Reading.{standing_of}
+use Rattle.csp_parse.proofs.Turns.{renamed_reads, renamed_more}
+use Rattle.csp_parse.proofs.Steps.{hands, refused}
 use Rattle.csp_parse.proofs.parsers.Parser.renamed.Goals as goal
 
 pub loop-self-init : goal.loop-self-init
-loop-self-init g c = record { continues = λ before r. read_as (λ ts h. base h) r; rest = repeats_none refl; not_longer = omega arith }
+unfolding body
+loop-self-init g c = record { same = refl; not_longer = omega arith }
 
 pub loop-self-preserved : goal.loop-self-preserved
+unfolding body
 loop-self-preserved g c =
-    record {
-      continues = λ before r.
-          renamed _ _ c.in_ok-process.ensures.makes (renaming_read (c.loop-self.invariant.continues before r) c.in_ok-sign.ensures.passes c.in_ok-pairs.ensures.reads c.in_ok-sign-2.ensures.passes);
-      rest = one_suffix (only OpenRenamingSign) c.loop-self.invariant.rest (sign_first signs.OpenRenaming (left_of c.loop-self.self) (c.is_at.ensures.yes c.loop-self-test.true)) (finished (turn (turn renaming_form (sign_behind c.in_ok-sign.ensures.passes)) (pairs_behind c.in_ok-pairs.ensures.done)) (sign_done CloseRenamingSign c.in_ok-sign-2.ensures.passes));
-      not_longer = omega (arith, c.loop-self.invariant.not_longer, c.in_ok-sign.ensures.shorter, c.in_ok-pairs.ensures.shorter, c.in_ok-sign-2.ensures.shorter);
-    }
+    record { same = c.loop-self.invariant.same ∙ renamed_more _ _ _ _ _ _ _ (sym c.is_at.ensures ∙ c.loop-self-test.true) c.in_ok-sign.ensures.reads c.in_ok-pairs.ensures.reads c.in_ok-sign-2.ensures.reads c.in_ok-process.ensures.makes; not_longer = omega (arith, c.loop-self.invariant.not_longer, c.in_ok-sign.ensures.shorter, c.in_ok-pairs.ensures.shorter, c.in_ok-sign-2.ensures.shorter) }
 
-pub returns-clause-continues : goal.returns-clause-continues
-returns-clause-continues g c = c.loop-self.invariant.continues
+pub returns-clause-reads : goal.returns-clause-reads
+unfolding body
+returns-clause-reads g c =
+    c.loop-self.invariant.same ∙ renamed_reads (process_in c.loop-self.process) (standing_of c.loop-self.self) false (sym c.is_at.ensures ∙ c.loop-self-test.false)
 
-pub returns-clause-done : goal.returns-clause-done
-returns-clause-done g c =
-    renamings_end c.loop-self.invariant.rest (sign_not_first signs.OpenRenaming (left_of c.loop-self.self) (c.is_at.ensures.no c.loop-self-test.false))
+pub returns-in_err-sign-clause-reads : goal.returns-in_err-sign-clause-reads
+unfolding body
+returns-in_err-sign-clause-reads g c =
+    hands _ _ _ _ _ _ c.from_residual.ensures c.in_err-sign.ensures.reads (λ h e. c.loop-self.invariant.same ∙ renamed_reads (process_in c.loop-self.process) (standing_of c.loop-self.self) true (sym c.is_at.ensures ∙ c.loop-self-test.true) ∙ rw e refl)
 
-pub returns-in_err-sign-clause-stops : goal.returns-in_err-sign-clause-stops
-returns-in_err-sign-clause-stops g c =
-    handed c.from_residual.result _ c.from_residual.ensures (suffix_stop (only OpenRenamingSign) c.loop-self.invariant.rest (sign_first signs.OpenRenaming (left_of c.loop-self.self) (c.is_at.ensures.yes c.loop-self-test.true)) (renaming_sign_stops c.in_err-sign.ensures.stops))
+pub returns-in_err-pairs-clause-reads : goal.returns-in_err-pairs-clause-reads
+unfolding body
+returns-in_err-pairs-clause-reads g c =
+    hands _ _ _ _ _ _ c.from_residual-in_err-pairs.ensures c.in_err-pairs.ensures.reads (λ h e. c.loop-self.invariant.same ∙ renamed_reads (process_in c.loop-self.process) (standing_of c.loop-self.self) true (sym c.is_at.ensures ∙ c.loop-self-test.true) ∙ rw (c.in_ok-sign.ensures.reads, e) refl)
 
-pub returns-in_err-process-clause-stops : goal.returns-in_err-process-clause-stops
-returns-in_err-process-clause-stops g c =
-    handed c.from_residual-in_err-process.result _ c.from_residual-in_err-process.ensures (memory_here c.in_err-process.ensures.stops)
+pub returns-in_err-sign-2-clause-reads : goal.returns-in_err-sign-2-clause-reads
+unfolding body
+returns-in_err-sign-2-clause-reads g c =
+    hands _ _ _ _ _ _ c.from_residual-in_err-sign-2.ensures c.in_err-sign-2.ensures.reads (λ h e. c.loop-self.invariant.same ∙ renamed_reads (process_in c.loop-self.process) (standing_of c.loop-self.self) true (sym c.is_at.ensures ∙ c.loop-self-test.true) ∙ rw (c.in_ok-sign.ensures.reads, c.in_ok-pairs.ensures.reads, e) refl)
 
-pub returns-in_err-pairs-clause-stops : goal.returns-in_err-pairs-clause-stops
-returns-in_err-pairs-clause-stops g c =
-    handed c.from_residual-in_err-pairs.result _ c.from_residual-in_err-pairs.ensures (suffix_stop (only OpenRenamingSign) c.loop-self.invariant.rest (sign_first signs.OpenRenaming (left_of c.loop-self.self) (c.is_at.ensures.yes c.loop-self-test.true)) (stopped (turn renaming_form (sign_behind c.in_ok-sign.ensures.passes)) (pairs_stop c.in_err-pairs.ensures.stops)))
-
-pub returns-in_err-sign-2-clause-stops : goal.returns-in_err-sign-2-clause-stops
-returns-in_err-sign-2-clause-stops g c =
-    handed c.from_residual-in_err-sign-2.result _ c.from_residual-in_err-sign-2.ensures (suffix_stop (only OpenRenamingSign) c.loop-self.invariant.rest (sign_first signs.OpenRenaming (left_of c.loop-self.self) (c.is_at.ensures.yes c.loop-self-test.true)) (stopped (turn (turn renaming_form (sign_behind c.in_ok-sign.ensures.passes)) (pairs_behind c.in_ok-pairs.ensures.done)) c.in_err-sign-2.ensures.stops))
+pub returns-in_err-process-clause-reads : goal.returns-in_err-process-clause-reads
+unfolding body
+returns-in_err-process-clause-reads g c = hands _ _ _ _ _ _ c.from_residual-in_err-process.ensures (refused _ _ _ c.in_err-process.ensures.stops) (λ h e. e)

@@ -1,9 +1,6 @@
-use Rattle.csp_parse.proofs.Memory.{handed}
-use Rattle.csp_parse.proofs.Passing.{renamed}
+use Rattle.std.proofs.Common.{ap}
+use Rattle.theory_reader.specs.Forms.{StartOperand}
 use Rattle.csp_parse.proofs.starts.Start.guard.Goals as goal
 
 pub returns-clause-makes : goal.returns-clause-makes
-returns-clause-makes g c = λ before after r. renamed _ _ c.in_ok-guard.ensures.makes r
-
-pub returns-in_err-guard-clause-stops : goal.returns-in_err-guard-clause-stops
-returns-in_err-guard-clause-stops g c = handed c.from_residual.result _ c.from_residual.ensures c.in_err-guard.ensures.stops
+returns-clause-makes g c = ap StartOperand c.in_ok-guard.ensures.makes

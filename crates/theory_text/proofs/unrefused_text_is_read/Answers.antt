@@ -1,9 +1,0 @@
-use Rattle.theory_text.proofs.SoundScripts.{unrefused_has_tree}
-use Rattle.theory_text.proofs.ReadTexts.{unrefused_read}
-use Rattle.theory_text.proofs.unrefused_text_is_read.Goals as goal
-
-pub returns-clause-tokens : goal.returns-clause-tokens
-returns-clause-tokens c = unrefused_has_tree
-
-pub returns-clause-text : goal.returns-clause-text
-returns-clause-text c = unrefused_read
