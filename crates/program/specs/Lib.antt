@@ -3,3 +3,5 @@ pub mod Reading
 pub mod Refusal
 pub mod Running
 pub mod Answering
+pub mod Stack
+pub mod Words

@@ -1,5 +1,5 @@
 -- What a run of the program prints and answers.
-use Rattle.std.specs.Prelude.{◌≡◌, ℕ, max, Bool, List, [], ◌∷◌, Option, Some, ◌⊎◌, ⊤, codes, map}
+use Rattle.std.specs.Prelude.{◌≡◌, ℕ, max, Bool, List, [], ◌∷◌, Option, Some, ◌⊎◌, ⊤, codes, length, map}
 use Rattle.std.specs.Borrow.{Bor}
 use Rattle.theory_syntax.specs.Process.{Script}
 use Rattle.theory_search.specs.Outcome.{Bounds, Outcome, Holds, Fails, Unknown, Denied}
@@ -12,8 +12,10 @@ use Rattle.settings.specs.declared.settings.Settings.{Settings}
 use Rattle.program.specs.Answering.{AreRight}
 use Rattle.program.specs.Reading.{IsRefusalOf}
 use Rattle.program.specs.Refusal.{refusal_line}
+use Rattle.program.specs.Stack.{Takes}
 use Rattle.program.specs.declared.refusal.Refusal.{Refusal}
 use Rattle.program.specs.declared.refusal.Refusal.TheVariants as refusal
+use Rattle.program.specs.declared.stack.Stack.{Stack}
 
 abbrev pub outcome_status : Outcome → ℕ
 outcome_status Holds = 0
@@ -83,15 +85,20 @@ Leaves may_hold name bounds _ taken failed old new = new ≡ old
 abbrev pub IsTextRefused : (List ℕ → List ℕ → Type 0) → List ℕ → Refusal → Type 0
 IsTextRefused may_hold name why = (text : List ℕ) × may_hold name text × IsRefusalOf text why
 
--- Why the check of a file is refused. The output is written only where the file holds a script. Refused memory says
--- nothing of the file.
-abbrev pub IsCause : (List ℕ → List ℕ → Type 0) → (List ℕ → Type 0) → List ℕ → Refusal → Type 0
-IsCause may_hold may_lack name refusal.File = may_lack name
-IsCause may_hold may_lack name (refusal.Text f p) = IsTextRefused may_hold name (refusal.Text f p)
-IsCause may_hold may_lack name (refusal.Grammar f p) = IsTextRefused may_hold name (refusal.Grammar f p)
-IsCause may_hold may_lack name (refusal.Kinds f p) = IsTextRefused may_hold name (refusal.Kinds f p)
-IsCause may_hold may_lack name refusal.Memory = ⊤
-IsCause may_hold may_lack name refusal.Output = (script : Script) × IsScriptOfFile may_hold name script
+-- the text of the file of this name is longer than the stack takes
+abbrev pub IsTooLong : (List ℕ → List ℕ → Type 0) → List ℕ → Stack → Type 0
+IsTooLong may_hold name stack = (text : List ℕ) × may_hold name text × (Takes stack (length text) → ⊥)
+
+-- Why the check of a file is refused on the stack. The output is written only where the file holds a script. Refused
+-- memory says nothing of the file.
+abbrev pub IsCause : (List ℕ → List ℕ → Type 0) → (List ℕ → Type 0) → Stack → List ℕ → Refusal → Type 0
+IsCause may_hold may_lack stack name refusal.File = may_lack name
+IsCause may_hold may_lack stack name (refusal.Text f p) = IsTextRefused may_hold name (refusal.Text f p)
+IsCause may_hold may_lack stack name (refusal.Grammar f p) = IsTextRefused may_hold name (refusal.Grammar f p)
+IsCause may_hold may_lack stack name (refusal.Kinds f p) = IsTextRefused may_hold name (refusal.Kinds f p)
+IsCause may_hold may_lack stack name refusal.Memory = ⊤
+IsCause may_hold may_lack stack name refusal.Thread = IsTooLong may_hold name stack
+IsCause may_hold may_lack stack name refusal.Output = (script : Script) × IsScriptOfFile may_hold name script
 
 -- A text was given to a sink: it went out, or a beginning of it did and the sink has failed.
 abbrev pub IsGiven : Option (List ℕ) → Option (List ℕ) → Bool → List ℕ → Type 0
@@ -99,16 +106,16 @@ IsGiven old new failed text = Sends old new failed text ⊎ Breaks old new faile
 
 -- A check is refused, with its cause: its line was given to the one sink, and to the other nothing, or, where that has
 -- failed, the beginning of a report.
-pub record IsCheckRefused {S : Type 0} (may_hold : List ℕ → List ℕ → Type 0) (may_lack : List ℕ → Type 0) (name : List ℕ) (bounds : Bounds) (taken : S → Option (List ℕ)) (has_failed : S → Bool) (old new : S) (told_old told_new : Option (List ℕ)) (failed : Bool) : Type 0 where
+pub record IsCheckRefused {S : Type 0} (may_hold : List ℕ → List ℕ → Type 0) (may_lack : List ℕ → Type 0) (stack : Stack) (name : List ℕ) (bounds : Bounds) (taken : S → Option (List ℕ)) (has_failed : S → Bool) (old new : S) (told_old told_new : Option (List ℕ)) (failed : Bool) : Type 0 where
   pub why : Refusal
-  pub cause : IsCause may_hold may_lack name why
+  pub cause : IsCause may_hold may_lack stack name why
   pub output : Leaves may_hold name bounds why taken has_failed old new
   pub line : IsGiven told_old told_new failed (refusal_line why)
 
 -- A run is refused: its words are wrong, and the command line's own text was given to the error output; memory was
 -- refused for the words; the text that they ask for was cut off; or their check is refused.
-pub data IsRefused {S : Type 0} (may_hold : List ℕ → List ℕ → Type 0) (may_lack : List ℕ → Type 0) (words : List (List ℕ)) (taken : S → Option (List ℕ)) (has_failed : S → Bool) (old new : S) (told_old told_new : Option (List ℕ)) (failed : Bool) : Type 0 where
-  wrong_words : (text : List ℕ) → AreWrong words → new ≡ old → IsGiven told_old told_new failed text → IsRefused may_hold may_lack words taken has_failed old new told_old told_new failed
-  no_memory : new ≡ old → IsGiven told_old told_new failed (refusal_line refusal.Memory) → IsRefused may_hold may_lack words taken has_failed old new told_old told_new failed
-  cut_text : (text : List ℕ) → AskForText words → Breaks (taken old) (taken new) (has_failed new) text → IsGiven told_old told_new failed (refusal_line refusal.Output) → IsRefused may_hold may_lack words taken has_failed old new told_old told_new failed
-  of_check : (name : List ℕ) (bounds : Bounds) → AskForCheck words name bounds → IsCheckRefused may_hold may_lack name bounds taken has_failed old new told_old told_new failed → IsRefused may_hold may_lack words taken has_failed old new told_old told_new failed
+pub data IsRefused {S : Type 0} (may_hold : List ℕ → List ℕ → Type 0) (may_lack : List ℕ → Type 0) (stack : Stack) (words : List (List ℕ)) (taken : S → Option (List ℕ)) (has_failed : S → Bool) (old new : S) (told_old told_new : Option (List ℕ)) (failed : Bool) : Type 0 where
+  wrong_words : (text : List ℕ) → AreWrong words → new ≡ old → IsGiven told_old told_new failed text → IsRefused may_hold may_lack stack words taken has_failed old new told_old told_new failed
+  no_memory : new ≡ old → IsGiven told_old told_new failed (refusal_line refusal.Memory) → IsRefused may_hold may_lack stack words taken has_failed old new told_old told_new failed
+  cut_text : (text : List ℕ) → AskForText words → Breaks (taken old) (taken new) (has_failed new) text → IsGiven told_old told_new failed (refusal_line refusal.Output) → IsRefused may_hold may_lack stack words taken has_failed old new told_old told_new failed
+  of_check : (name : List ℕ) (bounds : Bounds) → AskForCheck words name bounds → IsCheckRefused may_hold may_lack stack name bounds taken has_failed old new told_old told_new failed → IsRefused may_hold may_lack stack words taken has_failed old new told_old told_new failed

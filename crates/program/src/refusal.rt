@@ -25,6 +25,8 @@ pub enum Refusal {
     Kinds { fault: KindFault, place: Place },
     /// Memory was refused for the words, the file, the script or the list of outcomes.
     Memory,
+    /// No thread with a large stack can be had, and the text is too long for the stack that is there.
+    Thread,
     /// The report, or the help or the version, could not be written.
     Output,
 }
@@ -40,6 +42,7 @@ pub(crate) fn push_line<E: Sink>(why: Refusal, sink: &mut E)
         Refusal::Grammar { fault, place } => push_place(fault.number(), place, sink),
         Refusal::Kinds { fault, place } => push_place(fault.number(), place, sink),
         Refusal::Memory => push_all(b"refused memory\n", sink),
+        Refusal::Thread => push_all(b"refused thread\n", sink),
         Refusal::Output => push_all(b"refused output\n", sink),
     };
 }

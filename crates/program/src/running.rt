@@ -14,12 +14,13 @@ ghost use Rattle.program.specs.Running.{IsCause, IsCheckRefused, IsGiven, IsRefu
 use crate::files::Files;
 use crate::reader;
 use crate::refusal::{Refusal, push_line};
+use crate::resources::Resources;
 use csp_term::{AllocHandle, Script};
 use explore::{Open, explore};
 use pair_store::Limits;
 use report::{Sink, push_all, write};
 use settings::{CommandLineFault, Settings};
-use std::alloc::{AllocError, Global};
+use std::alloc::AllocError;
 use std::sync::Wait;
 use std::thread::Threads;
 use verdict::Outcome;
@@ -29,9 +30,8 @@ use verdict::Outcome;
 /// version, this text goes to `out`.
 ///
 /// Answers the status: 3 where anything was refused, else 2 where an assertion has no answer within the limits, else 1
-/// where one fails, else 0. The words are looked at first, then the file, the script and the output. A failure of `err`
-/// changes nothing. The words are read with the memory of `command_line`, and all else with that of `alloc`. Workers
-/// are started by `rt`.
+/// where one fails, else 0. The words are looked at first, then the file, whether its text is too long for the stack, the
+/// script and the output. A failure of `err` changes nothing.
 pub fn run<
     'w,
     A: AllocHandle + Send + Sync,
@@ -40,9 +40,7 @@ pub fn run<
     O: Sink,
     E: Sink,
 >(
-    command_line: Global,
-    alloc: A,
-    rt: &R,
+    resources: &Resources<'_, A, R>,
     words: &'w [&'w str],
     files: &mut F,
     out: &mut O,
@@ -53,10 +51,10 @@ pub fn run<
     ensures status { result ≤ 3 }
     ensures served { result < 3 → IsServed (F.may_hold files.old) (texts_of words.entry.now) (O.taken out.old) (O.taken out.new) (O.has_failed out.new) result }
     ensures silent { result < 3 → err.new ≡ err.old }
-    ensures refused { result ≡ 3 → IsRefused (F.may_hold files.old) (F.may_lack files.old) (texts_of words.entry.now) O.taken O.has_failed out.old out.new (E.taken err.old) (E.taken err.new) (E.has_failed err.new) }
+    ensures refused { result ≡ 3 → IsRefused (F.may_hold files.old) (F.may_lack files.old) resources.now.stack (texts_of words.entry.now) O.taken O.has_failed out.old out.new (E.taken err.old) (E.taken err.new) (E.has_failed err.new) }
 {
-    match settings::read(command_line, words) {
-        Ok(settings) => check(alloc, rt, &settings, files, out, err),
+    match settings::read(resources.command_line, words) {
+        Ok(settings) => check(resources, &settings, files, out, err),
         Err(CommandLineFault::Help(text)) => show(text.as_str(), out, err),
         Err(CommandLineFault::Version(text)) => show(text.as_str(), out, err),
         Err(CommandLineFault::Refused(text)) => refuse_words(text.as_str(), err),
@@ -102,8 +100,7 @@ pub fn show<O: Sink, E: Sink>(text: &str, out: &mut O, err: &mut E) -> u8
 
 // Checks what the settings ask for.
 fn check<A: AllocHandle + Send + Sync, R: Threads + Wait + Sync, F: Files<A>, O: Sink, E: Sink>(
-    alloc: A,
-    rt: &R,
+    resources: &Resources<'_, A, R>,
     settings: &Settings<'_>,
     files: &mut F,
     out: &mut O,
@@ -114,9 +111,9 @@ fn check<A: AllocHandle + Send + Sync, R: Threads + Wait + Sync, F: Files<A>, O:
     ensures status { result ≤ 3 }
     ensures reported { result < 3 → IsReported (F.may_hold files.old) settings.now.file.now (limits_of settings.now) (O.taken out.old) (O.taken out.new) (O.has_failed out.new) result }
     ensures silent { result < 3 → err.new ≡ err.old }
-    ensures refused { result ≡ 3 → IsCheckRefused (F.may_hold files.old) (F.may_lack files.old) settings.now.file.now (limits_of settings.now) O.taken O.has_failed out.old out.new (E.taken err.old) (E.taken err.new) (E.has_failed err.new) }
+    ensures refused { result ≡ 3 → IsCheckRefused (F.may_hold files.old) (F.may_lack files.old) resources.now.stack settings.now.file.now (limits_of settings.now) O.taken O.has_failed out.old out.new (E.taken err.old) (E.taken err.new) (E.has_failed err.new) }
 {
-    match answer(alloc, rt, settings, files, out) {
+    match answer(resources, settings, files, out) {
         Ok(status) => status,
         Err(why) => refuse(why, err),
     }
@@ -124,21 +121,23 @@ fn check<A: AllocHandle + Send + Sync, R: Threads + Wait + Sync, F: Files<A>, O:
 
 // Reads, checks and reports. The status is at most 2.
 fn answer<A: AllocHandle + Send + Sync, R: Threads + Wait + Sync, F: Files<A>, O: Sink>(
-    alloc: A,
-    rt: &R,
+    resources: &Resources<'_, A, R>,
     settings: &Settings<'_>,
     files: &mut F,
     out: &mut O,
 ) -> Result<u8, Refusal>
     requires { O.has_failed out.old ≡ false }
     ensures reported { IfOk result (λ status. (status ≤ 2) × IsReported (F.may_hold files.old) settings.now.file.now (limits_of settings.now) (O.taken out.old) (O.taken out.new) (O.has_failed out.new) status) }
-    ensures cause { IfErr result (IsCause (F.may_hold files.old) (F.may_lack files.old) settings.now.file.now) }
+    ensures cause { IfErr result (IsCause (F.may_hold files.old) (F.may_lack files.old) resources.now.stack settings.now.file.now) }
     ensures refused { IfErr result (λ why. Leaves (F.may_hold files.old) settings.now.file.now (limits_of settings.now) why O.taken O.has_failed out.old out.new) }
 {
     let text = files.read(settings.file)?;
-    let script = reader::read(alloc, &text)?;
+    if !resources.stack.takes(text.len()) {
+        return Err(Refusal::Thread);
+    }
+    let script = reader::read(resources.alloc, &text)?;
     let limits = limits(settings);
-    let outcomes = outcomes(alloc, rt, &script, limits, settings.workers)?;
+    let outcomes = outcomes(resources, &script, limits, settings.workers)?;
     match write(&script, &outcomes, out) {
         Ok(()) => Ok(status(&outcomes)),
         Err(_) => Err(Refusal::Output),
@@ -154,8 +153,7 @@ fn limits(settings: &Settings<'_>) -> Limits
 
 // A right outcome for each assertion, in order, each by so many workers.
 fn outcomes<A: AllocHandle + Send + Sync, R: Threads + Wait + Sync>(
-    alloc: A,
-    rt: &R,
+    resources: &Resources<'_, A, R>,
     script: &Script<A>,
     limits: Limits,
     workers: usize,
@@ -163,6 +161,7 @@ fn outcomes<A: AllocHandle + Send + Sync, R: Threads + Wait + Sync>(
     requires { (1 ≤ workers) × (workers ≤ 64) }
     ensures { IfOk result (λ outcomes. AreRight (script_of script.now) (bounds_of limits) (script_of script.now).assertions (map outcome_of outcomes.items)) }
 {
+    let (alloc, rt) = (resources.alloc, resources.rt);
     let mut outcomes = Vec::new(alloc);
     for assertion in script.assertions() {
         outcomes.push(explore(alloc, rt, script, assertion, limits, workers, &Open))?;
