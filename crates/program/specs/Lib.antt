@@ -1,5 +1,6 @@
 pub mod Beginning
 pub mod Reading
+pub mod Given
 pub mod Refusal
 pub mod Running
 pub mod Answering

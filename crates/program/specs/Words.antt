@@ -1,15 +1,16 @@
 -- What comes of the words that a program is started with.
-use Rattle.std.specs.Prelude.{◌≡◌, ℕ, Bool, List, Option}
+use Rattle.std.specs.Prelude.{◌≡◌, ℕ, List}
 use Rattle.std.specs.Borrow.{Bor, MutBor}
+use Rattle.program.specs.Given.{Sent}
 use Rattle.program.specs.Refusal.{refusal_line}
 use Rattle.program.specs.Running.{IsGiven, texts_of}
 use Rattle.program.specs.declared.refusal.Refusal.{Refusal}
 
 -- Nothing is run: the line of a refusal was given to the error output, and nothing to the other one, and the status is
 -- that of a refusal.
-pub record IsUnrun {O : Type 0} (why : Refusal) (old new : O) (told_old told_new : Option (List ℕ)) (failed : Bool) (status : ℕ) : Type 0 where
-  pub output : new ≡ old
-  pub line : IsGiven told_old told_new failed (refusal_line why)
+pub record IsUnrun (why : Refusal) (out err : Sent) (status : ℕ) : Type 0 where
+  pub output : out.Unchanged
+  pub line : IsGiven err (refusal_line why)
   pub told : status ≡ 3
 
 -- A call on words of these texts, and on the two outputs, may answer the status, and leave them so.

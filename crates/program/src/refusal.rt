@@ -1,6 +1,7 @@
 //! Why nothing was answered.
 
 ghost use Rattle.std.specs.Prelude.{◌≡◌, false};
+ghost use Rattle.program.specs.Given.{sent};
 ghost use Rattle.program.specs.Refusal.{refusal_line, place_line};
 ghost use Rattle.program.specs.Running.{IsGiven};
 
@@ -34,7 +35,7 @@ pub enum Refusal {
 /// Gives the line of a refusal to the sink. No memory is taken for it.
 pub(crate) fn push_line<E: Sink>(why: Refusal, sink: &mut E)
     requires { E.has_failed sink.old ≡ false }
-    ensures { IsGiven (E.taken sink.old) (E.taken sink.new) (E.has_failed sink.new) (refusal_line why) }
+    ensures { IsGiven (sent E.taken E.has_failed sink.old sink.new) (refusal_line why) }
 {
     let _ = match why {
         Refusal::File => push_all(b"refused file\n", sink),
@@ -50,7 +51,7 @@ pub(crate) fn push_line<E: Sink>(why: Refusal, sink: &mut E)
 // Gives the line of a refusal that has a place.
 fn push_place<E: Sink>(number: &str, place: Place, sink: &mut E) -> Result<(), Failed>
     requires { E.has_failed sink.old ≡ false }
-    ensures { IsGiven (E.taken sink.old) (E.taken sink.new) (E.has_failed sink.new) (place_line number.now place) }
+    ensures { IsGiven (sent E.taken E.has_failed sink.old sink.new) (place_line number.now place) }
 {
     let (mut line, mut column) = (Buffer::new(), Buffer::new());
     let texts = [

@@ -6,6 +6,7 @@ ghost use Rattle.pair_store.specs.Bounds.{bounds_of};
 ghost use Rattle.report.specs.Sending.{Sends, Breaks};
 ghost use Rattle.settings.specs.Faults.{AreWrong};
 ghost use Rattle.verdict.specs.Outcome.{outcome_of};
+ghost use Rattle.program.specs.Given.{given_of, sent};
 ghost use Rattle.program.specs.Refusal.{refusal_line};
 ghost use Rattle.program.specs.declared.refusal.Refusal.TheVariants as refusal;
 ghost use Rattle.program.specs.Answering.{AreRight};
@@ -49,9 +50,14 @@ pub fn run<
     requires out { O.has_failed out.old ≡ false }
     requires err { E.has_failed err.old ≡ false }
     ensures status { result ≤ 3 }
-    ensures served { result < 3 → IsServed (F.may_hold files.old) (texts_of words.entry.now) (O.taken out.old) (O.taken out.new) (O.has_failed out.new) result }
+    ensures served { let given = given_of F.may_hold F.may_lack files.old resources.now.stack in
+        let output = sent O.taken O.has_failed out.old out.new in
+        result < 3 → IsServed given (texts_of words.entry.now) output result }
     ensures silent { result < 3 → err.new ≡ err.old }
-    ensures refused { result ≡ 3 → IsRefused (F.may_hold files.old) (F.may_lack files.old) resources.now.stack (texts_of words.entry.now) O.taken O.has_failed out.old out.new (E.taken err.old) (E.taken err.new) (E.has_failed err.new) }
+    ensures refused { let given = given_of F.may_hold F.may_lack files.old resources.now.stack in
+        let output = sent O.taken O.has_failed out.old out.new in
+        let errors = sent E.taken E.has_failed err.old err.new in
+        result ≡ 3 → IsRefused given (texts_of words.entry.now) output errors }
 {
     match settings::read(resources.command_line, words) {
         Ok(settings) => check(resources, &settings, files, out, err),
@@ -66,7 +72,7 @@ pub fn run<
 pub fn refuse<E: Sink>(why: Refusal, err: &mut E) -> u8
     requires { E.has_failed err.old ≡ false }
     ensures status { result ≡ 3 }
-    ensures line { IsGiven (E.taken err.old) (E.taken err.new) (E.has_failed err.new) (refusal_line why) }
+    ensures line { IsGiven (sent E.taken E.has_failed err.old err.new) (refusal_line why) }
 {
     push_line(why, err);
     3
@@ -76,7 +82,7 @@ pub fn refuse<E: Sink>(why: Refusal, err: &mut E) -> u8
 pub fn refuse_words<E: Sink>(text: &str, err: &mut E) -> u8
     requires { E.has_failed err.old ≡ false }
     ensures status { result ≡ 3 }
-    ensures text { IsGiven (E.taken err.old) (E.taken err.new) (E.has_failed err.new) text.now }
+    ensures text { IsGiven (sent E.taken E.has_failed err.old err.new) text.now }
 {
     let _ = push_all(text.as_bytes(), err);
     3
@@ -87,10 +93,13 @@ pub fn show<O: Sink, E: Sink>(text: &str, out: &mut O, err: &mut E) -> u8
     requires out { O.has_failed out.old ≡ false }
     requires err { E.has_failed err.old ≡ false }
     ensures status { (result ≡ 0) ⊎ (result ≡ 3) }
-    ensures shown { result ≡ 0 → Sends (O.taken out.old) (O.taken out.new) (O.has_failed out.new) text.now }
+    ensures shown { result ≡ 0
+        → Sends (O.taken out.old) (O.taken out.new) (O.has_failed out.new) text.now }
     ensures silent { result ≡ 0 → err.new ≡ err.old }
-    ensures cut { result ≡ 3 → Breaks (O.taken out.old) (O.taken out.new) (O.has_failed out.new) text.now }
-    ensures refused { result ≡ 3 → IsGiven (E.taken err.old) (E.taken err.new) (E.has_failed err.new) (refusal_line refusal.Output) }
+    ensures cut { result ≡ 3
+        → Breaks (O.taken out.old) (O.taken out.new) (O.has_failed out.new) text.now }
+    ensures refused { let errors = sent E.taken E.has_failed err.old err.new in
+        result ≡ 3 → IsGiven errors (refusal_line refusal.Output) }
 {
     match push_all(text.as_bytes(), out) {
         Ok(()) => 0,
@@ -109,9 +118,15 @@ fn check<A: AllocHandle + Send + Sync, R: Threads + Wait + Sync, F: Files<A>, O:
     requires out { O.has_failed out.old ≡ false }
     requires err { E.has_failed err.old ≡ false }
     ensures status { result ≤ 3 }
-    ensures reported { result < 3 → IsReported (F.may_hold files.old) settings.now.file.now (limits_of settings.now) (O.taken out.old) (O.taken out.new) (O.has_failed out.new) result }
+    ensures reported { let given = given_of F.may_hold F.may_lack files.old resources.now.stack in
+        let output = sent O.taken O.has_failed out.old out.new in
+        result < 3 → IsReported given settings.now.file.now (limits_of settings.now) output result }
     ensures silent { result < 3 → err.new ≡ err.old }
-    ensures refused { result ≡ 3 → IsCheckRefused (F.may_hold files.old) (F.may_lack files.old) resources.now.stack settings.now.file.now (limits_of settings.now) O.taken O.has_failed out.old out.new (E.taken err.old) (E.taken err.new) (E.has_failed err.new) }
+    ensures refused { let given = given_of F.may_hold F.may_lack files.old resources.now.stack in
+        let output = sent O.taken O.has_failed out.old out.new in
+        let errors = sent E.taken E.has_failed err.old err.new in
+        let bounds = limits_of settings.now in
+        result ≡ 3 → IsCheckRefused given settings.now.file.now bounds output errors }
 {
     match answer(resources, settings, files, out) {
         Ok(status) => status,
@@ -127,9 +142,17 @@ fn answer<A: AllocHandle + Send + Sync, R: Threads + Wait + Sync, F: Files<A>, O
     out: &mut O,
 ) -> Result<u8, Refusal>
     requires { O.has_failed out.old ≡ false }
-    ensures reported { IfOk result (λ status. (status ≤ 2) × IsReported (F.may_hold files.old) settings.now.file.now (limits_of settings.now) (O.taken out.old) (O.taken out.new) (O.has_failed out.new) status) }
-    ensures cause { IfErr result (IsCause (F.may_hold files.old) (F.may_lack files.old) resources.now.stack settings.now.file.now) }
-    ensures refused { IfErr result (λ why. Leaves (F.may_hold files.old) settings.now.file.now (limits_of settings.now) why O.taken O.has_failed out.old out.new) }
+    ensures reported { let given = given_of F.may_hold F.may_lack files.old resources.now.stack in
+        let bounds = limits_of settings.now in
+        let output = sent O.taken O.has_failed out.old out.new in
+        IfOk result (λ status. (status ≤ 2)
+        × IsReported given settings.now.file.now bounds output status) }
+    ensures cause { let given = given_of F.may_hold F.may_lack files.old resources.now.stack in
+        IfErr result (IsCause given settings.now.file.now) }
+    ensures refused { let given = given_of F.may_hold F.may_lack files.old resources.now.stack in
+        let bounds = limits_of settings.now in
+        let output = sent O.taken O.has_failed out.old out.new in
+        IfErr result (λ why. Leaves given settings.now.file.now bounds why output) }
 {
     let text = files.read(settings.file)?;
     if !resources.stack.takes(text.len()) {
@@ -159,7 +182,9 @@ fn outcomes<A: AllocHandle + Send + Sync, R: Threads + Wait + Sync>(
     workers: usize,
 ) -> Result<Vec<Outcome<A>, A>, AllocError>
     requires { (1 ≤ workers) × (workers ≤ 64) }
-    ensures { IfOk result (λ outcomes. AreRight (script_of script.now) (bounds_of limits) (script_of script.now).assertions (map outcome_of outcomes.items)) }
+    ensures { let it = script_of script.now in
+        let bounds = bounds_of limits in
+        IfOk result (λ all. AreRight it bounds it.assertions (map outcome_of all.items)) }
 {
     let (alloc, rt) = (resources.alloc, resources.rt);
     let mut outcomes = Vec::new(alloc);

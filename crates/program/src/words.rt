@@ -2,6 +2,7 @@
 
 ghost use Rattle.std.specs.Prelude.{◌≡◌, ◌⊎◌, map, false, IfErr, IfOk};
 ghost use Rattle.std.specs.String.{string_bytes};
+ghost use Rattle.program.specs.Given.{sent};
 ghost use Rattle.program.specs.Refusal.{of_file};
 ghost use Rattle.program.specs.Running.{texts_of};
 ghost use Rattle.program.specs.Words.{IsRun, IsUnrun};
@@ -36,12 +37,13 @@ pub fn start<A: Allocator + Copy, O: Sink, E: Sink, F: FnOnce(&[&str], &mut O, &
         → E.has_failed e.now ≡ false → F.pre run words o e }
     requires out { O.has_failed out.old ≡ false }
     requires err { E.has_failed err.old ≡ false }
-    ensures unread { IfErr words (λ why. IsUnrun (of_file why) out.old out.new
-        (E.taken err.old) (E.taken err.new) (E.has_failed err.new) result) }
-    ensures run { IfOk words (λ all.
-        IsRun (F.post run) (map string_bytes all.items) out.old out.new err.old err.new result
-        ⊎ IsUnrun refusal.Memory out.old out.new
-        (E.taken err.old) (E.taken err.new) (E.has_failed err.new) result) }
+    ensures unread { let output = sent O.taken O.has_failed out.old out.new in
+        let errors = sent E.taken E.has_failed err.old err.new in
+        IfErr words (λ why. IsUnrun (of_file why) output errors result) }
+    ensures run { let output = sent O.taken O.has_failed out.old out.new in
+        let errors = sent E.taken E.has_failed err.old err.new in
+        IfOk words (λ all. IsUnrun refusal.Memory output errors result
+        ⊎ IsRun (F.post run) (map string_bytes all.items) out.old out.new err.old err.new result) }
 {
     let words = match words {
         Ok(words) => words,
