@@ -8,10 +8,10 @@ ghost use Rattle.explain_program.specs.Naming.{IsNamedText};
 
 use csp_kinds::check;
 use csp_lex::tokens;
-use csp_naming::names_of;
 use csp_parse::parse;
 use csp_print::Names;
 use csp_term::Script;
+use printed_names::names_of;
 use program::Refusal;
 use std::alloc::Allocator;
 

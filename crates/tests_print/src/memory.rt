@@ -4,10 +4,10 @@
 use crate::reading::{implementation, read, tree};
 use crate::rows::script_with;
 use crate::writing::text_of;
-use csp_naming::names_of;
 use csp_parse::Raw;
 use csp_print::{Names, push_term};
 use csp_term::{Memory, Term};
+use printed_names::names_of;
 use refusing_memory::RefusesOnce;
 use std::alloc::Global;
 use std::process::Abort;

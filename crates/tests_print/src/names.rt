@@ -2,10 +2,10 @@
 
 use crate::reading::tree;
 use csp_expression::{DatatypeId, Name, NametypeId};
-use csp_naming::names_of;
 use csp_print::Names;
 use csp_term::EquationId;
 use csp_value::{ChannelId, ConId};
+use printed_names::names_of;
 use std::alloc::{AllocError, Global};
 use std::test::Fail;
 

@@ -7,10 +7,10 @@ ghost use Rattle.csp_term.specs.Term.{process_of};
 
 use csp_kinds::check;
 use csp_lex::tokens;
-use csp_naming::names_of;
 use csp_parse::{Raw, parse};
 use csp_print::Names;
 use csp_term::{Script, Term};
+use printed_names::names_of;
 use std::alloc::Allocator;
 use std::test::Fail;
 
