@@ -1,8 +1,8 @@
 //! The equality, the orders and the hashes of tables of types, of equations, of terms, of sets of events, of expressions
 //! and of scripts: with their copies they tie and have one hash, and with others they do not tie.
 
-use csp_event_sets::EventSet;
-use csp_event_sets::laws::{compare_event_sets, equal_event_sets, hash_event_set};
+use csp_events::EventSet;
+use csp_events::laws::{compare_event_sets, equal_event_sets, hash_event_set};
 use csp_expression::laws::{compare_expressions, equal_expressions, hash_expression};
 use csp_expression::{Expr, TypeTable};
 use csp_kinds::check;
