@@ -4,8 +4,10 @@
 //! a thread with a large stack, if there can be one.
 #![tactic(auto)]
 
+ghost use Rattle.std.specs.Prelude.{◌≡◌, false};
+
 use explain_program::run;
-use program::{MachineFiles, Resources, on_large_stack, start, words};
+use program::{MachineFiles, Resources, command_words, on_large_stack, start};
 use report::Out;
 use std::process::ExitCode;
 
@@ -14,10 +16,13 @@ fn main(rt: HostRuntime) -> ExitCode {
         let (mut out, mut err) = (Out::new(rt.stdout()), Out::new(rt.stderr()));
         start(
             rt.alloc(),
-            words(&rt),
+            command_words(&rt),
             &mut out,
             &mut err,
-            |words, out, err| {
+            |words, out, err|
+                requires out { out.old.failed ≡ false }
+                requires err { err.old.failed ≡ false }
+            {
                 let resources = Resources {
                     command_line: rt.alloc(),
                     alloc: rt.alloc(),

@@ -1,5 +1,5 @@
 -- The first 65,537 bytes of a text decide whether it is a script.
-use Rattle.std.proofs.Common.{◌≡◌, ℕ, ◌≤◌, ◌<◌, List, length, take, min, ap, sym, ◌∙◌, subst, arith}
+use Rattle.std.proofs.Common.{◌≡◌, ℕ, ◌≤◌, List, length, min, ap, sym, ◌∙◌, subst, arith}
 use Rattle.std.proofs.lemmas.List.{length-take, take_all}
 use Rattle.theory_syntax.specs.Process.{Script}
 use Rattle.theory_text.specs.Place.{Place}
@@ -9,7 +9,7 @@ use Rattle.theory_text.specs.Token.{TextFault, IsTextRefusal, long_text, not_utf
 use Rattle.theory_checking.specs.Checked.{IsCheckedText}
 use Rattle.program.specs.Beginning.{IsBeginning}
 use Rattle.program.specs.Given.{Given}
-use Rattle.program.specs.Running.{IsScriptOfFile, IsTextRefused, IsTooLong, IsCause}
+use Rattle.program.specs.Running.{IsScriptOfFile, IsTooLong, IsCause}
 use Rattle.program.specs.Reading.{IsRefusalOf}
 use Rattle.program.specs.Stack.{Takes}
 use Rattle.program.specs.declared.refusal.Refusal.{Refusal}

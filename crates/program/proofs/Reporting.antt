@@ -1,5 +1,5 @@
 -- The statuses of outcomes.
-use Rattle.std.proofs.Common.{ℕ, ◌≤◌, List, [], ◌∷◌, arith}
+use Rattle.std.proofs.Common.{◌≤◌, List, [], ◌∷◌, arith}
 use Rattle.theory_search.specs.Outcome.{Outcome, Holds, Fails, Unknown, Denied}
 use Rattle.program.specs.Running.{outcome_status, status_of}
 

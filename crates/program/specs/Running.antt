@@ -1,5 +1,5 @@
 -- What a run of the program prints and answers.
-use Rattle.std.specs.Prelude.{◌≡◌, ℕ, max, Bool, List, [], ◌∷◌, Option, Some, ◌⊎◌, ⊤, codes, length, map}
+use Rattle.std.specs.Prelude.{◌≡◌, ℕ, max, List, [], ◌∷◌, Some, ◌⊎◌, ⊤, codes, length, map}
 use Rattle.std.specs.Borrow.{Bor}
 use Rattle.theory_syntax.specs.Process.{Script}
 use Rattle.theory_search.specs.Outcome.{Bounds, Outcome, Holds, Fails, Unknown, Denied}

@@ -38,4 +38,4 @@ pub use refusal::Refusal;
 pub use resources::Resources;
 pub use running::{refuse, refuse_words, run, show};
 pub use stack::{SHORT_TEXT, Stack};
-pub use words::{start, words};
+pub use words::{command_words, start};

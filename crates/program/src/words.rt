@@ -20,7 +20,7 @@ use std::env::Env;
 ///
 /// A word that is not text can name no file that could be read, so `File` comes for it. `Memory` comes where memory was
 /// refused.
-pub fn words<R: Env + Alloc>(rt: &R) -> Result<Vec<String<R::A>, R::A>, Unread> {
+pub fn command_words<R: Env + Alloc>(rt: &R) -> Result<Vec<String<R::A>, R::A>, Unread> {
     Ok(env::args(rt)?.skip(1).collect(rt.alloc())?)
 }
 

@@ -1,7 +1,8 @@
 //! The advice of each row of the tables, and a script that is told it.
 //!
-//! A table here is one text: what is told, and below it the scripts that are told so, a line each behind four spaces,
-//! one for each row of the product's tables that tells it. So a row that is added, lost, reworded or never met is seen.
+//! A table here is one text: what is told, and below it the scripts that are told so, a line each, one for each row of
+//! the product's tables that tells it; then an empty line, and what is told next. So a row that is added, lost, reworded
+//! or never met is seen.
 
 mod calls;
 mod characters;
@@ -49,15 +50,14 @@ const TABLES: [&str; 17] = [
     wrong_kinds::ROWS,
 ];
 
-/// A row of the product's tables, the fault that it is on, and how many scripts met it.
-#[derive(Drop)]
+/// A row of the product's tables, and the fault that it is on.
+#[derive(Clone, Copy)]
 struct Row {
     fault: Fault,
     advice: Advice,
-    met: u32,
 }
 
-/// All rows of the product's tables, of which no script met one yet.
+/// All rows of the product's tables.
 fn all_rows(alloc: Global) -> Result<Vec<Row>, AllocError> {
     let mut rows = Vec::new(alloc);
     for table in advice_tables() {
@@ -71,26 +71,24 @@ fn add_rows(rows: &mut Vec<Row>, table: AdviceTable) -> Result<(), AllocError> {
         rows.push(Row {
             fault: table.fault,
             advice: *advice,
-            met: 0,
         })?;
     }
     Ok(())
 }
 
-/// Counts the script at the first row that it meets.
-fn meet(alloc: Global, rows: &mut [Row], script: &str) -> Result<(), Fail> {
+/// The place of the first row that the script meets, if it meets one.
+fn row_met(alloc: Global, rows: &[Row], script: &str) -> Result<Option<usize>, Fail> {
     let list = tokens(alloc, script.as_bytes())?;
     let Some(refusal) = refusal_of(alloc, script.as_bytes())? else {
-        return Ok(());
+        return Ok(None);
     };
     let around = surroundings_at(alloc, &list.tokens, refusal.place)?;
-    for row in rows {
+    for (place, row) in rows.iter().enumerate() {
         if row.fault == refusal.fault && first_advice(&[row.advice], &around).is_some() {
-            row.met = row.met.saturating_add(1);
-            return Ok(());
+            return Ok(Some(place));
         }
     }
-    Ok(())
+    Ok(None)
 }
 
 /// Adds the message on the script, where what is told in it is something else.
@@ -109,16 +107,21 @@ fn compare(
     Ok(())
 }
 
-/// Goes over the scripts of a table.
-fn go_over(alloc: Global, table: &str, rows: &mut [Row], wrong: &mut String) -> Result<(), Fail> {
-    let mut advice = "";
-    for line in table.lines() {
-        match line.strip_prefix("    ") {
-            Some(script) => {
-                compare(alloc, script, advice, wrong)?;
-                meet(alloc, rows, script)?;
-            }
-            None => advice = line,
+/// Goes over the scripts that are told one advice, and adds the places of the rows that they meet.
+fn go_over(
+    alloc: Global,
+    told: &str,
+    rows: &[Row],
+    met: &mut Vec<usize>,
+    wrong: &mut String,
+) -> Result<(), Fail> {
+    let Some((advice, scripts)) = told.split_once("\n") else {
+        return Err(Fail::new("an advice without a script"));
+    };
+    for script in scripts.lines() {
+        compare(alloc, script, advice, wrong)?;
+        if let Some(place) = row_met(alloc, rows, script)? {
+            met.push(place)?;
         }
     }
     Ok(())
@@ -126,14 +129,18 @@ fn go_over(alloc: Global, table: &str, rows: &mut [Row], wrong: &mut String) -> 
 
 #[test]
 fn each_row_of_advice_is_told(rt: HostRuntime) -> Result<(), Fail> {
-    let mut rows = all_rows(rt.alloc())?;
+    let rows = all_rows(rt.alloc())?;
+    let mut met = Vec::new(rt.alloc());
     let mut wrong = String::new(rt.alloc());
     for table in TABLES {
-        go_over(rt.alloc(), table, &mut rows, &mut wrong)?;
+        for told in table.split("\n\n") {
+            go_over(rt.alloc(), told, &rows, &mut met, &mut wrong)?;
+        }
     }
-    for row in &rows {
-        if row.met != 1 {
-            let note = format!(in rt.alloc(); "\nmet {} times: {}", row.met, row.advice.text)?;
+    for (place, row) in rows.iter().enumerate() {
+        let times = met.iter().filter(|other| **other == place).count();
+        if times != 1 {
+            let note = format!(in rt.alloc(); "\nmet {times} times: {}", row.advice.text)?;
             wrong.push_str(&note)?;
         }
     }

@@ -4,7 +4,7 @@
 
 use crate::script::script;
 use crate::ways::first_unlike;
-use csp_firing::Firing;
+use kept_parts::Firing;
 use std::alloc::Global;
 use std::test::Fail;
 

@@ -2,16 +2,16 @@
 
 ghost use Rattle.std.specs.Prelude.{◌≡◌};
 ghost use Rattle.theory_shapes.specs.Alphabet.{alphabet as events_of_script};
-ghost use Rattle.csp_firing.specs.Kept.{IsPartOf};
+ghost use Rattle.kept_parts.specs.Kept.{IsPartOf};
 ghost use Rattle.csp_term.specs.Script.{script_of};
 ghost use Rattle.csp_term.specs.Term.{process_of};
 
 use crate::script::{DECLARATIONS, alphabet_of, script, term_of};
 use crate::shown::write_action;
-use csp_firing::Parts;
 use csp_numbers::Alphabet;
 use csp_rows::{Part, PartId};
 use csp_term::{Script, Term};
+use kept_parts::Parts;
 use std::alloc::Global;
 use std::cmp::Ordering;
 use std::process::Abort;

@@ -2,7 +2,7 @@
 
 ghost use Rattle.std.specs.Prelude.{◌≡◌};
 ghost use Rattle.theory_shapes.specs.Alphabet.{alphabet as events_of_script};
-ghost use Rattle.csp_firing.specs.Kept.{IsPartOf};
+ghost use Rattle.kept_parts.specs.Kept.{IsPartOf};
 ghost use Rattle.csp_term.specs.Script.{script_of};
 ghost use Rattle.csp_term.specs.Term.{process_of};
 

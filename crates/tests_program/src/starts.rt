@@ -3,7 +3,7 @@
 ghost use Rattle.std.specs.Prelude.{◌≡◌, false};
 
 use crate::runs::Told;
-use program::{Unread, start, words};
+use program::{Unread, command_words, start};
 use refusing_memory::RefusesOnce;
 use report::{Buffer, Sink, push_all, push_each};
 use std::alloc::{Allocator, Global};
@@ -80,7 +80,7 @@ static STARTS: [(&[&[u8]], u8, &str, &str); 7] = [
 #[test]
 fn programs_are_started_so(rt: HostRuntime) -> Result<(), Fail> {
     for (machine, status, out, err) in &STARTS {
-        let words = words(&(Machine(machine), rt.alloc()));
+        let words = command_words(&(Machine(machine), rt.alloc()));
         let told = started(rt.alloc(), rt.alloc(), words);
         assert!(rt; told.is(*status, out, err), "at {machine:?}");
     }
@@ -92,7 +92,7 @@ fn words_without_memory_are_refused(rt: HostRuntime) -> Result<(), Fail> {
     let mut refused = 0u32;
     for request in 0..100 {
         let memory = RefusesOnce::new(rt.alloc(), request);
-        let words = words(&(Machine(&[b"refcheck", b"a", b"b"]), &memory));
+        let words = command_words(&(Machine(&[b"refcheck", b"a", b"b"]), &memory));
         let told = started(rt.alloc(), &memory, words);
         if !memory.has_refused() {
             assert!(rt; told.is(2, "ab", "said\n") && refused > 4);

@@ -1,7 +1,7 @@
 //! A gate that counts.
 
-use csp_firing::Tally;
 use explore::Gate;
+use kept_parts::Tally;
 use std::sync::atomic::AtomicU64;
 use std::sync::atomic::Ordering::SeqCst;
 

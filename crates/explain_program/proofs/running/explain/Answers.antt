@@ -49,15 +49,15 @@ returns-in-Err-read-clause-stopped g c three =
       told = running.of_text why bytes refl holds (subst T c.deref-in-Err-read.ensures.value c.refuse_text.ensures.told);
     }
 
-pub returns-then-takes-clause-stopped : goal.returns-then-takes-clause-stopped
-returns-then-takes-clause-stopped g c three =
+pub returns-then-not-takes-clause-stopped : goal.returns-then-not-takes-clause-stopped
+returns-then-not-takes-clause-stopped g c three =
     let request = request_of c.args.settings.now in
     let given = given_of g.F.Files.may_hold g.F.Files.may_lack c.args.files.now c.args.resources.now.stack in
     record {
       why = stop.Refused refusal.Thread;
       cause = too_long given request.name c.in-Ok.text.items c.in-Ok.ensures.holds (search rules);
       output = refl;
-      told = running.by_line c.refuse-then-takes.ensures.line;
+      told = running.by_line c.refuse-then-not-takes.ensures.line;
     }
 
 pub returns-in-Ok-explain_script-clause-explained : goal.returns-in-Ok-explain_script-clause-explained

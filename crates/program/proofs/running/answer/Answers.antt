@@ -1,5 +1,5 @@
 use denote.Param.Send.{sendable}
-use Rattle.std.proofs.Common.{◌≡◌, List, map, sym, ap, subst, ◌∙◌, arith, inl, inr, lit<, lit≤}
+use Rattle.std.proofs.Common.{◌≡◌, List, map, sym, ap, subst, ◌∙◌, arith, inl, inr, lit<, lit≤, rules}
 use Rattle.std.proofs.lemmas.Result.{err_from_is_err_and}
 use Rattle.theory_search.specs.Outcome.{Bounds}
 use Rattle.theory_checking.specs.Checked.{IsCheckedText}
@@ -43,8 +43,8 @@ returns-in_err-script-clause-cause g c =
     rw (p.1, p.2)
     (cause_of_text (given_of g.F.Files.may_hold g.F.Files.may_lack c.args.files.now c.args.resources.now.stack) c.args.settings.now.file.now c.in_ok-text.text.items c.in_err-script.field-0.0 c.in_ok-text.ensures.holds is)
 
-pub returns-then-takes-clause-cause : goal.returns-then-takes-clause-cause
-returns-then-takes-clause-cause g c =
+pub returns-then-not-takes-clause-cause : goal.returns-then-not-takes-clause-cause
+returns-then-not-takes-clause-cause g c =
     too_long (given_of g.F.Files.may_hold g.F.Files.may_lack c.args.files.now c.args.resources.now.stack) c.args.settings.now.file.now c.in_ok-text.text.items c.in_ok-text.ensures.holds (search rules)
 
 pub returns-clause-cause : goal.returns-clause-cause

@@ -1,5 +1,5 @@
 -- The program is called on the words.
-use Rattle.std.proofs.Common.{inl, inr, rules, refl}
+use Rattle.std.proofs.Common.{inr, rules, refl}
 use Rattle.program.proofs.words.start.Goals as goal
 
 pub returns-in-Ok-texts-clause-run : goal.returns-in-Ok-texts-clause-run
