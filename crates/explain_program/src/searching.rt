@@ -10,12 +10,12 @@ ghost use Rattle.verdict.specs.Outcome.{outcome_of};
 ghost use Rattle.explain_program.specs.Sizes.{HasSize, IsSizeFor, IsToldAsWritten};
 
 use crate::search_size::{SearchSize, size_in};
-use csp_term::{AllocHandle, Assertion, Script};
+use csp_term::{Action, AllocHandle, Assertion, Memory, Script};
 use explore::{conclude, ended_search, ended_together};
 use pair_store::{Limits, Store};
 use std::sync::Wait;
 use std::thread::Threads;
-use verdict::Outcome;
+use verdict::{Outcome, Why};
 
 /// The answer to an assertion.
 #[derive(Drop)]
@@ -24,6 +24,8 @@ pub(crate) struct Answer<A: AllocHandle> {
     pub(crate) outcome: Outcome<A>,
     /// How large the search for it was, if there was one.
     pub(crate) size: Option<SearchSize>,
+    /// The path that stopped it, if a state of the implementation for which there is no answer did.
+    pub(crate) stop: Option<Vec<Action<A>, A>>,
 }
 
 /// The answer by workers that share a search, or by the caller alone where what came back from them was no search for the
@@ -55,6 +57,7 @@ pub(crate) fn answer_together<A: AllocHandle + Send + Sync, R: Threads + Wait + 
         Err(why) => Answer {
             outcome: Outcome::Unknown(why),
             size: None,
+            stop: None,
         },
     }
 }
@@ -75,6 +78,7 @@ fn answer_alone<A: AllocHandle>(
         Err(why) => Answer {
             outcome: Outcome::Unknown(why),
             size: None,
+            stop: None,
         },
     }
 }
@@ -86,8 +90,31 @@ fn concluded<A: AllocHandle>(alloc: A, store: &Store<'_, A>, negated: bool) -> A
     ensures told { IsToldAsWritten negated store.now.search (outcome_of result.outcome) }
     ensures size { IsSomeAnd result.size (HasSize store.now.search) }
 {
-    Answer {
-        outcome: conclude(alloc, store).as_written(negated),
-        size: Some(size_in(store)),
+    let outcome = conclude(alloc, store).as_written(negated);
+    let size = Some(size_in(store));
+    match stop_of(alloc, store, &outcome) {
+        Ok(stop) => Answer {
+            outcome,
+            size,
+            stop,
+        },
+        Err(Memory) => Answer {
+            outcome: Outcome::Unknown(Why::Memory),
+            size,
+            stop: None,
+        },
+    }
+}
+
+// The path that stopped the search, where a state for which there is no answer did.
+fn stop_of<A: AllocHandle>(
+    alloc: A,
+    store: &Store<'_, A>,
+    outcome: &Outcome<A>,
+) -> Result<Option<Vec<Action<A>, A>>, Memory> {
+    match outcome {
+        Outcome::Unknown(Why::Fault(fault)) => store.stopped(alloc, Some(*fault)),
+        Outcome::Unknown(Why::Term) => store.stopped(alloc, None),
+        _ => Ok(None),
     }
 }

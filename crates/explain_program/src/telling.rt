@@ -19,7 +19,7 @@ use crate::reader::NamedScript;
 use crate::searching::Answer;
 use counterexample::{Style, Width};
 use csp_print::Names;
-use csp_term::{AllocHandle, Assertion, Memory};
+use csp_term::{Action, AllocHandle, Assertion, Memory};
 use explain_settings::Settings;
 use explanation::tell;
 
@@ -45,6 +45,7 @@ pub(crate) fn explanation_text<A: AllocHandle>(
         number,
         assertion,
         &answer.outcome,
+        lent(&answer.stop),
     )?;
     if settings.count {
         with_size(&assertion.property, answer.size, text)
@@ -69,6 +70,28 @@ fn style<'n, 't, A: AllocHandle>(
         width: width(settings.width),
         few: FEW,
         most: settings.max_nodes,
+        taus: taus(settings.width),
+        reach: settings.max_pairs,
+    }
+}
+
+// The path, lent, if there is one.
+fn lent<A: AllocHandle>(path: &Option<Vec<Action<A>, A>>) -> Option<&[Action<A>]> {
+    match path {
+        Some(path) => Some(path.as_slice()),
+        None => None,
+    }
+}
+
+// How many taus of a loop are told, where states are cut.
+const TAUS: usize = 50;
+
+// Where states are told whole, so are loops.
+fn taus(number: usize) -> Width {
+    if number == 0 {
+        Width::Whole
+    } else {
+        Width::UpTo(TAUS)
     }
 }
 

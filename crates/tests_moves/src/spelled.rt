@@ -44,6 +44,8 @@ fn push_passage(
     match passage {
         Passage::OnSide(at) => text.push_str(side(*at)),
         Passage::InBody => text.push_str("body"),
+        Passage::OnBranch(at) => text.push_str(side(*at)),
+        Passage::UnderGuard => text.push_str("body"),
         Passage::InChain => text.push_str("chain"),
         Passage::SideEnds(at) => {
             text.push_str(side(*at))?;

@@ -4,7 +4,7 @@ use crate::row::Row;
 use crate::rows::rows;
 use crate::terms::term;
 use crate::texts::{OneRefused, script, shown, text};
-use csp_replay::replay;
+use csp_replay::{Replay, replay_of};
 use csp_term::laws::equal_terms;
 use csp_term::{Script, Term};
 use refusing_memory::RefusesOnce;
@@ -26,12 +26,16 @@ pub(crate) fn are_named<'m>(
     Ok(true)
 }
 
+/// Among how many states a divergence is looked for.
+pub(crate) const REACH: usize = 10;
+
 fn is_so(memory: OneRefused<'_>, text: &str, row: &Row) -> Result<bool, Fail> {
     let script = script(memory, text)?;
     let shown = shown(memory, row)?;
-    match replay(memory, &script, term(&script, 0)?, &shown)? {
-        Some(states) => Ok(row.states.is_some() && are_named(&script, &states)?),
-        None => Ok(row.states.is_none()),
+    match replay_of(memory, &script, term(&script, 0)?, &shown, REACH)? {
+        Replay::States(states, _) => Ok(row.states.is_some() && are_named(&script, &states)?),
+        Replay::Nowhere => Ok(row.states.is_none()),
+        Replay::TooMany => Ok(false),
     }
 }
 

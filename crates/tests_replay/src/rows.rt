@@ -139,6 +139,13 @@ static ROWS: &[Row] = &[
         evidence: "divergence",
         states: None,
     },
+    Row {
+        definitions: CALLS,
+        start: "P",
+        path: "",
+        evidence: "divergence",
+        states: None,
+    },
 ];
 
 /// All rows.
