@@ -15,6 +15,7 @@ ghost use Rattle.csp_firing.specs.Rows.{AreNumbersOf};
 use crate::known_parts::KnownParts;
 use crate::last_shape::LastShape;
 use crate::numbering::number_all;
+use crate::tally::Tally;
 use crate::tried::Tried;
 use csp_numbers::{own_size_of, parts_of, places_of};
 use csp_packed::PackedTerm;
@@ -45,11 +46,13 @@ fn unpacked<A: AllocHandle>(alloc: A, packed: &PackedTerm<A>) -> Result<Term<A>,
 }
 
 impl<'s, A: AllocHandle> KnownParts<'s, A> {
-    /// The term as a row of known parts, or as a whole. It may be taken apart for that.
+    /// The term as a row of known parts, or as a whole. It may be taken apart for that, and is
+    /// counted then.
     pub(crate) fn find(
         &mut self,
         alloc: A,
         script: &Script<A>,
+        tally: &mut Tally,
         packed: &PackedTerm<A>,
     ) -> Result<Found<A>, Memory>
         requires known { AreKnownOf (script_of script.now) self.old }
@@ -60,6 +63,7 @@ impl<'s, A: AllocHandle> KnownParts<'s, A> {
         if let Some(row) = self.look_up(alloc, packed, &Tried::new(alloc))? {
             return Ok(Found::Row(row));
         }
+        tally.add_tree();
         let term = unpacked(alloc, packed)?;
         match self.take_apart(alloc, script, packed, &term)? {
             Some(row) => Ok(Found::Row(row)),

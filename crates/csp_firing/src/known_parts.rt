@@ -10,6 +10,7 @@ use crate::finding::Found;
 use crate::kept_shapes::EarlierShape;
 use crate::last_shape::LastShape;
 use crate::parts::Parts;
+use crate::tally::Tally;
 use crate::tried::Tried;
 use crate::whole::expand_whole;
 use csp_numbers::Alphabet;
@@ -68,6 +69,7 @@ impl<'s, A: AllocHandle> KnownParts<'s, A> {
         &mut self,
         alloc: A,
         script: &'s Script<A>,
+        tally: &mut Tally,
         term: &PackedTerm<A>,
     ) -> Result<PackedExpansion<'s, A>, Memory>
         requires known { AreKnownOf (script_of script.now) self.old }
@@ -77,9 +79,9 @@ impl<'s, A: AllocHandle> KnownParts<'s, A> {
         ensures term { IfOk result (λ e. e.term ≡ packed_process term.now) }
     {
         self.let_go(alloc, script)?;
-        match self.find(alloc, script, term)? {
-            Found::Row(row) => self.expand_row(alloc, script, term, &row),
-            Found::Whole(term) => expand_whole(alloc, script, &term),
+        match self.find(alloc, script, tally, term)? {
+            Found::Row(row) => self.expand_row(alloc, script, tally, term, &row),
+            Found::Whole(term) => expand_whole(alloc, script, tally, &term),
         }
     }
 

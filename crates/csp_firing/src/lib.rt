@@ -26,8 +26,10 @@ mod part_steps;
 mod parts;
 mod row_forms;
 mod rows;
+mod tally;
 mod tried;
 mod whole;
 
 pub use firing::Firing;
 pub use parts::Parts;
+pub use tally::Tally;

@@ -14,6 +14,7 @@ use crate::known_parts::KnownParts;
 use crate::nodes::nodes_of;
 use crate::numbering::fire_all;
 use crate::packing::packed_form;
+use crate::tally::Tally;
 use crate::whole::expand_whole;
 use csp_packed::{KeptTerm, PackedExpansion, PackedForm, PackedTerm};
 use csp_rows::{RowByNumbers, SplitRow, fire_row};
@@ -25,6 +26,7 @@ impl<'s, A: AllocHandle> KnownParts<'s, A> {
         &mut self,
         alloc: A,
         script: &'s Script<A>,
+        tally: &mut Tally,
         term: &PackedTerm<A>,
         row: &SplitRow<A>,
     ) -> Result<PackedExpansion<'s, A>, Memory>
@@ -42,7 +44,7 @@ impl<'s, A: AllocHandle> KnownParts<'s, A> {
             }
             None => {
                 let term = term.unpack(alloc)?;
-                expand_whole(alloc, script, &term)
+                expand_whole(alloc, script, tally, &term)
             }
         }
     }

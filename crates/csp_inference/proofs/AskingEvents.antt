@@ -10,14 +10,14 @@ use Rattle.theory_checking.specs.Inference.Equations as numbers
 use Rattle.theory_checking.specs.Inference.Equations.{when}
 use Rattle.theory_checking.specs.Inference.Expressions.{behind_expressions, of_all, of_first}
 use Rattle.theory_checking.specs.Inference.Processes.{behind_event, behind_event_set, behind_events, of_beginning, of_beginnings, of_event, of_event_set, of_events}
-use Rattle.csp_event_sets.specs.declared.event_expression.EventExpression.{EventExpression}
-use Rattle.csp_event_sets.specs.declared.event_set.EventSet.{EventSet}
-use Rattle.csp_event_sets.specs.declared.event_set.EventSet.TheVariants as views
+use Rattle.csp_events.specs.declared.event_expression.EventExpression.{EventExpression}
+use Rattle.csp_events.specs.declared.event_set.EventSet.{EventSet}
+use Rattle.csp_events.specs.declared.event_set.EventSet.TheVariants as views
 use Rattle.theory_syntax.specs.declared.event_set_operator.EventSetOperator.{EventSetOperator}
 use Rattle.theory_syntax.specs.declared.event_set_operator.EventSetOperator.TheVariants as operator
-use Rattle.csp_event_sets.specs.Events.{event_expression_of, event_expressions_of, event_set_of}
+use Rattle.csp_events.specs.Events.{event_expression_of, event_expressions_of, event_set_of}
 use Rattle.theory_syntax.specs.Operators.{combined}
-use Rattle.csp_event_sets.proofs.EventForms as forms
+use Rattle.csp_events.proofs.EventForms as forms
 use Rattle.theory_syntax.specs.Expression.{to_expressions}
 use Rattle.std.proofs.lemmas.Option.{slice_get-map}
 use Rattle.csp_expression.specs.declared.expr.Expr.{Expr}

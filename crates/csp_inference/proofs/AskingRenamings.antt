@@ -28,12 +28,12 @@ use Rattle.csp_value.proofs.Sameness.{Tells, lists_tell}
 use Rattle.csp_value.proofs.Forms.{unlisted}
 use Rattle.csp_expression.specs.declared.expr.Expr.{Expr}
 use Rattle.csp_expression.specs.Expression.{expressions_of}
-use Rattle.csp_event_sets.specs.declared.event_expression.EventExpression.{EventExpression}
-use Rattle.csp_event_sets.specs.declared.renaming_pair.RenamingPair.{RenamingPair}
-use Rattle.csp_event_sets.specs.Events.{event_expression_of, renaming_pairs_of}
-use Rattle.csp_term.specs.declared.script.Channel.{Channel}
+use Rattle.csp_events.specs.declared.event_expression.EventExpression.{EventExpression}
+use Rattle.csp_events.specs.declared.renaming_pair.RenamingPair.{RenamingPair}
+use Rattle.csp_events.specs.Events.{event_expression_of, renaming_pairs_of}
+use Rattle.csp_events.specs.declared.channel.Channel.{Channel}
 use Rattle.csp_value.specs.Fields.{field_values}
-use Rattle.csp_term.specs.Script.{field_sets_of}
+use Rattle.csp_events.specs.Channels.{field_sets_of}
 use Rattle.csp_inference.specs.declared.equations.Equations.{Equations}
 use Rattle.csp_inference.specs.Equations.{Asks}
 use Rattle.csp_inference.proofs.Asking.{asks_same, asks_then}

@@ -6,7 +6,7 @@ ghost use Rattle.csp_inference.specs.Questions.Events.{beginning_question, begin
 
 use crate::equations::Equations;
 use crate::numbering::{NumberedName, Numbering};
-use csp_event_sets::{EventExpression, EventSet};
+use csp_events::{EventExpression, EventSet};
 use csp_expression::TypeTable;
 use csp_value::Memory;
 use std::alloc::Allocator;

@@ -3,7 +3,7 @@
 ghost use Rattle.std.specs.Prelude.{◌≡◌, IfOk, map};
 ghost use Rattle.theory_semantics.specs.Meaning.Events.{is_bare, same_sets};
 ghost use Rattle.theory_checking.specs.Inference.Processes.{are_bare_alike, are_same_sets};
-ghost use Rattle.csp_event_sets.specs.Events.{event_expression_of, renaming_pair_of};
+ghost use Rattle.csp_events.specs.Events.{event_expression_of, renaming_pair_of};
 ghost use Rattle.csp_value.specs.Fields.{field_values};
 ghost use Rattle.csp_term.specs.Script.{script_of_parts};
 ghost use Rattle.csp_inference.specs.Question.{AsksQuestion};
@@ -12,7 +12,7 @@ ghost use Rattle.csp_inference.specs.Renamings.{sets_of_channel};
 
 use crate::equations::Equations;
 use crate::numbering::{NumberedName, Numbering};
-use csp_event_sets::{EventExpression, RenamingPair};
+use csp_events::{EventExpression, RenamingPair};
 use csp_term::{ChannelId, ScriptParts};
 use csp_value::{FieldSet, Memory};
 use std::alloc::Allocator;

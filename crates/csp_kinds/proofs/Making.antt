@@ -16,7 +16,7 @@ use Rattle.csp_value.specs.declared.field_set.FieldSet.{FieldSet}
 use Rattle.csp_expression.specs.declared.types.TypeTable.{TypeTable}
 use Rattle.csp_parse.specs.declared.names.Name.{Name}
 use Rattle.csp_parse.specs.Names.{name_of}
-use Rattle.csp_term.specs.declared.script.Channel.{Channel}
+use Rattle.csp_events.specs.declared.channel.Channel.{Channel}
 use Rattle.csp_term.specs.declared.script.Constructor.{Constructor}
 use Rattle.csp_term.specs.Script.{script_of_parts}
 use Rattle.csp_names.specs.Scopes.{known_sets}

@@ -12,8 +12,8 @@ use Rattle.std.proofs.Common.{◌≡◌, ◌<◌, ℕ, List, [], ◌∷◌, ◌+
 use Rattle.csp_value.specs.declared.field_set.FieldSet.{FieldSet}
 use Rattle.csp_parse.specs.declared.names.Name.{Name}
 use Rattle.csp_parse.specs.Names.{name_of}
-use Rattle.csp_term.specs.declared.script.Channel.{Channel}
-use Rattle.csp_term.specs.Script.{field_sets_of}
+use Rattle.csp_events.specs.declared.channel.Channel.{Channel}
+use Rattle.csp_events.specs.Channels.{field_sets_of}
 use Rattle.csp_names.specs.Scopes.{known_sets}
 use Rattle.csp_kinds.specs.Spellings.{channel_spellings, encoded, sets_listed}
 

@@ -13,9 +13,9 @@ use Rattle.csp_expression.specs.declared.types.TypeTable.{TypeTable}
 use Rattle.csp_expression.specs.Evaluation.{constructors_of, members_listed, table_of}
 use Rattle.csp_parse.specs.declared.names.Name.{Name}
 use Rattle.csp_parse.specs.Names.{name_of}
-use Rattle.csp_term.specs.declared.script.Channel.{Channel}
+use Rattle.csp_events.specs.declared.channel.Channel.{Channel}
 use Rattle.csp_term.specs.declared.script.Constructor.{Constructor}
-use Rattle.csp_term.specs.Script.{field_sets_of}
+use Rattle.csp_events.specs.Channels.{field_sets_of}
 use Rattle.csp_names.specs.Scopes.{known_sets}
 
 -- the types are those of the tree

@@ -4,8 +4,8 @@ use Rattle.theory_syntax.specs.Value.{Action, Ev, Event, Tau, Tick}
 use Rattle.theory_syntax.specs.Process.{EventSet, Hiding, Process, Renaming, RenamingPair, Script}
 use Rattle.theory_semantics.specs.Meaning.Evaluation.{Cause}
 use Rattle.theory_semantics.specs.Meaning.Events.{event_test, images}
-use Rattle.csp_event_tests.specs.Imaging.{AreMade, PairsRise}
-use Rattle.csp_event_tests.specs.declared.images.Images.{Images}
+use Rattle.csp_events.specs.Imaging.{AreMade, PairsRise}
+use Rattle.csp_events.specs.declared.images.Images.{Images}
 use Rattle.theory_origins.specs.Ways.{AreEventsTo}
 
 -- a tau of `P \ A` comes by hidden events of the body, to what is hidden in the target

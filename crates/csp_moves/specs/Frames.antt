@@ -2,7 +2,7 @@
 use Rattle.std.specs.Prelude.{List, Option, Some, None}
 use Rattle.std.specs.Option.{option_map}
 use Rattle.theory_syntax.specs.Process.{EventSet, Hiding, Process, Renaming, RenamingPair}
-use Rattle.csp_event_sets.specs.Events.{event_set_of, renaming_pairs_of}
+use Rattle.csp_events.specs.Events.{event_set_of, renaming_pairs_of}
 use Rattle.csp_term.specs.Term.{process_of}
 use Rattle.csp_moves.specs.declared.frame.Frame.{Frame}
 use Rattle.csp_moves.specs.declared.frame.Frame.TheVariants as variant

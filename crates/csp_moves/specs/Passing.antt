@@ -4,8 +4,8 @@ use Rattle.theory_syntax.specs.Value.{Ev, Event}
 use Rattle.theory_syntax.specs.Process.{Process}
 use Rattle.theory_semantics.specs.Meaning.Events.{or_itself}
 use Rattle.csp_value.specs.Action.{event_of}
-use Rattle.csp_event_tests.specs.Imaging.{PairsRise, found_images}
-use Rattle.csp_event_tests.specs.Testing.{AreSorted, listed_in, test_of}
+use Rattle.csp_events.specs.Imaging.{PairsRise, found_images}
+use Rattle.csp_events.specs.Testing.{AreSorted, listed_in, test_of}
 use Rattle.csp_steps.specs.Answering.{Answered}
 use Rattle.csp_moves.specs.declared.passing.Passing.{Passing}
 use Rattle.csp_moves.specs.declared.passing.Passing.TheVariants as variant

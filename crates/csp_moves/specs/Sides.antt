@@ -5,7 +5,7 @@ use Rattle.theory_syntax.specs.Process.{EventSet, Process, ExternalChoice, Inter
 use Rattle.theory_syntax.specs.Operators.{binary_process}
 use Rattle.theory_syntax.specs.declared.process_operator.ProcessOperator.{ProcessOperator}
 use Rattle.theory_syntax.specs.declared.process_operator.ProcessOperator.TheVariants as binary
-use Rattle.csp_event_sets.specs.Events.{event_set_of}
+use Rattle.csp_events.specs.Events.{event_set_of}
 use Rattle.csp_term.specs.Term.{process_of}
 use Rattle.csp_moves.specs.declared.operator.Joint.{Joint}
 use Rattle.csp_moves.specs.declared.operator.Joint.TheVariants as variant

@@ -1,7 +1,7 @@
 //! Operators of one process, and processes taken apart by them.
 
 ghost use Rattle.std.specs.Prelude.{◌≡◌, ◌↔◌, IsTrue};
-ghost use Rattle.csp_event_sets.specs.Events.{event_set_of, renaming_pairs_of};
+ghost use Rattle.csp_events.specs.Events.{event_set_of, renaming_pairs_of};
 ghost use Rattle.csp_term.specs.Term.{process_of};
 ghost use Rattle.theory_origins.specs.Origin.{InBody};
 ghost use Rattle.theory_origins.specs.Telling.{IsBody};
@@ -10,8 +10,8 @@ ghost use Rattle.csp_moves.specs.Frames.{OfHiding, OfRenaming, frame_of, framed,
 ghost use Rattle.csp_moves.specs.Way.{lent_action, lent_process, way_of};
 
 use crate::way::{LentAction, LentPassage, Part, Way};
-use csp_event_sets::laws::equal_event_sets;
-use csp_event_sets::{EventSet, RenamingPair};
+use csp_events::laws::equal_event_sets;
+use csp_events::{EventSet, RenamingPair};
 use csp_term::{AllocHandle, Term, TermForm};
 
 /// An operator of one process, without it.

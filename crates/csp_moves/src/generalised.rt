@@ -2,10 +2,10 @@
 
 ghost use Rattle.std.specs.Prelude.{IfOk, not};
 ghost use Rattle.theory_syntax.specs.Process.{GeneralisedParallel};
-ghost use Rattle.csp_event_sets.specs.Events.{event_set_of};
+ghost use Rattle.csp_events.specs.Events.{event_set_of};
 ghost use Rattle.csp_term.specs.Script.{script_of_parts};
 ghost use Rattle.csp_term.specs.Term.{process_of};
-ghost use Rattle.csp_event_tests.specs.Testing.{AreSorted, listed_in, test_of};
+ghost use Rattle.csp_events.specs.Testing.{AreSorted, listed_in, test_of};
 ghost use Rattle.csp_moves.specs.Parallel.{IsFreedom};
 ghost use Rattle.csp_moves.specs.Way.{AreFoundIn, lent_action};
 
@@ -13,8 +13,7 @@ use crate::operator::{Joint, Sides};
 use crate::tested::test_of_set;
 use crate::together::{Freedom, parallel_ways};
 use crate::way::{LentAction, Way, no_ways};
-use csp_event_sets::EventSet;
-use csp_event_tests::EventTest;
+use csp_events::{EventSet, EventTest};
 use csp_term::{AllocHandle, Memory, ScriptParts, Term};
 
 /// `P [| S |] Q`

@@ -4,7 +4,7 @@ ghost use Rattle.std.specs.Prelude.{◌≡◌, ◌∷◌, IfOk, Some, map};
 ghost use Rattle.theory_syntax.specs.Process.{Hiding};
 ghost use Rattle.theory_syntax.specs.Value.{Ev, Tau, Tick};
 ghost use Rattle.csp_value.specs.Action.{event_of};
-ghost use Rattle.csp_event_sets.specs.Events.{event_set_of};
+ghost use Rattle.csp_events.specs.Events.{event_set_of};
 ghost use Rattle.csp_term.specs.Script.{script_of_parts};
 ghost use Rattle.csp_term.specs.Term.{process_of};
 ghost use Rattle.theory_origins.specs.Origin.{Hides, InBody};
@@ -16,7 +16,7 @@ use crate::frame::{Frame, body_of, to_body};
 use crate::passing::{Passing, events_to};
 use crate::tested::test_of_set;
 use crate::way::{LentAction, LentPassage, Part, Way, no_ways, one_way};
-use csp_event_sets::EventSet;
+use csp_events::EventSet;
 use csp_term::{AllocHandle, Event, Memory, ScriptParts, Term};
 
 /// A process and the set of the events that are hidden in it.

@@ -1,14 +1,14 @@
 //! Operators of two sides, and processes taken apart by them.
 
 ghost use Rattle.std.specs.Prelude.{◌≡◌, ◌↔◌, IsTrue};
-ghost use Rattle.csp_event_sets.specs.Events.{event_set_of};
+ghost use Rattle.csp_events.specs.Events.{event_set_of};
 ghost use Rattle.csp_term.specs.Term.{process_of};
 ghost use Rattle.csp_moves.specs.Sides.{OfAlphabetised, OfBinary, OfGeneralised, OfSliding, joint_of, joined, sides_found, sides_split, taken_apart};
 ghost use Rattle.csp_moves.specs.Way.{lent_process};
 ghost use Rattle.theory_origins.specs.Telling.{IsBody, IsSplit};
 
-use csp_event_sets::EventSet;
-use csp_event_sets::laws::equal_event_sets;
+use csp_events::EventSet;
+use csp_events::laws::equal_event_sets;
 use csp_term::laws::equal_terms;
 use csp_term::{AllocHandle, ProcessOperator, Term, TermForm};
 

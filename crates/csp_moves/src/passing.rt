@@ -4,7 +4,7 @@ ghost use Rattle.std.specs.Prelude.{◌≡◌, ◌++◌, ◌∷◌, ◌↔◌, [
 ghost use Rattle.std.specs.Option.{option_map};
 ghost use Rattle.theory_semantics.specs.Meaning.Events.{or_itself};
 ghost use Rattle.csp_value.specs.Action.{event_of};
-ghost use Rattle.csp_event_tests.specs.Imaging.{PairsRise, found_images};
+ghost use Rattle.csp_events.specs.Imaging.{PairsRise, found_images};
 ghost use Rattle.csp_term.specs.Script.{script_of_parts};
 ghost use Rattle.csp_term.specs.Term.{process_of};
 ghost use Rattle.csp_steps.specs.Answering.{answered_of};
@@ -12,7 +12,7 @@ ghost use Rattle.theory_origins.specs.Ways.{AreEventsTo};
 ghost use Rattle.csp_moves.specs.Passing.{AddsPassing, ArePassing, IsEventTo, IsPassing, IsSearchable};
 
 use crate::deciding::leads_to;
-use csp_event_tests::{EventTest, Images};
+use csp_events::{EventTest, Images};
 use csp_expression::NoValue;
 use csp_steps::{RuleStep, steps};
 use csp_term::{Action, AllocHandle, Event, Memory, ScriptParts, Term};

@@ -5,7 +5,7 @@ ghost use Rattle.theory_syntax.specs.Process.{Renaming, Script};
 ghost use Rattle.theory_syntax.specs.Value.{Ev, Tau, Tick};
 ghost use Rattle.theory_semantics.specs.Meaning.Events.{renaming};
 ghost use Rattle.csp_value.specs.Action.{event_of};
-ghost use Rattle.csp_event_sets.specs.Events.{renaming_pairs_of};
+ghost use Rattle.csp_events.specs.Events.{renaming_pairs_of};
 ghost use Rattle.csp_term.specs.Script.{script_of_parts};
 ghost use Rattle.csp_term.specs.Term.{process_of};
 ghost use Rattle.theory_origins.specs.Origin.{Renames};
@@ -16,8 +16,7 @@ ghost use Rattle.csp_moves.specs.Way.{AreFound, AreFoundIn, lent_action, ways_of
 use crate::frame::{Frame, body_of, to_body};
 use crate::passing::{Passing, events_to};
 use crate::way::{LentAction, LentPassage, Part, Way, no_ways, one_way};
-use csp_event_sets::RenamingPair;
-use csp_event_tests::Images;
+use csp_events::{Images, RenamingPair};
 use csp_expression::NoValue;
 use csp_term::{AllocHandle, Event, Memory, ScriptParts, Term};
 
@@ -38,7 +37,7 @@ fn images_of_pairs<A: AllocHandle>(
 ) -> Result<Option<Images<A>>, Memory>
     ensures { IfOk result (λ found. AreImagesIfAny found (renaming (script_of_parts script.now) (renaming_pairs_of pairs.now))) }
 {
-    match Images::of(alloc, script, pairs) {
+    match script.images(alloc, pairs) {
         Ok(images) => Ok(Some(images)),
         Err(NoValue::Memory) => Err(Memory),
         Err(NoValue::Cause(_)) => Ok(None),

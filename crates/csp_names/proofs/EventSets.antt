@@ -23,9 +23,9 @@ use Rattle.csp_parse.specs.Events.{event_of}
 use Rattle.csp_parse.specs.EventSets as written
 use Rattle.csp_parse.specs.EventSets.{event_set_step, operator_of}
 use Rattle.csp_parse.proofs.ProcessTrees.{set_of_enumeration, set_of_productions}
-use Rattle.csp_event_sets.specs.declared.event_expression.EventExpression.{EventExpression}
-use Rattle.csp_event_sets.specs.declared.event_set.EventSet.{EventSet}
-use Rattle.csp_event_sets.specs.Events.{event_expressions_of, event_set_of}
+use Rattle.csp_events.specs.declared.event_expression.EventExpression.{EventExpression}
+use Rattle.csp_events.specs.declared.event_set.EventSet.{EventSet}
+use Rattle.csp_events.specs.Events.{event_expressions_of, event_set_of}
 use Rattle.csp_names.specs.declared.bound_names.BoundNames.{BoundNames}
 use Rattle.csp_names.specs.declared.refusals.Refused.{Refused}
 use Rattle.csp_names.specs.declared.refusals.Refused.TheVariants as refused

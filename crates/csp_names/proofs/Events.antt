@@ -13,8 +13,8 @@ use Rattle.csp_parse.specs.Expressions as written
 use Rattle.csp_value.specs.declared.name.ChannelId.{ChannelId}
 use Rattle.csp_expression.specs.declared.expr.Expr.{Expr}
 use Rattle.csp_expression.specs.Expression.{expressions_of}
-use Rattle.csp_event_sets.specs.declared.event_expression.EventExpression.{EventExpression}
-use Rattle.csp_event_sets.specs.Events.{event_expression_of}
+use Rattle.csp_events.specs.declared.event_expression.EventExpression.{EventExpression}
+use Rattle.csp_events.specs.Events.{event_expression_of}
 use Rattle.csp_names.specs.declared.bound_names.BoundNames.{BoundNames}
 use Rattle.csp_names.specs.declared.refusals.Refused.{Refused}
 use Rattle.csp_names.specs.declared.scope.Scope.{Scope}

@@ -36,9 +36,9 @@ use Rattle.csp_value.proofs.Forms.{unlisted}
 use Rattle.csp_value.proofs.Sameness.{Tells, lists_tell}
 use Rattle.csp_expression.specs.declared.expr.Expr.{Expr}
 use Rattle.csp_expression.specs.Expression as terms
-use Rattle.csp_event_sets.specs.declared.event_expression.EventExpression.{EventExpression}
-use Rattle.csp_event_sets.specs.declared.renaming_pair.RenamingPair.{RenamingPair}
-use Rattle.csp_event_sets.specs.Events.{event_expression_of, renaming_pair_of}
+use Rattle.csp_events.specs.declared.event_expression.EventExpression.{EventExpression}
+use Rattle.csp_events.specs.declared.renaming_pair.RenamingPair.{RenamingPair}
+use Rattle.csp_events.specs.Events.{event_expression_of, renaming_pair_of}
 use Rattle.csp_value.specs.Fields.{field_values}
 use Rattle.csp_names.specs.declared.bound_names.BoundNames.{BoundNames}
 use Rattle.csp_names.specs.declared.refusals.KindFault.TheVariants as fault

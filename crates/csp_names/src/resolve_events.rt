@@ -9,7 +9,7 @@ use crate::bound_names::BoundNames;
 use crate::refusals::Refused;
 use crate::scope::Scope;
 use crate::terms::combine_sets;
-use csp_event_sets::{EventExpression, EventSet};
+use csp_events::{EventExpression, EventSet};
 use csp_parse::{Event as RawEvent, EventSet as RawEventSet};
 use std::alloc::Allocator;
 

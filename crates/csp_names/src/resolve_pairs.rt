@@ -11,7 +11,7 @@ ghost use Rattle.csp_names.specs.Walks.{AgreesInFields, HasOtherSets, ResolvesBa
 use crate::bound_names::BoundNames;
 use crate::refusals::{KindFault, Refused};
 use crate::scope::Scope;
-use csp_event_sets::{EventExpression, RenamingPair};
+use csp_events::{EventExpression, RenamingPair};
 use csp_parse::{Event as RawEvent, Name as RawName, Pair as RawPair};
 use csp_value::{ChannelId, FieldSet};
 use std::alloc::Allocator;

@@ -6,13 +6,13 @@ ghost use Rattle.theory_syntax.specs.Value.{Integer, Truth};
 ghost use Rattle.theory_syntax.specs.Operators.{binary_of, combined, unary_of};
 ghost use Rattle.theory_checking.specs.Resolving.{infix_process};
 ghost use Rattle.csp_parse.specs.Processes.{infix_of};
-ghost use Rattle.csp_event_sets.specs.Events.{event_set_of};
+ghost use Rattle.csp_events.specs.Events.{event_set_of};
 ghost use Rattle.csp_expression.specs.Expression.{expression_of};
 ghost use Rattle.csp_term.specs.Term.{process_of, process_of_form};
 ghost use Rattle.csp_names.specs.declared.refusals.Refused.TheVariants.{Memory as no_room};
 
 use crate::refusals::Refused;
-use csp_event_sets::EventSet;
+use csp_events::EventSet;
 use csp_expression::{BinaryOperator, Expr, UnaryOperator};
 use csp_parse::Infix;
 use csp_term::{Term, TermForm};

@@ -9,8 +9,8 @@ use Rattle.csp_value.specs.declared.action.Event.{Event}
 use Rattle.csp_value.specs.declared.name.ChannelId.{ChannelId}
 use Rattle.csp_value.specs.Action.{event_of}
 use Rattle.csp_value.specs.Value.{values_of}
-use Rattle.csp_term.specs.declared.script.Channel.{Channel}
-use Rattle.csp_term.specs.Script.{field_sets_of}
+use Rattle.csp_events.specs.declared.channel.Channel.{Channel}
+use Rattle.csp_events.specs.Channels.{field_sets_of}
 use Rattle.csp_numbers.specs.Numbers.{events_of}
 
 pub take_next : {Y : Type 0} (ys : List Y) (n : ℕ) (y : Y) → slice_get ys n ≡ Some y → take (n + 1) ys ≡ take n ys ++ y ∷ []

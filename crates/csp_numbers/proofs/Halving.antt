@@ -11,7 +11,7 @@ use Rattle.theory_syntax.proofs.Equalities.{event_refl, event_same, is_lt-Less}
 use Rattle.theory_syntax.proofs.Orders.{event_total}
 use Rattle.theory_syntax.proofs.Places.{get_some}
 use Rattle.theory_semantics.specs.Meaning.Offers.{RisesBy}
-use Rattle.csp_event_tests.proofs.Halving.{told_by_halving}
+use Rattle.csp_events.proofs.Halving.{told_by_halving}
 
 any_event : (es : List Event) (e : Event) → Contains es e → list_any (event_eq e) es ≡ true
 any_event [] e (k, h, is) = absurd (omega arith)

@@ -11,8 +11,8 @@ use Rattle.theory_semantics.specs.Meaning.Events.{channel_images, event_images, 
 use Rattle.csp_expression.specs.declared.no_value.NoValue.{NoValue}
 use Rattle.csp_expression.specs.declared.no_value.NoValue.TheVariants as eval
 use Rattle.csp_expression.specs.Cause.{cause_of}
-use Rattle.csp_event_sets.specs.declared.renaming_pair.RenamingPair.{RenamingPair}
-use Rattle.csp_event_sets.specs.Events.{renaming_pair_of, renaming_pairs_of}
+use Rattle.csp_events.specs.declared.renaming_pair.RenamingPair.{RenamingPair}
+use Rattle.csp_events.specs.Events.{renaming_pair_of, renaming_pairs_of}
 use Rattle.csp_value.specs.declared.name.ChannelId.{ChannelId}
 use Rattle.csp_rows.specs.declared.numbers.EventId.{EventId}
 use Rattle.theory_shapes.specs.Alphabet.{IsEventOf, alphabet}

@@ -14,7 +14,7 @@ use Rattle.csp_rows.specs.declared.framed.Frame.TheVariants as frame
 use Rattle.csp_rows.specs.declared.framed.Images.{Images}
 use Rattle.csp_expression.specs.declared.no_value.NoValue.{NoValue}
 use Rattle.csp_expression.specs.declared.no_value.NoValue.TheVariants as eval
-use Rattle.csp_event_tests.specs.Testing.{IsTestOf}
+use Rattle.csp_events.specs.Testing.{IsTestOf}
 use Rattle.csp_numbers.specs.Images.{AnswersImages, AreImages}
 use Rattle.csp_numbers.specs.Operators.{AnswersFrame, AnswersSides, AreSides, IsFrame, cause_in_composition, cause_in_frame}
 use Rattle.csp_numbers.specs.Sides.{AreMarksBy}

@@ -3,7 +3,7 @@ use Rattle.std.specs.Prelude.{◌≡◌}
 use Rattle.theory_syntax.specs.Process.{Process}
 use Rattle.theory_shapes.specs.Shape as pure
 use Rattle.theory_shapes.specs.Parts.{IsPart}
-use Rattle.csp_event_sets.specs.Events.{event_set_of, renaming_pairs_of}
+use Rattle.csp_events.specs.Events.{event_set_of, renaming_pairs_of}
 use Rattle.csp_term.specs.Term.{process_of}
 use Rattle.csp_numbers.specs.declared.head.Composition.{Composition}
 use Rattle.csp_numbers.specs.declared.head.Composition.TheVariants as composition

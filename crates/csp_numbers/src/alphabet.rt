@@ -3,7 +3,7 @@
 ghost use Rattle.std.specs.Prelude.{◌≡◌, ◌↔◌, [], IfOk, IsTrue, length};
 ghost use Rattle.theory_syntax.specs.Value.{event_cmp};
 ghost use Rattle.csp_value.specs.Action.{event_of};
-ghost use Rattle.csp_event_tests.specs.Testing.{event_with};
+ghost use Rattle.csp_events.specs.Testing.{event_with};
 ghost use Rattle.theory_shapes.specs.Alphabet.{alphabet as events_of_script};
 ghost use Rattle.csp_term.specs.Script.{script_of};
 ghost use Rattle.csp_numbers.specs.Numbers.{AreNumbered, AreWithin, IsEventAt, IsNumberOf, events_of};

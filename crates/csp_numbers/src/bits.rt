@@ -1,10 +1,10 @@
 //! Sets of events as bits.
 
 ghost use Rattle.std.specs.Prelude.{◌≡◌, IfOk, map};
-ghost use Rattle.csp_event_tests.specs.Testing.{AreSorted, listed_in, test_of};
+ghost use Rattle.csp_events.specs.Testing.{AreSorted, listed_in, test_of};
 
 use crate::alphabet::Alphabet;
-use csp_event_tests::EventTest;
+use csp_events::EventTest;
 use csp_rows::Bits;
 use csp_term::{AllocHandle, Memory};
 

@@ -2,7 +2,7 @@
 
 ghost use Rattle.std.specs.Prelude.{◌≡◌};
 ghost use Rattle.theory_shapes.specs.Alphabet.{alphabet as events_of_script};
-ghost use Rattle.csp_event_sets.specs.Events.{event_set_of, renaming_pairs_of};
+ghost use Rattle.csp_events.specs.Events.{event_set_of, renaming_pairs_of};
 ghost use Rattle.theory_shapes.specs.Shape.{Hidden, Renamed};
 ghost use Rattle.csp_term.specs.Script.{script_of_parts};
 ghost use Rattle.csp_numbers.specs.Operators.{AnswersFrame};
@@ -10,8 +10,7 @@ ghost use Rattle.csp_numbers.specs.Operators.{AnswersFrame};
 use crate::alphabet::Alphabet;
 use crate::bits::bits_of;
 use crate::images::images_of;
-use csp_event_sets::{EventSet, RenamingPair};
-use csp_event_tests::EventTest;
+use csp_events::{EventSet, RenamingPair};
 use csp_expression::NoValue;
 use csp_rows::Frame;
 use csp_term::{AllocHandle, ScriptParts};
@@ -25,7 +24,7 @@ pub fn hidden<A: AllocHandle>(
 ) -> Result<Frame<A>, NoValue>
     ensures { AnswersFrame alphabet.now (script_of_parts script.now) (Hidden (event_set_of set.now)) result }
 {
-    let test = EventTest::of(alloc, script, set)?;
+    let test = script.event_test(alloc, set)?;
     Ok(Frame::Hidden(bits_of(alloc, alphabet, &test)?))
 }
 

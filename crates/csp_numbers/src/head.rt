@@ -5,7 +5,7 @@ ghost use Rattle.theory_syntax.specs.Operators.{binary_process};
 ghost use Rattle.csp_term.specs.Term.{process_of};
 ghost use Rattle.csp_numbers.specs.Heads.{IsHeadOf};
 
-use csp_event_sets::{EventSet, RenamingPair};
+use csp_events::{EventSet, RenamingPair};
 use csp_term::{ProcessOperator, Term, TermForm};
 use std::alloc::Allocator;
 

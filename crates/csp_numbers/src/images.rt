@@ -6,14 +6,14 @@ ghost use Rattle.theory_semantics.specs.Meaning.Offers.{RisesBy};
 ghost use Rattle.theory_semantics.specs.Meaning.Events.{or_itself, renaming};
 ghost use Rattle.theory_shapes.specs.Alphabet.{alphabet as events_of_script};
 ghost use Rattle.csp_value.specs.Action.{event_of};
-ghost use Rattle.csp_event_sets.specs.Events.{renaming_pairs_of};
+ghost use Rattle.csp_events.specs.Events.{renaming_pairs_of};
 ghost use Rattle.csp_term.specs.Script.{script_of_parts};
 ghost use Rattle.csp_numbers.specs.Images.{AnswersImages};
 ghost use Rattle.csp_numbers.specs.Pairs.{AreNumbersOf, ArePairsOf, ArePlaced, HaveImages, images_by as made_by, or_none};
 
 use crate::alphabet::Alphabet;
 use crate::pair::{Pair, pair_of};
-use csp_event_sets::RenamingPair;
+use csp_events::RenamingPair;
 use csp_expression::NoValue;
 use csp_rows::{EventId, Images};
 use csp_term::{AllocHandle, Event, Memory, ScriptParts};

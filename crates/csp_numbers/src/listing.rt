@@ -2,7 +2,7 @@
 
 ghost use Rattle.std.specs.Prelude.{◌≡◌, ◌<◌, ◌++◌, ◌^◌, IfOk, OnOk, length, map};
 ghost use Rattle.theory_shapes.specs.Alphabet.{events_from, field_lists, with_fields};
-ghost use Rattle.csp_term.specs.Script.{field_sets_of};
+ghost use Rattle.csp_events.specs.Channels.{field_sets_of};
 ghost use Rattle.csp_value.specs.Fields.{sets_of};
 ghost use Rattle.csp_numbers.specs.Numbers.{AreListedWithin, events_of};
 

@@ -9,7 +9,7 @@ ghost use Rattle.csp_term.specs.Term.{process_of};
 ghost use Rattle.csp_numbers.specs.Heads.{composition_of, frame_of};
 
 use crate::head::{Composition, Frame, Head};
-use csp_event_sets::room_left_by_pairs;
+use csp_events::room_left_by_pairs;
 use csp_term::Term;
 use std::alloc::Allocator;
 

@@ -6,14 +6,13 @@ ghost use Rattle.theory_semantics.specs.Meaning.Offers.{RisesBy};
 ghost use Rattle.theory_semantics.specs.Meaning.Events.{channel_images, event_images, pair_images};
 ghost use Rattle.theory_shapes.specs.Alphabet.{alphabet as events_of_script};
 ghost use Rattle.csp_value.specs.Action.{event_of};
-ghost use Rattle.csp_event_sets.specs.Events.{event_expression_of, renaming_pair_of};
+ghost use Rattle.csp_events.specs.Events.{event_expression_of, renaming_pair_of};
 ghost use Rattle.csp_term.specs.Script.{script_of_parts};
 ghost use Rattle.csp_numbers.specs.Pairs.{IsPairOf};
 
 use crate::alphabet::Alphabet;
 use crate::written_event::number_of;
-use csp_event_sets::RenamingPair;
-use csp_event_tests::{are_channels, field_sets, same_sets};
+use csp_events::{RenamingPair, are_channels, same_sets};
 use csp_expression::NoValue;
 use csp_rows::EventId;
 use csp_term::{AllocHandle, Cause, ChannelId, Event, ScriptParts};
@@ -35,8 +34,8 @@ fn pair_of_channels<A: AllocHandle>(
 ) -> Result<Pair, NoValue>
     ensures { IsPairOf (events_of_script (script_of_parts script.now)) result (channel_images (script_of_parts script.now) from.0 to.0) }
 {
-    let sets = field_sets(script, from)?;
-    let others = field_sets(script, to)?;
+    let sets = script.field_sets(from)?;
+    let others = script.field_sets(to)?;
     if same_sets(sets, others) {
         Ok(Pair::Channels(from, to))
     } else {

@@ -4,16 +4,15 @@ ghost use Rattle.std.specs.Prelude.{◌≡◌, [], ◌&&◌, IfOk, OnOk, not};
 ghost use Rattle.theory_syntax.specs.Process.{Script};
 ghost use Rattle.theory_semantics.specs.Meaning.Stepping.{always};
 ghost use Rattle.theory_shapes.specs.Shape.{Alphabetised, Generalised, Interleaved};
-ghost use Rattle.csp_event_sets.specs.Events.{event_set_of};
+ghost use Rattle.csp_events.specs.Events.{event_set_of};
 ghost use Rattle.csp_term.specs.Script.{script_of_parts};
-ghost use Rattle.csp_event_tests.specs.Testing.{AreSorted, listed_in, test_of};
+ghost use Rattle.csp_events.specs.Testing.{AreSorted, listed_in, test_of};
 ghost use Rattle.csp_numbers.specs.Operators.{AnswersSides, AreSides};
 ghost use Rattle.csp_numbers.specs.Sides.{AddsMarks, AreMarksBy};
 
 use crate::alphabet::Alphabet;
 use crate::bits::same_bits;
-use csp_event_sets::EventSet;
-use csp_event_tests::EventTest;
+use csp_events::{EventSet, EventTest};
 use csp_expression::NoValue;
 use csp_rows::{Bits, SideBits};
 use csp_term::{AllocHandle, Memory, ScriptParts};
@@ -92,7 +91,7 @@ pub fn generalised<A: AllocHandle>(
 ) -> Result<SideBits<A>, NoValue>
     ensures { AnswersSides alphabet.now (script_of_parts script.now) (Generalised (event_set_of shared.now)) result }
 {
-    let test = EventTest::of(alloc, script, shared)?;
+    let test = script.event_test(alloc, shared)?;
     let bits = by_shared(alloc, alphabet, &test)?;
     Ok(bits)
 }
@@ -147,8 +146,8 @@ pub fn alphabetised<A: AllocHandle>(
 ) -> Result<SideBits<A>, NoValue>
     ensures { AnswersSides alphabet.now (script_of_parts script.now) (Alphabetised (event_set_of left.now) (event_set_of right.now)) result }
 {
-    let on_left = EventTest::of(alloc, script, left)?;
-    let on_right = EventTest::of(alloc, script, right)?;
+    let on_left = script.event_test(alloc, left)?;
+    let on_right = script.event_test(alloc, right)?;
     let bits = by_own_sets(alloc, alphabet, &on_left, &on_right)?;
     Ok(bits)
 }

@@ -2,7 +2,7 @@
 
 ghost use Rattle.std.specs.Prelude.{◌≡◌, codes};
 ghost use Rattle.theory_syntax.specs.Operators.{combined};
-ghost use Rattle.csp_event_sets.specs.Events.{event_expression_of, event_expressions_of, event_set_of, renaming_pair_of, renaming_pairs_of};
+ghost use Rattle.csp_events.specs.Events.{event_expression_of, event_expressions_of, event_set_of, renaming_pair_of, renaming_pairs_of};
 ghost use Rattle.theory_notation.specs.EventSets.{event_set_text, event_text, events_behind, events_text, pair_text, pairs_behind, pairs_text};
 ghost use Rattle.csp_print.specs.EventSets.{operator_text};
 ghost use Rattle.csp_print.specs.Names.{names_of};
@@ -12,7 +12,7 @@ use crate::expressions::push_expressions_behind;
 use crate::marks::push_mark;
 use crate::names::Names;
 use crate::ranks::ATOM;
-use csp_event_sets::{EventExpression, EventSet, EventSetOperator, RenamingPair};
+use csp_events::{EventExpression, EventSet, EventSetOperator, RenamingPair};
 use std::alloc::{AllocError, Allocator};
 
 /// Puts the text of the set of events behind the string. It is an error where memory is refused.

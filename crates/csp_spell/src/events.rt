@@ -6,11 +6,11 @@ ghost use Rattle.theory_spelling.specs.Packable.{IsPackableEvent, IsPackableEven
 ghost use Rattle.theory_spelling.specs.Ranges.{IsInRangeEvent, IsInRangeEventSet, IsInRangePair};
 ghost use Rattle.std.specs.List.{AllByRecursion};
 ghost use Rattle.csp_spell.specs.Tags.{event_set_tag};
-ghost use Rattle.csp_event_sets.specs.Events.{event_expression_of, event_expressions_of, event_set_of, renaming_pair_of, renaming_pairs_of};
+ghost use Rattle.csp_events.specs.Events.{event_expression_of, event_expressions_of, event_set_of, renaming_pair_of, renaming_pairs_of};
 
 use crate::expressions::push_expressions;
 use crate::numbers::{push_length, push_number};
-use csp_event_sets::{EventExpression, EventSet, EventSetOperator, RenamingPair};
+use csp_events::{EventExpression, EventSet, EventSetOperator, RenamingPair};
 use csp_value::Memory;
 use std::alloc::Allocator;
 

@@ -2,13 +2,13 @@
 
 ghost use Rattle.theory_spelling.specs.Reading.{event_at, event_set_at, event_set_behind, items_at, list_at, pair_at, two_at};
 ghost use Rattle.theory_syntax.specs.Operators.{combined};
-ghost use Rattle.csp_event_sets.specs.Events.{event_expression_of, event_expressions_of, event_set_of, renaming_pair_of, renaming_pairs_of};
+ghost use Rattle.csp_events.specs.Events.{event_expression_of, event_expressions_of, event_set_of, renaming_pair_of, renaming_pairs_of};
 ghost use Rattle.csp_spell.specs.Gives.{Gives};
 
 use crate::fault::UnpackFault;
 use crate::read_expressions::read_expressions;
 use crate::read_numbers::{read_byte, read_number};
-use csp_event_sets::{EventExpression, EventSet, EventSetOperator, RenamingPair};
+use csp_events::{EventExpression, EventSet, EventSetOperator, RenamingPair};
 use csp_value::ChannelId;
 use std::alloc::Allocator;
 

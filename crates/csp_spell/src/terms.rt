@@ -7,7 +7,7 @@ ghost use Rattle.theory_syntax.specs.Operators.{binary_process, replicated_proce
 ghost use Rattle.theory_spelling.specs.Spelling.{spelling};
 ghost use Rattle.theory_spelling.specs.Packable.{IsPackable};
 ghost use Rattle.theory_spelling.specs.Ranges.{IsInRange};
-ghost use Rattle.csp_event_sets.specs.Events.{event_set_of, renaming_pairs_of};
+ghost use Rattle.csp_events.specs.Events.{event_set_of, renaming_pairs_of};
 ghost use Rattle.csp_expression.specs.Expression.{expression_of, expressions_of};
 ghost use Rattle.csp_term.specs.Field.{fields_of};
 ghost use Rattle.csp_term.specs.Term.{process_of, process_of_form};
@@ -17,7 +17,7 @@ use crate::expressions::{push_expression, push_expressions};
 use crate::fields::push_fields;
 use crate::numbers::push_number;
 use crate::tags::{process_tag, replicated_tag};
-use csp_event_sets::{EventSet, RenamingPair};
+use csp_events::{EventSet, RenamingPair};
 use csp_expression::Expr;
 use csp_term::{
     ChannelId, EquationId, Field, Memory, Name, ProcessOperator, ReplicatedOperator, Term, TermForm,

@@ -13,7 +13,7 @@ use Rattle.csp_expression.specs.declared.no_value.NoValue.TheVariants as eval
 use Rattle.csp_steps.specs.Answering.{Answered, Answers, IsAnswered, within_limits}
 use Rattle.csp_steps.proofs.Answered.{AreAnswered, by_its_steps, its_steps}
 use Rattle.csp_steps.specs.Composing.{each_answer, hide_answer, image_answers, rename_answer, under_limits}
-use Rattle.csp_event_tests.specs.Testing.{IsTestOf}
+use Rattle.csp_events.specs.Testing.{IsTestOf}
 use Rattle.csp_steps.proofs.Composing.{Keeps, both_answered, each_answered, limits_under, none_answered, one_answered}
 use Rattle.csp_steps.proofs.Past.{hiding_only, renaming_only}
 

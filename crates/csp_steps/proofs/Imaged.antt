@@ -11,15 +11,15 @@ use Rattle.theory_semantics.specs.Meaning.Faults.{cause_in}
 use Rattle.csp_value.specs.declared.action.Event as concrete
 use Rattle.csp_value.specs.declared.action.Action.TheVariants as action
 use Rattle.csp_value.specs.Action.{event_of}
-use Rattle.csp_event_tests.specs.declared.images.Images.{Images}
+use Rattle.csp_events.specs.declared.images.Images.{Images}
 use Rattle.csp_steps.specs.declared.rule_step.RuleStep.{RuleStep}
 use Rattle.csp_steps.specs.declared.rule_step.Target.{Target}
 use Rattle.csp_expression.specs.declared.no_value.NoValue.{NoValue}
 use Rattle.csp_expression.specs.declared.no_value.NoValue.TheVariants as eval
 use Rattle.csp_steps.specs.Answering.{Answered, Answers, IsAnswered, answered_of, target_of}
 use Rattle.csp_steps.specs.Composing.{HaveSameSteps, each_answer, image_answers, rename_answer, under_limits}
-use Rattle.csp_event_tests.specs.Imaging.{AreMade, IsImagesOf, found_images}
-use Rattle.csp_event_tests.proofs.Alike.{AreAlike, alike_both, alike_by}
+use Rattle.csp_events.specs.Imaging.{AreMade, IsImagesOf, found_images}
+use Rattle.csp_events.proofs.Alike.{AreAlike, alike_both, alike_by}
 use Rattle.csp_steps.proofs.Changing.{renaming_answered}
 use Rattle.csp_steps.proofs.Same.{answered_by_same}
 

@@ -9,8 +9,8 @@ use Rattle.theory_syntax.specs.declared.process_operator.ProcessOperator.TheVari
 use Rattle.theory_syntax.specs.declared.process_operator.ReplicatedOperator.{ReplicatedOperator}
 use Rattle.theory_syntax.specs.declared.process_operator.ReplicatedOperator.TheVariants as replicated
 use Rattle.theory_syntax.specs.Operators.{binary_process, replicated_process}
-use Rattle.csp_event_sets.specs.declared.event_set.EventSet.{EventSet}
-use Rattle.csp_event_sets.specs.declared.renaming_pair.RenamingPair.{RenamingPair}
+use Rattle.csp_events.specs.declared.event_set.EventSet.{EventSet}
+use Rattle.csp_events.specs.declared.renaming_pair.RenamingPair.{RenamingPair}
 use Rattle.csp_expression.specs.declared.expr.Expr.{Expr}
 use Rattle.csp_expression.specs.declared.name.Name.{Name}
 use Rattle.csp_term.specs.declared.term.Term.{Term}

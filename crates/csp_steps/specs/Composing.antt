@@ -8,8 +8,8 @@ use Rattle.csp_value.specs.Action.{action_of}
 use Rattle.theory_semantics.specs.Meaning.Faults.{cause_in}
 use Rattle.theory_semantics.specs.Meaning.Stepping.{always, never}
 use Rattle.csp_expression.specs.Agreement.{Agrees}
-use Rattle.csp_event_sets.specs.Events.{event_set_of, renaming_pairs_of}
-use Rattle.csp_event_sets.specs.declared.event_set.EventSet.{EventSet}
+use Rattle.csp_events.specs.Events.{event_set_of, renaming_pairs_of}
+use Rattle.csp_events.specs.declared.event_set.EventSet.{EventSet}
 use Rattle.csp_steps.specs.declared.composition.Composition.{Composition}
 use Rattle.csp_steps.specs.declared.composition.Composition.TheVariants as composition
 use Rattle.csp_steps.specs.declared.composition.Frame.{Frame}

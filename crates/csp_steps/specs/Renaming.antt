@@ -3,8 +3,8 @@ use Rattle.std.specs.Prelude.{List, Option}
 use Rattle.theory_syntax.specs.Process.{Process}
 use Rattle.theory_syntax.specs.Value.{Action, Event}
 use Rattle.theory_semantics.specs.Meaning.Events.{or_itself}
-use Rattle.csp_event_tests.specs.declared.images.Images.{Images}
-use Rattle.csp_event_tests.specs.Imaging.{found_images}
+use Rattle.csp_events.specs.declared.images.Images.{Images}
+use Rattle.csp_events.specs.Imaging.{found_images}
 use Rattle.csp_steps.specs.declared.composition.Frame.{Frame}
 use Rattle.csp_steps.specs.Answering.{Answered}
 use Rattle.csp_steps.specs.Composing.{rename_answer, under_frame}

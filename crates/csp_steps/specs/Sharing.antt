@@ -6,12 +6,12 @@ use Rattle.theory_syntax.specs.Value.{Action, Event, Tau, Tick}
 use Rattle.theory_syntax.specs.Process.{Process, Omega}
 use Rattle.theory_semantics.specs.Meaning.Evaluation.{Cause}
 use Rattle.theory_semantics.specs.Meaning.Events.{event_test}
-use Rattle.csp_event_sets.specs.Events.{event_set_of}
-use Rattle.csp_event_sets.specs.declared.event_set.EventSet.{EventSet}
+use Rattle.csp_events.specs.Events.{event_set_of}
+use Rattle.csp_events.specs.declared.event_set.EventSet.{EventSet}
 use Rattle.csp_term.specs.Script.{script_of_parts}
 use Rattle.csp_term.specs.declared.script.ScriptParts.{ScriptParts}
 use Rattle.csp_expression.specs.Agreement.{Agrees}
-use Rattle.csp_event_tests.specs.declared.event_test.EventTest.{EventTest}
+use Rattle.csp_events.specs.declared.event_test.EventTest.{EventTest}
 use Rattle.csp_expression.specs.declared.no_value.NoValue.{NoValue}
 use Rattle.csp_steps.specs.declared.composition.Composition.{Composition}
 use Rattle.csp_steps.specs.declared.context.Context.{Context}
@@ -24,7 +24,7 @@ use Rattle.csp_steps.specs.declared.sharing.Sharing.{Sharing}
 use Rattle.csp_steps.specs.declared.sharing.Sharing.TheVariants as sharing
 use Rattle.csp_steps.specs.Answering.{Answered, target_of}
 use Rattle.csp_steps.specs.Composing.{answers_of_sides, around_of, composition_of, parallel_answers, stay_answer}
-use Rattle.csp_event_tests.specs.Testing.{AreSorted, IsTestOf, listed_in, test_of}
+use Rattle.csp_events.specs.Testing.{AreSorted, IsTestOf, listed_in, test_of}
 
 -- What the sets list rises, so that an event is found by halving.
 abbrev pub IsSearchable : {A : Type 0} → Sharing A → Type 0

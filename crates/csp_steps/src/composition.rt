@@ -6,7 +6,7 @@ ghost use Rattle.csp_steps.specs.Answering.{target_of, within_limits};
 ghost use Rattle.csp_steps.specs.Composing.{composition_of, frame_of, under_both, under_limits};
 
 use crate::rule_step::Target;
-use csp_event_sets::{EventSet, RenamingPair};
+use csp_events::{EventSet, RenamingPair};
 use csp_term::{AllocHandle, Memory, ProcessOperator, Term, TermForm, copy_all};
 
 /// An operator of two processes, with its sets of events.

@@ -5,15 +5,14 @@ ghost use Rattle.theory_syntax.specs.Process as pure;
 ghost use Rattle.theory_syntax.specs.Process.{Hiding};
 ghost use Rattle.theory_syntax.specs.Value.{Ev, Tau};
 ghost use Rattle.csp_value.specs.Action.{action_of, event_of};
-ghost use Rattle.csp_event_sets.specs.Events.{event_set_of};
+ghost use Rattle.csp_events.specs.Events.{event_set_of};
 ghost use Rattle.csp_steps.specs.Answering.{AnswersIn, answered_of, answers_of, target_of};
 ghost use Rattle.csp_steps.specs.Composing.{each_answer, hide_answer, one_answer, under_frame};
-ghost use Rattle.csp_event_tests.specs.Testing.{AreSorted, listed_in, test_of};
+ghost use Rattle.csp_events.specs.Testing.{AreSorted, listed_in, test_of};
 
 use crate::composition::Frame;
 use crate::rule_step::{RuleStep, Target};
-use csp_event_sets::EventSet;
-use csp_event_tests::EventTest;
+use csp_events::{EventSet, EventTest};
 use csp_expression::NoValue;
 use csp_term::{Action, AllocHandle, Event, Memory, ScriptParts};
 
@@ -73,7 +72,7 @@ pub fn by_body<A: AllocHandle>(
 ) -> Result<Vec<RuleStep<A>, A>, NoValue>
     ensures { (p : pure.Process) → AnswersIn script.now p body → AnswersIn script.now (Hiding p (event_set_of hidden)) result }
 {
-    let test = EventTest::of(alloc, script, &hidden)?;
+    let test = script.event_test(alloc, &hidden)?;
     let body = body?;
     let frame = Frame::Hiding(hidden);
     let steps = without(alloc, &frame, &test, body);

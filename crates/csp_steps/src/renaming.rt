@@ -5,16 +5,15 @@ ghost use Rattle.theory_syntax.specs.Process as pure;
 ghost use Rattle.theory_syntax.specs.Process.{Renaming};
 ghost use Rattle.theory_syntax.specs.Value.{Ev};
 ghost use Rattle.csp_value.specs.Action.{event_of};
-ghost use Rattle.csp_event_sets.specs.Events.{renaming_pairs_of};
+ghost use Rattle.csp_events.specs.Events.{renaming_pairs_of};
 ghost use Rattle.csp_steps.specs.Answering.{AnswersIn, answers_of, target_of};
 ghost use Rattle.csp_steps.specs.Composing.{each_answer, image_answers, one_answer};
 ghost use Rattle.csp_steps.specs.Renaming.{renamed_answer};
-ghost use Rattle.csp_event_tests.specs.Imaging.{PairsRise};
+ghost use Rattle.csp_events.specs.Imaging.{PairsRise};
 
 use crate::composition::Frame;
 use crate::rule_step::{RuleStep, Target, add_step};
-use csp_event_sets::RenamingPair;
-use csp_event_tests::Images;
+use csp_events::{Images, RenamingPair};
 use csp_expression::NoValue;
 use csp_term::{Action, AllocHandle, Event, Memory, ScriptParts};
 
@@ -80,7 +79,7 @@ pub fn by_body<A: AllocHandle>(
 ) -> Result<Vec<RuleStep<A>, A>, NoValue>
     ensures { (p : pure.Process) → AnswersIn script.now p body → AnswersIn script.now (Renaming p (renaming_pairs_of pairs.items)) result }
 {
-    let images = Images::of(alloc, script, &pairs)?;
+    let images = script.images(alloc, &pairs)?;
     let body = body?;
     let frame = Frame::Renaming(pairs);
     let steps = renamed(alloc, &frame, &images, body);

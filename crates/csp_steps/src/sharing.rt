@@ -5,7 +5,7 @@ ghost use Rattle.csp_value.specs.Action.{event_of};
 ghost use Rattle.csp_steps.specs.Sharing.{IsSearchable, is_free, is_shared};
 
 use crate::context::Hand;
-use csp_event_tests::EventTest;
+use csp_events::EventTest;
 use csp_term::{AllocHandle, Event};
 
 /// What two sides share.

@@ -29,7 +29,7 @@ use Rattle.csp_expression.specs.declared.name.Name.{Name}
 use Rattle.csp_term.specs.declared.assertion.Assertion.{Assertion}
 use Rattle.csp_term.specs.declared.property.Property.{Property}
 use Rattle.csp_term.specs.declared.property.Property.TheVariants as property
-use Rattle.csp_term.specs.declared.script.Channel.{Channel}
+use Rattle.csp_events.specs.declared.channel.Channel.{Channel}
 use Rattle.csp_term.specs.declared.script.Equation.{Equation}
 use Rattle.csp_value.specs.declared.field_set.FieldSet.{FieldSet}
 use Rattle.csp_value.specs.contracts.field_set.FieldSetPartialEq.TheImpl as field_impl
@@ -40,7 +40,7 @@ use Rattle.csp_term.specs.contracts.property.PropertyPartialEq.TheImpl as proper
 use Rattle.csp_expression.specs.contracts.types.ConstructorsPartialEq.TheImpl as constructors_impl
 use Rattle.csp_expression.specs.contracts.types.ConstructorFieldsPartialEq.TheImpl as constructor_fields_impl
 use Rattle.csp_expression.specs.contracts.types.TypeTablePartialEq.TheImpl as table_impl
-use Rattle.csp_term.specs.contracts.script.ChannelPartialEq.TheImpl as channel_impl
+use Rattle.csp_events.specs.contracts.channel.ChannelPartialEq.TheImpl as channel_impl
 use Rattle.csp_term.specs.contracts.script.ConstructorPartialEq.TheImpl as constructor_impl
 use Rattle.csp_term.specs.contracts.script.EquationPartialEq.TheImpl as equation_impl
 use Rattle.csp_term.specs.contracts.script.ScriptPartsPartialEq.TheImpl as script_impl
@@ -49,8 +49,9 @@ use Rattle.csp_term.specs.contracts.term.TermOrd.TheImpl.Laws as term_laws
 use Rattle.csp_term.specs.Term.{process_of}
 use Rattle.csp_expression.specs.Evaluation.{constructors_of, members_listed, numbers_up, table_of}
 use Rattle.csp_value.specs.Fields.{field_values, sets_of}
-use Rattle.csp_term.specs.Script.{assertion_of, channel_of, equation_of, property_of, script_of_parts}
-use Rattle.csp_term.proofs.Channels.{same_channels, same_names, same_sets}
+use Rattle.csp_events.specs.Channels.{channel_of}
+use Rattle.csp_term.specs.Script.{assertion_of, equation_of, property_of, script_of_parts}
+use Rattle.csp_events.proofs.Channels.{same_channels, same_names, same_sets}
 use Rattle.csp_term.proofs.TermOrder.{cmp, ordered}
 use Rattle.csp_value.proofs.Sameness.{Tells, nat_tells, text_tells, lists_tell}
 use Rattle.csp_value.proofs.Forms.{unlisted}

@@ -10,8 +10,8 @@ use Rattle.theory_syntax.specs.Operators.{binary_process, replicated_process}
 use Rattle.csp_value.specs.declared.name.ChannelId.{ChannelId}
 use Rattle.csp_term.specs.declared.name.EquationId.{EquationId}
 use Rattle.csp_expression.specs.declared.name.Name.{Name}
-use Rattle.csp_event_sets.specs.declared.event_set.EventSet.{EventSet}
-use Rattle.csp_event_sets.specs.declared.renaming_pair.RenamingPair.{RenamingPair}
+use Rattle.csp_events.specs.declared.event_set.EventSet.{EventSet}
+use Rattle.csp_events.specs.declared.renaming_pair.RenamingPair.{RenamingPair}
 use Rattle.csp_expression.specs.declared.expr.Expr.{Expr}
 use Rattle.csp_term.specs.declared.field.Field.{Field}
 use Rattle.csp_term.specs.declared.term.Term.{Term, out-Term, roll-Term}
@@ -20,7 +20,7 @@ use Rattle.csp_term.specs.declared.term.TermForm.TheFolds.{fold-roll-Term, fold-
 use Rattle.csp_term.specs.declared.term.TermForm.TheVariants as views
 use Rattle.csp_term.specs.declared.term.TermForm.TheOpen as layer
 use Rattle.csp_expression.specs.Expression.{expression_of, expressions_of}
-use Rattle.csp_event_sets.specs.Events.{event_set_of, renaming_pairs_of}
+use Rattle.csp_events.specs.Events.{event_set_of, renaming_pairs_of}
 use Rattle.csp_term.specs.Field.{fields_of}
 use Rattle.csp_term.specs.Term.{process_of, process_of_form, term_step, form_step}
 

@@ -3,7 +3,6 @@ pub mod FieldOrder
 pub mod OperatorForms
 pub mod TermOrder
 pub mod TermPutting
-pub mod Channels
 pub mod Equality
 pub mod Ties
 pub mod FieldMeasures

@@ -20,8 +20,8 @@ use Rattle.theory_syntax.specs.Operators.{binary_process, replicated_process}
 use Rattle.csp_value.specs.declared.name.ChannelId.{ChannelId}
 use Rattle.csp_term.specs.declared.name.EquationId.{EquationId}
 use Rattle.csp_expression.specs.declared.name.Name.{Name}
-use Rattle.csp_event_sets.specs.declared.event_set.EventSet.{EventSet}
-use Rattle.csp_event_sets.specs.declared.renaming_pair.RenamingPair.{RenamingPair}
+use Rattle.csp_events.specs.declared.event_set.EventSet.{EventSet}
+use Rattle.csp_events.specs.declared.renaming_pair.RenamingPair.{RenamingPair}
 use Rattle.csp_expression.specs.declared.expr.Expr.{Expr}
 use Rattle.csp_term.specs.declared.field.Field.{Field}
 use Rattle.csp_term.specs.declared.term.Term.{Term, out-Term, roll-Term, out-roll-Term}
@@ -35,12 +35,12 @@ use Rattle.csp_term.specs.contracts.term.TermOrd.TheImpl.Laws as term_laws
 use Rattle.csp_term.specs.contracts.term.TermFormOrd.TheImpl as form_impl
 use Rattle.csp_term.specs.contracts.term.TermFormOrd.TheImpl.Laws as laws
 use Rattle.csp_term.specs.contracts.term.TermForm as contract
-use Rattle.csp_event_sets.specs.Events.{event_set_of, renaming_pairs_of}
+use Rattle.csp_events.specs.Events.{event_set_of, renaming_pairs_of}
 use Rattle.csp_expression.specs.Expression.{expression_of, expressions_of}
 use Rattle.csp_term.specs.Field.{fields_of}
 use Rattle.csp_term.specs.Term.{process_of, process_of_form}
-use Rattle.csp_event_sets.proofs.Apart.{processes}
-use Rattle.csp_event_sets.proofs.EventOrder.{cmp as event_set_order, ordered as event_set_ordered, pair_order, pairs_ordered}
+use Rattle.csp_events.proofs.Apart.{processes}
+use Rattle.csp_events.proofs.EventOrder.{cmp as event_set_order, ordered as event_set_ordered, pair_order, pairs_ordered}
 use Rattle.csp_expression.proofs.ExpressionOrder.{cmp as expression_order, ordered as expression_ordered, lists_ordered as expressions_ordered}
 use Rattle.csp_term.proofs.FieldOrder.{field_order, fields_ordered}
 use Rattle.csp_term.proofs.Forms.{of_form, of_stop, of_skip, of_omega_term, of_call, of_prefix, of_guard, of_conditional, of_binary, of_generalised, of_alphabetised, of_hiding, of_renaming, of_replicated, of_sliding}

@@ -1,15 +1,13 @@
 -- The property, the assertion, the equation and the script that those of the code stand for.
-use Rattle.std.specs.Prelude.{ℕ, List, map, IfSome}
+use Rattle.std.specs.Prelude.{map, IfSome}
 use Rattle.std.specs.String.{string_bytes}
-use Rattle.theory_syntax.specs.Value.{Value}
 use Rattle.theory_syntax.specs.Process as pure
 use Rattle.theory_syntax.specs.Models.{model_of}
 use Rattle.theory_semantics.specs.Kinds.Scripts.{IsTermOf}
-use Rattle.csp_value.specs.Fields.{sets_of}
 use Rattle.csp_term.specs.declared.assertion.Assertion.{Assertion}
 use Rattle.csp_term.specs.declared.property.Property.{Property}
 use Rattle.csp_term.specs.declared.property.Property.TheVariants as property
-use Rattle.csp_term.specs.declared.script.Channel.{Channel}
+use Rattle.csp_events.specs.Channels.{field_sets_of}
 use Rattle.csp_term.specs.declared.script.Equation.{Equation}
 use Rattle.csp_term.specs.declared.script.ScriptParts.{ScriptParts}
 use Rattle.csp_expression.specs.Evaluation.{table_of}
@@ -25,14 +23,6 @@ assertion_of a = record { negated = a.negated; property = property_of a.property
 
 abbrev pub equation_of : {A : Type 0} → Equation A → pure.Equation
 equation_of e = record { parameters = map (λ n. n.0) e.parameters.items; body = process_of e.body }
-
--- the field sets of a channel
-abbrev pub field_sets_of : {A : Type 0} → Channel A → List (List Value)
-field_sets_of c = sets_of c.fields.items
-
--- a channel's spelling, and its field sets
-abbrev pub channel_of : {A : Type 0} → Channel A → List ℕ × List (List Value)
-channel_of c = (string_bytes c.spelling, field_sets_of c)
 
 -- the script that has these parts
 abbrev pub script_of_parts : {A : Type 0} → ScriptParts A → pure.Script

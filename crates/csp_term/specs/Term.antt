@@ -9,7 +9,7 @@ use Rattle.csp_term.specs.declared.term.TermForm.TheOpen as layer
 use Rattle.csp_term.specs.declared.term.TermForm.TheFolds.{fold-Term, fold-TermForm}
 use Rattle.csp_expression.specs.Expression.{expression_of, expressions_of}
 use Rattle.csp_term.specs.Field.{fields_of}
-use Rattle.csp_event_sets.specs.Events.{event_set_of, renaming_pairs_of}
+use Rattle.csp_events.specs.Events.{event_set_of, renaming_pairs_of}
 
 -- one layer, with the processes of the parts in their places
 abbrev pub term_step : {A : Type 0} → layer.Term-F A Process Process → Process

@@ -4,10 +4,12 @@ ghost use Rattle.std.specs.Prelude.{◌≡◌, All, IfOk, map};
 ghost use Rattle.std.specs.String.{string_bytes};
 ghost use Rattle.theory_semantics.specs.Kinds.Scripts.{IsCheckedScript};
 ghost use Rattle.csp_expression.specs.Evaluation.{table_of};
-ghost use Rattle.csp_term.specs.Script.{HasSidesOf, assertion_of, equation_of, field_sets_of, script_of, script_of_parts};
+ghost use Rattle.csp_events.specs.Channels.{field_sets_of};
+ghost use Rattle.csp_term.specs.Script.{HasSidesOf, assertion_of, equation_of, script_of, script_of_parts};
 
 use crate::assertion::Assertion;
-use crate::script::{Channel, Constructor, Equation, ScriptParts};
+use crate::script::{Constructor, Equation, ScriptParts};
+use csp_events::Channel;
 use csp_expression::TypeTable;
 use csp_value::{Memory, TryCopy};
 use std::alloc::Allocator;

@@ -4,11 +4,11 @@ ghost use Rattle.std.specs.Prelude.{◌≡◌, IfOk};
 ghost use Rattle.theory_syntax.specs.Process.{Hiding, Renaming};
 ghost use Rattle.theory_semantics.specs.Meaning.Substitution.{put, put_event_set};
 ghost use Rattle.csp_expression.specs.Bindings.{bindings_of};
-ghost use Rattle.csp_event_sets.specs.Events.{event_set_of, renaming_pairs_of};
+ghost use Rattle.csp_events.specs.Events.{event_set_of, renaming_pairs_of};
 ghost use Rattle.csp_term.specs.Term.{process_of, process_of_form};
 
 use crate::term::{Term, TermForm};
-use csp_event_sets::{EventSet, RenamingPair, put_in_pairs};
+use csp_events::{EventSet, RenamingPair, put_in_pairs};
 use csp_expression::Binding;
 use csp_value::Memory;
 use std::alloc::Allocator;

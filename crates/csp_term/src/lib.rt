@@ -9,6 +9,7 @@
 
 mod assertion;
 mod checked_script;
+mod declared;
 mod field;
 mod hiding;
 pub mod laws;
@@ -24,13 +25,14 @@ mod term;
 
 pub use assertion::Assertion;
 pub use checked_script::Script;
+pub use csp_events::Channel;
 pub use csp_expression::{Cause, DatatypeId, Fault, Name, NametypeId};
 pub use csp_value::{Action, AllocHandle, ChannelId, Event, Memory, TryCopy, copy_all};
 pub use field::Field;
 pub use measures::{depth_of, size_of};
 pub use name::EquationId;
 pub use property::Property;
-pub use script::{Channel, Constructor, Equation, ScriptParts};
+pub use script::{Constructor, Equation, ScriptParts};
 pub use substitution::{TermFault, bind};
 pub use term::{Term, TermForm};
 pub use theory_syntax::{Model, ProcessOperator, ReplicatedOperator};

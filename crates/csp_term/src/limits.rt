@@ -9,7 +9,7 @@ ghost use Rattle.csp_term.specs.Term.{process_of, process_of_form};
 
 use crate::field::Field;
 use crate::term::{Term, TermForm};
-use csp_event_sets::{are_pairs_within_depth, room_left_by_pairs};
+use csp_events::{are_pairs_within_depth, room_left_by_pairs};
 use csp_expression::{are_within_depth, room_left_by};
 use std::alloc::Allocator;
 

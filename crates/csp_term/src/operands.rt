@@ -5,13 +5,13 @@ ghost use Rattle.std.specs.Prelude.{◌≡◌, IfOk};
 ghost use Rattle.theory_syntax.specs.Process.{AlphabetisedParallel, GeneralisedParallel, If, SlidingChoice};
 ghost use Rattle.theory_syntax.specs.Operators.{binary_process};
 ghost use Rattle.theory_semantics.specs.Meaning.Substitution.{put, put_event_set, put_expression};
-ghost use Rattle.csp_event_sets.specs.Events.{event_set_of};
+ghost use Rattle.csp_events.specs.Events.{event_set_of};
 ghost use Rattle.csp_expression.specs.Bindings.{bindings_of};
 ghost use Rattle.csp_expression.specs.Expression.{expression_of};
 ghost use Rattle.csp_term.specs.Term.{process_of, process_of_form};
 
 use crate::term::{Term, TermForm};
-use csp_event_sets::EventSet;
+use csp_events::EventSet;
 use csp_expression::{Binding, Expr};
 use csp_value::Memory;
 use std::alloc::Allocator;

@@ -6,7 +6,7 @@ ghost use Rattle.csp_term.specs.Term.{process_of, process_of_form};
 
 use crate::field::Field;
 use crate::name::EquationId;
-use csp_event_sets::{EventSet, RenamingPair};
+use csp_events::{EventSet, RenamingPair};
 use csp_expression::{Expr, Name};
 use csp_value::{ChannelId, Memory};
 use std::alloc::Allocator;

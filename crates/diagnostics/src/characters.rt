@@ -8,13 +8,15 @@ use csp_lex::Place;
 
 /// A character, and what may be meant by it.
 #[derive(Clone, Copy)]
-pub(crate) struct CharacterAdvice {
-    pub(crate) character: char,
-    pub(crate) text: &'static str,
+pub struct CharacterAdvice {
+    /// The character.
+    pub character: char,
+    /// What may be meant by it.
+    pub text: &'static str,
 }
 
 /// What may be meant by characters that begin no token.
-pub(crate) const CHARACTERS: &[CharacterAdvice] = &[
+pub const CHARACTERS: &[CharacterAdvice] = &[
     CharacterAdvice {
         character: '\u{feff}',
         text: "the file begins with a byte order mark, which is no part of a script: save it without one",

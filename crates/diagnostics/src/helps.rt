@@ -2,12 +2,11 @@
 
 use crate::characters::{CHARACTERS, character_advice, character_at};
 use crate::declared_names::declared_names;
+use crate::fault_advice::advice_at;
 use crate::faults::{Fault, Refusal};
-use crate::grammar_tables::{LOOK_BACK, end_table, mixed_table, nested_table, unexpected_tables};
-use crate::kind_tables::{BAD_SET, TOO_MANY, TWICE, WRONG_COUNT, unknown_tables, wrong_kind_table};
+use crate::grammar_tables::LOOK_BACK;
 use crate::notes::{bracket_note, end_note, name_note};
 use crate::places::{Surroundings, surroundings_at};
-use crate::tables::{Advice, first_advice};
 use crate::texts::readable;
 use csp_lex::{Place, TextFault, TokenList, tokens};
 use csp_names::KindFault;
@@ -69,7 +68,7 @@ fn grammar_help<A: Allocator + Copy>(
     };
     let around = surroundings_at(alloc, &list.tokens, place)?;
     let note = end_note(alloc, fault, around.before)?;
-    let help = advice_or_back(alloc, grammar_advice(fault, &around), &around)?;
+    let help = advice_or_back(alloc, advice_at(Fault::Grammar(fault), &around), &around)?;
     format!(in alloc; "{note}{help}")
 }
 
@@ -105,7 +104,7 @@ fn kind_help<A: Allocator + Copy>(
     };
     let around = surroundings_at(alloc, &list.tokens, place)?;
     let note = note_at(alloc, fault, &list, &around)?;
-    let help = help_line(alloc, kind_advice(fault, &around))?;
+    let help = help_line(alloc, advice_at(Fault::Kinds(fault), &around))?;
     format!(in alloc; "{note}{help}")
 }
 
@@ -147,36 +146,4 @@ fn help_line<A: Allocator>(
         Some(text) => format!(in alloc; "help: {text}\n"),
         None => Ok(String::new(alloc)),
     }
-}
-
-/// What the tables have for the tokens around a place.
-fn grammar_advice(fault: GrammarFault, around: &Surroundings<'_>) -> Option<&'static str> {
-    match fault {
-        GrammarFault::UnexpectedToken => first_of(&unexpected_tables(), around),
-        GrammarFault::Nested => first_advice(nested_table(), around),
-        GrammarFault::UnexpectedEnd => first_advice(end_table(), around),
-        GrammarFault::MixedOperators => first_advice(mixed_table(), around),
-    }
-}
-
-/// What the tables have for a name, a set or a kind that is wrong.
-fn kind_advice(fault: KindFault, around: &Surroundings<'_>) -> Option<&'static str> {
-    match fault {
-        KindFault::UnknownName => first_of(&unknown_tables(), around),
-        KindFault::DeclaredTwice => first_advice(TWICE, around),
-        KindFault::WrongKind => first_advice(wrong_kind_table(), around),
-        KindFault::WrongCount => first_advice(WRONG_COUNT, around),
-        KindFault::BadFieldSet => first_advice(BAD_SET, around),
-        KindFault::TooManyEvents => first_advice(TOO_MANY, around),
-    }
-}
-
-/// What the first of the tables that has something has for the tokens around a place.
-fn first_of(tables: &[&'static [Advice]], around: &Surroundings<'_>) -> Option<&'static str> {
-    for table in tables {
-        if let Some(text) = first_advice(*table, around) {
-            return Some(text);
-        }
-    }
-    None
 }

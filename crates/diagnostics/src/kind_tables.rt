@@ -1,8 +1,8 @@
 //! What may be meant where a name, a set or a kind is wrong, by the tokens around the place.
 
-mod unknown_processes;
-mod unknown_values;
-mod wrong_kinds;
+pub(crate) mod unknown_processes;
+pub(crate) mod unknown_values;
+pub(crate) mod wrong_kinds;
 
 use crate::conditions::Condition::{Before, HereName};
 use crate::tables::Advice;
@@ -36,13 +36,3 @@ pub(crate) const TOO_MANY: &[Advice] = &[Advice {
     when: &[],
     text: "a channel has as many events as the sizes of its fields' sets multiplied: make the sets smaller",
 }];
-
-/// For a name that means nothing. The first table that has something counts.
-pub(crate) fn unknown_tables() -> [&'static [Advice]; 2] {
-    [unknown_processes::table(), unknown_values::table()]
-}
-
-/// For what is of another kind than its place asks for.
-pub(crate) fn wrong_kind_table() -> &'static [Advice] {
-    wrong_kinds::table()
-}

@@ -16,6 +16,7 @@ mod characters;
 mod conditions;
 mod declared_names;
 mod excerpts;
+mod fault_advice;
 mod faults;
 mod grammar_tables;
 mod helps;
@@ -27,8 +28,10 @@ mod places;
 mod tables;
 mod texts;
 
+pub use characters::{CHARACTERS, CharacterAdvice};
 pub use conditions::Condition;
 pub use excerpts::excerpt;
+pub use fault_advice::{ADVICE, FaultAdvice};
 pub use faults::{Fault, Refusal, refusal_list};
 pub use messages::message;
 pub use nearest_names::nearest;

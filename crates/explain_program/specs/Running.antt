@@ -7,6 +7,7 @@ use Rattle.program.specs.Refusal.{refusal_line}
 use Rattle.program.specs.Running.{IsCause, IsGiven}
 use Rattle.program.specs.declared.refusal.Refusal.{Refusal}
 use Rattle.program.specs.declared.refusal.Refusal.TheVariants as refusal
+use Rattle.program.specs.declared.stack.Stack.{Stack}
 use Rattle.explain_program.specs.Asking.{Request, AskForExplanation, AskForText}
 use Rattle.explain_program.specs.Explaining.{IsBegun, IsExplained, LacksAssertion}
 use Rattle.explain_program.specs.Refusals.{TellsRefusal}
@@ -31,9 +32,9 @@ pub data IsServed (may_hold : List ℕ → List ℕ → Type 0) (words : List (L
   explained : (request : Request) → AskForExplanation words request → IsExplained may_hold request old new failed status → IsServed may_hold words old new failed status
 
 -- why the request is not met
-abbrev pub IsStopCause : (List ℕ → List ℕ → Type 0) → (List ℕ → Type 0) → Request → Stop → Type 0
-IsStopCause may_hold may_lack request (stop.Refused why) = IsCause may_hold may_lack request.name why
-IsStopCause may_hold may_lack request stop.NoAssertion = LacksAssertion may_hold request
+abbrev pub IsStopCause : (List ℕ → List ℕ → Type 0) → (List ℕ → Type 0) → Stack → Request → Stop → Type 0
+IsStopCause may_hold may_lack stack request (stop.Refused why) = IsCause may_hold may_lack stack request.name why
+IsStopCause may_hold may_lack stack request stop.NoAssertion = LacksAssertion may_hold request
 
 -- What the output is left with: nothing, or where memory was refused or the output failed in between, a beginning of the
 -- explanations.
@@ -48,16 +49,16 @@ pub data TellsStop (may_hold : List ℕ → List ℕ → Type 0) (name : List �
   of_text : (refused : Refusal) (bytes : List ℕ) → why ≡ stop.Refused refused → IsBeginning (may_hold name) bytes → TellsRefusal name bytes refused old new failed → TellsStop may_hold name why old new failed
 
 -- A request is not met, with the cause, which the one sink is told, and the other is left so.
-pub record IsStopped {S : Type 0} (may_hold : List ℕ → List ℕ → Type 0) (may_lack : List ℕ → Type 0) (request : Request) (taken : S → Option (List ℕ)) (has_failed : S → Bool) (old new : S) (told_old told_new : Option (List ℕ)) (failed : Bool) : Type 0 where
+pub record IsStopped {S : Type 0} (may_hold : List ℕ → List ℕ → Type 0) (may_lack : List ℕ → Type 0) (stack : Stack) (request : Request) (taken : S → Option (List ℕ)) (has_failed : S → Bool) (old new : S) (told_old told_new : Option (List ℕ)) (failed : Bool) : Type 0 where
   pub why : Stop
-  pub cause : IsStopCause may_hold may_lack request why
+  pub cause : IsStopCause may_hold may_lack stack request why
   pub output : Leaves may_hold request why taken has_failed old new
   pub told : TellsStop may_hold request.name why told_old told_new failed
 
 -- A run is refused: its words are wrong, and the command line's own text was given to the error output; memory was
 -- refused for the words; the text that they ask for was cut off; or what they ask for is stopped.
-pub data IsRefused {S : Type 0} (may_hold : List ℕ → List ℕ → Type 0) (may_lack : List ℕ → Type 0) (words : List (List ℕ)) (taken : S → Option (List ℕ)) (has_failed : S → Bool) (old new : S) (told_old told_new : Option (List ℕ)) (failed : Bool) : Type 0 where
-  wrong_words : (text : List ℕ) → AreWrong words → new ≡ old → IsGiven told_old told_new failed text → IsRefused may_hold may_lack words taken has_failed old new told_old told_new failed
-  no_memory : new ≡ old → IsGiven told_old told_new failed (refusal_line refusal.Memory) → IsRefused may_hold may_lack words taken has_failed old new told_old told_new failed
-  cut_text : (text : List ℕ) → AskForText words → Breaks (taken old) (taken new) (has_failed new) text → IsGiven told_old told_new failed (refusal_line refusal.Output) → IsRefused may_hold may_lack words taken has_failed old new told_old told_new failed
-  of_request : (request : Request) → AskForExplanation words request → IsStopped may_hold may_lack request taken has_failed old new told_old told_new failed → IsRefused may_hold may_lack words taken has_failed old new told_old told_new failed
+pub data IsRefused {S : Type 0} (may_hold : List ℕ → List ℕ → Type 0) (may_lack : List ℕ → Type 0) (stack : Stack) (words : List (List ℕ)) (taken : S → Option (List ℕ)) (has_failed : S → Bool) (old new : S) (told_old told_new : Option (List ℕ)) (failed : Bool) : Type 0 where
+  wrong_words : (text : List ℕ) → AreWrong words → new ≡ old → IsGiven told_old told_new failed text → IsRefused may_hold may_lack stack words taken has_failed old new told_old told_new failed
+  no_memory : new ≡ old → IsGiven told_old told_new failed (refusal_line refusal.Memory) → IsRefused may_hold may_lack stack words taken has_failed old new told_old told_new failed
+  cut_text : (text : List ℕ) → AskForText words → Breaks (taken old) (taken new) (has_failed new) text → IsGiven told_old told_new failed (refusal_line refusal.Output) → IsRefused may_hold may_lack stack words taken has_failed old new told_old told_new failed
+  of_request : (request : Request) → AskForExplanation words request → IsStopped may_hold may_lack stack request taken has_failed old new told_old told_new failed → IsRefused may_hold may_lack stack words taken has_failed old new told_old told_new failed

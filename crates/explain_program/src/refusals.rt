@@ -38,7 +38,7 @@ fn refused_text(why: Refusal) -> Option<diagnostics::Refusal>
         Refusal::Text { fault, place } => (Fault::Text(fault), place),
         Refusal::Grammar { fault, place } => (Fault::Grammar(fault), place),
         Refusal::Kinds { fault, place } => (Fault::Kinds(fault), place),
-        Refusal::File | Refusal::Memory | Refusal::Output => return None,
+        Refusal::File | Refusal::Memory | Refusal::Thread | Refusal::Output => return None,
     };
     Some(diagnostics::Refusal { fault, place })
 }

@@ -12,10 +12,9 @@ use crate::refusals::refuse_text;
 use crate::stop::report_stop;
 use csp_term::AllocHandle;
 use explain_settings::Settings;
-use program::{Files, Refusal, refuse, refuse_words, show};
+use program::{Files, Refusal, Resources, refuse, refuse_words, show};
 use report::Sink;
 use settings::CommandLineFault;
-use std::alloc::Global;
 use std::sync::Wait;
 use std::thread::Threads;
 
@@ -24,9 +23,8 @@ use std::thread::Threads;
 /// refused, of a script in words. Where the words ask for the help or the version, this text goes to `out`.
 ///
 /// Answers the status: 3 where anything was refused, else 2 where an assertion has no answer within the limits, else 1
-/// where one fails, else 0. The words are looked at first, then the file, the script, the number of the assertion, and
-/// then each assertion in turn. A failure of `err` changes nothing. The words are read with the memory of
-/// `command_line`, and all else with that of `alloc`. Workers are started by `rt`.
+/// where one fails, else 0. The words are looked at first, then the file, whether its text is too long for the stack, the
+/// script, the number of the assertion, and then each assertion in turn. A failure of `err` changes nothing.
 pub fn run<
     'w,
     A: AllocHandle + Send + Sync,
@@ -35,9 +33,7 @@ pub fn run<
     O: Sink,
     E: Sink,
 >(
-    command_line: Global,
-    alloc: A,
-    rt: &R,
+    resources: &Resources<'_, A, R>,
     words: &'w [&'w str],
     files: &mut F,
     out: &mut O,
@@ -48,10 +44,10 @@ pub fn run<
     ensures status { result ≤ 3 }
     ensures served { result < 3 → IsServed (F.may_hold files.old) (texts_of words.entry.now) (O.taken out.old) (O.taken out.new) (O.has_failed out.new) result }
     ensures silent { result < 3 → err.new ≡ err.old }
-    ensures refused { result ≡ 3 → IsRefused (F.may_hold files.old) (F.may_lack files.old) (texts_of words.entry.now) O.taken O.has_failed out.old out.new (E.taken err.old) (E.taken err.new) (E.has_failed err.new) }
+    ensures refused { result ≡ 3 → IsRefused (F.may_hold files.old) (F.may_lack files.old) resources.now.stack (texts_of words.entry.now) O.taken O.has_failed out.old out.new (E.taken err.old) (E.taken err.new) (E.has_failed err.new) }
 {
-    match explain_settings::read(command_line, words) {
-        Ok(settings) => explain(alloc, rt, &settings, files, out, err),
+    match explain_settings::read(resources.command_line, words) {
+        Ok(settings) => explain(resources, &settings, files, out, err),
         Err(CommandLineFault::Help(text)) => show(text.as_str(), out, err),
         Err(CommandLineFault::Version(text)) => show(text.as_str(), out, err),
         Err(CommandLineFault::Refused(text)) => refuse_words(text.as_str(), err),
@@ -61,8 +57,7 @@ pub fn run<
 
 // Explains what the settings ask for.
 fn explain<A: AllocHandle + Send + Sync, R: Threads + Wait + Sync, F: Files<A>, O: Sink, E: Sink>(
-    alloc: A,
-    rt: &R,
+    resources: &Resources<'_, A, R>,
     settings: &Settings<'_>,
     files: &mut F,
     out: &mut O,
@@ -73,12 +68,16 @@ fn explain<A: AllocHandle + Send + Sync, R: Threads + Wait + Sync, F: Files<A>, 
     ensures status { result ≤ 3 }
     ensures explained { result < 3 → IsExplained (F.may_hold files.old) (request_of settings.now) (O.taken out.old) (O.taken out.new) (O.has_failed out.new) result }
     ensures silent { result < 3 → err.new ≡ err.old }
-    ensures stopped { result ≡ 3 → IsStopped (F.may_hold files.old) (F.may_lack files.old) (request_of settings.now) O.taken O.has_failed out.old out.new (E.taken err.old) (E.taken err.new) (E.has_failed err.new) }
+    ensures stopped { result ≡ 3 → IsStopped (F.may_hold files.old) (F.may_lack files.old) resources.now.stack (request_of settings.now) O.taken O.has_failed out.old out.new (E.taken err.old) (E.taken err.new) (E.has_failed err.new) }
 {
     let text = match files.read(settings.file) {
         Ok(text) => text,
         Err(fault) => return refuse(Refusal::from(fault), err),
     };
+    if !resources.stack.takes(text.len()) {
+        return refuse(Refusal::Thread, err);
+    }
+    let (alloc, rt) = (resources.alloc, resources.rt);
     let named = match read(alloc, &text) {
         Ok(named) => named,
         Err(why) => return refuse_text(alloc, settings.file, &text, why, err),

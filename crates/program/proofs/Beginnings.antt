@@ -8,10 +8,14 @@ use Rattle.theory_text.specs.Reading.{ReadingFault, IsRead, read, IsReadingRefus
 use Rattle.theory_text.specs.Token.{TextFault, IsTextRefusal, long_text, not_utf8, here}
 use Rattle.theory_checking.specs.Checked.{IsCheckedText}
 use Rattle.program.specs.Beginning.{IsBeginning}
-use Rattle.program.specs.Running.{IsScriptOfFile, IsTextRefused, IsCause}
+use Rattle.program.specs.Given.{Given}
+use Rattle.program.specs.Running.{IsScriptOfFile, IsTextRefused, IsTooLong, IsCause}
 use Rattle.program.specs.Reading.{IsRefusalOf}
+use Rattle.program.specs.Stack.{Takes}
 use Rattle.program.specs.declared.refusal.Refusal.{Refusal}
 use Rattle.program.specs.declared.refusal.Refusal.TheVariants as refusal
+use Rattle.program.specs.declared.stack.Stack.{Stack}
+use Rattle.program.specs.declared.stack.Stack.TheVariants as stack
 
 -- a beginning that is short enough for a script is the whole text
 pub whole : {held : List ℕ → Type 0} (bytes : List ℕ) → IsBeginning held bytes → length bytes ≤ 65536 → held bytes
@@ -46,10 +50,22 @@ grammar_refused bytes f p begins (of_text refused) = let one = text_refused byte
 grammar_refused bytes f p begins (of_grammar are refused) = (bytes, whole bytes begins are.short, of_grammar are refused)
 
 -- what is refused of what is read is refused of the file's text
-pub cause_of_text : (may_hold : List ℕ → List ℕ → Type 0) (may_lack : List ℕ → Type 0) (name bytes : List ℕ) (why : Refusal) → IsBeginning (may_hold name) bytes → IsRefusalOf bytes why → IsCause may_hold may_lack name why
-cause_of_text may_hold may_lack name bytes refusal.File begins is = absurd is
-cause_of_text may_hold may_lack name bytes (refusal.Text f p) begins is = text_refused bytes _ _ begins is
-cause_of_text may_hold may_lack name bytes (refusal.Grammar f p) begins is = grammar_refused bytes _ _ begins is
-cause_of_text may_hold may_lack name bytes (refusal.Kinds f p) begins is = (bytes, whole bytes begins (short_of_read bytes is.0 is.1), is)
-cause_of_text may_hold may_lack name bytes refusal.Memory begins is = tt
-cause_of_text may_hold may_lack name bytes refusal.Output begins is = absurd is
+pub cause_of_text : (given : Given) (name bytes : List ℕ) (why : Refusal) → IsBeginning (given.may_hold name) bytes → IsRefusalOf bytes why → IsCause given name why
+cause_of_text given name bytes refusal.File begins is = absurd is
+cause_of_text given name bytes (refusal.Text f p) begins is = text_refused bytes _ _ begins is
+cause_of_text given name bytes (refusal.Grammar f p) begins is = grammar_refused bytes _ _ begins is
+cause_of_text given name bytes (refusal.Kinds f p) begins is = (bytes, whole bytes begins (short_of_read bytes is.0 is.1), is)
+cause_of_text given name bytes refusal.Memory begins is = tt
+cause_of_text given name bytes refusal.Thread begins is = absurd is
+cause_of_text given name bytes refusal.Output begins is = absurd is
+
+-- a beginning that a stack does not take is one of a text that it does not take
+longer : {held : List ℕ → Type 0} (stack : Stack) (bytes : List ℕ) → IsBeginning held bytes → (Takes stack (length bytes) → ⊥) → (text : List ℕ) × held text × (Takes stack (length text) → ⊥)
+longer stack.Large bytes begins long = absurd (long tt)
+longer stack.Found bytes begins long =
+    let size : length bytes ≡ min 65537 (length begins.text) = ap length begins.is ∙ length-take 65537 begins.text in
+    (begins.text, begins.held, λ short. long (omega (arith, size, short)))
+
+-- what is read is too long for the stack where the file's text is
+pub too_long : (given : Given) (name bytes : List ℕ) → IsBeginning (given.may_hold name) bytes → (Takes given.stack (length bytes) → ⊥) → IsTooLong given name
+too_long given name bytes begins long = longer given.stack bytes begins long

@@ -28,6 +28,7 @@ refusal_line (refusal.Text f p) = place_line (text_fault_spelling (lexer.fault_o
 refusal_line (refusal.Grammar f p) = place_line (grammar_fault_spelling (parser.fault_of f)) p
 refusal_line (refusal.Kinds f p) = place_line (kind_fault_spelling (names.fault_of f)) p
 refusal_line refusal.Memory = codes "refused memory\n"
+refusal_line refusal.Thread = codes "refused thread\n"
 refusal_line refusal.Output = codes "refused output\n"
 
 -- what is refused where a file is not read

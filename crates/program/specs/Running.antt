@@ -1,5 +1,5 @@
 -- What a run of the program prints and answers.
-use Rattle.std.specs.Prelude.{◌≡◌, ℕ, max, Bool, List, [], ◌∷◌, Option, Some, ◌⊎◌, ⊤, codes, map}
+use Rattle.std.specs.Prelude.{◌≡◌, ℕ, max, Bool, List, [], ◌∷◌, Option, Some, ◌⊎◌, ⊤, codes, length, map}
 use Rattle.std.specs.Borrow.{Bor}
 use Rattle.theory_syntax.specs.Process.{Script}
 use Rattle.theory_search.specs.Outcome.{Bounds, Outcome, Holds, Fails, Unknown, Denied}
@@ -10,8 +10,10 @@ use Rattle.settings.specs.CommandLine.{chosen, given}
 use Rattle.settings.specs.Faults.{AreWrong, AskForHelp, AskForVersion, faults_of}
 use Rattle.settings.specs.declared.settings.Settings.{Settings}
 use Rattle.program.specs.Answering.{AreRight}
+use Rattle.program.specs.Given.{Given, Sent}
 use Rattle.program.specs.Reading.{IsRefusalOf}
 use Rattle.program.specs.Refusal.{refusal_line}
+use Rattle.program.specs.Stack.{Takes}
 use Rattle.program.specs.declared.refusal.Refusal.{Refusal}
 use Rattle.program.specs.declared.refusal.Refusal.TheVariants as refusal
 
@@ -53,62 +55,69 @@ pub record IsScriptOfFile (may_hold : List ℕ → List ℕ → Type 0) (name : 
 
 -- The report of right outcomes for the assertions of the file's script went out, one for each, and the status is that
 -- of the outcomes.
-pub record IsReported (may_hold : List ℕ → List ℕ → Type 0) (name : List ℕ) (bounds : Bounds) (old new : Option (List ℕ)) (failed : Bool) (status : ℕ) : Type 0 where
+pub record IsReported (given : Given) (name : List ℕ) (bounds : Bounds) (out : Sent) (status : ℕ) : Type 0 where
   pub script : Script
   pub outcomes : List Outcome
-  pub of_file : IsScriptOfFile may_hold name script
+  pub of_file : IsScriptOfFile given.may_hold name script
   pub right : AreRight script bounds script.assertions outcomes
-  pub bytes : Sends old new failed (report script outcomes)
+  pub bytes : Sends out.old out.new out.failed (report script outcomes)
   pub told : status ≡ status_of outcomes
 
--- A beginning of such a report went out, and the sink has failed.
-pub record IsCutOff (may_hold : List ℕ → List ℕ → Type 0) (name : List ℕ) (bounds : Bounds) (old new : Option (List ℕ)) (failed : Bool) : Type 0 where
+-- A beginning of such a report went out, and the output has failed.
+pub record IsCutOff (given : Given) (name : List ℕ) (bounds : Bounds) (out : Sent) : Type 0 where
   pub script : Script
   pub outcomes : List Outcome
-  pub of_file : IsScriptOfFile may_hold name script
+  pub of_file : IsScriptOfFile given.may_hold name script
   pub right : AreRight script bounds script.assertions outcomes
-  pub bytes : Breaks old new failed (report script outcomes)
+  pub bytes : Breaks out.old out.new out.failed (report script outcomes)
 
 -- the words ask for a text, which went out; or the words ask for a check, whose report did
-pub data IsServed (may_hold : List ℕ → List ℕ → Type 0) (words : List (List ℕ)) (old new : Option (List ℕ)) (failed : Bool) (status : ℕ) : Type 0 where
-  shown : (text : List ℕ) → AskForText words → Sends old new failed text → status ≡ 0 → IsServed may_hold words old new failed status
-  checked : (name : List ℕ) (bounds : Bounds) → AskForCheck words name bounds → IsReported may_hold name bounds old new failed status → IsServed may_hold words old new failed status
+pub data IsServed (given : Given) (words : List (List ℕ)) (out : Sent) (status : ℕ) : Type 0 where
+  shown : (text : List ℕ) → AskForText words → Sends out.old out.new out.failed text → status ≡ 0 → IsServed given words out status
+  checked : (name : List ℕ) (bounds : Bounds) → AskForCheck words name bounds → IsReported given name bounds out status → IsServed given words out status
+
+-- ---- refusals
 
 -- A refusal of a check leaves the output as it was. Where it is the output that is refused, a report was cut off.
-abbrev pub Leaves : {S : Type 0} → (List ℕ → List ℕ → Type 0) → List ℕ → Bounds → Refusal → (S → Option (List ℕ)) → (S → Bool) → S → S → Type 0
-Leaves may_hold name bounds refusal.Output taken failed old new = IsCutOff may_hold name bounds (taken old) (taken new) (failed new)
-Leaves may_hold name bounds _ taken failed old new = new ≡ old
+abbrev pub Leaves : Given → List ℕ → Bounds → Refusal → Sent → Type 0
+Leaves given name bounds refusal.Output out = IsCutOff given name bounds out
+Leaves given name bounds _ out = out.Unchanged
 
 -- the text of the file of this name is refused so
 abbrev pub IsTextRefused : (List ℕ → List ℕ → Type 0) → List ℕ → Refusal → Type 0
 IsTextRefused may_hold name why = (text : List ℕ) × may_hold name text × IsRefusalOf text why
 
+-- the text of the file of this name is longer than the stack takes
+abbrev pub IsTooLong : Given → List ℕ → Type 0
+IsTooLong given name = (text : List ℕ) × given.may_hold name text × (Takes given.stack (length text) → ⊥)
+
 -- Why the check of a file is refused. The output is written only where the file holds a script. Refused memory says
 -- nothing of the file.
-abbrev pub IsCause : (List ℕ → List ℕ → Type 0) → (List ℕ → Type 0) → List ℕ → Refusal → Type 0
-IsCause may_hold may_lack name refusal.File = may_lack name
-IsCause may_hold may_lack name (refusal.Text f p) = IsTextRefused may_hold name (refusal.Text f p)
-IsCause may_hold may_lack name (refusal.Grammar f p) = IsTextRefused may_hold name (refusal.Grammar f p)
-IsCause may_hold may_lack name (refusal.Kinds f p) = IsTextRefused may_hold name (refusal.Kinds f p)
-IsCause may_hold may_lack name refusal.Memory = ⊤
-IsCause may_hold may_lack name refusal.Output = (script : Script) × IsScriptOfFile may_hold name script
+abbrev pub IsCause : Given → List ℕ → Refusal → Type 0
+IsCause given name refusal.File = given.may_lack name
+IsCause given name (refusal.Text f p) = IsTextRefused given.may_hold name (refusal.Text f p)
+IsCause given name (refusal.Grammar f p) = IsTextRefused given.may_hold name (refusal.Grammar f p)
+IsCause given name (refusal.Kinds f p) = IsTextRefused given.may_hold name (refusal.Kinds f p)
+IsCause given name refusal.Memory = ⊤
+IsCause given name refusal.Thread = IsTooLong given name
+IsCause given name refusal.Output = (script : Script) × IsScriptOfFile given.may_hold name script
 
--- A text was given to a sink: it went out, or a beginning of it did and the sink has failed.
-abbrev pub IsGiven : Option (List ℕ) → Option (List ℕ) → Bool → List ℕ → Type 0
-IsGiven old new failed text = Sends old new failed text ⊎ Breaks old new failed text
+-- A text was given to an output: it went out, or a beginning of it did and the output has failed.
+abbrev pub IsGiven : Sent → List ℕ → Type 0
+IsGiven out text = Sends out.old out.new out.failed text ⊎ Breaks out.old out.new out.failed text
 
--- A check is refused, with its cause: its line was given to the one sink, and to the other nothing, or, where that has
--- failed, the beginning of a report.
-pub record IsCheckRefused {S : Type 0} (may_hold : List ℕ → List ℕ → Type 0) (may_lack : List ℕ → Type 0) (name : List ℕ) (bounds : Bounds) (taken : S → Option (List ℕ)) (has_failed : S → Bool) (old new : S) (told_old told_new : Option (List ℕ)) (failed : Bool) : Type 0 where
+-- A check is refused, with its cause: its line was given to the error output, and to the other nothing, or, where that
+-- has failed, the beginning of a report.
+pub record IsCheckRefused (given : Given) (name : List ℕ) (bounds : Bounds) (out err : Sent) : Type 0 where
   pub why : Refusal
-  pub cause : IsCause may_hold may_lack name why
-  pub output : Leaves may_hold name bounds why taken has_failed old new
-  pub line : IsGiven told_old told_new failed (refusal_line why)
+  pub cause : IsCause given name why
+  pub output : Leaves given name bounds why out
+  pub line : IsGiven err (refusal_line why)
 
 -- A run is refused: its words are wrong, and the command line's own text was given to the error output; memory was
 -- refused for the words; the text that they ask for was cut off; or their check is refused.
-pub data IsRefused {S : Type 0} (may_hold : List ℕ → List ℕ → Type 0) (may_lack : List ℕ → Type 0) (words : List (List ℕ)) (taken : S → Option (List ℕ)) (has_failed : S → Bool) (old new : S) (told_old told_new : Option (List ℕ)) (failed : Bool) : Type 0 where
-  wrong_words : (text : List ℕ) → AreWrong words → new ≡ old → IsGiven told_old told_new failed text → IsRefused may_hold may_lack words taken has_failed old new told_old told_new failed
-  no_memory : new ≡ old → IsGiven told_old told_new failed (refusal_line refusal.Memory) → IsRefused may_hold may_lack words taken has_failed old new told_old told_new failed
-  cut_text : (text : List ℕ) → AskForText words → Breaks (taken old) (taken new) (has_failed new) text → IsGiven told_old told_new failed (refusal_line refusal.Output) → IsRefused may_hold may_lack words taken has_failed old new told_old told_new failed
-  of_check : (name : List ℕ) (bounds : Bounds) → AskForCheck words name bounds → IsCheckRefused may_hold may_lack name bounds taken has_failed old new told_old told_new failed → IsRefused may_hold may_lack words taken has_failed old new told_old told_new failed
+pub data IsRefused (given : Given) (words : List (List ℕ)) (out err : Sent) : Type 0 where
+  wrong_words : (text : List ℕ) → AreWrong words → out.Unchanged → IsGiven err text → IsRefused given words out err
+  no_memory : out.Unchanged → IsGiven err (refusal_line refusal.Memory) → IsRefused given words out err
+  cut_text : (text : List ℕ) → AskForText words → Breaks out.old out.new out.failed text → IsGiven err (refusal_line refusal.Output) → IsRefused given words out err
+  of_check : (name : List ℕ) (bounds : Bounds) → AskForCheck words name bounds → IsCheckRefused given name bounds out err → IsRefused given words out err

@@ -13,16 +13,24 @@
 
 mod beginning;
 mod files;
+mod large_stack;
 mod machine;
 mod one_text;
 mod reader;
 mod refusal;
+mod resources;
 mod running;
+mod stack;
+mod words;
 
 pub use beginning::{MOST_BYTES, read_beginning};
 pub use files::{Files, Unread};
+pub use large_stack::on_large_stack;
 pub use machine::MachineFiles;
 pub use one_text::OneText;
 pub use reader::read;
 pub use refusal::Refusal;
+pub use resources::Resources;
 pub use running::{refuse, refuse_words, run, show};
+pub use stack::{SHORT_TEXT, Stack};
+pub use words::{start, words};

@@ -1,6 +1,7 @@
 //! Why nothing was answered.
 
 ghost use Rattle.std.specs.Prelude.{◌≡◌, false};
+ghost use Rattle.program.specs.Given.{sent};
 ghost use Rattle.program.specs.Refusal.{refusal_line, place_line};
 ghost use Rattle.program.specs.Running.{IsGiven};
 
@@ -25,6 +26,8 @@ pub enum Refusal {
     Kinds { fault: KindFault, place: Place },
     /// Memory was refused for the words, the file, the script or the list of outcomes.
     Memory,
+    /// No thread with a large stack can be had, and the text is too long for the stack that is there.
+    Thread,
     /// The report, or the help or the version, could not be written.
     Output,
 }
@@ -32,7 +35,7 @@ pub enum Refusal {
 /// Gives the line of a refusal to the sink. No memory is taken for it.
 pub(crate) fn push_line<E: Sink>(why: Refusal, sink: &mut E)
     requires { E.has_failed sink.old ≡ false }
-    ensures { IsGiven (E.taken sink.old) (E.taken sink.new) (E.has_failed sink.new) (refusal_line why) }
+    ensures { IsGiven (sent E.taken E.has_failed sink.old sink.new) (refusal_line why) }
 {
     let _ = match why {
         Refusal::File => push_all(b"refused file\n", sink),
@@ -40,6 +43,7 @@ pub(crate) fn push_line<E: Sink>(why: Refusal, sink: &mut E)
         Refusal::Grammar { fault, place } => push_place(fault.number(), place, sink),
         Refusal::Kinds { fault, place } => push_place(fault.number(), place, sink),
         Refusal::Memory => push_all(b"refused memory\n", sink),
+        Refusal::Thread => push_all(b"refused thread\n", sink),
         Refusal::Output => push_all(b"refused output\n", sink),
     };
 }
@@ -47,7 +51,7 @@ pub(crate) fn push_line<E: Sink>(why: Refusal, sink: &mut E)
 // Gives the line of a refusal that has a place.
 fn push_place<E: Sink>(number: &str, place: Place, sink: &mut E) -> Result<(), Failed>
     requires { E.has_failed sink.old ≡ false }
-    ensures { IsGiven (E.taken sink.old) (E.taken sink.new) (E.has_failed sink.new) (place_line number.now place) }
+    ensures { IsGiven (sent E.taken E.has_failed sink.old sink.new) (place_line number.now place) }
 {
     let (mut line, mut column) = (Buffer::new(), Buffer::new());
     let texts = [

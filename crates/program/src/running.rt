@@ -6,6 +6,7 @@ ghost use Rattle.pair_store.specs.Bounds.{bounds_of};
 ghost use Rattle.report.specs.Sending.{Sends, Breaks};
 ghost use Rattle.settings.specs.Faults.{AreWrong};
 ghost use Rattle.verdict.specs.Outcome.{outcome_of};
+ghost use Rattle.program.specs.Given.{given_of, sent};
 ghost use Rattle.program.specs.Refusal.{refusal_line};
 ghost use Rattle.program.specs.declared.refusal.Refusal.TheVariants as refusal;
 ghost use Rattle.program.specs.Answering.{AreRight};
@@ -14,12 +15,13 @@ ghost use Rattle.program.specs.Running.{IsCause, IsCheckRefused, IsGiven, IsRefu
 use crate::files::Files;
 use crate::reader;
 use crate::refusal::{Refusal, push_line};
+use crate::resources::Resources;
 use csp_term::{AllocHandle, Script};
 use explore::{Open, explore};
 use pair_store::Limits;
 use report::{Sink, push_all, write};
 use settings::{CommandLineFault, Settings};
-use std::alloc::{AllocError, Global};
+use std::alloc::AllocError;
 use std::sync::Wait;
 use std::thread::Threads;
 use verdict::Outcome;
@@ -29,9 +31,8 @@ use verdict::Outcome;
 /// version, this text goes to `out`.
 ///
 /// Answers the status: 3 where anything was refused, else 2 where an assertion has no answer within the limits, else 1
-/// where one fails, else 0. The words are looked at first, then the file, the script and the output. A failure of `err`
-/// changes nothing. The words are read with the memory of `command_line`, and all else with that of `alloc`. Workers
-/// are started by `rt`.
+/// where one fails, else 0. The words are looked at first, then the file, whether its text is too long for the stack, the
+/// script and the output. A failure of `err` changes nothing.
 pub fn run<
     'w,
     A: AllocHandle + Send + Sync,
@@ -40,9 +41,7 @@ pub fn run<
     O: Sink,
     E: Sink,
 >(
-    command_line: Global,
-    alloc: A,
-    rt: &R,
+    resources: &Resources<'_, A, R>,
     words: &'w [&'w str],
     files: &mut F,
     out: &mut O,
@@ -51,12 +50,17 @@ pub fn run<
     requires out { O.has_failed out.old ≡ false }
     requires err { E.has_failed err.old ≡ false }
     ensures status { result ≤ 3 }
-    ensures served { result < 3 → IsServed (F.may_hold files.old) (texts_of words.entry.now) (O.taken out.old) (O.taken out.new) (O.has_failed out.new) result }
+    ensures served { let given = given_of F.may_hold F.may_lack files.old resources.now.stack in
+        let output = sent O.taken O.has_failed out.old out.new in
+        result < 3 → IsServed given (texts_of words.entry.now) output result }
     ensures silent { result < 3 → err.new ≡ err.old }
-    ensures refused { result ≡ 3 → IsRefused (F.may_hold files.old) (F.may_lack files.old) (texts_of words.entry.now) O.taken O.has_failed out.old out.new (E.taken err.old) (E.taken err.new) (E.has_failed err.new) }
+    ensures refused { let given = given_of F.may_hold F.may_lack files.old resources.now.stack in
+        let output = sent O.taken O.has_failed out.old out.new in
+        let errors = sent E.taken E.has_failed err.old err.new in
+        result ≡ 3 → IsRefused given (texts_of words.entry.now) output errors }
 {
-    match settings::read(command_line, words) {
-        Ok(settings) => check(alloc, rt, &settings, files, out, err),
+    match settings::read(resources.command_line, words) {
+        Ok(settings) => check(resources, &settings, files, out, err),
         Err(CommandLineFault::Help(text)) => show(text.as_str(), out, err),
         Err(CommandLineFault::Version(text)) => show(text.as_str(), out, err),
         Err(CommandLineFault::Refused(text)) => refuse_words(text.as_str(), err),
@@ -68,7 +72,7 @@ pub fn run<
 pub fn refuse<E: Sink>(why: Refusal, err: &mut E) -> u8
     requires { E.has_failed err.old ≡ false }
     ensures status { result ≡ 3 }
-    ensures line { IsGiven (E.taken err.old) (E.taken err.new) (E.has_failed err.new) (refusal_line why) }
+    ensures line { IsGiven (sent E.taken E.has_failed err.old err.new) (refusal_line why) }
 {
     push_line(why, err);
     3
@@ -78,7 +82,7 @@ pub fn refuse<E: Sink>(why: Refusal, err: &mut E) -> u8
 pub fn refuse_words<E: Sink>(text: &str, err: &mut E) -> u8
     requires { E.has_failed err.old ≡ false }
     ensures status { result ≡ 3 }
-    ensures text { IsGiven (E.taken err.old) (E.taken err.new) (E.has_failed err.new) text.now }
+    ensures text { IsGiven (sent E.taken E.has_failed err.old err.new) text.now }
 {
     let _ = push_all(text.as_bytes(), err);
     3
@@ -89,10 +93,13 @@ pub fn show<O: Sink, E: Sink>(text: &str, out: &mut O, err: &mut E) -> u8
     requires out { O.has_failed out.old ≡ false }
     requires err { E.has_failed err.old ≡ false }
     ensures status { (result ≡ 0) ⊎ (result ≡ 3) }
-    ensures shown { result ≡ 0 → Sends (O.taken out.old) (O.taken out.new) (O.has_failed out.new) text.now }
+    ensures shown { result ≡ 0
+        → Sends (O.taken out.old) (O.taken out.new) (O.has_failed out.new) text.now }
     ensures silent { result ≡ 0 → err.new ≡ err.old }
-    ensures cut { result ≡ 3 → Breaks (O.taken out.old) (O.taken out.new) (O.has_failed out.new) text.now }
-    ensures refused { result ≡ 3 → IsGiven (E.taken err.old) (E.taken err.new) (E.has_failed err.new) (refusal_line refusal.Output) }
+    ensures cut { result ≡ 3
+        → Breaks (O.taken out.old) (O.taken out.new) (O.has_failed out.new) text.now }
+    ensures refused { let errors = sent E.taken E.has_failed err.old err.new in
+        result ≡ 3 → IsGiven errors (refusal_line refusal.Output) }
 {
     match push_all(text.as_bytes(), out) {
         Ok(()) => 0,
@@ -102,8 +109,7 @@ pub fn show<O: Sink, E: Sink>(text: &str, out: &mut O, err: &mut E) -> u8
 
 // Checks what the settings ask for.
 fn check<A: AllocHandle + Send + Sync, R: Threads + Wait + Sync, F: Files<A>, O: Sink, E: Sink>(
-    alloc: A,
-    rt: &R,
+    resources: &Resources<'_, A, R>,
     settings: &Settings<'_>,
     files: &mut F,
     out: &mut O,
@@ -112,11 +118,17 @@ fn check<A: AllocHandle + Send + Sync, R: Threads + Wait + Sync, F: Files<A>, O:
     requires out { O.has_failed out.old ≡ false }
     requires err { E.has_failed err.old ≡ false }
     ensures status { result ≤ 3 }
-    ensures reported { result < 3 → IsReported (F.may_hold files.old) settings.now.file.now (limits_of settings.now) (O.taken out.old) (O.taken out.new) (O.has_failed out.new) result }
+    ensures reported { let given = given_of F.may_hold F.may_lack files.old resources.now.stack in
+        let output = sent O.taken O.has_failed out.old out.new in
+        result < 3 → IsReported given settings.now.file.now (limits_of settings.now) output result }
     ensures silent { result < 3 → err.new ≡ err.old }
-    ensures refused { result ≡ 3 → IsCheckRefused (F.may_hold files.old) (F.may_lack files.old) settings.now.file.now (limits_of settings.now) O.taken O.has_failed out.old out.new (E.taken err.old) (E.taken err.new) (E.has_failed err.new) }
+    ensures refused { let given = given_of F.may_hold F.may_lack files.old resources.now.stack in
+        let output = sent O.taken O.has_failed out.old out.new in
+        let errors = sent E.taken E.has_failed err.old err.new in
+        let bounds = limits_of settings.now in
+        result ≡ 3 → IsCheckRefused given settings.now.file.now bounds output errors }
 {
-    match answer(alloc, rt, settings, files, out) {
+    match answer(resources, settings, files, out) {
         Ok(status) => status,
         Err(why) => refuse(why, err),
     }
@@ -124,21 +136,31 @@ fn check<A: AllocHandle + Send + Sync, R: Threads + Wait + Sync, F: Files<A>, O:
 
 // Reads, checks and reports. The status is at most 2.
 fn answer<A: AllocHandle + Send + Sync, R: Threads + Wait + Sync, F: Files<A>, O: Sink>(
-    alloc: A,
-    rt: &R,
+    resources: &Resources<'_, A, R>,
     settings: &Settings<'_>,
     files: &mut F,
     out: &mut O,
 ) -> Result<u8, Refusal>
     requires { O.has_failed out.old ≡ false }
-    ensures reported { IfOk result (λ status. (status ≤ 2) × IsReported (F.may_hold files.old) settings.now.file.now (limits_of settings.now) (O.taken out.old) (O.taken out.new) (O.has_failed out.new) status) }
-    ensures cause { IfErr result (IsCause (F.may_hold files.old) (F.may_lack files.old) settings.now.file.now) }
-    ensures refused { IfErr result (λ why. Leaves (F.may_hold files.old) settings.now.file.now (limits_of settings.now) why O.taken O.has_failed out.old out.new) }
+    ensures reported { let given = given_of F.may_hold F.may_lack files.old resources.now.stack in
+        let bounds = limits_of settings.now in
+        let output = sent O.taken O.has_failed out.old out.new in
+        IfOk result (λ status. (status ≤ 2)
+        × IsReported given settings.now.file.now bounds output status) }
+    ensures cause { let given = given_of F.may_hold F.may_lack files.old resources.now.stack in
+        IfErr result (IsCause given settings.now.file.now) }
+    ensures refused { let given = given_of F.may_hold F.may_lack files.old resources.now.stack in
+        let bounds = limits_of settings.now in
+        let output = sent O.taken O.has_failed out.old out.new in
+        IfErr result (λ why. Leaves given settings.now.file.now bounds why output) }
 {
     let text = files.read(settings.file)?;
-    let script = reader::read(alloc, &text)?;
+    if !resources.stack.takes(text.len()) {
+        return Err(Refusal::Thread);
+    }
+    let script = reader::read(resources.alloc, &text)?;
     let limits = limits(settings);
-    let outcomes = outcomes(alloc, rt, &script, limits, settings.workers)?;
+    let outcomes = outcomes(resources, &script, limits, settings.workers)?;
     match write(&script, &outcomes, out) {
         Ok(()) => Ok(status(&outcomes)),
         Err(_) => Err(Refusal::Output),
@@ -154,15 +176,17 @@ fn limits(settings: &Settings<'_>) -> Limits
 
 // A right outcome for each assertion, in order, each by so many workers.
 fn outcomes<A: AllocHandle + Send + Sync, R: Threads + Wait + Sync>(
-    alloc: A,
-    rt: &R,
+    resources: &Resources<'_, A, R>,
     script: &Script<A>,
     limits: Limits,
     workers: usize,
 ) -> Result<Vec<Outcome<A>, A>, AllocError>
     requires { (1 ≤ workers) × (workers ≤ 64) }
-    ensures { IfOk result (λ outcomes. AreRight (script_of script.now) (bounds_of limits) (script_of script.now).assertions (map outcome_of outcomes.items)) }
+    ensures { let it = script_of script.now in
+        let bounds = bounds_of limits in
+        IfOk result (λ all. AreRight it bounds it.assertions (map outcome_of all.items)) }
 {
+    let (alloc, rt) = (resources.alloc, resources.rt);
     let mut outcomes = Vec::new(alloc);
     for assertion in script.assertions() {
         outcomes.push(explore(alloc, rt, script, assertion, limits, workers, &Open))?;

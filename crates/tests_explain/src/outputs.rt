@@ -1,6 +1,7 @@
 //! Outputs that fail.
 
 use crate::full::Full;
+use crate::runs::resources;
 use explain_program::run;
 use program::OneText;
 use report::{Buffer, Out};
@@ -36,7 +37,13 @@ fn is_cut_off<'w, R: Threads + Wait + Sync, W: Write + Drop>(
     };
     let mut out = Out::new(writer);
     let mut err = Buffer::new(alloc);
-    let status = run(alloc, alloc, rt, words, &mut files, &mut out, &mut err);
+    let status = run(
+        &resources(alloc, alloc, rt),
+        words,
+        &mut files,
+        &mut out,
+        &mut err,
+    );
     status == 3 && err.bytes.as_slice() == "refused output\n".as_bytes()
 }
 

@@ -2,7 +2,7 @@
 
 use csp_term::AllocHandle;
 use explain_program::run;
-use program::{Files, OneText};
+use program::{Files, OneText, Resources, Stack};
 use report::Buffer;
 use std::alloc::Global;
 use std::sync::Wait;
@@ -24,6 +24,16 @@ impl Told {
     }
 }
 
+// What a run works with whose stack is large enough.
+pub(crate) fn resources<A, R>(room: Global, alloc: A, rt: &R) -> Resources<'_, A, R> {
+    Resources {
+        command_line: room,
+        alloc,
+        rt,
+        stack: Stack::Large,
+    }
+}
+
 // A run whose memory is the allocator's, and whose outputs have room.
 pub(crate) fn run_in<'w, A: AllocHandle + Send + Sync, R: Threads + Wait + Sync, F: Files<A>>(
     room: Global,
@@ -34,7 +44,13 @@ pub(crate) fn run_in<'w, A: AllocHandle + Send + Sync, R: Threads + Wait + Sync,
 ) -> Told {
     let mut out = Buffer::new(room);
     let mut err = Buffer::new(room);
-    let status = run(room, alloc, rt, words, files, &mut out, &mut err);
+    let status = run(
+        &resources(room, alloc, rt),
+        words,
+        files,
+        &mut out,
+        &mut err,
+    );
     Told {
         status,
         out: out.bytes,

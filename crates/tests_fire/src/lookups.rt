@@ -3,8 +3,7 @@
 //! - `HAS` and `LACKS`: events that are in the set, or are not, as prefixes between `[]`.
 //! - `MAKES`: an event, and behind it its images, those by channels first.
 
-use csp_event_sets::{EventSet, RenamingPair};
-use csp_event_tests::{EventTest, Images};
+use csp_events::{EventSet, RenamingPair};
 use csp_expression::NoValue;
 use csp_term::{Action, Event, ScriptParts};
 use std::alloc::Global;
@@ -16,7 +15,7 @@ fn has(
     set: &EventSet<Global>,
     event: &Event<Global>,
 ) -> Result<bool, NoValue> {
-    let test = EventTest::of(alloc, script, set)?;
+    let test = script.event_test(alloc, set)?;
     Ok(test.holds(event))
 }
 
@@ -44,6 +43,6 @@ pub(crate) fn images(
     pairs: &[RenamingPair<Global>],
     event: Event<Global>,
 ) -> Result<Vec<Event<Global>, Global>, NoValue> {
-    let images = Images::of(alloc, script, pairs)?;
+    let images = script.images(alloc, pairs)?;
     Ok(images.of_event(alloc, event)?)
 }

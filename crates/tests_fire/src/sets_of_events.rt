@@ -3,7 +3,7 @@
 use crate::lookups::{have_all, images};
 use crate::said::actions;
 use crate::texts::Line;
-use csp_event_sets::RenamingPair;
+use csp_events::RenamingPair;
 use csp_term::{Action, Script, ScriptParts, Term, TermForm};
 use std::alloc::Global;
 use std::test::Fail;

@@ -5,8 +5,7 @@ ghost use Rattle.theory_shapes.specs.Alphabet.{alphabet as events_of_script};
 ghost use Rattle.csp_term.specs.Script.{script_of_parts};
 
 use crate::shown::{write_bits, write_frame, write_sides};
-use csp_event_sets::EventSet;
-use csp_event_tests::EventTest;
+use csp_events::EventSet;
 use csp_expression::NoValue;
 use csp_numbers::{Alphabet, alphabetised, bits_of, generalised, hidden, interleaved, renamed};
 use csp_rows::{Frame, SideBits};
@@ -39,7 +38,7 @@ fn write_set(
     script: &ScriptParts<Global>,
     set: &EventSet<Global>,
 ) -> Result<(), Fail> {
-    match EventTest::of(alloc, script, set) {
+    match script.event_test(alloc, set) {
         Ok(test) => write_bits(text, &bits_of(alloc, alphabet, &test)?),
         Err(_) => Ok(text.push_str("none")?),
     }

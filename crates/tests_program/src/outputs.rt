@@ -3,6 +3,7 @@
 use crate::full::Full;
 use crate::memory::NoMemory;
 use crate::outcomes::BEYOND_STOP;
+use crate::runs::resources;
 use program::{OneText, run};
 use report::{Buffer, Out};
 use std::alloc::Global;
@@ -25,7 +26,13 @@ fn is_cut_off<'w, R: Threads + Wait + Sync, W: Write + Drop>(
     };
     let mut out = Out::new(writer);
     let mut err = Buffer::new(alloc);
-    let status = run(alloc, alloc, rt, words, &mut files, &mut out, &mut err);
+    let status = run(
+        &resources(alloc, alloc, rt),
+        words,
+        &mut files,
+        &mut out,
+        &mut err,
+    );
     status == 3 && err.bytes.as_slice() == "refused output\n".as_bytes()
 }
 
@@ -69,7 +76,13 @@ fn said_in_seven_bytes<'w, R: Threads + Wait + Sync>(
     let mut out = Buffer::new(alloc);
     let mut room = [0u8; 7];
     let mut err = Out::new(Full::new(&mut room[..]));
-    let status = run(alloc, alloc, rt, words, &mut NoMemory, &mut out, &mut err);
+    let status = run(
+        &resources(alloc, alloc, rt),
+        words,
+        &mut NoMemory,
+        &mut out,
+        &mut err,
+    );
     if status == 3 && out.bytes.is_empty() {
         Some(room)
     } else {

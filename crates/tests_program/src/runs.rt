@@ -1,7 +1,7 @@
 //! Runs of the program over texts in memory.
 
 use csp_term::AllocHandle;
-use program::{Files, OneText, run};
+use program::{Files, OneText, Resources, Stack, run};
 use report::Buffer;
 use std::alloc::Global;
 use std::sync::Wait;
@@ -35,7 +35,33 @@ impl Told {
     }
 }
 
-// A run whose memory is the allocator's, and whose outputs have room.
+// A run with these resources, whose outputs have room.
+pub(crate) fn run_with<'w, A: AllocHandle + Send + Sync, R: Threads + Wait + Sync, F: Files<A>>(
+    resources: &Resources<'_, A, R>,
+    words: &'w [&'w str],
+    files: &mut F,
+) -> Told {
+    let mut out = Buffer::new(resources.command_line);
+    let mut err = Buffer::new(resources.command_line);
+    let status = run(resources, words, files, &mut out, &mut err);
+    Told {
+        status,
+        out: out.bytes,
+        err: err.bytes,
+    }
+}
+
+// What a run works with whose stack is large enough.
+pub(crate) fn resources<A, R>(room: Global, alloc: A, rt: &R) -> Resources<'_, A, R> {
+    Resources {
+        command_line: room,
+        alloc,
+        rt,
+        stack: Stack::Large,
+    }
+}
+
+// A run whose memory is the allocator's.
 pub(crate) fn run_in<'w, A: AllocHandle + Send + Sync, R: Threads + Wait + Sync, F: Files<A>>(
     room: Global,
     alloc: A,
@@ -43,14 +69,7 @@ pub(crate) fn run_in<'w, A: AllocHandle + Send + Sync, R: Threads + Wait + Sync,
     words: &'w [&'w str],
     files: &mut F,
 ) -> Told {
-    let mut out = Buffer::new(room);
-    let mut err = Buffer::new(room);
-    let status = run(room, alloc, rt, words, files, &mut out, &mut err);
-    Told {
-        status,
-        out: out.bytes,
-        err: err.bytes,
-    }
+    run_with(&resources(room, alloc, rt), words, files)
 }
 
 // A run on the words, where the file of that name holds the text.

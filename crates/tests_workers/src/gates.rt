@@ -1,5 +1,6 @@
 //! A gate that holds workers.
 
+use csp_firing::Tally;
 use explore::Gate;
 use std::sync::atomic::AtomicU64;
 use std::sync::atomic::Ordering::SeqCst;
@@ -63,6 +64,8 @@ impl Gate for Holding {
     fn claimed(&self, _worker: usize) {
         self.claims.fetch_add(1, SeqCst);
     }
+
+    fn fired(&self, _worker: usize, _parts: usize, _tally: &Tally) {}
 
     fn putting(&self, _worker: usize) {
         let put = self.puts.fetch_add(1, SeqCst);

@@ -1,5 +1,6 @@
-//! What searches by several workers are seen to do: that each worker goes on while another is held, that the answer is
-//! the same in whichever order they put, what one worker posts, and what refused memory leaves.
+//! What searches by several workers are seen to do: that each worker draws, and goes on while another is held, that a
+//! worker keeps its firing from level to level, that the answer is the same in whichever order they put, what one worker
+//! posts, and what refused memory leaves.
 #![tactic(auto)]
 
 #[cfg(test)]
@@ -7,9 +8,13 @@ mod boards;
 #[cfg(test)]
 mod boards_of_two;
 #[cfg(test)]
+mod counting;
+#[cfg(test)]
 mod early_end;
 #[cfg(test)]
 mod gates;
+#[cfg(test)]
+mod gathering;
 mod held;
 #[cfg(test)]
 mod levels;

@@ -1,13 +1,16 @@
-//! The answer is the same for every number of workers, and in whichever order they put.
+//! The answer is the same for every number of workers, and in whichever order they put. Each worker draws, and keeps its
+//! firing.
 
 ghost use Rattle.std.specs.Prelude.{◌≤◌, IfSome};
 ghost use Rattle.theory_search.specs.Terms.{IsAssertionOf};
 ghost use Rattle.csp_term.specs.Script.{assertion_of, script_of};
 
+use crate::counting::Counting;
 use crate::gates::Holding;
+use crate::gathering::Gathering;
 use crate::scripts::{
-    A_HUNDRED_VIOLATIONS, IN_A_BUFFER_OF_ONE, IN_A_BUFFER_OF_TWO, ONE_WIDE_LEVEL,
-    THREE_WIDE_LEVELS, script,
+    A_HUNDRED_VIOLATIONS, IN_A_BUFFER_OF_ONE, IN_A_BUFFER_OF_TWO, ONE_PART, ONE_WIDE_LEVEL,
+    THREE_WIDE_LEVELS, TWO_COPIERS, TWO_PARTS, script,
 };
 use csp_term::{Assertion, Script};
 use explore::{Gate, Open, explore, explore_alone};
@@ -41,6 +44,19 @@ static HELD: [Held; 5] = [
 static CHAINS: [(&str, &str); 2] = [
     (IN_A_BUFFER_OF_TWO, "1 holds\n"),
     (IN_A_BUFFER_OF_ONE, "1 fails trace <in.0> event in.0\n"),
+];
+
+const HOLDS: &str = "1 holds\n";
+
+// The draws of a level of a hundred rows.
+const DRAWS: usize = 4;
+
+// A script without a deadlock, and of the one worker: its draws, one a level, the parts that its firing knows in the end,
+// with the process that has ended, the terms that it made as trees, and those that it fired as a whole.
+static COUNTED: [(&str, [u64; 4]); 3] = [
+    (TWO_PARTS, [5, 7, 1, 0]),
+    (TWO_COPIERS, [7, 9, 1, 0]),
+    (ONE_PART, [3, 1, 3, 3]),
 ];
 
 // The answer to the assertion, by so many workers, or by the caller alone where no number is given.
@@ -124,6 +140,29 @@ fn many_workers(rt: HostRuntime) -> Result<(), Fail> {
                 "by {workers} at {text}"
             );
         }
+    }
+    Ok(())
+}
+
+#[test]
+fn each_worker_draws(rt: HostRuntime) -> Result<(), Fail> {
+    for workers in [1, 2, 3, 4, 8, 64] {
+        let expected = workers.min(DRAWS) as u64;
+        let gate = Gathering::new(expected);
+        let line = line_by(rt.alloc(), &rt, ONE_WIDE_LEVEL, Some(workers), &gate)?;
+        assert!(rt; line.as_slice() == HOLDS.as_bytes(), "by {workers}");
+        assert_eq!(rt; gate.gathered(), expected);
+    }
+    Ok(())
+}
+
+#[test]
+fn a_worker_keeps_its_firing(rt: HostRuntime) -> Result<(), Fail> {
+    for (text, expected) in &COUNTED {
+        let gate = Counting::new();
+        let line = line_by(rt.alloc(), &rt, text, Some(1), &gate)?;
+        assert!(rt; line.as_slice() == HOLDS.as_bytes(), "at {text}");
+        assert_eq!(rt; gate.counts(), *expected);
     }
     Ok(())
 }

@@ -1,5 +1,7 @@
 //! Posts that look on.
 
+ghost use Rattle.std.specs.Prelude.{⊤};
+
 use explore::Post;
 use pair_store::{Batch, PutFault, Task};
 use std::alloc::Global;
@@ -47,6 +49,8 @@ impl<'l> Recorder<'l> {
 }
 
 impl<'b, 'l> Post<Batch<'b, Global>> for Recorder<'l> {
+    ghost takes = { λ batch. ⊤ };
+
     fn take(&self) -> Option<Task> {
         None
     }
@@ -86,6 +90,8 @@ impl<'p, P> Refusing<'p, P> {
 }
 
 impl<'b, 'p, P: Post<Batch<'b, Global>>> Post<Batch<'b, Global>> for Refusing<'p, P> {
+    ghost takes = { P.takes };
+
     fn take(&self) -> Option<Task> {
         self.post.take()
     }

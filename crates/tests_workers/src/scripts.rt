@@ -49,6 +49,26 @@ R = (c?x -> R) [] (d?x -> R)
 assert R [T= c?x -> d!x -> STOP
 ";
 
+/// Two parts, each with its call and two prefixes.
+pub(crate) const TWO_PARTS: &str = "channel a, b, c, d
+P = a -> b -> P
+Q = c -> d -> Q
+assert P ||| Q :[deadlock free]
+";
+
+/// Two parts, each with its call, its input, and an output of each value.
+pub(crate) const TWO_COPIERS: &str = r"channel in, mid, out : {0..1}
+COPY1 = in?x -> mid!x -> COPY1
+COPY2 = mid?x -> out!x -> COPY2
+assert (COPY1 [| {| mid |} |] COPY2) \ {| mid |} :[deadlock free]
+";
+
+/// A call and two prefixes, under no operator.
+pub(crate) const ONE_PART: &str = "channel a, b
+P = a -> b -> P
+assert P :[deadlock free]
+";
+
 /// The script of the text.
 pub(crate) fn script(alloc: Global, text: &str) -> Result<Script<Global>, Fail> {
     let list = tokens(alloc, text.as_bytes())?;

@@ -1,9 +1,9 @@
 -- What events and sets of events ask.
 use Rattle.std.specs.Prelude.{List}
 use Rattle.theory_checking.specs.Inference.Processes.{behind_event, behind_event_set, behind_events, of_beginning, of_beginnings, of_event, of_event_set, of_events}
-use Rattle.csp_event_sets.specs.declared.event_expression.EventExpression.{EventExpression}
-use Rattle.csp_event_sets.specs.declared.event_set.EventSet.{EventSet}
-use Rattle.csp_event_sets.specs.Events.{event_expression_of, event_expressions_of, event_set_of}
+use Rattle.csp_events.specs.declared.event_expression.EventExpression.{EventExpression}
+use Rattle.csp_events.specs.declared.event_set.EventSet.{EventSet}
+use Rattle.csp_events.specs.Events.{event_expression_of, event_expressions_of, event_set_of}
 use Rattle.csp_expression.specs.declared.types.TypeTable.{TypeTable}
 use Rattle.csp_expression.specs.Evaluation.{table_of}
 use Rattle.csp_inference.specs.declared.numbering.NumberedName.{NumberedName}

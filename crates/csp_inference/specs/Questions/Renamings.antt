@@ -1,8 +1,8 @@
 -- What the pairs of renamings ask.
 use Rattle.std.specs.Prelude.{List}
 use Rattle.theory_checking.specs.Inference.Processes.{behind_event, behind_pairs, of_pair, of_pairs}
-use Rattle.csp_event_sets.specs.declared.renaming_pair.RenamingPair.{RenamingPair}
-use Rattle.csp_event_sets.specs.Events.{event_expression_of, renaming_pair_of, renaming_pairs_of}
+use Rattle.csp_events.specs.declared.renaming_pair.RenamingPair.{RenamingPair}
+use Rattle.csp_events.specs.Events.{event_expression_of, renaming_pair_of, renaming_pairs_of}
 use Rattle.csp_term.specs.declared.script.ScriptParts.{ScriptParts}
 use Rattle.csp_term.specs.Script.{script_of_parts}
 use Rattle.csp_inference.specs.declared.numbering.NumberedName.{NumberedName}

@@ -1,13 +1,13 @@
 //! `P \ A` by the steps of `P`.
 
 ghost use Rattle.theory_syntax.specs.Process.{Hiding};
-ghost use Rattle.csp_event_sets.specs.Events.{event_set_of};
+ghost use Rattle.csp_events.specs.Events.{event_set_of};
 ghost use Rattle.csp_term.specs.Term.{process_of};
 ghost use Rattle.csp_steps.specs.UnderBindings.{AnswersUnder};
 
 use crate::rule_step::RuleStep;
 use crate::{hiding, rules};
-use csp_event_sets::EventSet;
+use csp_events::EventSet;
 use csp_expression::{Binding, NoValue};
 use csp_term::{AllocHandle, ScriptParts, Term};
 

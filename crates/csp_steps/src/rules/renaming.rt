@@ -1,13 +1,13 @@
 //! `P [[from <- to, ..]]` by the steps of `P`.
 
 ghost use Rattle.theory_syntax.specs.Process.{Renaming};
-ghost use Rattle.csp_event_sets.specs.Events.{renaming_pairs_of};
+ghost use Rattle.csp_events.specs.Events.{renaming_pairs_of};
 ghost use Rattle.csp_term.specs.Term.{process_of};
 ghost use Rattle.csp_steps.specs.UnderBindings.{AnswersUnder};
 
 use crate::rule_step::RuleStep;
 use crate::{renaming, rules};
-use csp_event_sets::{RenamingPair, put_in_pairs};
+use csp_events::{RenamingPair, put_in_pairs};
 use csp_expression::{Binding, NoValue};
 use csp_term::{AllocHandle, ScriptParts, Term};
 

@@ -5,7 +5,7 @@ use Rattle.theory_syntax.specs.Process as pure
 use Rattle.theory_semantics.specs.Meaning.Substitution.{put}
 use Rattle.csp_expression.specs.Bindings.{bindings_of}
 use Rattle.csp_expression.specs.Expression.{expressions_of}
-use Rattle.csp_event_sets.specs.Events.{renaming_pairs_of}
+use Rattle.csp_events.specs.Events.{renaming_pairs_of}
 use Rattle.csp_term.specs.Field.{fields_of}
 use Rattle.csp_term.specs.Term.{process_of, process_of_form}
 use Rattle.csp_term.proofs.Forms.{of_stop, of_skip, of_omega_term, of_call, of_prefix, of_renaming, of_replicated}

@@ -6,7 +6,7 @@ use crate::tables::Advice;
 
 const CONDITION: &str = "behind the condition of an `if` stands `then`, and behind a guard `&`";
 
-const ROWS: &[Advice] = &[
+pub(crate) const ROWS: &[Advice] = &[
     Advice {
         when: &[Earlier("=="), BeforeNumber, HereName],
         text: CONDITION,
@@ -20,7 +20,15 @@ const ROWS: &[Advice] = &[
         text: CONDITION,
     },
     Advice {
+        when: &[Earlier("<="), BeforeNumber, HereName],
+        text: CONDITION,
+    },
+    Advice {
         when: &[Earlier(">"), BeforeNumber, HereName],
+        text: CONDITION,
+    },
+    Advice {
+        when: &[Earlier(">="), BeforeNumber, HereName],
         text: CONDITION,
     },
     Advice {
@@ -48,8 +56,3 @@ const ROWS: &[Advice] = &[
         text: CONSTANT,
     },
 ];
-
-/// The rows.
-pub(crate) fn table() -> &'static [Advice] {
-    ROWS
-}

@@ -6,7 +6,7 @@ use crate::tables::Advice;
 
 const OPERATOR_END: &str = "behind this operator stands a process";
 
-const ROWS: &[Advice] = &[
+pub(crate) const ROWS: &[Advice] = &[
     Advice {
         when: &[Before("->")],
         text: "behind `->` stands a process",
@@ -56,8 +56,3 @@ const ROWS: &[Advice] = &[
         text: ASSERTION,
     },
 ];
-
-/// The rows.
-pub(crate) fn table() -> &'static [Advice] {
-    ROWS
-}

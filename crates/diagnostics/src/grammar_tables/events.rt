@@ -4,7 +4,7 @@ use crate::conditions::Condition::{Earlier, Here, HereName, NoneOpen};
 use crate::grammar_tables::texts::EVENT_ALONE;
 use crate::tables::Advice;
 
-const ROWS: &[Advice] = &[
+pub(crate) const ROWS: &[Advice] = &[
     Advice {
         when: &[Earlier("!"), HereName],
         text: EVENT_ALONE,
@@ -66,8 +66,3 @@ const ROWS: &[Advice] = &[
         text: EVENT_ALONE,
     },
 ];
-
-/// The rows.
-pub(crate) fn table() -> &'static [Advice] {
-    ROWS
-}

@@ -6,7 +6,7 @@ use crate::grammar_tables::texts::{
 };
 use crate::tables::Advice;
 
-const ROWS: &[Advice] = &[
+pub(crate) const ROWS: &[Advice] = &[
     Advice {
         when: &[Opening("channel"), Here(";")],
         text: NO_END,
@@ -80,8 +80,3 @@ const ROWS: &[Advice] = &[
         text: "two different operators are kept apart by brackets, as `(P [] Q) |~| R` or `P [] (Q |~| R)`, and so are two with sets, as `(P [| A |] Q) [| B |] R`",
     },
 ];
-
-/// The rows.
-pub(crate) fn table() -> &'static [Advice] {
-    ROWS
-}

@@ -2,12 +2,7 @@
 
 use crate::tables::Advice;
 
-const ROWS: &[Advice] = &[Advice {
+pub(crate) const ROWS: &[Advice] = &[Advice {
     when: &[],
     text: "make a part of it an equation of its own, and call that",
 }];
-
-/// The rows.
-pub(crate) fn table() -> &'static [Advice] {
-    ROWS
-}

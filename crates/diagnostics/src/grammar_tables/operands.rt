@@ -11,7 +11,7 @@ const IF_OPERAND: &str = "put the `if` in brackets, as `a -> (if x == 0 then P e
 const IF_VALUE: &str =
     "an expression has no `if`: write it around the process, as `if x == 0 then c!1 -> P else c!0 -> P`";
 
-const ROWS: &[Advice] = &[
+pub(crate) const ROWS: &[Advice] = &[
     Advice {
         when: &[Before("("), HereNumber],
         text: PATTERN,
@@ -73,7 +73,19 @@ const ROWS: &[Advice] = &[
         text: IF_OPERAND,
     },
     Advice {
+        when: &[Before("/\\"), Here("if")],
+        text: IF_OPERAND,
+    },
+    Advice {
+        when: &[Before("[>"), Here("if")],
+        text: IF_OPERAND,
+    },
+    Advice {
         when: &[Before("|]"), Here("if")],
+        text: IF_OPERAND,
+    },
+    Advice {
+        when: &[Before("]"), Here("if")],
         text: IF_OPERAND,
     },
     Advice {
@@ -81,8 +93,3 @@ const ROWS: &[Advice] = &[
         text: IF_VALUE,
     },
 ];
-
-/// The rows.
-pub(crate) fn table() -> &'static [Advice] {
-    ROWS
-}

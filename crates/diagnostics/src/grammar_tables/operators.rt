@@ -15,7 +15,7 @@ const HEAD: &str =
 const EVENT: &str =
     "before `->` stands an event, a channel with its fields: a process is followed by `;`";
 
-const ROWS: &[Advice] = &[
+pub(crate) const ROWS: &[Advice] = &[
     Advice {
         when: &[Before(")"), Here("<")],
         text: CALLED,
@@ -93,8 +93,3 @@ const ROWS: &[Advice] = &[
         text: EVENT,
     },
 ];
-
-/// The rows.
-pub(crate) fn table() -> &'static [Advice] {
-    ROWS
-}

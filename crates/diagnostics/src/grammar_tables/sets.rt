@@ -9,7 +9,7 @@ const ALPHABET: &str =
 
 const EVENTS: &str = "a set of events has no name: write it where it is used, as `{| c, d |}`";
 
-const ROWS: &[Advice] = &[
+pub(crate) const ROWS: &[Advice] = &[
     Advice {
         when: &[Before("["), HereName],
         text: ALPHABET,
@@ -47,8 +47,3 @@ const ROWS: &[Advice] = &[
         text: "the arrow is written `->`",
     },
 ];
-
-/// The rows.
-pub(crate) fn table() -> &'static [Advice] {
-    ROWS
-}

@@ -12,7 +12,7 @@ const CHANGES: &str =
 const COMPRESSION: &str =
     "leave the line out, and the functions that it names where they are called: they change no answer";
 
-const ROWS: &[Advice] = &[
+pub(crate) const ROWS: &[Advice] = &[
     Advice {
         when: &[Here("within")],
         text: LET,
@@ -94,8 +94,3 @@ const ROWS: &[Advice] = &[
         text: "there is no division: `x / y` is the `z` of `[] z:S @ z*y <= x and x < (z+1)*y & P`",
     },
 ];
-
-/// The rows.
-pub(crate) fn table() -> &'static [Advice] {
-    ROWS
-}

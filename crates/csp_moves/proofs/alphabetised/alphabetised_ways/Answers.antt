@@ -1,7 +1,7 @@
 -- The events of both sets are shared, and each side does alone those of its own set only.
 use Rattle.std.proofs.Common.{inl, inr, lit<}
-use Rattle.csp_event_sets.specs.Events.{event_set_of}
-use Rattle.csp_event_tests.specs.Testing.{test_of}
+use Rattle.csp_events.specs.Events.{event_set_of}
+use Rattle.csp_events.specs.Testing.{test_of}
 use Rattle.csp_term.specs.Script.{script_of_parts}
 use Rattle.csp_term.specs.Term.{process_of}
 use Rattle.csp_moves.specs.Way.{lent_action}

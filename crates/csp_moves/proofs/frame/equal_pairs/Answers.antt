@@ -2,8 +2,8 @@
 use Rattle.std.proofs.Common.{◌∙◌, ap, ap₂}
 use Rattle.std.specs.Cmp.Lexicographic.{slice_cmp}
 use Rattle.std.specs.Ordering.{is_eq}
-use Rattle.csp_event_sets.specs.Events.{renaming_pairs_of}
-use Rattle.csp_event_sets.proofs.EventOrder.{pair_order, pairs_ordered}
+use Rattle.csp_events.specs.Events.{renaming_pairs_of}
+use Rattle.csp_events.proofs.EventOrder.{pair_order, pairs_ordered}
 use Rattle.csp_moves.proofs.Pairs.{pairs_decided}
 use Rattle.csp_moves.proofs.frame.equal_pairs.Goals as goal
 

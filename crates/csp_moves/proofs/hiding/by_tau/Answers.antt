@@ -3,8 +3,8 @@ use Rattle.std.proofs.Common.{[], map, refl}
 use Rattle.theory_syntax.specs.Value.{Tau}
 use Rattle.theory_syntax.specs.Process.{Hiding}
 use Rattle.csp_value.specs.Action.{event_of}
-use Rattle.csp_event_sets.specs.Events.{event_set_of}
-use Rattle.csp_event_tests.specs.Testing.{test_of}
+use Rattle.csp_events.specs.Events.{event_set_of}
+use Rattle.csp_events.specs.Testing.{test_of}
 use Rattle.csp_term.specs.Script.{script_of_parts}
 use Rattle.csp_term.specs.Term.{process_of}
 use Rattle.csp_moves.proofs.Bodies as body

@@ -1,7 +1,7 @@
 -- The law of the operator.
 use Rattle.theory_syntax.specs.Value.{Tick}
 use Rattle.theory_syntax.specs.Process.{Hiding}
-use Rattle.csp_event_sets.specs.Events.{event_set_of}
+use Rattle.csp_events.specs.Events.{event_set_of}
 use Rattle.csp_term.specs.Term.{process_of}
 use Rattle.theory_origins.proofs.BodyWays as law
 use Rattle.csp_moves.proofs.Found.{found_all, one_same}

@@ -1,8 +1,8 @@
 -- The events that the set holds, of those that lead to the body of the target.
 use Rattle.std.proofs.Common.{map}
 use Rattle.csp_value.specs.Action.{event_of}
-use Rattle.csp_event_sets.specs.Events.{event_set_of}
-use Rattle.csp_event_tests.specs.Testing.{test_of}
+use Rattle.csp_events.specs.Events.{event_set_of}
+use Rattle.csp_events.specs.Testing.{test_of}
 use Rattle.csp_term.specs.Script.{script_of_parts}
 use Rattle.csp_term.specs.Term.{process_of}
 use Rattle.csp_moves.proofs.Bodies as body

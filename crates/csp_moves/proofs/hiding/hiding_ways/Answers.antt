@@ -1,7 +1,7 @@
 -- The end of the body is that of the whole in any script.
 use Rattle.std.proofs.Common.{IfOk, sym, subst}
 use Rattle.theory_syntax.specs.Process.{Hiding}
-use Rattle.csp_event_sets.specs.Events.{event_set_of}
+use Rattle.csp_events.specs.Events.{event_set_of}
 use Rattle.csp_term.specs.Script.{script_of_parts}
 use Rattle.csp_term.specs.Term.{process_of}
 use Rattle.csp_moves.specs.declared.way.LentAction.{LentAction}

@@ -3,7 +3,7 @@ use Rattle.std.proofs.Common.{◌≡◌, ◌↔◌, IsTrue, Contains, List, map,
 use Rattle.theory_syntax.specs.Value as pure
 use Rattle.theory_semantics.specs.Meaning.Events.{or_itself}
 use Rattle.csp_value.specs.Action.{event_of}
-use Rattle.csp_event_tests.specs.Imaging.{found_images}
+use Rattle.csp_events.specs.Imaging.{found_images}
 use Rattle.csp_moves.proofs.passing.is_image.Goals as goal
 
 pub returns : goal.returns

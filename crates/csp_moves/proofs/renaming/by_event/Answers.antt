@@ -3,7 +3,7 @@ use Rattle.std.proofs.Common.{[], map, refl}
 use Rattle.theory_syntax.specs.Value.{Ev}
 use Rattle.theory_syntax.specs.Process.{Renaming}
 use Rattle.csp_value.specs.Action.{event_of}
-use Rattle.csp_event_sets.specs.Events.{renaming_pairs_of}
+use Rattle.csp_events.specs.Events.{renaming_pairs_of}
 use Rattle.csp_term.specs.Term.{process_of}
 use Rattle.theory_origins.proofs.BodyWays as law
 use Rattle.csp_moves.proofs.Bodies as body

@@ -1,7 +1,7 @@
 -- The law of the operator, with what is found of the target.
 use Rattle.theory_syntax.specs.Value.{Tau}
 use Rattle.theory_syntax.specs.Process.{Renaming}
-use Rattle.csp_event_sets.specs.Events.{renaming_pairs_of}
+use Rattle.csp_events.specs.Events.{renaming_pairs_of}
 use Rattle.csp_term.specs.Term.{process_of}
 use Rattle.theory_origins.proofs.BodyWays as law
 use Rattle.csp_moves.specs.Way.{lent_process}

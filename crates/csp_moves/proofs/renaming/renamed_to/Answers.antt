@@ -1,13 +1,13 @@
 -- The events that are renamed to the one, of those that lead to the body of the target.
 use Rattle.std.proofs.Common.{◌≡◌, ap, Contains, List, Err, map, subst}
 use Rattle.csp_value.specs.Action.{event_of}
-use Rattle.csp_event_sets.specs.Events.{renaming_pairs_of}
+use Rattle.csp_events.specs.Events.{renaming_pairs_of}
 use Rattle.csp_term.specs.Script.{script_of_parts}
 use Rattle.csp_term.specs.Term.{process_of}
 use Rattle.csp_moves.proofs.Bodies as body
 use Rattle.csp_moves.proofs.Found.{if_so}
-use Rattle.csp_event_sets.specs.declared.renaming_pair.RenamingPair.{RenamingPair}
-use Rattle.csp_event_tests.specs.Imaging.{AreMade, found_images}
+use Rattle.csp_events.specs.declared.renaming_pair.RenamingPair.{RenamingPair}
+use Rattle.csp_events.specs.Imaging.{AreMade, found_images}
 use Rattle.theory_semantics.specs.Meaning.Events.{images, or_itself, renaming}
 use Rattle.csp_moves.proofs.Events.{image_of_found, passing_as}
 use Rattle.csp_moves.proofs.renaming.renamed_to.Goals as goal

@@ -2,7 +2,7 @@
 use Rattle.std.proofs.Common.{IfOk, map, sym, subst}
 use Rattle.theory_syntax.specs.Process.{Renaming}
 use Rattle.csp_value.specs.Action.{event_of}
-use Rattle.csp_event_sets.specs.Events.{renaming_pairs_of}
+use Rattle.csp_events.specs.Events.{renaming_pairs_of}
 use Rattle.csp_term.specs.Term.{process_of}
 use Rattle.csp_moves.specs.Bodies.{AreRenamedEvents}
 use Rattle.csp_moves.specs.declared.way.LentAction.{LentAction}

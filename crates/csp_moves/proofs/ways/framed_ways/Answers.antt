@@ -3,7 +3,7 @@ use Rattle.std.proofs.Common.{◌≡◌, IfOk, List, map, inl, inr, lit<, sym, s
 use Rattle.theory_syntax.specs.Process.{Process}
 use Rattle.csp_value.specs.Action.{event_of}
 use Rattle.csp_value.specs.declared.action.Event.{Event}
-use Rattle.csp_event_sets.specs.Events.{event_set_of, renaming_pairs_of}
+use Rattle.csp_events.specs.Events.{event_set_of, renaming_pairs_of}
 use Rattle.csp_term.specs.Script.{script_of_parts}
 use Rattle.csp_term.specs.Term.{process_of}
 use Rattle.csp_moves.specs.Bodies.{AreHiddenEvents, AreRenamedEvents}

@@ -5,7 +5,7 @@ use Rattle.theory_syntax.specs.Expression.{to_expressions}
 use Rattle.theory_syntax.specs.Operators.{binary_process, replicated_process}
 use Rattle.theory_syntax.specs.Process as pure
 use Rattle.theory_syntax.specs.Process.{Process}
-use Rattle.csp_event_sets.specs.Events.{event_set_of, renaming_pairs_of}
+use Rattle.csp_events.specs.Events.{event_set_of, renaming_pairs_of}
 use Rattle.csp_expression.specs.Expression.{expression_of, expressions_of}
 use Rattle.csp_term.specs.Field.{fields_of}
 use Rattle.csp_term.specs.Script.{script_of_parts}

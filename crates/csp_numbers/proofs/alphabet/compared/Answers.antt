@@ -6,7 +6,7 @@ use Rattle.theory_syntax.specs.Value as pure
 use Rattle.csp_value.specs.Value.{value_of, values_of}
 use Rattle.csp_value.proofs.ValueOrder.{cmp, ordered}
 use Rattle.csp_value.proofs.Slices.{slices_ordered}
-use Rattle.csp_event_tests.proofs.Fronts.{decided}
+use Rattle.csp_events.proofs.Fronts.{decided}
 use Rattle.csp_numbers.proofs.alphabet.compared.Goals as goal
 
 pub returns-in-Equal : goal.returns-in-Equal

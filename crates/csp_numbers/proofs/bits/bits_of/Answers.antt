@@ -1,5 +1,5 @@
 use Rattle.std.proofs.Common.{inl, inr, lit<}
-use Rattle.csp_event_tests.specs.Testing.{test_of}
+use Rattle.csp_events.specs.Testing.{test_of}
 use Rattle.csp_numbers.proofs.Marks.{one_mark_more}
 use Rattle.csp_numbers.proofs.bits.bits_of.Goals as goal
 

@@ -1,5 +1,5 @@
 use Rattle.std.proofs.Common.{◌≡◌, map, take}
-use Rattle.csp_event_tests.specs.Testing.{test_of}
+use Rattle.csp_events.specs.Testing.{test_of}
 use Rattle.csp_numbers.specs.Numbers.{events_of}
 use Rattle.csp_numbers.proofs.bits.bits_of.Given as goal
 

@@ -1,7 +1,7 @@
 use Rattle.std.proofs.Common.{inl, inr, lit<}
-use Rattle.csp_event_sets.specs.Events.{event_set_of}
+use Rattle.csp_events.specs.Events.{event_set_of}
 use Rattle.csp_term.specs.Script.{script_of_parts}
-use Rattle.csp_event_tests.specs.Testing.{test_of}
+use Rattle.csp_events.specs.Testing.{test_of}
 use Rattle.csp_numbers.proofs.OperatorsByNumbers.{hidden_frame}
 use Rattle.csp_numbers.proofs.frames.hidden.Goals as goal
 

@@ -3,7 +3,7 @@ use Rattle.std.proofs.lemmas.Result.{err_from_is_err_and}
 use Rattle.csp_rows.specs.declared.framed.Frame.{Frame}
 use Rattle.csp_expression.specs.declared.no_value.NoValue.{NoValue}
 use Rattle.theory_shapes.specs.Shape.{Renamed}
-use Rattle.csp_event_sets.specs.Events.{renaming_pairs_of}
+use Rattle.csp_events.specs.Events.{renaming_pairs_of}
 use Rattle.csp_term.specs.Script.{script_of_parts}
 use Rattle.csp_numbers.specs.Operators.{AnswersFrame}
 use Rattle.csp_numbers.proofs.OperatorsByNumbers.{no_renamed_frame, renamed_frame}

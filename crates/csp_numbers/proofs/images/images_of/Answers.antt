@@ -2,7 +2,7 @@ use Rattle.std.proofs.Common.{List, Result, Err, sym, ◌∙◌, ap, subst}
 use Rattle.std.proofs.lemmas.Result.{err_from_is_err_and}
 use Rattle.csp_rows.specs.declared.framed.Images.{Images}
 use Rattle.csp_expression.specs.declared.no_value.NoValue.{NoValue}
-use Rattle.csp_event_sets.specs.Events.{renaming_pairs_of}
+use Rattle.csp_events.specs.Events.{renaming_pairs_of}
 use Rattle.csp_term.specs.Script.{script_of_parts}
 use Rattle.csp_numbers.specs.declared.pair.Pair.{Pair}
 use Rattle.csp_numbers.specs.Images.{AnswersImages}

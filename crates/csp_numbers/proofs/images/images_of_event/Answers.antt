@@ -1,7 +1,7 @@
 use Rattle.std.proofs.Common.{sym, ◌∙◌, subst, arith}
 use Rattle.std.proofs.lemmas.List.{take_all}
 use Rattle.csp_value.specs.Action.{event_of}
-use Rattle.csp_event_tests.proofs.Naming.{no_items, some_items}
+use Rattle.csp_events.proofs.Naming.{no_items, some_items}
 use Rattle.csp_numbers.specs.Pairs.{AreNumbersOf, images_by}
 use Rattle.csp_numbers.proofs.Imaging.{itself, one_image_more, others}
 use Rattle.csp_numbers.proofs.images.images_of_event.Goals as goal

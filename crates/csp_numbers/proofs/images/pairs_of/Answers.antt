@@ -4,7 +4,7 @@ use Rattle.std.proofs.lemmas.List.{take_all}
 use Rattle.std.proofs.lemmas.Result.{err_from_is_err_and}
 use Rattle.theory_semantics.specs.Meaning.Events.{renaming}
 use Rattle.csp_expression.specs.declared.no_value.NoValue.{NoValue}
-use Rattle.csp_event_sets.specs.Events.{renaming_pairs_of}
+use Rattle.csp_events.specs.Events.{renaming_pairs_of}
 use Rattle.csp_term.specs.Script.{script_of_parts}
 use Rattle.csp_numbers.specs.declared.pair.Pair.{Pair}
 use Rattle.csp_numbers.specs.Pairs.{ArePairsOf, Make}

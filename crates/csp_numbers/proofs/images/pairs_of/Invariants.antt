@@ -1,6 +1,6 @@
 use Rattle.std.proofs.Common.{take}
 use Rattle.theory_semantics.specs.Meaning.Events.{renaming}
-use Rattle.csp_event_sets.specs.Events.{renaming_pairs_of}
+use Rattle.csp_events.specs.Events.{renaming_pairs_of}
 use Rattle.csp_term.specs.Script.{script_of_parts}
 use Rattle.csp_numbers.specs.Pairs.{Make}
 use Rattle.csp_numbers.proofs.images.pairs_of.Given as goal

@@ -3,9 +3,9 @@ use Rattle.theory_syntax.specs.Value.{Event}
 use Rattle.theory_semantics.specs.Meaning.Evaluation.{Cause}
 use Rattle.theory_semantics.specs.Meaning.Events.{pair_images}
 use Rattle.theory_shapes.specs.Alphabet.{alphabet}
-use Rattle.csp_event_sets.specs.Events.{renaming_pair_of}
+use Rattle.csp_events.specs.Events.{renaming_pair_of}
 use Rattle.csp_term.specs.Script.{script_of_parts}
-use Rattle.csp_event_tests.proofs.Naming.{Image, pair_of_channels, pair_of_events}
+use Rattle.csp_events.proofs.Naming.{Image, pair_of_channels, pair_of_events}
 use Rattle.csp_numbers.specs.Pairs.{IsPairOf}
 use Rattle.csp_numbers.proofs.pair.pair_of.Goals as goal
 

@@ -1,7 +1,7 @@
 use Rattle.std.proofs.Common.{sym, ◌∙◌}
 use Rattle.csp_value.specs.Fields.{sets_of}
 use Rattle.csp_term.specs.Script.{script_of_parts}
-use Rattle.csp_event_tests.proofs.Naming.{channels_differ}
+use Rattle.csp_events.proofs.Naming.{channels_differ}
 use Rattle.csp_numbers.proofs.InTurn.{channels_named}
 use Rattle.csp_numbers.proofs.pair.pair_of_channels.Goals as goal
 

@@ -2,9 +2,9 @@ use Rattle.std.proofs.Common.{Result, Err, sym, ◌∙◌, ap, subst}
 use Rattle.std.proofs.lemmas.Result.{err_from_is_err_and}
 use Rattle.theory_semantics.specs.Meaning.Events as events
 use Rattle.csp_expression.specs.declared.no_value.NoValue.{NoValue}
-use Rattle.csp_event_sets.specs.Events.{event_expression_of}
+use Rattle.csp_events.specs.Events.{event_expression_of}
 use Rattle.csp_term.specs.Script.{script_of_parts}
-use Rattle.csp_event_tests.proofs.Naming.{no_first_event, no_second_event}
+use Rattle.csp_events.proofs.Naming.{no_first_event, no_second_event}
 use Rattle.csp_numbers.specs.declared.pair.Pair.{Pair}
 use Rattle.csp_numbers.specs.Pairs.{IsPairOf}
 use Rattle.csp_numbers.proofs.InTurn.{events_named, stopped_at_number}

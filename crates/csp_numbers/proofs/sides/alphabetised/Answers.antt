@@ -3,9 +3,9 @@ use Rattle.std.proofs.lemmas.Result.{err_from_is_err_and}
 use Rattle.csp_rows.specs.declared.composed.SideBits.{SideBits}
 use Rattle.csp_expression.specs.declared.no_value.NoValue.{NoValue}
 use Rattle.theory_shapes.specs.Shape.{Alphabetised}
-use Rattle.csp_event_sets.specs.Events.{event_set_of}
+use Rattle.csp_events.specs.Events.{event_set_of}
 use Rattle.csp_term.specs.Script.{script_of_parts}
-use Rattle.csp_event_tests.specs.Testing.{test_of}
+use Rattle.csp_events.specs.Testing.{test_of}
 use Rattle.csp_numbers.specs.Operators.{AnswersSides}
 use Rattle.csp_numbers.proofs.OperatorsByNumbers.{alphabetised_sides, no_left_sides, no_right_sides}
 use Rattle.csp_numbers.proofs.sides.alphabetised.Goals as goal

@@ -1,5 +1,5 @@
 use Rattle.std.proofs.Common.{◌&&◌, not, inl, inr, lit<, ◌∙◌, ap₂, arith}
-use Rattle.csp_event_tests.specs.Testing.{test_of}
+use Rattle.csp_events.specs.Testing.{test_of}
 use Rattle.csp_numbers.proofs.Marks.{all_marked, one_event_marked}
 use Rattle.csp_numbers.proofs.sides.by_own_sets.Goals as goal
 

@@ -1,5 +1,5 @@
 use Rattle.std.proofs.Common.{not, take}
-use Rattle.csp_event_tests.specs.Testing.{test_of}
+use Rattle.csp_events.specs.Testing.{test_of}
 use Rattle.csp_numbers.specs.Numbers.{events_of}
 use Rattle.csp_numbers.specs.Sides.{AreMarksBy}
 use Rattle.csp_numbers.proofs.sides.by_shared.Given as goal

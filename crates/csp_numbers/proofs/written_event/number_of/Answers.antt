@@ -1,6 +1,6 @@
 use Rattle.std.proofs.Common.{inl, inr, lit<, lit≤}
 use Rattle.csp_value.specs.Action.{event_of}
-use Rattle.csp_event_sets.specs.Events.{event_expression_of}
+use Rattle.csp_events.specs.Events.{event_expression_of}
 use Rattle.csp_term.specs.Script.{script_of_parts}
 use Rattle.csp_numbers.proofs.Written.{written_is_listed}
 use Rattle.csp_numbers.proofs.written_event.number_of.Goals as goal

@@ -3,9 +3,9 @@ use Rattle.std.proofs.Common.{List, ◌++◌, ap, ◌∙◌, sym}
 use Rattle.std.specs.Prelude.{codes}
 use Rattle.std.specs.String.{string_bytes}
 use Rattle.theory_syntax.specs.Process.{Enumeration, Productions}
-use Rattle.csp_event_sets.specs.declared.event_expression.EventExpression.{EventExpression}
-use Rattle.csp_event_sets.specs.Events.{event_expressions_of, event_set_of}
-use Rattle.csp_event_sets.proofs.EventForms.{of_enumeration, of_productions}
+use Rattle.csp_events.specs.declared.event_expression.EventExpression.{EventExpression}
+use Rattle.csp_events.specs.Events.{event_expressions_of, event_set_of}
+use Rattle.csp_events.proofs.EventForms.{of_enumeration, of_productions}
 use Rattle.theory_notation.specs.EventSets.{event_set_text, events_text}
 use Rattle.csp_print.specs.EventSets.{operator_text}
 use Rattle.csp_print.specs.Names.{names_of}

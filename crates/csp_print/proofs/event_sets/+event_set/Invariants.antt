@@ -1,6 +1,6 @@
 use Rattle.std.proofs.Common.{◌+◌, ◌*◌}
 use Rattle.theory_semantics.specs.Meaning.Limits.{event_set_size}
-use Rattle.csp_event_sets.specs.Events.{event_set_of}
+use Rattle.csp_events.specs.Events.{event_set_of}
 use Rattle.csp_print.proofs.event_sets.+event_set.Given as goal
 
 abbrev pub decreases-push_event_set : goal.decreases-push_event_set

@@ -2,8 +2,8 @@ use Rattle.std.proofs.Common.{List, ◌++◌, drop, ap, ◌∙◌, sym, ◌≡�
 use Rattle.std.proofs.lemmas.List.{drop_all}
 use Rattle.std.specs.Prelude.{codes}
 use Rattle.std.specs.String.{string_bytes}
-use Rattle.csp_event_sets.specs.declared.renaming_pair.RenamingPair.{RenamingPair}
-use Rattle.csp_event_sets.specs.Events.{renaming_pair_of, renaming_pairs_of}
+use Rattle.csp_events.specs.declared.renaming_pair.RenamingPair.{RenamingPair}
+use Rattle.csp_events.specs.Events.{renaming_pair_of, renaming_pairs_of}
 use Rattle.theory_notation.specs.EventSets.{pair_text, pairs_behind}
 use Rattle.csp_print.specs.Names.{names_of}
 use Rattle.csp_print.proofs.Writing.{comes_to_end, goes_on}

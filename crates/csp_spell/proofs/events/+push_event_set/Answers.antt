@@ -5,8 +5,8 @@ use Rattle.theory_semantics.specs.Meaning.Limits.{event_set_size}
 use Rattle.theory_spelling.specs.Spelling.{event_spelling, event_set_spelling, list_spelling}
 use Rattle.theory_spelling.specs.Packable.{IsPackableEventSet}
 use Rattle.theory_spelling.specs.Ranges.{IsInRangeEventSet}
-use Rattle.csp_event_sets.specs.Events.{event_expressions_of, event_set_of}
-use Rattle.csp_event_sets.proofs.EventForms.{of_enumeration, of_productions, of_combined}
+use Rattle.csp_events.specs.Events.{event_expressions_of, event_set_of}
+use Rattle.csp_events.proofs.EventForms.{of_enumeration, of_productions, of_combined}
 use Rattle.csp_spell.proofs.Pushing.{behind_tag, behind_part, two_parts, also_ok}
 use Rattle.csp_spell.proofs.PushingEvents.{spelled_combined, left_packable, right_packable, smaller_combined, ranged_combined}
 use Rattle.csp_spell.proofs.events.+push_event_set.Goals as goal

@@ -5,7 +5,7 @@ use Rattle.theory_spelling.specs.Packable.{IsPackableExpression, IsPackableList}
 use Rattle.theory_spelling.specs.Ranges.{IsInRangeExpression}
 use Rattle.std.specs.List.{AllByRecursion}
 use Rattle.csp_expression.specs.Expression.{expressions_of}
-use Rattle.csp_event_sets.specs.Events.{event_expression_of}
+use Rattle.csp_events.specs.Events.{event_expression_of}
 use Rattle.csp_spell.proofs.Pushing.{behind_part, also_ok}
 use Rattle.csp_spell.proofs.PushingExpressions.{packable_arguments, spelled_event, ranged_each}
 use Rattle.csp_spell.proofs.events.push_event.Goals as goal

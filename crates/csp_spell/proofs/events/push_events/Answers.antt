@@ -1,7 +1,7 @@
 -- The spelling of one more of them.
 use Rattle.theory_spelling.specs.Spelling.{event_spelling}
 use Rattle.theory_spelling.specs.Packable.{IsPackableEvent}
-use Rattle.csp_event_sets.specs.Events.{event_expression_of}
+use Rattle.csp_events.specs.Events.{event_expression_of}
 use Rattle.theory_spelling.specs.Ranges.{IsInRangeEvent}
 use Rattle.csp_spell.proofs.Pushing.{put_none, put_one, put_all, item_of, gone_one, gone_all}
 use Rattle.csp_spell.proofs.events.push_events.Goals as goal

@@ -1,4 +1,4 @@
-use Rattle.csp_event_sets.specs.Events.{event_expression_of}
+use Rattle.csp_events.specs.Events.{event_expression_of}
 use Rattle.theory_spelling.specs.Spelling.{event_spelling}
 use Rattle.theory_spelling.specs.Ranges.{IsInRangeEvent}
 use Rattle.csp_spell.proofs.Pushing.{Put, Gone}

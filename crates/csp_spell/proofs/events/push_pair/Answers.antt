@@ -1,7 +1,7 @@
 -- A pair is spelled by its sides.
 use Rattle.std.proofs.Common.{refl}
 use Rattle.theory_spelling.specs.Spelling.{event_spelling, pair_spelling}
-use Rattle.csp_event_sets.specs.Events.{event_expression_of, renaming_pair_of}
+use Rattle.csp_events.specs.Events.{event_expression_of, renaming_pair_of}
 use Rattle.csp_spell.proofs.Pushing.{behind_part, also_ok}
 use Rattle.csp_spell.proofs.events.push_pair.Goals as goal
 

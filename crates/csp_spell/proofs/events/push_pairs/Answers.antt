@@ -1,7 +1,7 @@
 -- The spelling of one more of them.
 use Rattle.theory_spelling.specs.Spelling.{pair_spelling}
 use Rattle.theory_spelling.specs.Packable.{IsPackablePair}
-use Rattle.csp_event_sets.specs.Events.{renaming_pair_of}
+use Rattle.csp_events.specs.Events.{renaming_pair_of}
 use Rattle.theory_spelling.specs.Ranges.{IsInRangePair}
 use Rattle.csp_spell.proofs.Pushing.{put_none, put_one, put_all, item_of, gone_one, gone_all}
 use Rattle.csp_spell.proofs.events.push_pairs.Goals as goal

@@ -1,4 +1,4 @@
-use Rattle.csp_event_sets.specs.Events.{renaming_pair_of}
+use Rattle.csp_events.specs.Events.{renaming_pair_of}
 use Rattle.theory_spelling.specs.Spelling.{pair_spelling}
 use Rattle.theory_spelling.specs.Ranges.{IsInRangePair}
 use Rattle.csp_spell.proofs.Pushing.{Put, Gone}

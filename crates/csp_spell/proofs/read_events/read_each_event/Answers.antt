@@ -1,7 +1,7 @@
 use Rattle.std.proofs.Common.{◌≡◌, ◌++◌, ◌∷◌, []}
 use Rattle.std.proofs.lemmas.Result.{err_from_is_err_and}
 use Rattle.std.proofs.lemmas.List.{map_push}
-use Rattle.csp_event_sets.specs.Events.{event_expression_of, event_expressions_of}
+use Rattle.csp_events.specs.Events.{event_expression_of, event_expressions_of}
 use Rattle.theory_spelling.specs.Reading.{items_at, event_at}
 use Rattle.csp_spell.proofs.Repeating.{goes_on, ends, is_done}
 use Rattle.csp_spell.proofs.read_events.read_each_event.Goals as goal

@@ -1,5 +1,5 @@
 use Rattle.std.proofs.Common.{◌≡◌, ◌-◌}
-use Rattle.csp_event_sets.specs.Events.{event_expressions_of}
+use Rattle.csp_events.specs.Events.{event_expressions_of}
 use Rattle.theory_spelling.specs.Reading.{items_at, event_at}
 use Rattle.csp_spell.proofs.Repeating.{with_front}
 use Rattle.csp_spell.proofs.read_events.read_each_event.Given as goal

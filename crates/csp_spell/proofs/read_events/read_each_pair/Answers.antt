@@ -1,7 +1,7 @@
 use Rattle.std.proofs.Common.{◌≡◌, ◌++◌, ◌∷◌, []}
 use Rattle.std.proofs.lemmas.Result.{err_from_is_err_and}
 use Rattle.std.proofs.lemmas.List.{map_push}
-use Rattle.csp_event_sets.specs.Events.{renaming_pair_of, renaming_pairs_of}
+use Rattle.csp_events.specs.Events.{renaming_pair_of, renaming_pairs_of}
 use Rattle.theory_spelling.specs.Reading.{items_at, pair_at}
 use Rattle.csp_spell.proofs.Repeating.{goes_on, ends, is_done}
 use Rattle.csp_spell.proofs.read_events.read_each_pair.Goals as goal

@@ -1,5 +1,5 @@
 use Rattle.std.proofs.Common.{◌≡◌, ◌-◌}
-use Rattle.csp_event_sets.specs.Events.{renaming_pairs_of}
+use Rattle.csp_events.specs.Events.{renaming_pairs_of}
 use Rattle.theory_spelling.specs.Reading.{items_at, pair_at}
 use Rattle.csp_spell.proofs.Repeating.{with_front}
 use Rattle.csp_spell.proofs.read_events.read_each_pair.Given as goal

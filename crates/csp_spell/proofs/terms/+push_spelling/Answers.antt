@@ -8,7 +8,7 @@ use Rattle.theory_spelling.specs.Spelling.{spelling, number_spelling, list_spell
 use Rattle.theory_spelling.specs.Packable.{IsPackable}
 use Rattle.theory_spelling.specs.Ranges.{IsInRange}
 use Rattle.csp_expression.specs.Expression.{expression_of, expressions_of}
-use Rattle.csp_event_sets.specs.Events.{event_set_of, renaming_pairs_of}
+use Rattle.csp_events.specs.Events.{event_set_of, renaming_pairs_of}
 use Rattle.csp_term.specs.Field.{fields_of}
 use Rattle.csp_term.specs.Term.{process_of, process_of_form}
 use Rattle.csp_term.proofs.Forms.{of_call, of_prefix, of_guard, of_conditional, of_binary, of_generalised, of_alphabetised, of_hiding, of_renaming, of_replicated, of_sliding}

@@ -2,7 +2,7 @@ use Rattle.std.proofs.Common.{◌+◌, ◌*◌}
 use Rattle.theory_syntax.specs.Process.{AlphabetisedParallel, GeneralisedParallel, Guard, Hiding, If, Prefix, Renaming, SlidingChoice}
 use Rattle.theory_syntax.specs.Operators.{binary_process, replicated_process}
 use Rattle.theory_semantics.specs.Meaning.Limits.{size}
-use Rattle.csp_event_sets.specs.Events.{event_set_of, renaming_pairs_of}
+use Rattle.csp_events.specs.Events.{event_set_of, renaming_pairs_of}
 use Rattle.csp_expression.specs.Expression.{expression_of}
 use Rattle.csp_term.specs.Field.{fields_of}
 use Rattle.csp_term.specs.Term.{process_of, process_of_form}

@@ -4,12 +4,12 @@ use Rattle.std.proofs.lemmas.Result.{err_from_is_err_and}
 use Rattle.std.specs.declared.vec.Vec.{Vec}
 use Rattle.std.specs.Result.{result_err}
 use Rattle.theory_syntax.specs.Process.{Hiding}
-use Rattle.csp_event_sets.specs.Events.{event_set_of}
+use Rattle.csp_events.specs.Events.{event_set_of}
 use Rattle.csp_term.specs.Script.{script_of_parts}
 use Rattle.csp_steps.specs.declared.rule_step.RuleStep.{RuleStep}
 use Rattle.csp_expression.specs.declared.no_value.NoValue.{NoValue}
 use Rattle.csp_steps.specs.Answering.{Answered, Answers, IsAnswered, answered_of}
-use Rattle.csp_event_tests.specs.Testing.{test_of}
+use Rattle.csp_events.specs.Testing.{test_of}
 use Rattle.csp_steps.proofs.Changing.{hiding_by, hiding_rest, hiding_stuck}
 use Rattle.csp_steps.proofs.Operating.{stuck_by_only}
 use Rattle.csp_steps.proofs.hiding.by_body.Goals as goal

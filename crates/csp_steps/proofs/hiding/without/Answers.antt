@@ -5,7 +5,7 @@ use Rattle.std.proofs.lemmas.Iterator.Consumers.{YieldsList-end}
 use Rattle.csp_value.specs.Action.{action_of}
 use Rattle.csp_steps.specs.Answering.{answered_of, target_of}
 use Rattle.csp_steps.specs.Composing.{each_answer, frame_of, hide_answer, under_limits}
-use Rattle.csp_event_tests.specs.Testing.{test_of}
+use Rattle.csp_events.specs.Testing.{test_of}
 use Rattle.csp_steps.proofs.Collecting.{none_collected, yielded_all, one_collected, one_pushed}
 use Rattle.csp_steps.proofs.hiding.without.Goals as goal
 

@@ -1,7 +1,7 @@
 -- What is there so far is by the steps so far.
 use Rattle.std.proofs.Common.{[]}
 use Rattle.csp_steps.specs.Composing.{frame_of, hide_answer, under_limits}
-use Rattle.csp_event_tests.specs.Testing.{test_of}
+use Rattle.csp_events.specs.Testing.{test_of}
 use Rattle.csp_steps.proofs.Collecting.{Collected}
 use Rattle.csp_steps.proofs.hiding.without.Given as goal
 

@@ -6,7 +6,7 @@ use Rattle.theory_semantics.specs.Meaning.Events.{or_itself}
 use Rattle.csp_value.specs.Action.{action_of}
 use Rattle.csp_steps.specs.Answering.{Answered, answered_of, target_of}
 use Rattle.csp_steps.specs.Composing.{frame_of, rename_answer, under_limits}
-use Rattle.csp_event_tests.specs.Imaging.{found_images}
+use Rattle.csp_events.specs.Imaging.{found_images}
 use Rattle.csp_steps.proofs.renaming.add_one.Goals as goal
 
 abbrev one_step : Action → Option Process → List Answered

@@ -5,12 +5,12 @@ use Rattle.std.specs.declared.vec.Vec.{Vec}
 use Rattle.std.specs.Result.{result_err}
 use Rattle.theory_syntax.specs.Process.{Renaming, RenamingPair}
 use Rattle.theory_semantics.specs.Meaning.Events.{renaming}
-use Rattle.csp_event_sets.specs.Events.{renaming_pairs_of}
+use Rattle.csp_events.specs.Events.{renaming_pairs_of}
 use Rattle.csp_term.specs.Script.{script_of_parts}
 use Rattle.csp_steps.specs.declared.rule_step.RuleStep.{RuleStep}
 use Rattle.csp_expression.specs.declared.no_value.NoValue.{NoValue}
 use Rattle.csp_steps.specs.Answering.{Answered, Answers, IsAnswered, answered_of}
-use Rattle.csp_event_tests.specs.Imaging.{AreMade}
+use Rattle.csp_events.specs.Imaging.{AreMade}
 use Rattle.csp_steps.proofs.Changing.{renaming_rest}
 use Rattle.csp_steps.proofs.Imaged.{renaming_by, renaming_stuck}
 use Rattle.csp_steps.proofs.Operating.{stuck_by_only}

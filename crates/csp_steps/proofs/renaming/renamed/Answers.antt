@@ -5,7 +5,7 @@ use Rattle.std.proofs.lemmas.Iterator.Consumers.{YieldsList-end}
 use Rattle.theory_semantics.specs.Meaning.Events.{or_itself}
 use Rattle.csp_steps.specs.Answering.{answered_of}
 use Rattle.csp_steps.specs.Composing.{each_answer, frame_of, rename_answer, under_limits}
-use Rattle.csp_event_tests.specs.Imaging.{found_images}
+use Rattle.csp_events.specs.Imaging.{found_images}
 use Rattle.csp_steps.proofs.Collecting.{none_collected, yielded_all, one_collected}
 use Rattle.csp_steps.proofs.renaming.renamed.Goals as goal
 

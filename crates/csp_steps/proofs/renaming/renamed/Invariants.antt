@@ -2,7 +2,7 @@
 use Rattle.std.proofs.Common.{[]}
 use Rattle.theory_semantics.specs.Meaning.Events.{or_itself}
 use Rattle.csp_steps.specs.Composing.{frame_of, rename_answer, under_limits}
-use Rattle.csp_event_tests.specs.Imaging.{found_images}
+use Rattle.csp_events.specs.Imaging.{found_images}
 use Rattle.csp_steps.proofs.Collecting.{Collected}
 use Rattle.csp_steps.proofs.renaming.renamed.Given as goal
 

@@ -21,7 +21,7 @@ use Rattle.theory_semantics.specs.Meaning.Transitions.{chain, left_grouped}
 use Rattle.theory_semantics.specs.Meaning.Substitution.{put, put_expression, without}
 use Rattle.csp_value.specs.declared.value.Value.{Value}
 use Rattle.csp_value.specs.Value.{value_of, values_of}
-use Rattle.csp_event_sets.specs.Events.{event_set_of, renaming_pairs_of}
+use Rattle.csp_events.specs.Events.{event_set_of, renaming_pairs_of}
 use Rattle.csp_expression.specs.Bindings.{bindings_of}
 use Rattle.csp_term.specs.Script.{script_of_parts}
 use Rattle.csp_term.specs.Term.{process_of, process_of_form}

@@ -9,7 +9,8 @@ use Rattle.verdict.specs.Outcome.{outcome_of}
 use Rattle.program.specs.Answering.{AreRight}
 use Rattle.program.specs.Reading.{IsRefusalOf}
 use Rattle.program.specs.Running.{limits_of, status_of}
-use Rattle.program.proofs.Beginnings.{cause_of_text, of_file}
+use Rattle.program.specs.Given.{given_of}
+use Rattle.program.proofs.Beginnings.{cause_of_text, of_file, too_long}
 use Rattle.program.proofs.Reporting.{status_at_most}
 use Rattle.program.proofs.running.answer.Goals as goal
 
@@ -40,7 +41,11 @@ returns-in_err-script-clause-cause g c =
     let p = err_from_is_err_and c.from_residual-in_err-script.result c.from_residual-in_err-script.ensures.1 in
     let is = subst (λ bytes. IsRefusalOf bytes c.in_err-script.field-0.0) c.deref.ensures.value c.in_err-script.ensures.refused in
     rw (p.1, p.2)
-    (cause_of_text (g.F.Files.may_hold c.args.files.now) (g.F.Files.may_lack c.args.files.now) c.args.settings.now.file.now c.in_ok-text.text.items c.in_err-script.field-0.0 c.in_ok-text.ensures.holds is)
+    (cause_of_text (given_of g.F.Files.may_hold g.F.Files.may_lack c.args.files.now c.args.resources.now.stack) c.args.settings.now.file.now c.in_ok-text.text.items c.in_err-script.field-0.0 c.in_ok-text.ensures.holds is)
+
+pub returns-then-takes-clause-cause : goal.returns-then-takes-clause-cause
+returns-then-takes-clause-cause g c =
+    too_long (given_of g.F.Files.may_hold g.F.Files.may_lack c.args.files.now c.args.resources.now.stack) c.args.settings.now.file.now c.in_ok-text.text.items c.in_ok-text.ensures.holds (search rules)
 
 pub returns-clause-cause : goal.returns-clause-cause
 returns-clause-cause g c =

@@ -1,7 +1,7 @@
 use Rattle.std.proofs.Common.{ap, sym}
 use Rattle.theory_checking.specs.Inference.Processes.{behind_event_set, of_event_set}
 use Rattle.csp_expression.specs.Evaluation.{table_of}
-use Rattle.csp_event_sets.specs.Events.{event_set_of}
+use Rattle.csp_events.specs.Events.{event_set_of}
 use Rattle.csp_inference.specs.Numbering.{names_of, numbering_of}
 use Rattle.csp_inference.proofs.Adding.{if_ok}
 use Rattle.csp_inference.proofs.Asking.{asks_same}

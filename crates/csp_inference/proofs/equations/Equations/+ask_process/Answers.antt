@@ -3,7 +3,7 @@ use Rattle.std.proofs.Common.{◌∷◌, sym, subst, ◌∙◌, ap}
 use Rattle.theory_syntax.specs.Expression.{to_expressions}
 use Rattle.theory_syntax.specs.Process.{Call, Prefix, Renaming}
 use Rattle.csp_expression.specs.Expression.{expression_of, expressions_of}
-use Rattle.csp_event_sets.specs.Events.{event_set_of, renaming_pairs_of}
+use Rattle.csp_events.specs.Events.{event_set_of, renaming_pairs_of}
 use Rattle.csp_term.specs.Field.{fields_of}
 use Rattle.csp_term.specs.Script.{script_of_parts}
 use Rattle.csp_term.specs.Term.{process_of, process_of_form}

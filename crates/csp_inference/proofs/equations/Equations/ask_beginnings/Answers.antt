@@ -1,6 +1,6 @@
 use Rattle.std.proofs.Common.{refl}
 use Rattle.theory_checking.specs.Inference.Processes.{behind_event, of_beginning}
-use Rattle.csp_event_sets.specs.Events.{event_expression_of}
+use Rattle.csp_events.specs.Events.{event_expression_of}
 use Rattle.csp_expression.specs.Evaluation.{table_of}
 use Rattle.csp_inference.specs.Numbering.{names_of, numbering_of}
 use Rattle.csp_inference.proofs.Asking.{left_more, left_none}

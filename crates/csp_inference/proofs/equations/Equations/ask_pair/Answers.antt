@@ -1,5 +1,5 @@
 use Rattle.std.proofs.Common.{◌∙◌, sym}
-use Rattle.csp_event_sets.specs.Events.{renaming_pair_of}
+use Rattle.csp_events.specs.Events.{renaming_pair_of}
 use Rattle.csp_term.specs.Script.{script_of_parts}
 use Rattle.csp_inference.specs.Numbering.{names_of, numbering_of}
 use Rattle.csp_inference.proofs.AskingRenamings.{asked_both}

@@ -1,7 +1,7 @@
 -- It is hidden, or one of its images is the event that is asked for.
 use Rattle.std.proofs.Common.{◌↔◌, Bool, IfOk, IsTrue, sym, subst}
 use Rattle.csp_value.specs.Action.{event_of}
-use Rattle.csp_event_tests.specs.Testing.{test_of}
+use Rattle.csp_events.specs.Testing.{test_of}
 use Rattle.csp_moves.specs.declared.passing.Passing.{Passing}
 use Rattle.csp_moves.specs.Passing.{IsPassing}
 use Rattle.csp_moves.proofs.passing.Passing.passes.Goals as goal

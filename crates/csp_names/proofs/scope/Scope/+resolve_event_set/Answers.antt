@@ -2,7 +2,7 @@
 use Rattle.std.proofs.Common.{map}
 use Rattle.csp_parse.specs.Events.{event_of}
 use Rattle.csp_parse.specs.EventSets.{event_set_of}
-use Rattle.csp_event_sets.proofs.EventForms as forms
+use Rattle.csp_events.proofs.EventForms as forms
 use Rattle.csp_names.specs.Walks.{ResolvesEventSet}
 use Rattle.csp_names.proofs.EventSets.{both_resolved, enumeration_resolved, of_combine, of_enumeration, of_productions, productions_resolved, right_stops}
 use Rattle.csp_names.proofs.Walking.{handed_on}

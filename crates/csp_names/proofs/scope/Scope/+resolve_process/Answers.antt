@@ -8,7 +8,7 @@ use Rattle.csp_parse.specs.Names.{name_of}
 use Rattle.csp_parse.specs.Processes.{field_of, infix_of, process_of, replicator_of}
 use Rattle.theory_text.specs.Raw.{RawAlphabetisedParallel, RawCall, RawGeneralisedParallel, RawGuard, RawHiding, RawIf, RawInfix, RawPrefix, RawRenaming, RawReplicated}
 use Rattle.theory_checking.specs.Resolving as resolving
-use Rattle.csp_event_sets.specs.Events as sets
+use Rattle.csp_events.specs.Events as sets
 use Rattle.csp_expression.specs.Expression as terms
 use Rattle.csp_term.specs.Field as fields
 use Rattle.csp_term.specs.Term as term

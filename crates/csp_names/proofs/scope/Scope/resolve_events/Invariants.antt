@@ -1,7 +1,7 @@
 use Rattle.theory_checking.specs.Resolving as resolving
 use Rattle.theory_checking.specs.Sites.{in_event}
 use Rattle.csp_parse.specs.Events.{event_of}
-use Rattle.csp_event_sets.specs.Events.{event_expression_of}
+use Rattle.csp_events.specs.Events.{event_expression_of}
 use Rattle.csp_names.proofs.Resolves.{SoFar}
 use Rattle.csp_names.proofs.scope.Scope.resolve_events.Given as goal
 

@@ -2,7 +2,7 @@ use Rattle.std.proofs.Common.{map, refl}
 use Rattle.theory_checking.specs.Resolving as resolving
 use Rattle.theory_checking.specs.Sites.{in_pair}
 use Rattle.csp_parse.specs.Events.{pair_of}
-use Rattle.csp_event_sets.specs.Events.{renaming_pair_of}
+use Rattle.csp_events.specs.Events.{renaming_pair_of}
 use Rattle.csp_names.specs.declared.refusals.Refused.TheVariants as refused
 use Rattle.csp_names.specs.Walks.{ResolvesPairs}
 use Rattle.csp_names.proofs.Resolves.{all_so_far, one_more_so_far, one_stops_all, room_stops_all}

@@ -1,7 +1,7 @@
 use Rattle.theory_checking.specs.Resolving as resolving
 use Rattle.theory_checking.specs.Sites.{in_pair}
 use Rattle.csp_parse.specs.Events.{pair_of}
-use Rattle.csp_event_sets.specs.Events.{renaming_pair_of}
+use Rattle.csp_events.specs.Events.{renaming_pair_of}
 use Rattle.csp_names.proofs.Resolves.{SoFar}
 use Rattle.csp_names.proofs.scope.Scope.resolve_pairs.Given as goal
 

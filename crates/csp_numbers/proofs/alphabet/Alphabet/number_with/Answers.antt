@@ -4,7 +4,7 @@ use Rattle.std.proofs.lemmas.Fn.{always_returns_same}
 use Rattle.theory_syntax.specs.Value as pure
 use Rattle.theory_semantics.specs.Meaning.Offers.{RisesBy}
 use Rattle.csp_value.specs.Action.{event_of}
-use Rattle.csp_event_tests.specs.Testing.{event_with}
+use Rattle.csp_events.specs.Testing.{event_with}
 use Rattle.csp_numbers.specs.Numbers.{events_of}
 use Rattle.csp_numbers.proofs.Halving.{found_there, missed_nowhere}
 use Rattle.csp_numbers.proofs.alphabet.Alphabet.number_with.Goals as goal

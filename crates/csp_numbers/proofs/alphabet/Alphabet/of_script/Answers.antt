@@ -2,7 +2,8 @@ use Rattle.std.proofs.Common.{inl, inr, lit<, map, Option, ◌∙◌, ap, subst,
 use Rattle.std.specs.declared.vec.Vec.{Vec}
 use Rattle.theory_shapes.specs.Alphabet.{alphabet, events_from}
 use Rattle.csp_value.specs.declared.action.Event.{Event}
-use Rattle.csp_term.specs.Script.{field_sets_of, script_of}
+use Rattle.csp_events.specs.Channels.{field_sets_of}
+use Rattle.csp_term.specs.Script.{script_of}
 use Rattle.csp_numbers.specs.Numbers.{AreListedWithin}
 use Rattle.csp_numbers.proofs.Alphabets.{script_numbered}
 use Rattle.csp_numbers.proofs.alphabet.Alphabet.of_script.Goals as goal

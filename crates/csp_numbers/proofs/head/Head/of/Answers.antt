@@ -2,7 +2,7 @@
 use Rattle.std.proofs.Common.{sym, ◌∙◌, ap, subst}
 use Rattle.theory_syntax.specs.Process.{Renaming}
 use Rattle.theory_shapes.specs.Parts.{shape_of}
-use Rattle.csp_event_sets.specs.Events.{renaming_pairs_of}
+use Rattle.csp_events.specs.Events.{renaming_pairs_of}
 use Rattle.csp_term.specs.Term.{process_of, process_of_form}
 use Rattle.csp_term.proofs.Forms.{of_alphabetised, of_binary, of_generalised, of_hiding, of_renaming}
 use Rattle.csp_numbers.specs.Heads.{IsHeadOf}

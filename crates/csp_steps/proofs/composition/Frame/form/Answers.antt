@@ -1,7 +1,7 @@
 -- The copies of the pairs stand for the same.
 use Rattle.std.proofs.Common.{sym, ◌∙◌, ap}
 use Rattle.theory_syntax.specs.Process.{Renaming}
-use Rattle.csp_event_sets.specs.Events.{renaming_pair_of, renaming_pairs_of}
+use Rattle.csp_events.specs.Events.{renaming_pair_of, renaming_pairs_of}
 use Rattle.csp_value.proofs.Copying.{copies_same}
 use Rattle.csp_term.specs.Term.{process_of}
 use Rattle.csp_term.proofs.Forms.{of_renaming}

@@ -7,7 +7,8 @@ use Rattle.theory_semantics.specs.Meaning.Events.{communications}
 use Rattle.theory_semantics.specs.Meaning.Substitution.{Bindings, behind, put, put_fields}
 use Rattle.csp_expression.specs.Bindings.{bindings_of}
 use Rattle.csp_term.specs.Field.{fields_of}
-use Rattle.csp_term.specs.Script.{field_sets_of, script_of_parts}
+use Rattle.csp_events.specs.Channels.{field_sets_of}
+use Rattle.csp_term.specs.Script.{script_of_parts}
 use Rattle.csp_term.specs.Term.{process_of}
 use Rattle.csp_expression.proofs.Forming.{get_none}
 use Rattle.csp_steps.specs.Communicating.{Finds}

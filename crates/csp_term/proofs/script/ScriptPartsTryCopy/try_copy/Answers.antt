@@ -1,13 +1,14 @@
 -- Each list of the script is copied item by item.
 use Rattle.std.proofs.Common.{◌≡◌, List, subst}
 use Rattle.std.specs.String.{string_bytes}
-use Rattle.csp_term.specs.declared.script.Channel.{Channel}
+use Rattle.csp_events.specs.declared.channel.Channel.{Channel}
 use Rattle.csp_term.specs.declared.script.Constructor.{Constructor}
 use Rattle.csp_term.specs.declared.script.Equation.{Equation}
 use Rattle.csp_term.specs.declared.assertion.Assertion.{Assertion}
 use Rattle.csp_value.specs.Copies.{AreCopies}
-use Rattle.csp_term.specs.Script.{assertion_of, channel_of, equation_of}
-use Rattle.csp_term.proofs.Channels.{same_names, same_sets}
+use Rattle.csp_events.specs.Channels.{channel_of}
+use Rattle.csp_term.specs.Script.{assertion_of, equation_of}
+use Rattle.csp_events.proofs.Channels.{same_names, same_sets}
 use Rattle.csp_value.proofs.Copying.{copies_same}
 use Rattle.csp_term.proofs.script.ScriptPartsTryCopy.try_copy.Goals as goal
 

@@ -4,7 +4,7 @@ use Rattle.csp_term.specs.Own.{own_depth}
 use Rattle.csp_term.specs.Term.{process_of_form}
 use Rattle.csp_term.proofs.Forms.{of_call, of_prefix, of_renaming}
 use Rattle.csp_expression.proofs.Measures.{depths}
-use Rattle.csp_event_sets.proofs.EventMeasures.{pair_depths}
+use Rattle.csp_events.proofs.EventMeasures.{pair_depths}
 use Rattle.csp_term.proofs.FieldMeasures.{field_depths}
 use Rattle.csp_term.proofs.TermMeasures.{bare_depth, bare_within, same_within}
 use Rattle.csp_term.proofs.term.TermForm.is_head_within_depth.Goals as goal

@@ -1,6 +1,0 @@
-use Rattle.csp_value.proofs.Walking.{Decides}
-use Rattle.csp_event_sets.proofs.EventMeasures.{pair_depths}
-use Rattle.csp_event_sets.proofs.limits.are_pairs_within_depth.Given as goal
-
-abbrev pub invariant-loop-pair : goal.invariant-loop-pair
-invariant-loop-pair g l = Decides pair_depths l.pairs l.most l.pair-index

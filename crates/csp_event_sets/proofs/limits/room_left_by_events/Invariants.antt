@@ -1,6 +1,0 @@
-use Rattle.csp_value.proofs.Walking.{Left}
-use Rattle.csp_event_sets.proofs.EventMeasures.{event_sizes}
-use Rattle.csp_event_sets.proofs.limits.room_left_by_events.Given as goal
-
-abbrev pub invariant-loop-event : goal.invariant-loop-event
-invariant-loop-event g l = Left event_sizes l.events l.room l.event-index l.rest

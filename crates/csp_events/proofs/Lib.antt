@@ -1,0 +1,17 @@
+pub mod Apart
+pub mod EventEquality
+pub mod EventForms
+pub mod EventMeasures
+pub mod EventOrder
+pub mod EventPutting
+pub mod Halving
+pub mod Testing
+pub mod Fronts
+pub mod Enumerating
+pub mod Giving
+pub mod Evaluating
+pub mod Alike
+pub mod Ranging
+pub mod Naming
+pub mod Comparing
+pub mod Channels

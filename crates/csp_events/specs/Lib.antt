@@ -1,0 +1,4 @@
+pub mod Channels
+pub mod Events
+pub mod Testing
+pub mod Imaging
