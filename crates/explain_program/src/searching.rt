@@ -1,4 +1,4 @@
-//! The search for the answer to an assertion, of which the answer keeps how large it was.
+//! The search for the answer to an assertion, of which the answer keeps how large it was, and the path that stopped it.
 
 ghost use Rattle.std.specs.Prelude.{◌≢◌, ◌≤◌, IsSomeAnd};
 ghost use Rattle.theory_search.specs.Search.{Open, IsLawful};
@@ -6,8 +6,10 @@ ghost use Rattle.theory_search.specs.Terms.{IsAssertionOf};
 ghost use Rattle.csp_term.specs.Script.{assertion_of, script_of};
 ghost use Rattle.pair_store.specs.Bounds.{bounds_of};
 ghost use Rattle.explore.specs.Answering.{IsRightAsWritten};
+ghost use Rattle.explanation.specs.Running.{HasStop};
 ghost use Rattle.verdict.specs.Outcome.{outcome_of};
 ghost use Rattle.explain_program.specs.Sizes.{HasSize, IsSizeFor, IsToldAsWritten};
+ghost use Rattle.explain_program.specs.Stops.{stop_kept};
 
 use crate::search_size::{SearchSize, size_in};
 use csp_term::{Action, AllocHandle, Assertion, Memory, Script};
@@ -42,6 +44,7 @@ pub(crate) fn answer_together<A: AllocHandle + Send + Sync, R: Threads + Wait + 
     requires workers { (1 ≤ workers) × (workers ≤ 64) }
     ensures right { IsRightAsWritten (script_of script.now) (assertion_of assertion.now) (bounds_of limits) (outcome_of result.outcome) }
     ensures size { IsSizeFor (script_of script.now) (assertion_of assertion.now) (bounds_of limits) (outcome_of result.outcome) result.size }
+    ensures stop { HasStop (script_of script.now) (assertion_of assertion.now) (outcome_of result.outcome) (stop_kept result.stop) }
 {
     match ended_together(
         alloc,
@@ -72,6 +75,7 @@ fn answer_alone<A: AllocHandle>(
     requires { IsAssertionOf (script_of script.now) (assertion_of assertion.now) }
     ensures right { IsRightAsWritten (script_of script.now) (assertion_of assertion.now) (bounds_of limits) (outcome_of result.outcome) }
     ensures size { IsSizeFor (script_of script.now) (assertion_of assertion.now) (bounds_of limits) (outcome_of result.outcome) result.size }
+    ensures stop { HasStop (script_of script.now) (assertion_of assertion.now) (outcome_of result.outcome) (stop_kept result.stop) }
 {
     match ended_search(alloc, script, assertion, limits) {
         Ok(store) => concluded(alloc, &store, assertion.negated),
@@ -83,16 +87,17 @@ fn answer_alone<A: AllocHandle>(
     }
 }
 
-// What a search tells that has ended, and how large it is.
+// What a search tells that has ended, how large it is, and the path that stopped it.
 fn concluded<A: AllocHandle>(alloc: A, store: &Store<'_, A>, negated: bool) -> Answer<A>
     requires { store.now.search.verdict ≢ Open }
     ensures lawful { IsLawful store.now.script store.now.search }
     ensures told { IsToldAsWritten negated store.now.search (outcome_of result.outcome) }
     ensures size { IsSomeAnd result.size (HasSize store.now.search) }
+    ensures stop { HasStop store.now.script store.now.search.assertion (outcome_of result.outcome) (stop_kept result.stop) }
 {
     let outcome = conclude(alloc, store).as_written(negated);
     let size = Some(size_in(store));
-    match stop_of(alloc, store, &outcome) {
+    match store.stopped(alloc) {
         Ok(stop) => Answer {
             outcome,
             size,
@@ -103,18 +108,5 @@ fn concluded<A: AllocHandle>(alloc: A, store: &Store<'_, A>, negated: bool) -> A
             size,
             stop: None,
         },
-    }
-}
-
-// The path that stopped the search, where a state for which there is no answer did.
-fn stop_of<A: AllocHandle>(
-    alloc: A,
-    store: &Store<'_, A>,
-    outcome: &Outcome<A>,
-) -> Result<Option<Vec<Action<A>, A>>, Memory> {
-    match outcome {
-        Outcome::Unknown(Why::Fault(fault)) => store.stopped(alloc, Some(*fault)),
-        Outcome::Unknown(Why::Term) => store.stopped(alloc, None),
-        _ => Ok(None),
     }
 }
