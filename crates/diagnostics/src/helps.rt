@@ -1,8 +1,8 @@
 //! What may be meant at a refusal.
 
+use crate::advice_table::advice_at;
 use crate::characters::{CHARACTERS, character_advice, character_at};
 use crate::declared_names::declared_names;
-use crate::fault_advice::advice_at;
 use crate::faults::{Fault, Refusal};
 use crate::grammar_tables::LOOK_BACK;
 use crate::notes::{bracket_note, end_note, name_note};

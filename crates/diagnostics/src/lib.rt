@@ -11,12 +11,12 @@
 //! is spelled most like a word. By their contracts they answer what the definitions say.
 #![tactic(auto)]
 
+mod advice_table;
 mod brackets;
 mod characters;
 mod conditions;
 mod declared_names;
 mod excerpts;
-mod fault_advice;
 mod faults;
 mod grammar_tables;
 mod helps;
@@ -28,10 +28,10 @@ mod places;
 mod tables;
 mod texts;
 
+pub use advice_table::{AdviceTable, advice_tables};
 pub use characters::{CHARACTERS, CharacterAdvice};
 pub use conditions::Condition;
 pub use excerpts::excerpt;
-pub use fault_advice::{ADVICE, FaultAdvice};
 pub use faults::{Fault, Refusal, refusal_list};
 pub use messages::message;
 pub use nearest_names::nearest;

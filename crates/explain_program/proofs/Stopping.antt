@@ -10,6 +10,7 @@ use Rattle.theory_notation.specs.Names.{Names}
 use Rattle.program.specs.declared.files.Unread.{Unread}
 use Rattle.program.specs.declared.files.Unread.TheVariants as unread
 use Rattle.report.specs.Sending.{Sends, Breaks}
+use Rattle.program.specs.Given.{Given, Sent, sent}
 use Rattle.program.specs.Reading.{IsRefusalOf}
 use Rattle.program.specs.Refusal.{of_file}
 use Rattle.program.specs.Running.{IsCause}
@@ -31,19 +32,19 @@ use Rattle.explain_program.proofs.Tellings.{no_text, none_told, one_cut, told_so
 
 module _ (request : Request) (script : Script) (names : Names) where
   -- each assertion was asked for, and all are told
-  pub all_told : (old new : Option (List ℕ)) (failed : Bool) (status place : ℕ) → request.number ≡ 0 → length script.assertions ≤ place →
-      AreTold request script names 1 (take place script.assertions) (GoesOut old new failed status) → TellsAll request script names old new failed status
-  all_told old new failed status place each whole told =
-      let P : ℕ → List Assertion → Type 0 = λ n xs. AreTold request script names n xs (GoesOut old new failed status) in
+  pub all_told : (out : Sent) (status place : ℕ) → request.number ≡ 0 → length script.assertions ≤ place →
+      AreTold request script names 1 (take place script.assertions) (GoesOut out.old out.new out.failed status) → TellsAll request script names out status
+  all_told out status place each whole told =
+      let P : ℕ → List Assertion → Type 0 = λ n xs. AreTold request script names n xs (GoesOut out.old out.new out.failed status) in
       let all = subst (P 1) (take_all place script.assertions whole) told in
       let Q : ℕ → Type 0 = λ n. P (first_number n) (chosen n script.assertions) in
       record { there = omega (arith, each); told = subst Q (sym each) all }
 
   -- the one that was asked for is told
-  pub asked_told : (old new : Option (List ℕ)) (failed : Bool) (status place : ℕ) → request.number ≡ suc place → place < length script.assertions →
-      AreTold request script names (suc place) (one_at place script.assertions) (GoesOut old new failed status) → TellsAll request script names old new failed status
-  asked_told old new failed status place one within told =
-      let Q : ℕ → Type 0 = λ n. AreTold request script names (first_number n) (chosen n script.assertions) (GoesOut old new failed status) in
+  pub asked_told : (out : Sent) (status place : ℕ) → request.number ≡ suc place → place < length script.assertions →
+      AreTold request script names (suc place) (one_at place script.assertions) (GoesOut out.old out.new out.failed status) → TellsAll request script names out status
+  asked_told out status place one within told =
+      let Q : ℕ → Type 0 = λ n. AreTold request script names (first_number n) (chosen n script.assertions) (GoesOut out.old out.new out.failed status) in
       record { there = omega (arith, one, within); told = subst Q (sym one) told }
 
   -- the first few of each assertion
@@ -61,18 +62,18 @@ module _ (request : Request) (script : Script) (names : Names) where
   -- one of all assertions was not told
   pub stops_in_all : {S : Type 0} (why : Untold) (taken : S → Option (List ℕ)) (has_failed : S → Bool) (old now new : S) (status place : ℕ) → request.number ≡ 0 → place < length script.assertions →
       AreTold request script names 1 (take place script.assertions) (GoesOut (taken old) (taken now) (has_failed now) status) →
-      LeavesText why (λ WentOut. AreTold request script names (suc place) (one_at place script.assertions) (λ os text. WentOut text)) taken has_failed now new → StopsBy request script names (of_untold why) taken has_failed old new
+      LeavesText why (λ WentOut. AreTold request script names (suc place) (one_at place script.assertions) (λ os text. WentOut text)) (sent taken has_failed now new) → StopsBy request script names (of_untold why) (sent taken has_failed old new)
   stops_in_all untold.Memory taken has_failed old now new status place each within told same =
       let P : List Outcome → List ℕ → Type 0 = λ os text. Sends (taken old) (taken now) (has_failed now) text in
-      let sent = told_so request script names 1 (take place script.assertions) (GoesOut (taken old) (taken now) (has_failed now) status) P told (λ os text out. out.bytes) in
-      rw same (few_of_all place (Sends (taken old) (taken now) (has_failed now)) each sent)
+      let out = told_so request script names 1 (take place script.assertions) (GoesOut (taken old) (taken now) (has_failed now) status) P told (λ os text gone. gone.bytes) in
+      rw same (few_of_all place (Sends (taken old) (taken now) (has_failed now)) each out)
   stops_in_all untold.Output taken has_failed old now new status place each within told cut =
       few_of_all (suc place) (Breaks (taken old) (taken new) (has_failed new)) each
       (one_cut request script names place (taken old) (taken now) (taken new) (has_failed now) (has_failed new) status within told cut)
 
   -- the one that was asked for was not told
   pub stops_in_one : {S : Type 0} (why : Untold) (taken : S → Option (List ℕ)) (has_failed : S → Bool) (old new : S) (place : ℕ) → has_failed old ≡ false → request.number ≡ suc place →
-      LeavesText why (λ WentOut. AreTold request script names (suc place) (one_at place script.assertions) (λ os text. WentOut text)) taken has_failed old new → StopsBy request script names (of_untold why) taken has_failed old new
+      LeavesText why (λ WentOut. AreTold request script names (suc place) (one_at place script.assertions) (λ os text. WentOut text)) (sent taken has_failed old new) → StopsBy request script names (of_untold why) (sent taken has_failed old new)
   stops_in_one untold.Memory taken has_failed old new place works one same =
       rw same (few_of_one 0 place (Sends (taken old) (taken old) (has_failed old)) one
       (none_told request script names (suc place) (λ os text. Sends (taken old) (taken old) (has_failed old) text) (no_text (taken old) (has_failed old) works)))
@@ -82,51 +83,52 @@ module _ (request : Request) (script : Script) (names : Names) where
 
 -- ---- of a file
 
-module _ (may_hold : List ℕ → List ℕ → Type 0) (may_lack : List ℕ → Type 0) (request : Request) (script : Script) (names : Names) (file : IsNamedFile may_hold request.name script names) where
-  begun : (P : List ℕ → Type 0) → TellsFew request script names P → IsBegun may_hold request P
+module _ (given : Given) (request : Request) (script : Script) (names : Names) (file : IsNamedFile given.may_hold request.name script names) where
+  begun : (P : List ℕ → Type 0) → TellsFew request script names P → IsBegun given request P
   begun P told = record { script = script; names = names; of_file = file; told = told }
 
   -- what stops the explanations of the file's script stops those of the file
-  pub stop_cause : {S : Type 0} (why : Stop) (taken : S → Option (List ℕ)) (has_failed : S → Bool) (old new : S) → StopsBy request script names why taken has_failed old new → IsStopCause may_hold may_lack request why
-  stop_cause stop.NoAssertion taken has_failed old new stops = record { script = script; names = names; of_file = file; fewer = stops.0 }
-  stop_cause (stop.Refused refusal.File) taken has_failed old new stops = absurd stops
-  stop_cause (stop.Refused (refusal.Text f p)) taken has_failed old new stops = absurd stops
-  stop_cause (stop.Refused (refusal.Grammar f p)) taken has_failed old new stops = absurd stops
-  stop_cause (stop.Refused (refusal.Kinds f p)) taken has_failed old new stops = absurd stops
-  stop_cause (stop.Refused refusal.Memory) taken has_failed old new stops = tt
-  stop_cause (stop.Refused refusal.Output) taken has_failed old new stops = (script, script_of_file may_hold request.name script names file)
+  pub stop_cause : (why : Stop) (out : Sent) → StopsBy request script names why out → IsStopCause given request why
+  stop_cause stop.NoAssertion out stops = record { script = script; names = names; of_file = file; fewer = stops.0 }
+  stop_cause (stop.Refused refusal.File) out stops = absurd stops
+  stop_cause (stop.Refused (refusal.Text f p)) out stops = absurd stops
+  stop_cause (stop.Refused (refusal.Grammar f p)) out stops = absurd stops
+  stop_cause (stop.Refused (refusal.Kinds f p)) out stops = absurd stops
+  stop_cause (stop.Refused refusal.Memory) out stops = tt
+  stop_cause (stop.Refused refusal.Thread) out stops = absurd stops
+  stop_cause (stop.Refused refusal.Output) out stops = (script, script_of_file given.may_hold request.name script names file)
 
-  pub stop_leaves : {S : Type 0} (why : Stop) (taken : S → Option (List ℕ)) (has_failed : S → Bool) (old new : S) → StopsBy request script names why taken has_failed old new → Leaves may_hold request why taken has_failed old new
-  stop_leaves stop.NoAssertion taken has_failed old new stops = stops.1
-  stop_leaves (stop.Refused refusal.File) taken has_failed old new stops = absurd stops
-  stop_leaves (stop.Refused (refusal.Text f p)) taken has_failed old new stops = absurd stops
-  stop_leaves (stop.Refused (refusal.Grammar f p)) taken has_failed old new stops = absurd stops
-  stop_leaves (stop.Refused (refusal.Kinds f p)) taken has_failed old new stops = absurd stops
-  stop_leaves (stop.Refused refusal.Memory) taken has_failed old new stops = inr (begun (Sends (taken old) (taken new) (has_failed new)) stops)
-  stop_leaves (stop.Refused refusal.Output) taken has_failed old new stops = begun (Breaks (taken old) (taken new) (has_failed new)) stops
+  pub stop_leaves : (why : Stop) (out : Sent) → StopsBy request script names why out → Leaves given request why out
+  stop_leaves stop.NoAssertion out stops = stops.1
+  stop_leaves (stop.Refused refusal.File) out stops = absurd stops
+  stop_leaves (stop.Refused (refusal.Text f p)) out stops = absurd stops
+  stop_leaves (stop.Refused (refusal.Grammar f p)) out stops = absurd stops
+  stop_leaves (stop.Refused (refusal.Kinds f p)) out stops = absurd stops
+  stop_leaves (stop.Refused refusal.Memory) out stops = inr (begun (Sends out.old out.new out.failed) stops)
+  stop_leaves (stop.Refused refusal.Thread) out stops = absurd stops
+  stop_leaves (stop.Refused refusal.Output) out stops = begun (Breaks out.old out.new out.failed) stops
 
 -- ---- before anything is told
 
 -- a text that is refused leaves the output as it was
-pub untouched : {S : Type 0} (may_hold : List ℕ → List ℕ → Type 0) (request : Request) (bytes : List ℕ) (why : Refusal) (taken : S → Option (List ℕ)) (has_failed : S → Bool) (out : S) →
-    IsRefusalOf bytes why → Leaves may_hold request (stop.Refused why) taken has_failed out out
-untouched may_hold request bytes refusal.File taken has_failed out is = absurd is
-untouched may_hold request bytes (refusal.Text f p) taken has_failed out is = refl
-untouched may_hold request bytes (refusal.Grammar f p) taken has_failed out is = refl
-untouched may_hold request bytes (refusal.Kinds f p) taken has_failed out is = refl
-untouched may_hold request bytes refusal.Memory taken has_failed out is = inl refl
-untouched may_hold request bytes refusal.Output taken has_failed out is = absurd is
+pub untouched : (given : Given) (request : Request) (bytes : List ℕ) (why : Refusal) (out : Sent) → out.Unchanged → IsRefusalOf bytes why → Leaves given request (stop.Refused why) out
+untouched given request bytes refusal.File out same is = absurd is
+untouched given request bytes (refusal.Text f p) out same is = same
+untouched given request bytes (refusal.Grammar f p) out same is = same
+untouched given request bytes (refusal.Kinds f p) out same is = same
+untouched given request bytes refusal.Memory out same is = inl same
+untouched given request bytes refusal.Thread out same is = absurd is
+untouched given request bytes refusal.Output out same is = absurd is
 
 -- a file that is not read has its cause
-pub unread_cause : (may_hold : List ℕ → List ℕ → Type 0) (may_lack : List ℕ → Type 0) (name : List ℕ) (fault : Unread) → (fault ≡ unread.File → may_lack name) → IsCause may_hold may_lack name (of_file fault)
-unread_cause may_hold may_lack name unread.File lacks = lacks refl
-unread_cause may_hold may_lack name unread.Memory lacks = tt
+pub unread_cause : (given : Given) (name : List ℕ) (fault : Unread) → (fault ≡ unread.File → given.may_lack name) → IsCause given name (of_file fault)
+unread_cause given name unread.File lacks = lacks refl
+unread_cause given name unread.Memory lacks = tt
 
 -- and it leaves the output as it was
-pub unread_leaves : {S : Type 0} (may_hold : List ℕ → List ℕ → Type 0) (request : Request) (fault : Unread) (taken : S → Option (List ℕ)) (has_failed : S → Bool) (out : S) →
-    Leaves may_hold request (stop.Refused (of_file fault)) taken has_failed out out
-unread_leaves may_hold request unread.File taken has_failed out = refl
-unread_leaves may_hold request unread.Memory taken has_failed out = inl refl
+pub unread_leaves : (given : Given) (request : Request) (fault : Unread) (out : Sent) → out.Unchanged → Leaves given request (stop.Refused (of_file fault)) out
+unread_leaves given request unread.File out same = same
+unread_leaves given request unread.Memory out same = inl same
 
 -- ---- what is answered
 

@@ -5,6 +5,7 @@ use Rattle.theory_search.specs.Outcome.{Outcome}
 use Rattle.theory_notation.specs.Names.{Names}
 use Rattle.report.specs.Sending.{Sends, Breaks}
 use Rattle.program.specs.Answering.{AreRight}
+use Rattle.program.specs.Given.{Sent}
 use Rattle.program.specs.Running.{status_of}
 use Rattle.explain_program.specs.Asking.{Request}
 use Rattle.explain_program.specs.Telling.{TellsEach}
@@ -12,9 +13,9 @@ use Rattle.explain_program.specs.declared.untold.Untold.{Untold}
 use Rattle.explain_program.specs.declared.untold.Untold.TheVariants as untold
 
 -- Where memory was refused nothing went out, and where the output failed a beginning did.
-abbrev pub LeavesText : {S : Type 0} → Untold → ((List ℕ → Type 0) → Type 0) → (S → Option (List ℕ)) → (S → Bool) → S → S → Type 0
-LeavesText untold.Memory Told taken failed old new = new ≡ old
-LeavesText untold.Output Told taken failed old new = Told (Breaks (taken old) (taken new) (failed new))
+abbrev pub LeavesText : Untold → ((List ℕ → Type 0) → Type 0) → Sent → Type 0
+LeavesText untold.Memory Told out = out.Unchanged
+LeavesText untold.Output Told out = Told (Breaks out.old out.new out.failed)
 
 -- Right outcomes of the assertions, told one behind the other and numbered from the first, of which so much went out.
 pub record AreTold (request : Request) (script : Script) (names : Names) (first : ℕ) (assertions : List Assertion) (WentOut : List Outcome → List ℕ → Type 0) : Type 0 where

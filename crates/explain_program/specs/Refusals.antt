@@ -1,8 +1,9 @@
 -- What is told of a refusal.
-use Rattle.std.specs.Prelude.{◌≡◌, ℕ, Bool, List, Option, None, Some}
+use Rattle.std.specs.Prelude.{◌≡◌, ℕ, List, Option, None, Some}
 use Rattle.diagnostics.specs.Messages.{IsMessage}
 use Rattle.diagnostics.specs.declared.faults.Fault.TheVariants as fault
 use Rattle.diagnostics.specs.declared.faults.Refusal as text
+use Rattle.program.specs.Given.{Sent}
 use Rattle.program.specs.Refusal.{refusal_line}
 use Rattle.program.specs.Running.{IsGiven}
 use Rattle.program.specs.declared.refusal.Refusal.{Refusal}
@@ -16,6 +17,6 @@ refused_text (refusal.Kinds f p) = Some (record { fault = fault.Kinds f; place =
 refused_text _ = None
 
 -- The line of the refusal was given, or where a text is refused its message on these bytes of the file.
-pub data TellsRefusal (file bytes : List ℕ) (why : Refusal) (old new : Option (List ℕ)) (failed : Bool) : Type 0 where
-  by_line : IsGiven old new failed (refusal_line why) → TellsRefusal file bytes why old new failed
-  in_words : (refused : text.Refusal) (message : List ℕ) → refused_text why ≡ Some refused → IsMessage file bytes refused message → IsGiven old new failed message → TellsRefusal file bytes why old new failed
+pub data TellsRefusal (file bytes : List ℕ) (why : Refusal) (err : Sent) : Type 0 where
+  by_line : IsGiven err (refusal_line why) → TellsRefusal file bytes why err
+  in_words : (refused : text.Refusal) (message : List ℕ) → refused_text why ≡ Some refused → IsMessage file bytes refused message → IsGiven err message → TellsRefusal file bytes why err

@@ -3,6 +3,7 @@
 ghost use Rattle.std.specs.Prelude.{◌≡◌, ◌≤◌, ◌<◌, length, suc, false, IfOk, IfErr};
 ghost use Rattle.csp_term.specs.Script.{script_of};
 ghost use Rattle.csp_print.specs.Names.{names_of};
+ghost use Rattle.program.specs.Given.{sent};
 ghost use Rattle.explain_program.specs.Asking.{one_at, request_of};
 ghost use Rattle.explain_program.specs.Explaining.{StopsBy, TellsAll};
 ghost use Rattle.explain_program.specs.Giving.{AreTold, GoesOut, LeavesText};
@@ -27,8 +28,16 @@ pub(crate) fn explain_script<A: AllocHandle + Send + Sync, R: Threads + Wait + S
     out: &mut O,
 ) -> Result<u8, Stop>
     requires { O.has_failed out.old ≡ false }
-    ensures told { IfOk result (λ status. (status ≤ 2) × TellsAll (request_of settings.now) (script_of named.now.script) (names_of named.now.names) (O.taken out.old) (O.taken out.new) (O.has_failed out.new) status) }
-    ensures stopped { IfErr result (λ why. StopsBy (request_of settings.now) (script_of named.now.script) (names_of named.now.names) why O.taken O.has_failed out.old out.new) }
+    ensures told { let request = request_of settings.now in
+        let it = script_of named.now.script in
+        let names = names_of named.now.names in
+        let output = sent O.taken O.has_failed out.old out.new in
+        IfOk result (λ status. (status ≤ 2) × TellsAll request it names output status) }
+    ensures stopped { let request = request_of settings.now in
+        let it = script_of named.now.script in
+        let names = names_of named.now.names in
+        let output = sent O.taken O.has_failed out.old out.new in
+        IfErr result (λ why. StopsBy request it names why output) }
 {
     if settings.assertion == 0 {
         return explain_each(alloc, rt, settings, named, out);
@@ -51,8 +60,16 @@ fn explain_each<A: AllocHandle + Send + Sync, R: Threads + Wait + Sync, O: Sink>
 ) -> Result<u8, Stop>
     requires works { O.has_failed out.old ≡ false }
     requires each { settings.now.assertion ≡ 0 }
-    ensures told { IfOk result (λ status. (status ≤ 2) × TellsAll (request_of settings.now) (script_of named.now.script) (names_of named.now.names) (O.taken out.old) (O.taken out.new) (O.has_failed out.new) status) }
-    ensures stopped { IfErr result (λ why. StopsBy (request_of settings.now) (script_of named.now.script) (names_of named.now.names) why O.taken O.has_failed out.old out.new) }
+    ensures told { let request = request_of settings.now in
+        let it = script_of named.now.script in
+        let names = names_of named.now.names in
+        let output = sent O.taken O.has_failed out.old out.new in
+        IfOk result (λ status. (status ≤ 2) × TellsAll request it names output status) }
+    ensures stopped { let request = request_of settings.now in
+        let it = script_of named.now.script in
+        let names = names_of named.now.names in
+        let output = sent O.taken O.has_failed out.old out.new in
+        IfErr result (λ why. StopsBy request it names why output) }
 {
     let count = named.script.assertions().len();
     let mut status = 0;
@@ -74,8 +91,20 @@ fn explain_one<A: AllocHandle + Send + Sync, R: Threads + Wait + Sync, O: Sink>(
 ) -> Result<u8, Untold>
     requires works { O.has_failed out.old ≡ false }
     requires there { place < length (script_of named.now.script).assertions }
-    ensures told { IfOk result (λ status. (status ≤ 2) × AreTold (request_of settings.now) (script_of named.now.script) (names_of named.now.names) (suc place) (one_at place (script_of named.now.script).assertions) (GoesOut (O.taken out.old) (O.taken out.new) (O.has_failed out.new) status)) }
-    ensures left { IfErr result (λ why. LeavesText why (λ WentOut. AreTold (request_of settings.now) (script_of named.now.script) (names_of named.now.names) (suc place) (one_at place (script_of named.now.script).assertions) (λ _ text. WentOut text)) O.taken O.has_failed out.old out.new) }
+    ensures told { let request = request_of settings.now in
+        let it = script_of named.now.script in
+        let names = names_of named.now.names in
+        let output = sent O.taken O.has_failed out.old out.new in
+        IfOk result (λ status. (status ≤ 2)
+        × AreTold request it names (suc place) (one_at place it.assertions)
+        (GoesOut output.old output.new output.failed status)) }
+    ensures left { let request = request_of settings.now in
+        let it = script_of named.now.script in
+        let names = names_of named.now.names in
+        let output = sent O.taken O.has_failed out.old out.new in
+        IfErr result (λ why. LeavesText why
+        (λ WentOut. AreTold request it names (suc place) (one_at place it.assertions)
+        (λ _ text. WentOut text)) output) }
 {
     let assertions = named.script.assertions();
     let assertion = &assertions[place];

@@ -1,6 +1,7 @@
 //! Refusals of a script, in words.
 
 ghost use Rattle.std.specs.Prelude.{◌≡◌, false};
+ghost use Rattle.program.specs.Given.{sent};
 ghost use Rattle.explain_program.specs.Refusals.{TellsRefusal, refused_text};
 
 use diagnostics::{Fault, message};
@@ -19,7 +20,7 @@ pub(crate) fn refuse_text<A: Allocator + Copy, E: Sink>(
 ) -> u8
     requires { E.has_failed err.old ≡ false }
     ensures status { result ≡ 3 }
-    ensures told { TellsRefusal file.now text.now why (E.taken err.old) (E.taken err.new) (E.has_failed err.new) }
+    ensures told { TellsRefusal file.now text.now why (sent E.taken E.has_failed err.old err.new) }
 {
     let Some(refused) = refused_text(why) else {
         return refuse(why, err);

@@ -1,6 +1,7 @@
 //! The program, over its words, files and streams.
 
 ghost use Rattle.std.specs.Prelude.{◌≡◌, ◌≤◌, ◌<◌, false};
+ghost use Rattle.program.specs.Given.{given_of, sent};
 ghost use Rattle.program.specs.Running.{texts_of};
 ghost use Rattle.explain_program.specs.Asking.{request_of};
 ghost use Rattle.explain_program.specs.Running.{IsRefused, IsServed, IsStopped};
@@ -42,9 +43,14 @@ pub fn run<
     requires out { O.has_failed out.old ≡ false }
     requires err { E.has_failed err.old ≡ false }
     ensures status { result ≤ 3 }
-    ensures served { result < 3 → IsServed (F.may_hold files.old) (texts_of words.entry.now) (O.taken out.old) (O.taken out.new) (O.has_failed out.new) result }
+    ensures served { let given = given_of F.may_hold F.may_lack files.old resources.now.stack in
+        let output = sent O.taken O.has_failed out.old out.new in
+        result < 3 → IsServed given (texts_of words.entry.now) output result }
     ensures silent { result < 3 → err.new ≡ err.old }
-    ensures refused { result ≡ 3 → IsRefused (F.may_hold files.old) (F.may_lack files.old) resources.now.stack (texts_of words.entry.now) O.taken O.has_failed out.old out.new (E.taken err.old) (E.taken err.new) (E.has_failed err.new) }
+    ensures refused { let given = given_of F.may_hold F.may_lack files.old resources.now.stack in
+        let output = sent O.taken O.has_failed out.old out.new in
+        let errors = sent E.taken E.has_failed err.old err.new in
+        result ≡ 3 → IsRefused given (texts_of words.entry.now) output errors }
 {
     match explain_settings::read(resources.command_line, words) {
         Ok(settings) => explain(resources, &settings, files, out, err),
@@ -66,9 +72,14 @@ fn explain<A: AllocHandle + Send + Sync, R: Threads + Wait + Sync, F: Files<A>, 
     requires out { O.has_failed out.old ≡ false }
     requires err { E.has_failed err.old ≡ false }
     ensures status { result ≤ 3 }
-    ensures explained { result < 3 → IsExplained (F.may_hold files.old) (request_of settings.now) (O.taken out.old) (O.taken out.new) (O.has_failed out.new) result }
+    ensures explained { let given = given_of F.may_hold F.may_lack files.old resources.now.stack in
+        let output = sent O.taken O.has_failed out.old out.new in
+        result < 3 → IsExplained given (request_of settings.now) output result }
     ensures silent { result < 3 → err.new ≡ err.old }
-    ensures stopped { result ≡ 3 → IsStopped (F.may_hold files.old) (F.may_lack files.old) resources.now.stack (request_of settings.now) O.taken O.has_failed out.old out.new (E.taken err.old) (E.taken err.new) (E.has_failed err.new) }
+    ensures stopped { let given = given_of F.may_hold F.may_lack files.old resources.now.stack in
+        let output = sent O.taken O.has_failed out.old out.new in
+        let errors = sent E.taken E.has_failed err.old err.new in
+        result ≡ 3 → IsStopped given (request_of settings.now) output errors }
 {
     let text = match files.read(settings.file) {
         Ok(text) => text,

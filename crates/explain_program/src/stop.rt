@@ -1,6 +1,7 @@
 //! Why a request is not met.
 
 ghost use Rattle.std.specs.Prelude.{◌≡◌, false};
+ghost use Rattle.program.specs.Given.{sent};
 ghost use Rattle.program.specs.Running.{IsGiven};
 ghost use Rattle.explain_program.specs.Running.{stop_line};
 
@@ -21,7 +22,7 @@ pub enum Stop {
 pub(crate) fn report_stop<E: Sink>(why: Stop, err: &mut E) -> u8
     requires { E.has_failed err.old ≡ false }
     ensures status { result ≡ 3 }
-    ensures line { IsGiven (E.taken err.old) (E.taken err.new) (E.has_failed err.new) (stop_line why) }
+    ensures line { IsGiven (sent E.taken E.has_failed err.old err.new) (stop_line why) }
 {
     match why {
         Stop::Refused(why) => refuse(why, err),

@@ -31,6 +31,7 @@ Refusals, in place of all lines, on standard error:
   refused K01 at 3:5            K01 to K06: a name, a kind or a set is wrong there
   refused file                  the file cannot be read
   refused memory                memory was refused
+  refused thread                no thread can be had, and the text has over 4096 bytes
   refused output                the output failed, and may have a beginning of the lines
 
 `explain FILE 2`, with the same options, tells step by step why assertion 2 fails; of a script that

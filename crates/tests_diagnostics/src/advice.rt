@@ -24,7 +24,7 @@ mod wrong_kinds;
 
 use crate::messages::{message_on, refusal_of};
 use csp_lex::tokens;
-use diagnostics::{ADVICE, Advice, Fault, first_advice, surroundings_at};
+use diagnostics::{Advice, AdviceTable, Fault, advice_tables, first_advice, surroundings_at};
 use std::alloc::{AllocError, Global};
 use std::test::Fail;
 
@@ -60,18 +60,16 @@ struct Row {
 /// All rows of the product's tables, of which no script met one yet.
 fn all_rows(alloc: Global) -> Result<Vec<Row>, AllocError> {
     let mut rows = Vec::new(alloc);
-    for on_fault in ADVICE {
-        for table in on_fault.tables {
-            add_rows(&mut rows, on_fault.fault, table)?;
-        }
+    for table in advice_tables() {
+        add_rows(&mut rows, table)?;
     }
     Ok(rows)
 }
 
-fn add_rows(rows: &mut Vec<Row>, fault: Fault, table: &[Advice]) -> Result<(), AllocError> {
-    for advice in table {
+fn add_rows(rows: &mut Vec<Row>, table: AdviceTable) -> Result<(), AllocError> {
+    for advice in table.rows {
         rows.push(Row {
-            fault,
+            fault: table.fault,
             advice: *advice,
             met: 0,
         })?;

@@ -3,7 +3,7 @@
 use crate::full::Full;
 use crate::runs::resources;
 use explain_program::run;
-use program::OneText;
+use program::{OneText, Stack};
 use report::{Buffer, Out};
 use std::alloc::Global;
 use std::io::Write;
@@ -38,7 +38,7 @@ fn is_cut_off<'w, R: Threads + Wait + Sync, W: Write + Drop>(
     let mut out = Out::new(writer);
     let mut err = Buffer::new(alloc);
     let status = run(
-        &resources(alloc, alloc, rt),
+        &resources(Stack::Large, alloc, alloc, rt),
         words,
         &mut files,
         &mut out,

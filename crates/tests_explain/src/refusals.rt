@@ -1,6 +1,7 @@
 //! Texts that are refused, and what is told of them. The file `script` holds them.
 
-use crate::runs::run_on;
+use crate::runs::run_on_stack;
+use program::Stack;
 use std::alloc::Global;
 use std::process::Abort;
 use std::sync::Wait;
@@ -85,10 +86,11 @@ help: a channel has as many events as the sizes of its fields' sets multiplied: 
 fn is_refused<R: Abort + Threads + Wait + Sync>(
     rt: &R,
     alloc: Global,
+    stack: Stack,
     text: &[u8],
     expected: &str,
 ) -> Result<(), Fail> {
-    let told = run_on(alloc, rt, &["script"], text);
+    let told = run_on_stack(stack, alloc, rt, &["script"], text);
     assert_eq!(rt; str::from_utf8(&told.err)?, expected);
     assert!(rt; told.status == 3 && told.out.is_empty(), "at {expected}");
     Ok(())
@@ -97,18 +99,28 @@ fn is_refused<R: Abort + Threads + Wait + Sync>(
 #[test]
 fn refusals_are_told_in_words(rt: HostRuntime) -> Result<(), Fail> {
     for (text, expected) in &ROWS {
-        is_refused(&rt, rt.alloc(), text.as_bytes(), expected)?;
+        is_refused(&rt, rt.alloc(), Stack::Large, text.as_bytes(), expected)?;
+        is_refused(&rt, rt.alloc(), Stack::Found, text.as_bytes(), expected)?;
     }
     Ok(())
 }
 
-// Also where the file has more bytes than are read of it.
+// Also where the file has more bytes than are read of it. On a stack of which nothing is known no text of over 4,096
+// bytes is looked at.
 #[test]
-fn a_long_text_is_told_so(rt: HostRuntime) -> Result<(), Fail> {
+fn long_texts_are_told_so(rt: HostRuntime) -> Result<(), Fail> {
     let expected = r"script:1:1: L05: a script has at most 65536 bytes
     aaaaaaaaaaaaaaaaaaaaaaaaaaaaaaaaaaaaaaaaaaaaaaaaaaaaaaaaaaaaaaaaaaaaaaaaaaaa
     ^
 ";
     let text = vec![in rt.alloc(); b'a'; 70_000]?;
-    is_refused(&rt, rt.alloc(), &text, expected)
+    is_refused(&rt, rt.alloc(), Stack::Large, &text, expected)?;
+    is_refused(&rt, rt.alloc(), Stack::Found, &text, "refused thread\n")?;
+    is_refused(
+        &rt,
+        rt.alloc(),
+        Stack::Found,
+        &text[..4_097],
+        "refused thread\n",
+    )
 }

@@ -24,33 +24,25 @@ impl Told {
     }
 }
 
-// What a run works with whose stack is large enough.
-pub(crate) fn resources<A, R>(room: Global, alloc: A, rt: &R) -> Resources<'_, A, R> {
+// What a run works with on that stack.
+pub(crate) fn resources<A, R>(stack: Stack, room: Global, alloc: A, rt: &R) -> Resources<'_, A, R> {
     Resources {
         command_line: room,
         alloc,
         rt,
-        stack: Stack::Large,
+        stack,
     }
 }
 
-// A run whose memory is the allocator's, and whose outputs have room.
-pub(crate) fn run_in<'w, A: AllocHandle + Send + Sync, R: Threads + Wait + Sync, F: Files<A>>(
-    room: Global,
-    alloc: A,
-    rt: &R,
+// A run with these resources, whose outputs have room.
+fn run_with<'w, A: AllocHandle + Send + Sync, R: Threads + Wait + Sync, F: Files<A>>(
+    resources: &Resources<'_, A, R>,
     words: &'w [&'w str],
     files: &mut F,
 ) -> Told {
-    let mut out = Buffer::new(room);
-    let mut err = Buffer::new(room);
-    let status = run(
-        &resources(room, alloc, rt),
-        words,
-        files,
-        &mut out,
-        &mut err,
-    );
+    let mut out = Buffer::new(resources.command_line);
+    let mut err = Buffer::new(resources.command_line);
+    let status = run(resources, words, files, &mut out, &mut err);
     Told {
         status,
         out: out.bytes,
@@ -58,8 +50,20 @@ pub(crate) fn run_in<'w, A: AllocHandle + Send + Sync, R: Threads + Wait + Sync,
     }
 }
 
-// A run on the words, where the file `script` holds the text.
-pub(crate) fn run_on<'w, R: Threads + Wait + Sync>(
+// A run whose memory is the allocator's.
+pub(crate) fn run_in<'w, A: AllocHandle + Send + Sync, R: Threads + Wait + Sync, F: Files<A>>(
+    room: Global,
+    alloc: A,
+    rt: &R,
+    words: &'w [&'w str],
+    files: &mut F,
+) -> Told {
+    run_with(&resources(Stack::Large, room, alloc, rt), words, files)
+}
+
+// A run on that stack and on the words, where the file `script` holds the text.
+pub(crate) fn run_on_stack<'w, R: Threads + Wait + Sync>(
+    stack: Stack,
     alloc: Global,
     rt: &R,
     words: &'w [&'w str],
@@ -70,5 +74,15 @@ pub(crate) fn run_on<'w, R: Threads + Wait + Sync>(
         text,
         alloc,
     };
-    run_in(alloc, alloc, rt, words, &mut files)
+    run_with(&resources(stack, alloc, alloc, rt), words, &mut files)
+}
+
+// A run on the words, where the file `script` holds the text.
+pub(crate) fn run_on<'w, R: Threads + Wait + Sync>(
+    alloc: Global,
+    rt: &R,
+    words: &'w [&'w str],
+    text: &[u8],
+) -> Told {
+    run_on_stack(Stack::Large, alloc, rt, words, text)
 }

@@ -24,6 +24,7 @@ mod copies;
 mod counts;
 #[cfg(test)]
 mod decisions;
+mod evaluated;
 #[cfg(test)]
 mod events_changed;
 #[cfg(test)]

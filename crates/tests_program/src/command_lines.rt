@@ -9,13 +9,16 @@ pub(crate) type Line = (&'static [&'static str], u8, Row);
 // A process with one event, again and again: two pairs with one node.
 const AGAIN: &str = "channel a, b, c\nR = a -> R\nassert R [T= a -> STOP";
 
+// `P` unfolds by a tau to `a -> P`, so that the one node of the specification has two states.
+const REPEATED: &str = "channel a\nP = a -> P\nassert P [T= P";
+
 // After one tau the implementation can do `b`, which the specification cannot.
 const CHOICE: &str = "channel a, b, c\nassert a -> STOP [T= a -> STOP |~| b -> STOP";
 
 // A specification whose states never end.
 const COUNTING: &str = "channel a, b, c\nP(n) = a -> P(n+1)\nassert P(0) [T= P(0)";
 
-static CHECKED: [Line; 26] = [
+static CHECKED: [Line; 27] = [
     (&["--workers", "1", "script"], 1, CHAIN),
     (&["--workers", "2", "script"], 1, CHAIN),
     (&["--workers", "8", "script"], 1, CHAIN),
@@ -53,10 +56,11 @@ static CHECKED: [Line; 26] = [
         1,
         BEYOND_STOP,
     ),
+    (&["--max-nodes", "2", "script"], 0, (REPEATED, "1 holds\n")),
     (
         &["--max-nodes", "1", "script"],
         2,
-        (AGAIN, "1 unknown nodes\n"),
+        (REPEATED, "1 unknown nodes\n"),
     ),
     (&["--max-nodes", "+2", "script"], 0, (AGAIN, "1 holds\n")),
     (&["--", "script"], 1, BEYOND_STOP),

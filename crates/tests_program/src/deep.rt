@@ -1,19 +1,13 @@
 //! Texts that nest deep: in the values of nametypes that stand on one another, in declarations of the greatest height,
 //! and in the terms that a search reaches. What is expected comes from the rules of the language and of the lines.
 
-ghost use denote.Param.Send.{IsSync};
-
 use crate::pieces::{Pieces, put_together, repeat};
-use crate::runs::{Told, check};
+use crate::runs::run_on_stack;
+use program::{Stack, on_large_stack};
 use std::alloc::{AllocError, Global};
-use std::process::Abort;
 use std::sync::Wait;
 use std::test::Fail;
-use std::thread;
-use std::thread::{Builder, Threads};
-
-// The bytes of stack that the program's thread has.
-const STACK: usize = 256 * 1024 * 1024;
+use std::thread::Threads;
 
 // Nametypes that stand on one another: how many, and what each puts round the value of the one below it. The outer layer
 // is a set, and in it are so many of these signs.
@@ -28,6 +22,14 @@ struct Layers {
 // Each declaration is as high as it may be, and the text as long.
 const DEEPEST: Layers = Layers {
     nametypes: 300,
+    open: "{",
+    close: "}",
+    inner: 98,
+};
+
+// In a text of 4,096 bytes.
+const SHORT: Layers = Layers {
+    nametypes: 17,
     open: "{",
     close: "}",
     inner: 98,
@@ -85,8 +87,13 @@ static BEHIND: [(&str, u8, &str); 8] = [
     ),
 ];
 
-// The value is put into an event that the specification lacks.
-const SHOWING: &str = "channel c : LAST\nassert STOP [T= c?x -> STOP";
+// The value is put into an event that the specification lacks, by four states of a level of 128: one of each 32, as many
+// as a worker draws at a time.
+const SHOWING: &str =
+    "channel c : LAST\nchannel i : {0..127}\nS(n) = n % 32 == 0 & c?x -> STOP\nassert STOP [T= (i?n -> S(n)) \\ {| i |}";
+
+// How many workers show it, in turn.
+const WORKERS: [&str; 3] = ["--workers=1", "--workers=2", "--workers=4"];
 
 // A status, a text and its lines.
 static HIGH: [(u8, Pieces, Pieces); 13] = [
@@ -264,96 +271,108 @@ fn line_with_value(alloc: Global, layers: Layers) -> Result<String, AllocError> 
     Ok(line)
 }
 
-// A run in a thread with as large a stack as the program's; nothing where it cannot be started.
-fn check_in_thread<R: Threads + Wait + Sync>(alloc: Global, rt: &R, text: &[u8]) -> Option<Told> {
-    thread::scope(
-        thread::scope_env(),
-        rt,
-        |scope| -> Option<Told>
-            requires { IsSync R.row }
-        {
-            let checked = || -> Told
-                requires { IsSync R.row }
-            { check(alloc, rt, text) };
-            match Builder::new()
-                .stack_size(STACK)
-                .spawn_scoped(scope, checked)
-            {
-                Ok(thread) => Some(thread.join(rt)),
-                Err(_) => None,
-            }
-        },
-    )
-}
-
-fn is_answered_so<R: Threads + Wait + Sync>(
-    alloc: Global,
-    rt: &R,
-    text: &str,
-    status: u8,
-    lines: &str,
-) -> bool {
-    match check_in_thread(alloc, rt, text.as_bytes()) {
-        Some(told) => told.is_answered(status, lines),
-        None => false,
-    }
-}
-
-fn deep_values_are_answered_so<R: Abort + Threads + Wait + Sync>(
+// Whether the text with the nametypes is answered so.
+fn is_nested_answered<R: Threads + Wait + Sync>(
     rt: &R,
     alloc: Global,
+    stack: Stack,
     layers: Layers,
-) -> Result<(), Fail> {
-    for (behind, status, lines) in &BEHIND {
-        let text = nametypes(alloc, layers, behind)?;
-        let is_so = is_answered_so(alloc, rt, text.as_str(), *status, lines);
-        assert!(rt; is_so, "at {behind}");
-    }
-    Ok(())
+    row: &(&str, u8, &str),
+) -> Result<bool, AllocError> {
+    let (behind, status, lines) = *row;
+    let text = nametypes(alloc, layers, behind)?;
+    let told = run_on_stack(stack, alloc, rt, &["script"], text.as_bytes());
+    Ok(told.is_answered(status, lines))
 }
 
-fn deep_value_is_shown<R: Abort + Threads + Wait + Sync>(
+// Whether the value is shown by so many workers.
+fn is_shown<R: Threads + Wait + Sync>(
     rt: &R,
     alloc: Global,
+    stack: Stack,
     layers: Layers,
-) -> Result<(), Fail> {
+    workers: &str,
+) -> Result<bool, AllocError> {
     let text = nametypes(alloc, layers, SHOWING)?;
     let line = line_with_value(alloc, layers)?;
-    let is_so = is_answered_so(alloc, rt, text.as_str(), 1, line.as_str());
-    assert!(rt; is_so, "in {} bytes", text.len());
-    Ok(())
+    let told = run_on_stack(stack, alloc, rt, &[workers, "script"], text.as_bytes());
+    Ok(told.is_answered(1, line.as_str()))
 }
 
-fn high_are_answered_so<R: Abort + Threads + Wait + Sync>(
+// Whether the text of the pieces is answered so.
+fn is_high_answered<R: Threads + Wait + Sync>(
     rt: &R,
     alloc: Global,
-) -> Result<(), Fail> {
-    for (status, pieces, lines) in &HIGH {
-        let text = put_together(alloc, pieces)?;
-        let lines = put_together(alloc, lines)?;
-        let is_so = is_answered_so(alloc, rt, text.as_str(), *status, lines.as_str());
-        assert!(rt; is_so, "at {pieces:?}");
-    }
-    Ok(())
+    stack: Stack,
+    row: &(u8, Pieces, Pieces),
+) -> Result<bool, AllocError> {
+    let (status, pieces, lines) = *row;
+    let text = put_together(alloc, pieces)?;
+    let lines = put_together(alloc, lines)?;
+    let told = run_on_stack(stack, alloc, rt, &["script"], text.as_bytes());
+    Ok(told.is_answered(status, lines.as_str()))
 }
 
 #[test]
 fn texts_with_deep_sets_are_answered_so(rt: HostRuntime) -> Result<(), Fail> {
-    deep_values_are_answered_so(&rt, rt.alloc(), SETS)
+    for row in &BEHIND {
+        let is_so = on_large_stack(&rt, move |stack| {
+            is_nested_answered(&rt, rt.alloc(), stack, SETS, row)
+        })?;
+        assert!(rt; is_so, "at {}", row.0);
+    }
+    Ok(())
 }
 
 #[test]
 fn texts_with_deep_sequences_are_answered_so(rt: HostRuntime) -> Result<(), Fail> {
-    deep_values_are_answered_so(&rt, rt.alloc(), SEQUENCES)
+    for row in &BEHIND {
+        let is_so = on_large_stack(&rt, move |stack| {
+            is_nested_answered(&rt, rt.alloc(), stack, SEQUENCES, row)
+        })?;
+        assert!(rt; is_so, "at {}", row.0);
+    }
+    Ok(())
 }
 
 #[test]
-fn deep_values_are_shown(rt: HostRuntime) -> Result<(), Fail> {
-    deep_value_is_shown(&rt, rt.alloc(), DEEPEST)?;
-    deep_value_is_shown(&rt, rt.alloc(), SEQUENCES)
+fn deep_sets_are_shown(rt: HostRuntime) -> Result<(), Fail> {
+    for workers in &WORKERS {
+        let is_so = on_large_stack(&rt, move |stack| {
+            is_shown(&rt, rt.alloc(), stack, DEEPEST, workers)
+        })?;
+        assert!(rt; is_so, "with {workers}");
+    }
+    Ok(())
+}
+
+#[test]
+fn deep_sequences_are_shown(rt: HostRuntime) -> Result<(), Fail> {
+    for workers in &WORKERS {
+        let is_so = on_large_stack(&rt, move |stack| {
+            is_shown(&rt, rt.alloc(), stack, SEQUENCES, workers)
+        })?;
+        assert!(rt; is_so, "with {workers}");
+    }
+    Ok(())
+}
+
+#[test]
+fn short_deep_sets_are_shown_on_the_stack_that_is_there(rt: HostRuntime) -> Result<(), Fail> {
+    for workers in &WORKERS {
+        let is_so = is_shown(&rt, rt.alloc(), Stack::Found, SHORT, workers)?;
+        assert!(rt; is_so, "with {workers}");
+    }
+    Ok(())
 }
 
 #[test]
 fn high_texts_are_answered_so(rt: HostRuntime) -> Result<(), Fail> {
-    high_are_answered_so(&rt, rt.alloc())
+    for row in &HIGH {
+        let is_so = on_large_stack(&rt, move |stack| {
+            is_high_answered(&rt, rt.alloc(), stack, row)
+        })?;
+        assert!(rt; is_so, "at {:?}", row.1);
+    }
+    Ok(())
 }

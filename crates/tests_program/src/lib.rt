@@ -39,4 +39,8 @@ mod rows;
 #[cfg(test)]
 mod runs;
 #[cfg(test)]
+mod stacks;
+#[cfg(test)]
+mod starts;
+#[cfg(test)]
 mod tour;

@@ -53,11 +53,21 @@ pub(crate) fn run_with<'w, A: AllocHandle + Send + Sync, R: Threads + Wait + Syn
 
 // What a run works with whose stack is large enough.
 pub(crate) fn resources<A, R>(room: Global, alloc: A, rt: &R) -> Resources<'_, A, R> {
+    resources_on(Stack::Large, room, alloc, rt)
+}
+
+// What a run works with on that stack.
+pub(crate) fn resources_on<A, R>(
+    stack: Stack,
+    room: Global,
+    alloc: A,
+    rt: &R,
+) -> Resources<'_, A, R> {
     Resources {
         command_line: room,
         alloc,
         rt,
-        stack: Stack::Large,
+        stack,
     }
 }
 
@@ -70,6 +80,22 @@ pub(crate) fn run_in<'w, A: AllocHandle + Send + Sync, R: Threads + Wait + Sync,
     files: &mut F,
 ) -> Told {
     run_with(&resources(room, alloc, rt), words, files)
+}
+
+// A run on that stack and on the words, where the file `script` holds the text.
+pub(crate) fn run_on_stack<'w, R: Threads + Wait + Sync>(
+    stack: Stack,
+    alloc: Global,
+    rt: &R,
+    words: &'w [&'w str],
+    text: &[u8],
+) -> Told {
+    let mut files = OneText {
+        name: "script",
+        text,
+        alloc,
+    };
+    run_with(&resources_on(stack, alloc, alloc, rt), words, &mut files)
 }
 
 // A run on the words, where the file of that name holds the text.

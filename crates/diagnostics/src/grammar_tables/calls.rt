@@ -7,7 +7,7 @@ use crate::tables::Advice;
 const FUNCTIONS: &str =
     "only `head` `tail` `null` `elem` `member` `card` `union` `inter` `diff` are called in an expression: a call of an equation is a process";
 
-pub(crate) const ROWS: &[Advice] = &[
+const ROWS: &[Advice] = &[
     Advice {
         when: &[Earlier("("), BeforeName, Here(":")],
         text: "a parameter has no set: it has the values that the equation is called with",
@@ -61,3 +61,8 @@ pub(crate) const ROWS: &[Advice] = &[
         text: FUNCTIONS,
     },
 ];
+
+/// The rows.
+pub(crate) fn rows() -> &'static [Advice] {
+    ROWS
+}

@@ -6,7 +6,7 @@ use crate::tables::Advice;
 const CHAINED: &str =
     "a comparison has no second one behind it: write `0 <= x and x < 3` for `0 <= x < 3`; a field with one stands in brackets, as `c!(x == 0)`";
 
-pub(crate) const ROWS: &[Advice] = &[
+const ROWS: &[Advice] = &[
     Advice {
         when: &[Here("==")],
         text: CHAINED,
@@ -32,3 +32,8 @@ pub(crate) const ROWS: &[Advice] = &[
         text: CHAINED,
     },
 ];
+
+/// The rows.
+pub(crate) fn rows() -> &'static [Advice] {
+    ROWS
+}

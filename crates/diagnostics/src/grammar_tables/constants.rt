@@ -6,7 +6,7 @@ use crate::tables::Advice;
 
 const CONDITION: &str = "behind the condition of an `if` stands `then`, and behind a guard `&`";
 
-pub(crate) const ROWS: &[Advice] = &[
+const ROWS: &[Advice] = &[
     Advice {
         when: &[Earlier("=="), BeforeNumber, HereName],
         text: CONDITION,
@@ -56,3 +56,8 @@ pub(crate) const ROWS: &[Advice] = &[
         text: CONSTANT,
     },
 ];
+
+/// The rows.
+pub(crate) fn rows() -> &'static [Advice] {
+    ROWS
+}

@@ -6,7 +6,7 @@ use crate::tables::Advice;
 
 const OPERATOR_END: &str = "behind this operator stands a process";
 
-pub(crate) const ROWS: &[Advice] = &[
+const ROWS: &[Advice] = &[
     Advice {
         when: &[Before("->")],
         text: "behind `->` stands a process",
@@ -56,3 +56,8 @@ pub(crate) const ROWS: &[Advice] = &[
         text: ASSERTION,
     },
 ];
+
+/// The rows.
+pub(crate) fn rows() -> &'static [Advice] {
+    ROWS
+}

@@ -4,7 +4,7 @@ use crate::conditions::Condition::{Earlier, Here, HereName, NoneOpen};
 use crate::grammar_tables::texts::EVENT_ALONE;
 use crate::tables::Advice;
 
-pub(crate) const ROWS: &[Advice] = &[
+const ROWS: &[Advice] = &[
     Advice {
         when: &[Earlier("!"), HereName],
         text: EVENT_ALONE,
@@ -66,3 +66,8 @@ pub(crate) const ROWS: &[Advice] = &[
         text: EVENT_ALONE,
     },
 ];
+
+/// The rows.
+pub(crate) fn rows() -> &'static [Advice] {
+    ROWS
+}

@@ -6,7 +6,7 @@ use crate::grammar_tables::texts::{
 };
 use crate::tables::Advice;
 
-pub(crate) const ROWS: &[Advice] = &[
+const ROWS: &[Advice] = &[
     Advice {
         when: &[Opening("channel"), Here(";")],
         text: NO_END,
@@ -80,3 +80,8 @@ pub(crate) const ROWS: &[Advice] = &[
         text: "two different operators are kept apart by brackets, as `(P [] Q) |~| R` or `P [] (Q |~| R)`, and so are two with sets, as `(P [| A |] Q) [| B |] R`",
     },
 ];
+
+/// The rows.
+pub(crate) fn rows() -> &'static [Advice] {
+    ROWS
+}

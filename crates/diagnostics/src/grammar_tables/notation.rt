@@ -9,7 +9,7 @@ use crate::tables::Advice;
 const NO_BRACKET: &str =
     "no bracket is open here: leave it out, or look back for the one that it closes";
 
-pub(crate) const ROWS: &[Advice] = &[
+const ROWS: &[Advice] = &[
     Advice {
         when: &[Before("&"), Here("&")],
         text: "truth values are joined by `and`: one `&` stands between a guard and its process",
@@ -71,3 +71,8 @@ pub(crate) const ROWS: &[Advice] = &[
         text: NO_END,
     },
 ];
+
+/// The rows.
+pub(crate) fn rows() -> &'static [Advice] {
+    ROWS
+}

@@ -11,7 +11,7 @@ const IF_OPERAND: &str = "put the `if` in brackets, as `a -> (if x == 0 then P e
 const IF_VALUE: &str =
     "an expression has no `if`: write it around the process, as `if x == 0 then c!1 -> P else c!0 -> P`";
 
-pub(crate) const ROWS: &[Advice] = &[
+const ROWS: &[Advice] = &[
     Advice {
         when: &[Before("("), HereNumber],
         text: PATTERN,
@@ -93,3 +93,8 @@ pub(crate) const ROWS: &[Advice] = &[
         text: IF_VALUE,
     },
 ];
+
+/// The rows.
+pub(crate) fn rows() -> &'static [Advice] {
+    ROWS
+}

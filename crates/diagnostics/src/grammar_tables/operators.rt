@@ -15,7 +15,7 @@ const HEAD: &str =
 const EVENT: &str =
     "before `->` stands an event, a channel with its fields: a process is followed by `;`";
 
-pub(crate) const ROWS: &[Advice] = &[
+const ROWS: &[Advice] = &[
     Advice {
         when: &[Before(")"), Here("<")],
         text: CALLED,
@@ -93,3 +93,8 @@ pub(crate) const ROWS: &[Advice] = &[
         text: EVENT,
     },
 ];
+
+/// The rows.
+pub(crate) fn rows() -> &'static [Advice] {
+    ROWS
+}

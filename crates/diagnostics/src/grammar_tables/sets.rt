@@ -9,7 +9,7 @@ const ALPHABET: &str =
 
 const EVENTS: &str = "a set of events has no name: write it where it is used, as `{| c, d |}`";
 
-pub(crate) const ROWS: &[Advice] = &[
+const ROWS: &[Advice] = &[
     Advice {
         when: &[Before("["), HereName],
         text: ALPHABET,
@@ -47,3 +47,8 @@ pub(crate) const ROWS: &[Advice] = &[
         text: "the arrow is written `->`",
     },
 ];
+
+/// The rows.
+pub(crate) fn rows() -> &'static [Advice] {
+    ROWS
+}

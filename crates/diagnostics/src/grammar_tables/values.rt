@@ -15,7 +15,7 @@ const COMPREHENSION: &str =
 const ONE_NAME: &str =
     "one name stands before `@`: write `[] x:S @ [] y:T @ P` for `[] x:S, y:T @ P`";
 
-pub(crate) const ROWS: &[Advice] = &[
+const ROWS: &[Advice] = &[
     Advice {
         when: &[Opening("channel"), BeforeName, Here("."), NoneOpen],
         text: "the sets of a channel's fields stand behind `:`, as `channel c : {0..1}.Bool`",
@@ -81,3 +81,8 @@ pub(crate) const ROWS: &[Advice] = &[
         text: PAIRS,
     },
 ];
+
+/// The rows.
+pub(crate) fn rows() -> &'static [Advice] {
+    ROWS
+}

@@ -12,7 +12,7 @@ const CHANGES: &str =
 const COMPRESSION: &str =
     "leave the line out, and the functions that it names where they are called: they change no answer";
 
-pub(crate) const ROWS: &[Advice] = &[
+const ROWS: &[Advice] = &[
     Advice {
         when: &[Here("within")],
         text: LET,
@@ -94,3 +94,8 @@ pub(crate) const ROWS: &[Advice] = &[
         text: "there is no division: `x / y` is the `z` of `[] z:S @ z*y <= x and x < (z+1)*y & P`",
     },
 ];
+
+/// The rows.
+pub(crate) fn rows() -> &'static [Advice] {
+    ROWS
+}

@@ -11,7 +11,7 @@ const STOP: &str = "the process that does nothing is written `STOP`";
 
 const SKIP: &str = "the process that ends is written `SKIP`";
 
-pub(crate) const ROWS: &[Advice] = &[
+const ROWS: &[Advice] = &[
     Advice {
         when: &[Here("let")],
         text: "there is no `let`: write `[] y:{E} @ P` for `let y = E within P`",
@@ -77,3 +77,8 @@ pub(crate) const ROWS: &[Advice] = &[
         text: CHANGES,
     },
 ];
+
+/// The rows.
+pub(crate) fn rows() -> &'static [Advice] {
+    ROWS
+}

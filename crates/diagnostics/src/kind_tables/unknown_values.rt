@@ -11,7 +11,7 @@ const NAME: &str =
 const CHANNEL: &str =
     "a channel is declared, as `channel a`, or with the sets of its fields, as `channel c : {0..2}.Bool`";
 
-pub(crate) const ROWS: &[Advice] = &[
+const ROWS: &[Advice] = &[
     Advice {
         when: &[Here("Int")],
         text: "a set is finite: write the numbers, as `{0..9}`",
@@ -69,3 +69,8 @@ pub(crate) const ROWS: &[Advice] = &[
         text: NAME,
     },
 ];
+
+/// The rows.
+pub(crate) fn rows() -> &'static [Advice] {
+    ROWS
+}

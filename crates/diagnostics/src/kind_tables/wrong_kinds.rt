@@ -16,7 +16,7 @@ const FIELD_SET: &str = "a field is given the set of its values, as `channel c :
 
 const RENAMING: &str = "both sides of a renaming are channels, whose fields have the same values";
 
-pub(crate) const ROWS: &[Advice] = &[
+const ROWS: &[Advice] = &[
     Advice {
         when: &[Here("assert")],
         text: KINDS,
@@ -74,3 +74,8 @@ pub(crate) const ROWS: &[Advice] = &[
         text: "a process by its name is an equation, an event begins with a channel, and a value is a bound name, a constructor, a datatype or a nametype; where an equation, an assertion or a set begins here, its parts are of kinds that do not fit",
     },
 ];
+
+/// The rows.
+pub(crate) fn rows() -> &'static [Advice] {
+    ROWS
+}

@@ -7,6 +7,7 @@ use Rattle.std.proofs.lemmas.Cmp.{ranked}
 use Rattle.std.proofs.lemmas.List.{length-map}
 use Rattle.csp_term.specs.Script.{assertion_of, script_of}
 use Rattle.csp_print.specs.Names.{names_of}
+use Rattle.program.specs.Given.{sent}
 use Rattle.explain_program.specs.Asking.{request_of}
 use Rattle.explain_program.specs.Giving.{AreTold, GoesOut}
 use Rattle.explain_program.proofs.Tellings.{none_out, none_told, one_more}
@@ -72,7 +73,7 @@ returns-in_err-here-clause-stopped g c =
     let mapped = length-map c.assertions-count.result.now assertion_of in
     let within : place < length script.assertions = omega (arith, low, whole, mapped) in
     let now = c.explain_one.new.out in
-    let S : Stop → Type 0 = λ why. StopsBy request script names why g.O.Sink.taken g.O.Sink.has_failed c.args.out.now now in
+    let S : Stop → Type 0 = λ why. StopsBy request script names why (sent g.O.Sink.taken g.O.Sink.has_failed c.args.out.now now) in
     handed c.from_residual.result S c.from_residual.ensures
     (stops_in_all request script names c.in_err-here.field-0.0 g.O.Sink.taken g.O.Sink.has_failed c.args.out.now c.loop-place.out now c.loop-place.status place c.requires.each within c.loop-place.invariant c.in_err-here.ensures.left)
 
@@ -90,5 +91,5 @@ returns-clause-told g c =
     let is = c.loop-place.invariant.went_out.status_is in
     let most = status_at_most c.loop-place.invariant.outcomes in (
       omega (arith, is, most),
-      all_told request script names (g.O.Sink.taken c.args.out.now) (g.O.Sink.taken out) (g.O.Sink.has_failed out) c.loop-place.status place c.requires.each all c.loop-place.invariant,
+      all_told request script names (sent g.O.Sink.taken g.O.Sink.has_failed c.args.out.now out) c.loop-place.status place c.requires.each all c.loop-place.invariant,
     )

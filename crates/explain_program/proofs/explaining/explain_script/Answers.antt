@@ -3,6 +3,7 @@ use Rattle.std.proofs.Common.{◌≡◌, ◌<◌, ◌-◌, suc, length, ap, arit
 use Rattle.std.proofs.lemmas.List.{length-map}
 use Rattle.csp_term.specs.Script.{assertion_of, script_of}
 use Rattle.csp_print.specs.Names.{names_of}
+use Rattle.program.specs.Given.{sent}
 use Rattle.explain_program.specs.Asking.{request_of}
 use Rattle.explain_program.specs.Explaining.{StopsBy}
 use Rattle.explain_program.specs.declared.stop.Stop.{Stop}
@@ -33,7 +34,7 @@ returns-clause-told g c =
     let one : request.number ≡ suc place = omega arith in
     let out = c.explain_one.new.out in (
       c.in_ok-explain_one.ensures.told.0,
-      asked_told request script names (g.O.Sink.taken c.args.out.now) (g.O.Sink.taken out) (g.O.Sink.has_failed out) c.in_ok-explain_one.field-0 place one within c.in_ok-explain_one.ensures.told.1,
+      asked_told request script names (sent g.O.Sink.taken g.O.Sink.has_failed c.args.out.now out) c.in_ok-explain_one.field-0 place one within c.in_ok-explain_one.ensures.told.1,
     )
 
 pub returns-in_err-explain_one-clause-stopped : goal.returns-in_err-explain_one-clause-stopped
@@ -44,6 +45,6 @@ returns-in_err-explain_one-clause-stopped g c =
     let place = c.args.settings.now.assertion - 1 in
     let one : request.number ≡ suc place = omega arith in
     let out = c.explain_one.new.out in
-    let S : Stop → Type 0 = λ why. StopsBy request script names why g.O.Sink.taken g.O.Sink.has_failed c.args.out.now out in
+    let S : Stop → Type 0 = λ why. StopsBy request script names why (sent g.O.Sink.taken g.O.Sink.has_failed c.args.out.now out) in
     handed c.from_residual.result S c.from_residual.ensures
     (stops_in_one request script names c.in_err-explain_one.field-0.0 g.O.Sink.taken g.O.Sink.has_failed c.args.out.now out place c.requires one c.in_err-explain_one.ensures.left)

@@ -1,12 +1,14 @@
 -- What is told of the file's script is told of the file.
-use Rattle.std.proofs.Common.{ℕ, List, Err, subst, refl, ap}
+use Rattle.std.proofs.Common.{ℕ, List, Err, subst, refl, ap, rules}
 use Rattle.csp_term.specs.Script.{script_of}
 use Rattle.csp_print.specs.Names.{names_of}
+use Rattle.program.specs.Given.{given_of, sent}
 use Rattle.program.specs.Reading.{IsRefusalOf}
 use Rattle.program.specs.Refusal.{of_file, refusal_line}
 use Rattle.program.specs.Running.{IsGiven}
 use Rattle.program.specs.declared.refusal.Refusal.{Refusal}
-use Rattle.program.proofs.Beginnings.{cause_of_text}
+use Rattle.program.specs.declared.refusal.Refusal.TheVariants as refusal
+use Rattle.program.proofs.Beginnings.{cause_of_text, too_long}
 use Rattle.explain_program.specs.Asking.{request_of}
 use Rattle.explain_program.specs.Naming.{IsNamedText}
 use Rattle.explain_program.specs.Refusals.{TellsRefusal}
@@ -19,34 +21,43 @@ use Rattle.explain_program.proofs.running.explain.Goals as goal
 pub returns-in-Err-clause-stopped : goal.returns-in-Err-clause-stopped
 returns-in-Err-clause-stopped g c three =
     let request = request_of c.args.settings.now in
-    let may_hold = g.F.Files.may_hold c.args.files.now in
-    let may_lack = g.F.Files.may_lack c.args.files.now in
+    let given = given_of g.F.Files.may_hold g.F.Files.may_lack c.args.files.now c.args.resources.now.stack in
     let fault = c.in-Err.fault in
     let told = c.refuse.new.err in
-    let L : Refusal → Type 0 = λ why. IsGiven (g.E.Sink.taken c.args.err.now) (g.E.Sink.taken told) (g.E.Sink.has_failed told) (refusal_line why) in
+    let L : Refusal → Type 0 = λ why. IsGiven (sent g.E.Sink.taken g.E.Sink.has_failed c.args.err.now told) (refusal_line why) in
     record {
       why = stop.Refused (of_file fault);
-      cause = unread_cause may_hold may_lack request.name fault (λ file. c.in-Err.ensures.lacks (ap Err file));
-      output = unread_leaves may_hold request fault g.O.Sink.taken g.O.Sink.has_failed c.args.out.now;
+      cause = unread_cause given request.name fault (λ file. c.in-Err.ensures.lacks (ap Err file));
+      output = unread_leaves given request fault (sent g.O.Sink.taken g.O.Sink.has_failed c.args.out.now c.args.out.now) refl;
       told = running.by_line (subst L c.from.ensures c.refuse.ensures.line);
     }
 
 pub returns-in-Err-read-clause-stopped : goal.returns-in-Err-read-clause-stopped
 returns-in-Err-read-clause-stopped g c three =
     let request = request_of c.args.settings.now in
-    let may_hold = g.F.Files.may_hold c.args.files.now in
-    let may_lack = g.F.Files.may_lack c.args.files.now in
+    let given = given_of g.F.Files.may_hold g.F.Files.may_lack c.args.files.now c.args.resources.now.stack in
     let why = c.in-Err-read.why in
     let bytes = c.in-Ok.text.items in
     let holds = c.in-Ok.ensures.holds in
     let told = c.refuse_text.new.err in
     let is = subst (λ bs. IsRefusalOf bs why) c.deref.ensures.value c.in-Err-read.ensures.refused in
-    let T : List ℕ → Type 0 = λ bs. TellsRefusal request.name bs why (g.E.Sink.taken c.args.err.now) (g.E.Sink.taken told) (g.E.Sink.has_failed told) in
+    let T : List ℕ → Type 0 = λ bs. TellsRefusal request.name bs why (sent g.E.Sink.taken g.E.Sink.has_failed c.args.err.now told) in
     record {
       why = stop.Refused why;
-      cause = cause_of_text may_hold may_lack request.name bytes why holds is;
-      output = untouched may_hold request bytes why g.O.Sink.taken g.O.Sink.has_failed c.args.out.now is;
+      cause = cause_of_text given request.name bytes why holds is;
+      output = untouched given request bytes why (sent g.O.Sink.taken g.O.Sink.has_failed c.args.out.now c.args.out.now) refl is;
       told = running.of_text why bytes refl holds (subst T c.deref-in-Err-read.ensures.value c.refuse_text.ensures.told);
+    }
+
+pub returns-then-takes-clause-stopped : goal.returns-then-takes-clause-stopped
+returns-then-takes-clause-stopped g c three =
+    let request = request_of c.args.settings.now in
+    let given = given_of g.F.Files.may_hold g.F.Files.may_lack c.args.files.now c.args.resources.now.stack in
+    record {
+      why = stop.Refused refusal.Thread;
+      cause = too_long given request.name c.in-Ok.text.items c.in-Ok.ensures.holds (search rules);
+      output = refl;
+      told = running.by_line c.refuse-then-takes.ensures.line;
     }
 
 pub returns-in-Ok-explain_script-clause-explained : goal.returns-in-Ok-explain_script-clause-explained
@@ -65,18 +76,17 @@ returns-in-Ok-explain_script-clause-explained g c below =
 pub returns-clause-stopped : goal.returns-clause-stopped
 returns-clause-stopped g c three =
     let request = request_of c.args.settings.now in
-    let may_hold = g.F.Files.may_hold c.args.files.now in
-    let may_lack = g.F.Files.may_lack c.args.files.now in
+    let given = given_of g.F.Files.may_hold g.F.Files.may_lack c.args.files.now c.args.resources.now.stack in
     let script = script_of c.in-Ok-read.named.script in
     let names = names_of c.in-Ok-read.named.names in
     let why = c.in-Err-explain_script.why in
     let out = c.explain_script.new.out in
     let named = subst (λ bs. IsNamedText bs script names) c.deref.ensures.value c.in-Ok-read.ensures.named in
-    let file = named_file may_hold request.name c.in-Ok.text.items script names c.in-Ok.ensures.holds named in
+    let file = named_file given.may_hold request.name c.in-Ok.text.items script names c.in-Ok.ensures.holds named in
     let stops = c.in-Err-explain_script.ensures.stopped in
     record {
       why = why;
-      cause = stop_cause may_hold may_lack request script names file why g.O.Sink.taken g.O.Sink.has_failed c.args.out.now out stops;
-      output = stop_leaves may_hold may_lack request script names file why g.O.Sink.taken g.O.Sink.has_failed c.args.out.now out stops;
+      cause = stop_cause given request script names file why (sent g.O.Sink.taken g.O.Sink.has_failed c.args.out.now out) stops;
+      output = stop_leaves given request script names file why (sent g.O.Sink.taken g.O.Sink.has_failed c.args.out.now out) stops;
       told = running.by_line c.report_stop.ensures.line;
     }
