@@ -2,7 +2,7 @@
 //! second, until none is refused. That is told, or the states are as with ample memory.
 
 use crate::replays::{REACH, are_named};
-use crate::row::Row;
+use crate::row::{End, Row};
 use crate::terms::term;
 use crate::texts::{OneRefused, script, shown, text};
 use csp_replay::{Replay, replay_of};
@@ -19,7 +19,7 @@ static ROW: Row = Row {
     start: "P [] (a -> b -> STOP)",
     path: "tau a b",
     evidence: "c",
-    states: Some(&[
+    end: End::States(&[
         "(a -> b -> c -> STOP) [] (a -> b -> STOP)",
         "b -> c -> STOP",
         "c -> STOP",
@@ -45,7 +45,7 @@ fn told<'m>(
     shown: &Shown<OneRefused<'m>>,
 ) -> Result<Option<bool>, Fail> {
     match replay_of(memory, script, term(script, 0)?, shown, REACH) {
-        Ok(Replay::States(states, _)) => Ok(Some(are_named(script, &states)?)),
+        Ok(Replay::States(states, _)) => Ok(Some(are_named(script, 0, &states)?)),
         Ok(Replay::Nowhere) => Ok(Some(false)),
         Ok(Replay::TooMany) => Ok(Some(false)),
         Err(Memory) => Ok(None),
