@@ -31,3 +31,11 @@ some_sides (s ∷ ws) some = refl
 pub told_at : (names : Names) (seen : Event) (mark : List ℕ) (ws : List code.Side) (e : Event) → (length ws == 0) ≡ false →
     mark ++ (way_text (map side_of ws) ++ below_text names seen e) ≡ doer_text names seen mark (record { way = map side_of ws; event = e })
 told_at names seen mark ws e some = sym (ap (λ b. if b then below_text names seen e else mark ++ (way_text (map side_of ws) ++ below_text names seen e)) (some_sides ws some))
+
+no_sides : (ws : List code.Side) → (length ws == 0) ≡ true → is_nil (map side_of ws) ≡ true
+no_sides [] none = refl
+no_sides (s ∷ ws) none = absurd (cc none)
+
+-- one without a way is not
+pub told_bare : (names : Names) (seen : Event) (mark : List ℕ) (ws : List code.Side) (e : Event) → (length ws == 0) ≡ true → below_text names seen e ≡ doer_text names seen mark (record { way = map side_of ws; event = e })
+told_bare names seen mark ws e none = sym (ap (λ b. if b then below_text names seen e else mark ++ (way_text (map side_of ws) ++ below_text names seen e)) (no_sides ws none))

@@ -1,5 +1,5 @@
 -- Which terms diverge, by the numbers of those that taus lead to.
-use Rattle.std.proofs.Common.{◌≡◌, ◌≢◌, ℕ, List, length, slice_get, Some, Contains, arith}
+use Rattle.std.proofs.Common.{◌≡◌, ◌≢◌, ℕ, List, length, slice_get, Some, arith}
 use Rattle.theory_syntax.specs.Process.{Process, Script}
 use Rattle.theory_semantics.specs.Meaning.Divergence.{Diverges}
 use Rattle.theory_search.specs.Counting.{AreMoreThan}

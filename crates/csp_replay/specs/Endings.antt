@@ -1,7 +1,7 @@
 -- Where a term of a layer shows some evidence.
 use Rattle.std.specs.Prelude.{◌≡◌, ℕ, List, Option, Some, None, slice_get, Contains, ⊤}
 use Rattle.theory_syntax.specs.Process.{Process, Script}
-use Rattle.theory_semantics.specs.Meaning.Violations.{Evidence, ByEvent, ByOffers, ByDeadlock, ByDivergence}
+use Rattle.theory_semantics.specs.Meaning.Violations.{Evidence, ByDivergence}
 use Rattle.theory_search.specs.Counting.{AreMoreThan}
 use Rattle.theory_search.specs.Subsets.{IsByTaus}
 use Rattle.theory_runs.specs.States.{Shows}

@@ -8,8 +8,14 @@ use Rattle.theory_explanation.specs.Origins.{below_text, way_text}
 use Rattle.csp_print.specs.Names.{names_of}
 use Rattle.csp_print.proofs.Writing.{alike, behind}
 use Rattle.counterexample.specs.Doers.{doer_of}
-use Rattle.counterexample.proofs.Belows.{told_at}
+use Rattle.counterexample.proofs.Belows.{told_at, told_bare}
 use Rattle.counterexample.proofs.doers.push_doer.Goals as goal
+
+pub returns-then-is_empty : goal.returns-then-is_empty
+returns-then-is_empty g c =
+    let doer = c.args.doer.now in
+    alike c.push_below.result (string_bytes c.args.text.now) (string_bytes c.push_below.new.text) _ _
+    (told_bare (names_of c.args.names.now) (event_of c.args.seen.now) c.args.mark.now doer.way.items (event_of doer.event.now) (sym c.is_empty.ensures ∙ c.if-is_empty.true)) c.push_below.ensures
 
 pub returns : goal.returns
 returns g c =

@@ -5,7 +5,6 @@ use Rattle.std.proofs.lemmas.Option.{slice_get_within}
 use Rattle.theory_semantics.specs.Meaning.Divergence.{Diverges}
 use Rattle.theory_semantics.proofs.Rising.{Contains-from_stands}
 use Rattle.theory_search.specs.TauRanks.{IsNumberedOut, number_at}
-use Rattle.theory_runs.specs.Layers.{AreTermsOf}
 use Rattle.theory_runs.specs.Within.{IsClosureWithin}
 use Rattle.theory_runs.proofs.Scanning.{none_zero, none_more, none_at_all}
 use Rattle.csp_term.specs.Script.{script_of}

@@ -1,5 +1,5 @@
 -- A divergence, or what one firing shows.
-use Rattle.std.proofs.Common.{◌≡◌, ℕ, refl, IfOk, Option, Some, None, ap, sym, subst, inl, inr, lit<}
+use Rattle.std.proofs.Common.{◌≡◌, ℕ, refl, IfOk, Option, Some, None, sym, subst, inl, inr, lit<}
 use Rattle.theory_syntax.specs.Process.{Process, Script}
 use Rattle.theory_semantics.specs.Meaning.Violations as pure
 use Rattle.csp_term.specs.Script.{script_of}

@@ -1,5 +1,5 @@
 -- The layers of the path, a term of the last one, and the way back.
-use Rattle.std.proofs.Common.{ℕ, List, Option, Some, None, Contains, map, sym, subst, inl, inr, lit≤}
+use Rattle.std.proofs.Common.{List, Contains, map, sym, subst, inl, inr, lit≤}
 use Rattle.theory_semantics.specs.Kinds.Scripts.{IsTermOf}
 use Rattle.theory_semantics.specs.Meaning.Runs.{Run}
 use Rattle.theory_runs.specs.Layers.{AreTermsOf}
