@@ -1,6 +1,7 @@
 -- The event of a part, the same as above or another one.
-use Rattle.std.proofs.Common.{◌≡◌, ℕ, Bool, true, false, List, [], ◌∷◌, ◌++◌, length, map, if◌then◌else◌, refl, sym, ◌∙◌, ap}
+use Rattle.std.proofs.Common.{◌≡◌, ℕ, Bool, true, false, List, [], ◌∷◌, ◌++◌, length, map, if◌then◌else◌, refl, sym, ◌∙◌, ap, arith}
 use Rattle.std.specs.Prelude.{codes, ◌==◌}
+use Rattle.std.proofs.lemmas.Bool.{eqb-true}
 use Rattle.theory_syntax.specs.Value.{Event, event_eq}
 use Rattle.theory_syntax.proofs.Equalities.{event_refl, event_same}
 use Rattle.theory_notation.specs.Names.{Names}
@@ -34,7 +35,7 @@ told_at names seen mark ws e some = sym (ap (λ b. if b then below_text names se
 
 no_sides : (ws : List code.Side) → (length ws == 0) ≡ true → is_nil (map side_of ws) ≡ true
 no_sides [] none = refl
-no_sides (s ∷ ws) none = absurd (cc none)
+no_sides (s ∷ ws) none = absurd (let some : length (s ∷ ws) ≡ 0 = eqb-true (length (s ∷ ws)) 0 none in omega (arith, some))
 
 -- one without a way is not
 pub told_bare : (names : Names) (seen : Event) (mark : List ℕ) (ws : List code.Side) (e : Event) → (length ws == 0) ≡ true → below_text names seen e ≡ doer_text names seen mark (record { way = map side_of ws; event = e })

@@ -9,5 +9,6 @@ pub mod LoopTexts
 pub mod DoersBehind
 pub mod Round
 pub mod WaitingBehind
+pub mod Besides
 pub mod LoopsOf
 pub mod Belows

@@ -29,6 +29,7 @@ mod paths;
 mod run;
 mod runs;
 mod specification;
+mod standing;
 mod states;
 mod style;
 mod text;

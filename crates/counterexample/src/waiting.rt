@@ -13,9 +13,10 @@ ghost use Rattle.counterexample.specs.Counterexample.{waiting_of};
 ghost use Rattle.counterexample.specs.Waiting.{IsOnePart, all_placed_behind};
 
 use crate::doers::longer;
+use crate::standing::{Standing, standing_in};
 use csp_moves::Side;
 use csp_replay::initials_of;
-use csp_term::{Action, AllocHandle, Memory, ProcessOperator, Script, Term, TermForm};
+use csp_term::{Action, AllocHandle, Memory, Script, Term};
 use verdict::Evidence;
 
 /// A part of a state, and what it can do by itself.
@@ -58,19 +59,10 @@ fn parts_in<A: AllocHandle>(
     requires { IsTermOf (script_of script.now) (process_of term.now) }
     ensures { IfOk result (λ ws. AreWaiting (script_of script.now) (all_placed_behind (map side_of way.now) (placed_parts (process_of term.now))) (map waiting_of ws.items)) }
 {
-    match term.form() {
-        TermForm::Binary(ProcessOperator::Interleaving, left, right) => {
-            parts_of_both(alloc, script, way, left, right)
-        }
-        TermForm::GeneralisedParallel(left, _, right) => {
-            parts_of_both(alloc, script, way, left, right)
-        }
-        TermForm::AlphabetisedParallel(left, _, _, right) => {
-            parts_of_both(alloc, script, way, left, right)
-        }
-        TermForm::Hiding(body, _) => parts_in(alloc, script, way, body),
-        TermForm::Renaming(body, _) => parts_in(alloc, script, way, body),
-        _ => one_part(alloc, script, way, term),
+    match standing_in(term) {
+        Standing::Beside(left, right) => parts_of_both(alloc, script, way, left, right),
+        Standing::Inside(body) => parts_in(alloc, script, way, body),
+        Standing::Alone => one_part(alloc, script, way, term),
     }
 }
 

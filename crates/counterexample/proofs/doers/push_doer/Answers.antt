@@ -1,5 +1,6 @@
 -- A part with a way is told behind the mark.
 use Rattle.std.proofs.Common.{◌≡◌, List, ◌++◌, map, sym, ◌∙◌, ap, subst}
+use Rattle.std.specs.Prelude.{◌==◌}
 use Rattle.std.specs.String.{string_bytes}
 use Rattle.csp_value.specs.Action.{event_of}
 use Rattle.csp_moves.specs.Passage.{side_of}
@@ -15,7 +16,7 @@ pub returns-then-is_empty : goal.returns-then-is_empty
 returns-then-is_empty g c =
     let doer = c.args.doer.now in
     alike c.push_below.result (string_bytes c.args.text.now) (string_bytes c.push_below.new.text) _ _
-    (told_bare (names_of c.args.names.now) (event_of c.args.seen.now) c.args.mark.now doer.way.items (event_of doer.event.now) (sym c.is_empty.ensures ∙ c.if-is_empty.true)) c.push_below.ensures
+    (told_bare (names_of c.args.names.now) (event_of c.args.seen.now) c.args.mark.now doer.way.items (event_of doer.event.now) (sym (ap (λ n. n == 0) doer.way.ok.0) ∙ sym c.is_empty.ensures ∙ c.if-is_empty.true)) c.push_below.ensures
 
 pub returns : goal.returns
 returns g c =
@@ -31,5 +32,5 @@ returns g c =
     let way = way_text (map side_of doer.way.items) in
     let below = below_text names seen (event_of doer.event.now) in
     let W : List Side → Type 0 = λ xs. two ≡ one ++ way_text (map side_of xs) in
-    alike r start all _ _ (told_at names seen mark doer.way.items (event_of doer.event.now) (sym c.is_empty.ensures ∙ c.if-is_empty.false))
+    alike r start all _ _ (told_at names seen mark doer.way.items (event_of doer.event.now) (sym (ap (λ n. n == 0) doer.way.ok.0) ∙ sym c.is_empty.ensures ∙ c.if-is_empty.false))
     (behind r start one all mark (way ++ below) c.in_ok-push_mark.ensures (behind r one two all way below (subst W c.deref.ensures.value c.in_ok-push_way.ensures) c.push_below-2.ensures))

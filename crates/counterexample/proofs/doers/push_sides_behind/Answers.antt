@@ -8,7 +8,7 @@ use Rattle.theory_explanation.specs.Origins.{side_text, way_behind}
 use Rattle.csp_print.proofs.Writing.{comes_to_end, goes_on}
 use Rattle.counterexample.proofs.doers.push_sides_behind.Goals as goal
 
-texts : List Side → List ℕ
+abbrev texts : List Side → List ℕ
 texts way = way_behind (map side_of way)
 
 -- the sides from the place on

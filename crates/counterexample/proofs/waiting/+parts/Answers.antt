@@ -1,33 +1,46 @@
--- The parts of both sides, or of what stands below an operator that stays, or the term itself.
-use Rattle.std.proofs.Common.{◌≡◌, IfOk, List, ◌++◌, map, sym, subst, ◌∙◌, ap}
+-- The parts of both sides, or of what is below hiding or renaming, or the term itself.
+use Rattle.std.proofs.Common.{◌≡◌, IfOk, List, [], ◌∷◌, ◌++◌, append-nil, map, sym, subst, ◌∙◌, ap}
 use Rattle.std.proofs.lemmas.List.{map-append}
-use Rattle.theory_syntax.specs.Process.{Process}
 use Rattle.theory_origins.specs.Origin.{Side, Left, Right}
-use Rattle.theory_origins.specs.Parts.{placed_on, placed_parts}
+use Rattle.theory_origins.specs.Parts.{Placed, placed_on, placed_parts}
 use Rattle.theory_explanation.specs.Counterexamples.{AreWaiting}
 use Rattle.theory_explanation.specs.Counterexamples as pure
 use Rattle.csp_term.specs.Script.{script_of}
-use Rattle.csp_term.specs.Term.{process_of, process_of_form}
-use Rattle.csp_term.proofs.Forms.{of_alphabetised, of_generalised}
+use Rattle.csp_term.specs.Term.{process_of}
 use Rattle.csp_moves.specs.Passage.{side_of}
 use Rattle.csp_moves.specs.declared.passage.Side as code
 use Rattle.counterexample.specs.Counterexample.{waiting_of}
-use Rattle.counterexample.specs.Waiting.{all_placed_behind}
+use Rattle.counterexample.specs.Waiting.{Alone, Beside, Inside, all_placed_behind, standing, standing_of}
 use Rattle.counterexample.specs.declared.waiting.Waiting.{Waiting}
+use Rattle.counterexample.proofs.Besides.{parts_placed, placed_by}
 use Rattle.counterexample.proofs.WaitingBehind.{both_placed, both_waiting, placed_further_behind}
 use Rattle.counterexample.proofs.waiting.+parts.Goals as goal
 
-pub parts_in-returns-in-GeneralisedParallel : goal.parts_in-returns-in-GeneralisedParallel
-parts_in-returns-in-GeneralisedParallel g t c =
-    let is = sym c.form.ensures ∙ ap process_of_form c.in-GeneralisedParallel.is ∙ of_generalised g.row.A.Denot c.in-GeneralisedParallel.left c.in-GeneralisedParallel.field-1 c.in-GeneralisedParallel.right in
-    let F : Process → Type 0 = λ p. IfOk c.parts_of_both-in-GeneralisedParallel.result (λ ws. AreWaiting (script_of c.args.script.now) (all_placed_behind (map side_of c.args.way.now) (placed_parts p)) (map waiting_of ws.items)) in
-    subst F (sym is) c.parts_of_both-in-GeneralisedParallel.ensures
+pub parts_in-returns-in-Beside : goal.parts_in-returns-in-Beside
+parts_in-returns-in-Beside g t c =
+    let term = process_of c.args.term.now in
+    let is : Beside (process_of c.in-Beside.left.now) (process_of c.in-Beside.right.now) ≡ standing term = sym (ap standing_of c.in-Beside.is) ∙ c.standing_in.ensures in
+    let same = ap (placed_by term) is ∙ parts_placed term in
+    let F : List Placed → Type 0 = λ ds. IfOk c.parts_of_both.result (λ ws. AreWaiting (script_of c.args.script.now) (all_placed_behind (map side_of c.args.way.now) ds) (map waiting_of ws.items)) in
+    subst F same c.parts_of_both.ensures
 
-pub parts_in-returns-in-AlphabetisedParallel : goal.parts_in-returns-in-AlphabetisedParallel
-parts_in-returns-in-AlphabetisedParallel g t c =
-    let is = sym c.form.ensures ∙ ap process_of_form c.in-AlphabetisedParallel.is ∙ of_alphabetised g.row.A.Denot c.in-AlphabetisedParallel.left c.in-AlphabetisedParallel.field-1 c.in-AlphabetisedParallel.field-2 c.in-AlphabetisedParallel.right in
-    let F : Process → Type 0 = λ p. IfOk c.parts_of_both-in-AlphabetisedParallel.result (λ ws. AreWaiting (script_of c.args.script.now) (all_placed_behind (map side_of c.args.way.now) (placed_parts p)) (map waiting_of ws.items)) in
-    subst F (sym is) c.parts_of_both-in-AlphabetisedParallel.ensures
+pub parts_in-returns-in-Inside : goal.parts_in-returns-in-Inside
+parts_in-returns-in-Inside g t c =
+    let term = process_of c.args.term.now in
+    let is : Inside (process_of c.in-Inside.body.now) ≡ standing term = sym (ap standing_of c.in-Inside.is) ∙ c.standing_in.ensures in
+    let same = ap (placed_by term) is ∙ parts_placed term in
+    let F : List Placed → Type 0 = λ ds. IfOk c.parts_in.result (λ ws. AreWaiting (script_of c.args.script.now) (all_placed_behind (map side_of c.args.way.now) ds) (map waiting_of ws.items)) in
+    subst F same c.parts_in.ensures
+
+pub parts_in-returns-in-Alone : goal.parts_in-returns-in-Alone
+parts_in-returns-in-Alone g t c =
+    let term = process_of c.args.term.now in
+    let way = map side_of c.args.way.now in
+    let is : Alone ≡ standing term = sym (ap standing_of c.in-Alone.is) ∙ c.standing_in.ensures in
+    let same : record { way = way; process = term } ∷ [] ≡ all_placed_behind way (placed_parts term) =
+    ap (λ w. record { way = w; process = term } ∷ []) (sym (append-nil way)) ∙ ap (all_placed_behind way) (ap (placed_by term) is ∙ parts_placed term) in
+    let F : List Placed → Type 0 = λ ds. IfOk c.one_part.result (λ ws. AreWaiting (script_of c.args.script.now) ds (map waiting_of ws.items)) in
+    subst F same c.one_part.ensures
 
 pub parts_of_both-returns : goal.parts_of_both-returns
 parts_of_both-returns g t c =
