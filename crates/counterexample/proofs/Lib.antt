@@ -5,3 +5,10 @@ pub mod Cuts
 pub mod Parts
 pub mod Putting
 pub mod Sizes
+pub mod LoopTexts
+pub mod DoersBehind
+pub mod Round
+pub mod WaitingBehind
+pub mod Besides
+pub mod LoopsOf
+pub mod Belows

@@ -12,7 +12,7 @@ use Rattle.csp_value.specs.declared.action.Action.{Action}
 use Rattle.csp_term.specs.Term.{process_of}
 use Rattle.csp_term.specs.declared.term.Term.{Term}
 
-one_more : (script : Script) (path : List pure.Action) (front : List Process) (origins : List (Option Origin)) (x : pure.Action) (s t : Process) (o : Option Origin) → length front ≡ length path →
+pub one_more : (script : Script) (path : List pure.Action) (front : List Process) (origins : List (Option Origin)) (x : pure.Action) (s t : Process) (o : Option Origin) → length front ≡ length path →
     AreOriginsAlong script path (front ++ s ∷ []) origins → Tells script s x t o → AreOriginsAlong script (path ++ x ∷ []) (front ++ s ∷ t ∷ []) (origins ++ o ∷ [])
 one_more script [] [] [] x s t o long told more = (more, tt)
 one_more script [] [] (p ∷ origins) x s t o long told more = absurd told

@@ -1,8 +1,7 @@
 //! Violations with the states that lead to them.
 
-ghost use Rattle.std.specs.Prelude.{map, IfOk, IfSome, IsNone};
+ghost use Rattle.std.specs.Prelude.{map, IfOk};
 ghost use Rattle.theory_search.specs.Terms.{IsAssertionOf};
-ghost use Rattle.theory_runs.specs.States.{HasNoReplay};
 ghost use Rattle.theory_explanation.specs.Counterexamples.{IsCounterexample};
 ghost use Rattle.csp_term.specs.Script.{assertion_of, script_of};
 ghost use Rattle.csp_term.specs.Term.{process_of};
@@ -10,9 +9,11 @@ ghost use Rattle.verdict.specs.Outcome.{violation_of};
 ghost use Rattle.counterexample.specs.Counterexample as told;
 
 use crate::counterparts::{Counterpart, counterpart_for};
+use crate::looping::{Looping, looping_of};
 use crate::origins::origins_along;
+use crate::waiting::{Waiting, waiting_at};
 use csp_moves::Origin;
-use csp_replay::replay;
+use csp_replay::{Lasso, Replay, replay_of};
 use csp_term::{AllocHandle, Assertion, Memory, Script, Term};
 use verdict::Shown;
 
@@ -25,32 +26,72 @@ pub struct Counterexample<A: AllocHandle> {
     pub origins: Vec<Option<Origin<A>>, A>,
     /// What the specification has along the path. An assertion of deadlock or divergence has none.
     pub counterpart: Option<Counterpart<A>>,
+    /// The loop that a divergence goes on by from the last state.
+    pub looping: Option<Looping<A>>,
+    /// The parts of the last state, where that waits.
+    pub waiting: Vec<Waiting<A>, A>,
+}
+
+/// What comes of a violation.
+#[derive(Drop)]
+pub enum Replayed<A: AllocHandle> {
+    /// The states that lead to it.
+    Counterexample(Counterexample<A>),
+    /// No run by the path ends as is shown.
+    Nowhere,
+    /// Behind the path of a divergence taus lead to more states than were to be looked at.
+    TooMany,
 }
 
 /// The states on the way of a violation of the assertion between terms of the script, where each step comes from, and
-/// what the specification has along its path, or that it has more than `most` states after one of its beginnings. `None`
-/// says that no run by the path ends as is shown, and `Memory` that there is no room to tell.
+/// what the specification has along its path, or that it has more than `most` states after one of its beginnings. The loop
+/// of a divergence is looked for among `reach` states. `Memory` says that there is no room to tell.
 pub fn counterexample_of<A: AllocHandle>(
     alloc: A,
     script: &Script<A>,
     assertion: &Assertion<A>,
     shown: &Shown<A>,
     most: usize,
-) -> Result<Option<Counterexample<A>>, Memory>
+    reach: usize,
+) -> Result<Replayed<A>, Memory>
     requires terms { IsAssertionOf (script_of script.now) (assertion_of assertion.now) }
-    ensures found { IfOk result (λ found. IfSome found (λ c. IsCounterexample (script_of script.now) (assertion_of assertion.now) (violation_of shown.now) most (told.counterexample_of c))) }
-    ensures none { IfOk result (λ found. IsNone found → HasNoReplay (script_of script.now) (process_of assertion.now.implementation) (violation_of shown.now)) }
+    ensures { IfOk result (told.TellsReplayed (script_of script.now) (assertion_of assertion.now) (violation_of shown.now) most reach) }
 {
-    let found = replay(alloc, script, &assertion.implementation, shown)?;
-    let Some(states) = found else {
-        return Ok(None);
-    };
+    let start = &assertion.implementation;
+    match replay_of(alloc, script, start, shown, reach)? {
+        Replay::States(states, lasso) => {
+            let found = along(alloc, script, assertion, shown, most, states, lasso)?;
+            Ok(Replayed::Counterexample(found))
+        }
+        Replay::Nowhere => Ok(Replayed::Nowhere),
+        Replay::TooMany => Ok(Replayed::TooMany),
+    }
+}
+
+// The counterexample with the states of the replay, and the lasso at its end, if it diverges.
+fn along<A: AllocHandle>(
+    alloc: A,
+    script: &Script<A>,
+    assertion: &Assertion<A>,
+    shown: &Shown<A>,
+    most: usize,
+    states: Vec<Term<A>, A>,
+    lasso: Option<Lasso<A>>,
+) -> Result<Counterexample<A>, Memory>
+    requires terms { IsAssertionOf (script_of script.now) (assertion_of assertion.now) }
+    requires replay { told.IsReplayed (script_of script.now) (assertion_of assertion.now) (violation_of shown.now) (map process_of states.items) lasso }
+    ensures { IfOk result (λ found. IsCounterexample (script_of script.now) (assertion_of assertion.now) (violation_of shown.now) most (told.counterexample_of found)) }
+{
     let origins = origins_along(alloc, script, &shown.path, &states)?;
     let specification = assertion.property.specification();
     let counterpart = counterpart_for(alloc, script, specification, &shown.path, most)?;
-    Ok(Some(Counterexample {
+    let looping = looping_of(alloc, script, lasso)?;
+    let waiting = waiting_at(alloc, script, &shown.evidence, &states[shown.path.len()])?;
+    Ok(Counterexample {
         states,
         origins,
         counterpart,
-    }))
+        looping,
+        waiting,
+    })
 }

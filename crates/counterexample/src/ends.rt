@@ -32,6 +32,6 @@ pub(crate) fn push_end<A: AllocHandle>(
             push_mark("}, and the specification may not\n", text)
         }
         Evidence::Deadlock => push_mark("  then it can do nothing\n", text),
-        Evidence::Divergence => push_mark("  then it may go on with tau for ever\n", text),
+        Evidence::Divergence => push_mark("  then it goes on with tau for ever:\n", text),
     }
 }

@@ -121,8 +121,8 @@ pub(crate) fn lacking<A: AllocHandle>(
     Ok(lacks)
 }
 
-// The actions in `{` and `}`.
-fn push_set<A: AllocHandle>(
+/// The actions in `{` and `}`.
+pub(crate) fn push_set<A: AllocHandle>(
     names: &Names<'_, A>,
     actions: &[Action<A>],
     text: &mut String<A>,

@@ -1,13 +1,14 @@
-//! Where taus come from, in words.
+//! Where steps come from, in words.
 
 ghost use Rattle.std.specs.Prelude.{◌++◌, codes, option_map};
-ghost use Rattle.theory_syntax.specs.Value.{Tau};
+ghost use Rattle.theory_syntax.specs.Value.{Ev, Tau};
 ghost use Rattle.theory_origins.specs.Origin.{Below, OnSide};
 ghost use Rattle.theory_search.specs.Printing.{name_at};
 ghost use Rattle.csp_value.specs.Action.{action_of, event_of};
 ghost use Rattle.csp_moves.specs.Origin.{origin_of};
 ghost use Rattle.csp_moves.specs.Passage.{passage_of, side_of};
 ghost use Rattle.theory_explanation.specs.Actions.{event_text};
+ghost use Rattle.theory_origins.specs.Doers.{doers};
 ghost use Rattle.theory_explanation.specs.Origins.{doers_text, origin_text, side_text, source_text};
 ghost use Rattle.csp_print.specs.Names.{names_of};
 ghost use Rattle.csp_print.specs.Writing.{Writes};
@@ -20,8 +21,9 @@ use csp_print::Names;
 use csp_term::{Action, AllocHandle, EquationId, Event};
 use std::alloc::AllocError;
 
-/// What stands behind an action: of a tau its origin, if one is told.
+/// What stands behind an action: of a tau its origin, and of an event the parts that do it, if they are told.
 pub(crate) fn push_source<A: AllocHandle>(
+    alloc: A,
     names: &Names<'_, A>,
     action: &Action<A>,
     origin: &Option<Origin<A>>,
@@ -30,14 +32,31 @@ pub(crate) fn push_source<A: AllocHandle>(
     ensures { Writes result text.old text.new (source_text (names_of names.now) (action_of action.now) (option_map origin_of origin.now)) }
 {
     match action {
-        Action::Tau => push_source_of_tau(names, origin, text),
+        Action::Tau => push_source_of_tau(alloc, names, origin, text),
         Action::Tick => Ok(()),
-        Action::Event(_) => Ok(()),
+        Action::Event(event) => push_source_of_event(alloc, names, event, origin, text),
+    }
+}
+
+// The parts that do an event, if its origin is told.
+fn push_source_of_event<A: AllocHandle>(
+    alloc: A,
+    names: &Names<'_, A>,
+    event: &Event<A>,
+    origin: &Option<Origin<A>>,
+    text: &mut String<A>,
+) -> Result<(), AllocError>
+    ensures { Writes result text.old text.new (source_text (names_of names.now) (Ev (event_of event.now)) (option_map origin_of origin.now)) }
+{
+    match origin {
+        Some(origin) => push_doers(alloc, names, event, origin, text),
+        None => Ok(()),
     }
 }
 
 // The origin of a tau, if one is told.
 fn push_source_of_tau<A: AllocHandle>(
+    alloc: A,
     names: &Names<'_, A>,
     origin: &Option<Origin<A>>,
     text: &mut String<A>,
@@ -45,7 +64,7 @@ fn push_source_of_tau<A: AllocHandle>(
     ensures { Writes result text.old text.new (source_text (names_of names.now) Tau (option_map origin_of origin.now)) }
 {
     match origin {
-        Some(origin) => push_origin(names, ": ", origin, text),
+        Some(origin) => push_origin(alloc, names, ": ", origin, text),
         None => Ok(()),
     }
 }
@@ -53,6 +72,7 @@ fn push_source_of_tau<A: AllocHandle>(
 // The sides on the way down to the part that moves, the first behind the mark, and what moves it.
 #[cycle(origin)]
 fn push_origin<A: AllocHandle>(
+    alloc: A,
     names: &Names<'_, A>,
     mark: &str,
     origin: &Origin<A>,
@@ -66,7 +86,7 @@ fn push_origin<A: AllocHandle>(
         Origin::Unfolds(equation) => push_call(names, *equation, text),
         Origin::Chooses(side) => push_choice(*side, text),
         Origin::Slides => push_mark(": slides to its right side", text),
-        Origin::Below(passage, part) => push_below(names, mark, passage, part, text),
+        Origin::Below(passage, part) => push_below(alloc, names, mark, passage, part, text),
         Origin::Together(_, _) => push_mark(": both sides", text),
     }
 }
@@ -107,6 +127,7 @@ fn push_seen<A: AllocHandle>(
 // The origin of a part's step, below the passage to the part.
 #[cycle(origin)]
 fn push_below<A: AllocHandle>(
+    alloc: A,
     names: &Names<'_, A>,
     mark: &str,
     passage: &Passage<A>,
@@ -116,33 +137,37 @@ fn push_below<A: AllocHandle>(
     ensures { Writes result text.old text.new (origin_text (names_of names.now) mark.now (Below (passage_of passage.now) (origin_of part.now))) }
 {
     match passage {
-        Passage::OnSide(side) => push_below_side(names, mark, *side, part, text),
-        Passage::InBody => push_origin(names, mark, part, text),
-        Passage::InChain => push_origin(names, mark, part, text),
-        Passage::SideEnds(side) => push_below_side(names, mark, *side, part, text),
-        Passage::Hides(event) => push_done(names, ": hidden ", event, part, text),
-        Passage::Renames(_, event) => push_done(names, ": ", event, part, text),
+        Passage::OnSide(side) => push_below_side(alloc, names, mark, *side, part, text),
+        Passage::InBody => push_origin(alloc, names, mark, part, text),
+        Passage::OnBranch(side) => push_below_side(alloc, names, mark, *side, part, text),
+        Passage::UnderGuard => push_origin(alloc, names, mark, part, text),
+        Passage::InChain => push_origin(alloc, names, mark, part, text),
+        Passage::SideEnds(side) => push_below_side(alloc, names, mark, *side, part, text),
+        Passage::Hides(event) => push_done(alloc, names, ": hidden ", event, part, text),
+        Passage::Renames(_, event) => push_done(alloc, names, ": ", event, part, text),
     }
 }
 
 // The event behind the mark, and which sides do it.
 fn push_done<A: AllocHandle>(
+    alloc: A,
     names: &Names<'_, A>,
     mark: &str,
     event: &Event<A>,
     part: &Origin<A>,
     text: &mut String<A>,
 ) -> Result<(), AllocError>
-    ensures { Writes result text.old text.new (mark.now ++ (event_text (names_of names.now) (event_of event.now) ++ doers_text (codes " by ") (origin_of part.now))) }
+    ensures { Writes result text.old text.new (mark.now ++ (event_text (names_of names.now) (event_of event.now) ++ doers_text (names_of names.now) (event_of event.now) (doers (origin_of part.now)))) }
 {
     push_mark(mark, text)?;
     push_event(names, event, text)?;
-    push_doers(" by ", part, text)
+    push_doers(alloc, names, event, part, text)
 }
 
 // The same below a side, which is told.
 #[cycle(origin)]
 fn push_below_side<A: AllocHandle>(
+    alloc: A,
     names: &Names<'_, A>,
     mark: &str,
     side: Side,
@@ -153,7 +178,7 @@ fn push_below_side<A: AllocHandle>(
 {
     push_mark(mark, text)?;
     push_side(side, text)?;
-    push_origin(names, ", ", part, text)
+    push_origin(alloc, names, ".", part, text)
 }
 
 /// The side in a word.

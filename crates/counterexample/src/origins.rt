@@ -33,8 +33,8 @@ pub fn origins_along<A: AllocHandle>(
     Ok(all)
 }
 
-// The action, whose event is lent.
-fn lent<A: AllocHandle>(action: &Action<A>) -> LentAction<'_, A>
+/// The action, whose event is lent.
+pub(crate) fn lent<A: AllocHandle>(action: &Action<A>) -> LentAction<'_, A>
     ensures { lent_action result ≡ action_of action.now }
 {
     match action {

@@ -96,15 +96,16 @@ pub(crate) fn push_steps<A: AllocHandle>(
             return Ok(());
         };
         let width = width_before(style.width, &path[place + 1..]);
-        push_step(style.names, place + 1, action, origin, text)?;
+        push_step(alloc, style.names, place + 1, action, origin, text)?;
         push_behind(alloc, style.names, width, before, state, text)?;
         push_beside(alloc, style, action, along, place + 1, text)?;
     }
     Ok(())
 }
 
-// The number of a step, its action, and where a tau comes from.
-fn push_step<A: AllocHandle>(
+/// The number of a step, its action, and where it comes from.
+pub(crate) fn push_step<A: AllocHandle>(
+    alloc: A,
     names: &Names<'_, A>,
     number: usize,
     action: &Action<A>,
@@ -117,7 +118,7 @@ fn push_step<A: AllocHandle>(
     push_number(number, text)?;
     push_mark(" ", text)?;
     push_action(names, action, text)?;
-    push_source(names, action, origin, text)?;
+    push_source(alloc, names, action, origin, text)?;
     push_mark("\n", text)
 }
 

@@ -15,4 +15,8 @@ pub struct Style<'n, 't, A: Allocator> {
     pub few: usize,
     /// Up to how many states of the specification after a beginning of the path any of them are told.
     pub most: usize,
+    /// How many taus of a loop are told.
+    pub taus: Width,
+    /// Among how many states a loop, or a state for which there is no answer, is looked for at most.
+    pub reach: usize,
 }

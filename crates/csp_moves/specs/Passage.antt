@@ -13,6 +13,8 @@ side_of side.Right = pure.Right
 abbrev pub passage_of : {A : Type 0} → Passage A → pure.Passage
 passage_of (variant.OnSide s) = pure.OnSide (side_of s)
 passage_of variant.InBody = pure.InBody
+passage_of (variant.OnBranch s) = pure.OnBranch (side_of s)
+passage_of variant.UnderGuard = pure.UnderGuard
 passage_of variant.InChain = pure.InChain
 passage_of (variant.SideEnds s) = pure.SideEnds (side_of s)
 passage_of (variant.Hides e) = pure.Hides (event_of e)

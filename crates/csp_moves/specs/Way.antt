@@ -27,6 +27,8 @@ lent_action (action.Event e) = value.Ev (event_of e.now)
 abbrev pub lent_passage : {A : Type 0} → LentPassage A → pure.Passage
 lent_passage (passage.OnSide s) = pure.OnSide (side_of s)
 lent_passage passage.InBody = pure.InBody
+lent_passage (passage.OnBranch s) = pure.OnBranch (side_of s)
+lent_passage passage.UnderGuard = pure.UnderGuard
 lent_passage passage.InChain = pure.InChain
 lent_passage (passage.SideEnds s) = pure.SideEnds (side_of s)
 lent_passage (passage.Hides e) = pure.Hides (event_of e.now)

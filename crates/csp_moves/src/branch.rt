@@ -9,13 +9,13 @@ ghost use Rattle.csp_expression.specs.Evaluation.{table_of};
 ghost use Rattle.csp_expression.specs.Expression.{expression_of};
 ghost use Rattle.csp_term.specs.Script.{script_of_parts};
 ghost use Rattle.csp_term.specs.Term.{process_of};
-ghost use Rattle.theory_origins.specs.Origin.{InBody, Left, OnSide, Right};
+ghost use Rattle.theory_origins.specs.Origin.{Left, OnBranch, Right, UnderGuard};
 ghost use Rattle.theory_origins.specs.Ways.{Through, part};
 ghost use Rattle.csp_moves.specs.Branch.{IsTruthOf};
 ghost use Rattle.csp_moves.specs.Way.{AreFoundIn, lent_action, ways_of};
 
 use crate::passage::Side;
-use crate::way::{LentAction, LentPassage, Part, Way, no_ways, one_way, to_side};
+use crate::way::{LentAction, LentPassage, Part, Way, no_ways, one_way, through_branch};
 use csp_expression::{Cause, Expr, NoValue, TypeTable};
 use csp_term::{AllocHandle, Memory, ScriptParts, Term};
 use csp_value::Value;
@@ -66,12 +66,18 @@ fn to_branch<'t, A: AllocHandle>(
     action: LentAction<'t, A>,
     target: &'t Term<A>,
 ) -> Result<Vec<Way<'t, A>, A>, Memory>
-    ensures { IfOk result (λ ways. ways_of ways ≡ cond holds (Through (OnSide Left) (part (process_of first.now) (lent_action action.entry) (Some (process_of target.now))) ∷ []) (Through (OnSide Right) (part (process_of second.now) (lent_action action.entry) (Some (process_of target.now))) ∷ [])) }
+    ensures { IfOk result (λ ways. ways_of ways ≡ cond holds (Through (OnBranch Left) (part (process_of first.now) (lent_action action.entry) (Some (process_of target.now))) ∷ []) (Through (OnBranch Right) (part (process_of second.now) (lent_action action.entry) (Some (process_of target.now))) ∷ [])) }
 {
     if holds {
-        return one_way(alloc, to_side(Side::Left, first, action, Some(target)));
+        return one_way(
+            alloc,
+            through_branch(Side::Left, first, action, Some(target)),
+        );
     }
-    one_way(alloc, to_side(Side::Right, second, action, Some(target)))
+    one_way(
+        alloc,
+        through_branch(Side::Right, second, action, Some(target)),
+    )
 }
 
 /// The way to the guarded body, where it may go on.
@@ -82,7 +88,7 @@ fn to_body<'t, A: AllocHandle>(
     action: LentAction<'t, A>,
     target: &'t Term<A>,
 ) -> Result<Vec<Way<'t, A>, A>, Memory>
-    ensures { IfOk result (λ ways. ways_of ways ≡ cond holds (Through InBody (part (process_of body.now) (lent_action action.entry) (Some (process_of target.now))) ∷ []) []) }
+    ensures { IfOk result (λ ways. ways_of ways ≡ cond holds (Through UnderGuard (part (process_of body.now) (lent_action action.entry) (Some (process_of target.now))) ∷ []) []) }
 {
     if holds {
         let part = Part {
@@ -90,7 +96,7 @@ fn to_body<'t, A: AllocHandle>(
             action,
             target: Some(target),
         };
-        return one_way(alloc, Way::Through(LentPassage::InBody, part));
+        return one_way(alloc, Way::Through(LentPassage::UnderGuard, part));
     }
     no_ways(alloc)
 }

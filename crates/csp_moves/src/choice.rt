@@ -11,7 +11,7 @@ ghost use Rattle.csp_moves.specs.Way.{AreFound, lent_action};
 
 use crate::operator::{Joint, left_of, right_of};
 use crate::passage::Side;
-use crate::way::{LentAction, Way, no_ways, one_way, to_side, two_ways};
+use crate::way::{LentAction, Way, no_ways, one_way, through_branch, two_ways};
 use csp_term::laws::equal_terms;
 use csp_term::{AllocHandle, Memory, ProcessOperator, Term};
 
@@ -44,8 +44,8 @@ fn external_by_tau<'t, A: AllocHandle>(
     let operator = Joint::Binary(ProcessOperator::ExternalChoice);
     let left_target = left_of(&operator, right, target);
     let right_target = right_of(&operator, left, target);
-    let by_left = to_side(Side::Left, left, LentAction::Tau, left_target);
-    let by_right = to_side(Side::Right, right, LentAction::Tau, right_target);
+    let by_left = through_branch(Side::Left, left, LentAction::Tau, left_target);
+    let by_right = through_branch(Side::Right, right, LentAction::Tau, right_target);
     two_ways(alloc, by_left, by_right)
 }
 
@@ -60,8 +60,8 @@ fn external_by_visible<'t, A: AllocHandle>(
     requires { IsVisible (lent_action action) }
     ensures { IfOk result (AreFound (ExternalChoice (process_of left.now) (process_of right.now)) (lent_action action.entry) (process_of target.now)) }
 {
-    let by_left = to_side(Side::Left, left, action, Some(target));
-    let by_right = to_side(Side::Right, right, action, Some(target));
+    let by_left = through_branch(Side::Left, left, action, Some(target));
+    let by_right = through_branch(Side::Right, right, action, Some(target));
     two_ways(alloc, by_left, by_right)
 }
 

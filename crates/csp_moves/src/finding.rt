@@ -140,6 +140,8 @@ impl<'t, A: AllocHandle> LentPassage<'t, A> {
         match self {
             LentPassage::OnSide(side) => Ok(Passage::OnSide(side)),
             LentPassage::InBody => Ok(Passage::InBody),
+            LentPassage::OnBranch(side) => Ok(Passage::OnBranch(side)),
+            LentPassage::UnderGuard => Ok(Passage::UnderGuard),
             LentPassage::InChain => Ok(Passage::InChain),
             LentPassage::SideEnds(side) => Ok(Passage::SideEnds(side)),
             LentPassage::Hides(event) => Ok(Passage::Hides(event.try_copy(alloc)?)),

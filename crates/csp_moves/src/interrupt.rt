@@ -9,7 +9,7 @@ ghost use Rattle.csp_moves.specs.Way.{AreFound, lent_action};
 
 use crate::operator::{Joint, left_of, right_of};
 use crate::passage::Side;
-use crate::way::{LentAction, Way, to_side, two_ways};
+use crate::way::{LentAction, Way, through_branch, two_ways};
 use csp_term::{AllocHandle, Event, Memory, ProcessOperator, Term};
 
 /// The ways in which `P /\ Q` may do the step. `Memory` says that there is no room for them.
@@ -41,8 +41,8 @@ fn by_tau<'t, A: AllocHandle>(
     let operator = Joint::Binary(ProcessOperator::Interrupt);
     let left_target = left_of(&operator, right, target);
     let right_target = right_of(&operator, left, target);
-    let by_left = to_side(Side::Left, left, LentAction::Tau, left_target);
-    let by_right = to_side(Side::Right, right, LentAction::Tau, right_target);
+    let by_left = through_branch(Side::Left, left, LentAction::Tau, left_target);
+    let by_right = through_branch(Side::Right, right, LentAction::Tau, right_target);
     two_ways(alloc, by_left, by_right)
 }
 
@@ -58,8 +58,8 @@ fn by_event<'t, A: AllocHandle>(
 {
     let operator = Joint::Binary(ProcessOperator::Interrupt);
     let action = LentAction::Event(event);
-    let by_left = to_side(Side::Left, left, action, left_of(&operator, right, target));
-    let by_right = to_side(Side::Right, right, action, Some(target));
+    let by_left = through_branch(Side::Left, left, action, left_of(&operator, right, target));
+    let by_right = through_branch(Side::Right, right, action, Some(target));
     two_ways(alloc, by_left, by_right)
 }
 
@@ -72,7 +72,7 @@ fn by_tick<'t, A: AllocHandle>(
 ) -> Result<Vec<Way<'t, A>, A>, Memory>
     ensures { IfOk result (AreFound (Interrupt (process_of left.now) (process_of right.now)) Tick (process_of target.now)) }
 {
-    let by_left = to_side(Side::Left, left, LentAction::Tick, Some(target));
-    let by_right = to_side(Side::Right, right, LentAction::Tick, Some(target));
+    let by_left = through_branch(Side::Left, left, LentAction::Tick, Some(target));
+    let by_right = through_branch(Side::Right, right, LentAction::Tick, Some(target));
     two_ways(alloc, by_left, by_right)
 }

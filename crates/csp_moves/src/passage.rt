@@ -14,10 +14,14 @@ pub enum Side {
 /// The way from a process down to a part that moves, and what the process makes of the part's step.
 #[derive(Drop)]
 pub enum Passage<A: AllocHandle> {
-    /// To a side of an operator, or to a branch.
+    /// To a side of a parallel operator.
     OnSide(Side),
-    /// To the body under a guard, hiding or renaming.
+    /// To the body under hiding or renaming.
     InBody,
+    /// To a side of another operator, or to a branch.
+    OnBranch(Side),
+    /// To the body under a guard.
+    UnderGuard,
     /// To the chain of the instances of a replicated operator.
     InChain,
     /// The side ends, which is a tau here.

@@ -10,7 +10,7 @@ ghost use Rattle.csp_moves.specs.Way.{AreFound, lent_action, lent_process};
 
 use crate::operator::{Joint, left_of};
 use crate::passage::Side;
-use crate::way::{LentAction, LentPassage, Part, Way, no_ways, one_way, to_side, two_ways};
+use crate::way::{LentAction, LentPassage, Part, Way, no_ways, one_way, through_branch, two_ways};
 use csp_term::laws::equal_terms;
 use csp_term::{AllocHandle, Event, Memory, ProcessOperator, Term};
 
@@ -60,7 +60,7 @@ fn by_tau<'t, A: AllocHandle>(
     ensures { IfOk result (AreFound (Sequential (process_of left.now) (process_of right.now)) Tau (process_of target.now)) }
 {
     let operator = Joint::Binary(ProcessOperator::Sequential);
-    let by_left = to_side(
+    let by_left = through_branch(
         Side::Left,
         left,
         LentAction::Tau,
@@ -88,7 +88,7 @@ fn by_event<'t, A: AllocHandle>(
     let left_target = left_of(&operator, right, target);
     one_way(
         alloc,
-        to_side(Side::Left, left, LentAction::Event(event), left_target),
+        through_branch(Side::Left, left, LentAction::Event(event), left_target),
     )
 }
 

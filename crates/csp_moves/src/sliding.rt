@@ -9,7 +9,7 @@ ghost use Rattle.csp_moves.specs.Way.{AreFound, lent_action};
 
 use crate::operator::{Joint, left_of};
 use crate::passage::Side;
-use crate::way::{LentAction, Way, one_way, to_side, two_ways};
+use crate::way::{LentAction, Way, one_way, through_branch, two_ways};
 use csp_term::laws::equal_terms;
 use csp_term::{AllocHandle, Memory, Term};
 
@@ -40,7 +40,7 @@ fn by_tau<'t, A: AllocHandle>(
     ensures { IfOk result (AreFound (SlidingChoice (process_of left.now) (process_of right.now)) Tau (process_of target.now)) }
 {
     let operator = Joint::Sliding;
-    let by_left = to_side(
+    let by_left = through_branch(
         Side::Left,
         left,
         LentAction::Tau,
@@ -63,5 +63,8 @@ fn by_visible<'t, A: AllocHandle>(
     requires { IsVisible (lent_action action) }
     ensures { IfOk result (AreFound (SlidingChoice (process_of left.now) (process_of right.now)) (lent_action action.entry) (process_of target.now)) }
 {
-    one_way(alloc, to_side(Side::Left, left, action, Some(target)))
+    one_way(
+        alloc,
+        through_branch(Side::Left, left, action, Some(target)),
+    )
 }

@@ -2,7 +2,7 @@
 
 ghost use Rattle.std.specs.Prelude.{◌≡◌, ◌∷◌, [], IfOk};
 ghost use Rattle.csp_term.specs.Term.{process_of};
-ghost use Rattle.theory_origins.specs.Origin.{OnSide};
+ghost use Rattle.theory_origins.specs.Origin.{OnBranch, OnSide};
 ghost use Rattle.theory_origins.specs.Ways.{Through, part};
 ghost use Rattle.csp_moves.specs.Passage.{side_of};
 ghost use Rattle.csp_moves.specs.Way.{lent_action, lent_process, way_of, ways_of};
@@ -35,10 +35,14 @@ pub struct Part<'t, A: AllocHandle> {
 /// The way from a process down to a part, whose events are lent.
 #[derive(Clone, Copy)]
 pub enum LentPassage<'t, A: AllocHandle> {
-    /// To a side of an operator, or to a branch.
+    /// To a side of a parallel operator.
     OnSide(Side),
-    /// To the body under a guard, hiding or renaming.
+    /// To the body under hiding or renaming.
     InBody,
+    /// To a side of another operator, or to a branch.
+    OnBranch(Side),
+    /// To the body under a guard.
+    UnderGuard,
     /// To the chain of the instances of a replicated operator.
     InChain,
     /// The side ends, which is a tau here.
@@ -68,7 +72,7 @@ pub enum Way<'t, A: AllocHandle> {
     Both(Part<'t, A>, Part<'t, A>),
 }
 
-/// The way to a side, which does the action, to the target, if there is one.
+/// The way to a side of a parallel operator, which does the action, to the target, if there is one.
 pub(crate) fn to_side<'t, A: AllocHandle>(
     side: Side,
     process: &'t Term<A>,
@@ -83,6 +87,23 @@ pub(crate) fn to_side<'t, A: AllocHandle>(
         target,
     };
     Way::Through(LentPassage::OnSide(side), part)
+}
+
+/// The same of another operator, or of a condition.
+pub(crate) fn through_branch<'t, A: AllocHandle>(
+    side: Side,
+    process: &'t Term<A>,
+    action: LentAction<'t, A>,
+    target: Option<&'t Term<A>>,
+) -> Way<'t, A>
+    ensures { way_of result ≡ Through (OnBranch (side_of side)) (part (process_of process.now) (lent_action action.entry) (lent_process target.entry)) }
+{
+    let part = Part {
+        process,
+        action,
+        target,
+    };
+    Way::Through(LentPassage::OnBranch(side), part)
 }
 
 /// No way.

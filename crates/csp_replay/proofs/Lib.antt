@@ -7,3 +7,7 @@ pub mod Within
 pub mod Putting
 pub mod FiredOnce
 pub mod Backwards
+pub mod ComingBack
+pub mod Placing
+pub mod TausOfTerms
+pub mod DivergingTerms

@@ -4,6 +4,11 @@ pub mod Ends
 pub mod Ways
 pub mod Along
 pub mod Offers
+pub mod Walks
+pub mod Lassos
+pub mod Endings
+pub mod Replays
+pub mod Stopping
 pub mod Hindrance
 pub mod Looking
 pub mod Met

@@ -1,7 +1,8 @@
 //! Terms that show the evidence of a violation.
 
-ghost use Rattle.std.specs.Prelude.{◌↔◌, map, Contains, IsTrue, IfOk};
+ghost use Rattle.std.specs.Prelude.{◌≢◌, ◌↔◌, map, Contains, IsTrue, IfOk};
 ghost use Rattle.theory_semantics.specs.Kinds.Scripts.{IsTermOf};
+ghost use Rattle.theory_semantics.specs.Meaning.Violations.{ByDivergence};
 ghost use Rattle.theory_runs.specs.States.{Shows};
 ghost use Rattle.theory_runs.specs.Layers.{AreTermsOf};
 ghost use Rattle.csp_value.specs.Action.{action_of};
@@ -18,14 +19,15 @@ use csp_term::{Action, AllocHandle, Memory, Script, Term};
 use csp_value::laws::equal_actions;
 use verdict::Evidence;
 
-/// The place of the first term of the layer that shows the evidence, if there is one.
+/// The place of the first term of the layer that shows the evidence, if there is one. One firing shows no divergence.
 pub(crate) fn end_of<A: AllocHandle>(
     alloc: A,
     script: &Script<A>,
     layer: &Layer<A>,
     evidence: &Evidence<A>,
 ) -> Result<Option<usize>, Memory>
-    requires { AreTermsOf (script_of script.now) (terms_of layer.now) }
+    requires closed { AreTermsOf (script_of script.now) (terms_of layer.now) }
+    requires ends { evidence_of evidence.now ≢ ByDivergence }
     ensures { IfOk result (IsEndAt (script_of script.now) (terms_of layer.now) (evidence_of evidence.now)) }
 {
     for place in 0..layer.len() {
@@ -39,6 +41,7 @@ pub(crate) fn end_of<A: AllocHandle>(
 
 /// Whether the term that was fired shows the evidence.
 fn shows<A: AllocHandle>(expansion: &Expansion<'_, A>, evidence: &Evidence<A>) -> bool
+    requires { evidence_of evidence.now ≢ ByDivergence }
     ensures { IsTrue result ↔ Shows expansion.now.script expansion.now.term (evidence_of evidence.now) }
 {
     match expansion.form() {
@@ -46,10 +49,7 @@ fn shows<A: AllocHandle>(expansion: &Expansion<'_, A>, evidence: &Evidence<A>) -
             Evidence::Event(action) => has_step_by(steps, action),
             Evidence::Offers(actions) => has_offer(offers, actions),
             Evidence::Deadlock => is_dead(expansion.term(), steps),
-            Evidence::Divergence => {
-                let tau = Action::Tau;
-                has_step_by(steps, &tau)
-            }
+            Evidence::Divergence => false,
         },
         Form::Faulty(_) => false,
         Form::Large => false,

@@ -3,4 +3,5 @@ pub mod Beginnings
 pub mod Giving
 pub mod Sizes
 pub mod Stopping
+pub mod Stops
 pub mod Tellings

@@ -12,7 +12,7 @@ use Rattle.explore.proofs.Exchanging.{right_as_written}
 use Rattle.explain_program.specs.Sizes.{HasSize, IsSizeFor, IsToldAsWritten}
 use Rattle.explain_program.specs.declared.search_size.SearchSize.{SearchSize}
 
-unknown_stays : (b : Bool) (why : Why) → as_written b (Unknown why) ≡ Unknown why
+pub unknown_stays : (b : Bool) (why : Why) → as_written b (Unknown why) ≡ Unknown why
 unknown_stays true why = refl
 unknown_stays false why = refl
 

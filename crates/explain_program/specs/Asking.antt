@@ -26,9 +26,15 @@ abbrev pub width_of_number : ℕ → Width
 width_of_number zero = Whole
 width_of_number (suc n) = UpTo (suc n)
 
--- How assertions are told by names: three states of a specification at a time, of which there may be as many as its nodes.
+-- where states are told whole, so are loops
+abbrev pub taus_told : Width → Width
+taus_told Whole = Whole
+taus_told (UpTo n) = UpTo 50
+
+-- How assertions are told by names: three states of a specification at a time, of which there may be as many as its nodes. Loops
+-- are looked for among as many states as there may be pairs.
 abbrev pub style_for : Request → Names → Style
-style_for request names = record { names = names; width = request.width; few = 3; most = request.bounds.max_nodes }
+style_for request names = record { names = names; width = request.width; few = 3; most = request.bounds.max_nodes; taus = taus_told request.width; reach = request.bounds.max_pairs }
 
 -- what the settings ask for
 abbrev pub request_of : Settings → Request

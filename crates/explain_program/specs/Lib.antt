@@ -5,4 +5,5 @@ pub mod Naming
 pub mod Refusals
 pub mod Running
 pub mod Sizes
+pub mod Stops
 pub mod Telling

@@ -5,10 +5,12 @@ ghost use Rattle.theory_search.specs.Terms.{IsAssertionOf};
 ghost use Rattle.csp_term.specs.Script.{assertion_of, script_of};
 ghost use Rattle.pair_store.specs.Bounds.{bounds_of};
 ghost use Rattle.explore.specs.Answering.{IsRightAsWritten};
+ghost use Rattle.explanation.specs.Running.{HasStop};
 ghost use Rattle.verdict.specs.Outcome.{outcome_of};
 ghost use Rattle.program.specs.Running as program;
 ghost use Rattle.explain_program.specs.Asking.{bounds_asked};
 ghost use Rattle.explain_program.specs.Sizes.{IsSizeFor};
+ghost use Rattle.explain_program.specs.Stops.{stop_kept};
 
 use crate::searching::{Answer, answer_together};
 use csp_term::{AllocHandle, Assertion, Script};
@@ -18,8 +20,8 @@ use std::sync::Wait;
 use std::thread::Threads;
 use verdict::Outcome;
 
-/// The answer to the assertion, within the limits of the settings and by as many workers as they say: a right outcome, and
-/// how large the search for it was.
+/// The answer to the assertion, within the limits of the settings and by as many workers as they say: a right outcome, how
+/// large the search for it was, and the path that stopped it.
 pub(crate) fn answer<A: AllocHandle + Send + Sync, R: Threads + Wait + Sync>(
     alloc: A,
     rt: &R,
@@ -30,6 +32,7 @@ pub(crate) fn answer<A: AllocHandle + Send + Sync, R: Threads + Wait + Sync>(
     requires terms { IsAssertionOf (script_of script.now) (assertion_of assertion.now) }
     ensures right { IsRightAsWritten (script_of script.now) (assertion_of assertion.now) (bounds_asked settings.now) (outcome_of result.outcome) }
     ensures size { IsSizeFor (script_of script.now) (assertion_of assertion.now) (bounds_asked settings.now) (outcome_of result.outcome) result.size }
+    ensures stop { HasStop (script_of script.now) (assertion_of assertion.now) (outcome_of result.outcome) (stop_kept result.stop) }
 {
     let limits = limits(settings);
     answer_together(alloc, rt, script, assertion, limits, settings.workers)

@@ -3,12 +3,12 @@
 ghost use Rattle.std.specs.Prelude.{◌≡◌, ◌++◌, IfOk};
 ghost use Rattle.std.specs.String.{string_bytes};
 ghost use Rattle.csp_term.specs.Script.{property_of};
-ghost use Rattle.theory_explanation.specs.Counting.{count_text, nodes_text, number_text, plural_text};
+ghost use Rattle.theory_explanation.specs.Counting.{count_text, nodes_text};
 ghost use Rattle.csp_print.specs.Writing.{Writes};
 ghost use Rattle.explain_program.specs.Telling.{size_text};
 
 use crate::search_size::SearchSize;
-use counterexample::{push_mark, push_number};
+use counterexample::{push_amount, push_mark};
 use csp_term::{AllocHandle, Memory, Property};
 use std::alloc::AllocError;
 
@@ -58,25 +58,4 @@ fn push_nodes<A: AllocHandle>(
         }
         Property::DeadlockFree | Property::DivergenceFree => Ok(()),
     }
-}
-
-// So many of what the word stands for.
-fn push_amount<A: AllocHandle>(
-    number: usize,
-    word: &str,
-    text: &mut String<A>,
-) -> Result<(), AllocError>
-    ensures { Writes result text.old text.new (number_text number word.now) }
-{
-    push_number(number, text)?;
-    push_mark(" ", text)?;
-    push_mark(word, text)?;
-    push_mark(plural(number), text)
-}
-
-// What stands behind the word for more than one, or for none.
-fn plural(number: usize) -> &'static str
-    ensures { result.now ≡ plural_text number }
-{
-    if number == 1 { "" } else { "s" }
 }

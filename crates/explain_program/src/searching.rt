@@ -1,4 +1,4 @@
-//! The search for the answer to an assertion, of which the answer keeps how large it was.
+//! The search for the answer to an assertion, of which the answer keeps how large it was, and the path that stopped it.
 
 ghost use Rattle.std.specs.Prelude.{◌≢◌, ◌≤◌, IsSomeAnd};
 ghost use Rattle.theory_search.specs.Search.{Open, IsLawful};
@@ -6,16 +6,18 @@ ghost use Rattle.theory_search.specs.Terms.{IsAssertionOf};
 ghost use Rattle.csp_term.specs.Script.{assertion_of, script_of};
 ghost use Rattle.pair_store.specs.Bounds.{bounds_of};
 ghost use Rattle.explore.specs.Answering.{IsRightAsWritten};
+ghost use Rattle.explanation.specs.Running.{HasStop};
 ghost use Rattle.verdict.specs.Outcome.{outcome_of};
 ghost use Rattle.explain_program.specs.Sizes.{HasSize, IsSizeFor, IsToldAsWritten};
+ghost use Rattle.explain_program.specs.Stops.{stop_kept};
 
 use crate::search_size::{SearchSize, size_in};
-use csp_term::{AllocHandle, Assertion, Script};
+use csp_term::{Action, AllocHandle, Assertion, Memory, Script};
 use explore::{conclude, ended_search, ended_together};
 use pair_store::{Limits, Store};
 use std::sync::Wait;
 use std::thread::Threads;
-use verdict::Outcome;
+use verdict::{Outcome, Why};
 
 /// The answer to an assertion.
 #[derive(Drop)]
@@ -24,6 +26,8 @@ pub(crate) struct Answer<A: AllocHandle> {
     pub(crate) outcome: Outcome<A>,
     /// How large the search for it was, if there was one.
     pub(crate) size: Option<SearchSize>,
+    /// The path that stopped it, if a state of the implementation for which there is no answer did.
+    pub(crate) stop: Option<Vec<Action<A>, A>>,
 }
 
 /// The answer by workers that share a search, or by the caller alone where what came back from them was no search for the
@@ -40,6 +44,7 @@ pub(crate) fn answer_together<A: AllocHandle + Send + Sync, R: Threads + Wait + 
     requires workers { (1 ≤ workers) × (workers ≤ 64) }
     ensures right { IsRightAsWritten (script_of script.now) (assertion_of assertion.now) (bounds_of limits) (outcome_of result.outcome) }
     ensures size { IsSizeFor (script_of script.now) (assertion_of assertion.now) (bounds_of limits) (outcome_of result.outcome) result.size }
+    ensures stop { HasStop (script_of script.now) (assertion_of assertion.now) (outcome_of result.outcome) (stop_kept result.stop) }
 {
     match ended_together(
         alloc,
@@ -55,6 +60,7 @@ pub(crate) fn answer_together<A: AllocHandle + Send + Sync, R: Threads + Wait + 
         Err(why) => Answer {
             outcome: Outcome::Unknown(why),
             size: None,
+            stop: None,
         },
     }
 }
@@ -69,25 +75,38 @@ fn answer_alone<A: AllocHandle>(
     requires { IsAssertionOf (script_of script.now) (assertion_of assertion.now) }
     ensures right { IsRightAsWritten (script_of script.now) (assertion_of assertion.now) (bounds_of limits) (outcome_of result.outcome) }
     ensures size { IsSizeFor (script_of script.now) (assertion_of assertion.now) (bounds_of limits) (outcome_of result.outcome) result.size }
+    ensures stop { HasStop (script_of script.now) (assertion_of assertion.now) (outcome_of result.outcome) (stop_kept result.stop) }
 {
     match ended_search(alloc, script, assertion, limits) {
         Ok(store) => concluded(alloc, &store, assertion.negated),
         Err(why) => Answer {
             outcome: Outcome::Unknown(why),
             size: None,
+            stop: None,
         },
     }
 }
 
-// What a search tells that has ended, and how large it is.
+// What a search tells that has ended, how large it is, and the path that stopped it.
 fn concluded<A: AllocHandle>(alloc: A, store: &Store<'_, A>, negated: bool) -> Answer<A>
     requires { store.now.search.verdict ≢ Open }
     ensures lawful { IsLawful store.now.script store.now.search }
     ensures told { IsToldAsWritten negated store.now.search (outcome_of result.outcome) }
     ensures size { IsSomeAnd result.size (HasSize store.now.search) }
+    ensures stop { HasStop store.now.script store.now.search.assertion (outcome_of result.outcome) (stop_kept result.stop) }
 {
-    Answer {
-        outcome: conclude(alloc, store).as_written(negated),
-        size: Some(size_in(store)),
+    let outcome = conclude(alloc, store).as_written(negated);
+    let size = Some(size_in(store));
+    match store.stopped(alloc) {
+        Ok(stop) => Answer {
+            outcome,
+            size,
+            stop,
+        },
+        Err(Memory) => Answer {
+            outcome: Outcome::Unknown(Why::Memory),
+            size,
+            stop: None,
+        },
     }
 }

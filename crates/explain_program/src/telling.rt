@@ -8,10 +8,11 @@ ghost use Rattle.csp_term.specs.Term.{process_of};
 ghost use Rattle.csp_print.specs.Names.{names_of};
 ghost use Rattle.counterexample.specs.Styles.{style_of};
 ghost use Rattle.counterexample.specs.Widths.{width_of};
-ghost use Rattle.explanation.specs.Running.{HasRun};
+ghost use Rattle.explanation.specs.Running.{HasRun, HasStop, stop_in};
 ghost use Rattle.verdict.specs.Outcome.{outcome_of};
-ghost use Rattle.explain_program.specs.Asking.{bounds_asked, request_of, style_for, width_of_number};
+ghost use Rattle.explain_program.specs.Asking.{bounds_asked, request_of, style_for, taus_told, width_of_number};
 ghost use Rattle.explain_program.specs.Sizes.{IsSizeFor};
+ghost use Rattle.explain_program.specs.Stops.{stop_kept};
 ghost use Rattle.explain_program.specs.Telling.{IsToldAsAsked};
 
 use crate::counting::with_size;
@@ -19,7 +20,7 @@ use crate::reader::NamedScript;
 use crate::searching::Answer;
 use counterexample::{Style, Width};
 use csp_print::Names;
-use csp_term::{AllocHandle, Assertion, Memory};
+use csp_term::{Action, AllocHandle, Assertion, Memory};
 use explain_settings::Settings;
 use explanation::tell;
 
@@ -35,6 +36,7 @@ pub(crate) fn explanation_text<A: AllocHandle>(
     requires terms { IsAssertionOf (script_of named.now.script) (assertion_of assertion.now) }
     requires run { HasRun (script_of named.now.script) (process_of assertion.now.implementation) (outcome_of answer.now.outcome) }
     requires size { IsSizeFor (script_of named.now.script) (assertion_of assertion.now) (bounds_asked settings.now) (outcome_of answer.now.outcome) answer.now.size }
+    requires stop { HasStop (script_of named.now.script) (assertion_of assertion.now) (outcome_of answer.now.outcome) (stop_kept answer.now.stop) }
     ensures { IfOk result (λ text. IsToldAsAsked (request_of settings.now) (script_of named.now.script) (names_of named.now.names) number (assertion_of assertion.now) (outcome_of answer.now.outcome) (string_bytes text)) }
 {
     let style = style(settings, &named.names);
@@ -45,6 +47,7 @@ pub(crate) fn explanation_text<A: AllocHandle>(
         number,
         assertion,
         &answer.outcome,
+        lent(&answer.stop),
     )?;
     if settings.count {
         with_size(&assertion.property, answer.size, text)
@@ -69,6 +72,32 @@ fn style<'n, 't, A: AllocHandle>(
         width: width(settings.width),
         few: FEW,
         most: settings.max_nodes,
+        taus: taus(settings.width),
+        reach: settings.max_pairs,
+    }
+}
+
+// The path, lent, if there is one.
+fn lent<A: AllocHandle>(path: &Option<Vec<Action<A>, A>>) -> Option<&[Action<A>]>
+    ensures { stop_in result ≡ stop_kept path.now }
+{
+    match path {
+        Some(path) => Some(path.as_slice()),
+        None => None,
+    }
+}
+
+// How many taus of a loop are told, where states are cut.
+const TAUS: usize = 50;
+
+// Where states are told whole, so are loops.
+fn taus(number: usize) -> Width
+    ensures { width_of result ≡ taus_told (width_of_number number) }
+{
+    if number == 0 {
+        Width::Whole
+    } else {
+        Width::UpTo(TAUS)
     }
 }
 

@@ -11,6 +11,8 @@ ghost use Rattle.csp_print.specs.Writing.{Writes};
 ghost use Rattle.counterexample.specs.Styles.{style_of};
 ghost use Rattle.csp_replay.specs.Hindrance.{hindrance_of};
 ghost use Rattle.verdict.specs.Outcome.{why_of};
+ghost use Rattle.theory_search.specs.Outcome.{Unknown};
+ghost use Rattle.explanation.specs.Running.{HasStop, IsStop, stop_in};
 ghost use Rattle.explanation.specs.Sides.{side_run_of, told_text};
 
 use crate::reasons::reason;
@@ -18,7 +20,7 @@ use crate::sides::{SideRun, side_run};
 use crate::told_run::ToldRun;
 use counterexample::{Run, Style, push_mark, push_path};
 use csp_replay::Hindrance;
-use csp_term::{AllocHandle, Assertion, Memory, Script};
+use csp_term::{Action, AllocHandle, Assertion, Memory, Script};
 use std::alloc::AllocError;
 use verdict::Why;
 
@@ -29,9 +31,11 @@ pub(crate) fn push_unknown<A: AllocHandle>(
     script: &Script<A>,
     assertion: &Assertion<A>,
     why: Why,
+    stop: Option<&[Action<A>]>,
     text: &mut String<A>,
 ) -> Result<(), Memory>
     requires terms { IsAssertionOf (script_of script.now) (assertion_of assertion.now) }
+    requires stop { HasStop (script_of script.now) (assertion_of assertion.now) (Unknown (why_of why)) (stop_in stop.entry) }
     ensures { OnOk result (TellsUnknown (style_of style.now) (script_of script.now) (assertion_of assertion.now) (why_of why) (string_bytes text.old) (string_bytes text.new)) }
 {
     push_mark(reason(why), text)?;
@@ -39,7 +43,7 @@ pub(crate) fn push_unknown<A: AllocHandle>(
     let Some(hindrance) = stuck_by else {
         return Ok(());
     };
-    push_found(alloc, style, script, assertion, hindrance, text)
+    push_found(alloc, style, script, assertion, hindrance, stop, text)
 }
 
 // What a state of a side is stuck by, where there is no answer for that.
@@ -55,20 +59,26 @@ fn hindrance(why: Why) -> Option<Hindrance>
     }
 }
 
-// A run of a side to such a state, where one is found.
+// A run of the side that stops, where one is found.
 fn push_found<A: AllocHandle>(
     alloc: A,
     style: &Style<'_, '_, A>,
     script: &Script<A>,
     assertion: &Assertion<A>,
     hindrance: Hindrance,
+    stop: Option<&[Action<A>]>,
     text: &mut String<A>,
 ) -> Result<(), Memory>
     requires terms { IsAssertionOf (script_of script.now) (assertion_of assertion.now) }
+    requires stop { IsStop (script_of script.now) (assertion_of assertion.now) (hindrance_of hindrance) (stop_in stop.entry) }
     ensures { OnOk result (TellsFound (style_of style.now) (script_of script.now) (assertion_of assertion.now) (Some (hindrance_of hindrance)) (string_bytes text.old) (string_bytes text.new)) }
 {
-    let found = side_run(alloc, script, assertion, hindrance, style.most)?;
+    let found = side_run(alloc, script, assertion, hindrance, stop, style.reach)?;
     let Some(run) = found else {
+        push_mark(
+            "  the specification comes there, and has too many states to tell how\n",
+            text,
+        )?;
         return Ok(());
     };
     push_side_run(alloc, style, hindrance, &run, text)?;

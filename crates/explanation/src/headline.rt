@@ -7,6 +7,7 @@ ghost use Rattle.csp_term.specs.Script.{assertion_of, property_of};
 ghost use Rattle.csp_term.specs.Term.{process_of};
 ghost use Rattle.verdict.specs.Outcome.{outcome_of};
 ghost use Rattle.theory_explanation.specs.Headline as told;
+ghost use Rattle.theory_notation.specs.Processes.{process_text};
 ghost use Rattle.csp_print.specs.Names.{names_of};
 ghost use Rattle.csp_print.specs.Writing.{Writes};
 
@@ -27,11 +28,12 @@ pub(crate) fn headline_text<A: AllocHandle>(
     ensures { IfOk result (λ text. string_bytes text ≡ told.headline (names_of names.now) number (assertion_of assertion.now) (outcome_of outcome.now)) }
 {
     let mut text = String::new(alloc);
-    push_headline(names, number, assertion, outcome, &mut text)?;
+    push_headline(alloc, names, number, assertion, outcome, &mut text)?;
     Ok(text)
 }
 
 fn push_headline<A: AllocHandle>(
+    alloc: A,
     names: &Names<'_, A>,
     number: usize,
     assertion: &Assertion<A>,
@@ -44,7 +46,7 @@ fn push_headline<A: AllocHandle>(
     push_mark(" ", text)?;
     push_mark(outcome_word(outcome), text)?;
     push_mark("  assert ", text)?;
-    push_assertion(names, assertion, text)?;
+    push_assertion(alloc, names, assertion, text)?;
     push_mark("\n", text)
 }
 
@@ -62,6 +64,7 @@ fn outcome_word<A: AllocHandle>(outcome: &Outcome<A>) -> &'static str
 
 // The assertion, as it is written.
 fn push_assertion<A: AllocHandle>(
+    alloc: A,
     names: &Names<'_, A>,
     assertion: &Assertion<A>,
     text: &mut String<A>,
@@ -69,7 +72,13 @@ fn push_assertion<A: AllocHandle>(
     ensures { Writes result text.old text.new (told.assertion_text (names_of names.now) (assertion_of assertion.now)) }
 {
     push_mark(negation_text(assertion.negated), text)?;
-    push_property(names, &assertion.property, &assertion.implementation, text)
+    push_property(
+        alloc,
+        names,
+        &assertion.property,
+        &assertion.implementation,
+        text,
+    )
 }
 
 fn negation_text(negated: bool) -> &'static str
@@ -79,6 +88,7 @@ fn negation_text(negated: bool) -> &'static str
 }
 
 fn push_property<A: AllocHandle>(
+    alloc: A,
     names: &Names<'_, A>,
     property: &Property<A>,
     implementation: &Term<A>,
@@ -91,19 +101,38 @@ fn push_property<A: AllocHandle>(
             model,
             specification,
         } => {
-            push_term(names, specification, text)?;
+            push_first_side(alloc, names, specification, text)?;
             push_mark(model_text(*model), text)?;
             push_term(names, implementation, text)
         }
         Property::DeadlockFree => {
-            push_term(names, implementation, text)?;
+            push_first_side(alloc, names, implementation, text)?;
             push_mark(" :[deadlock free]", text)
         }
         Property::DivergenceFree => {
-            push_term(names, implementation, text)?;
+            push_first_side(alloc, names, implementation, text)?;
             push_mark(" :[divergence free]", text)
         }
     }
+}
+
+// The side behind `assert`, in brackets where its text begins with `not`.
+fn push_first_side<A: AllocHandle>(
+    alloc: A,
+    names: &Names<'_, A>,
+    side: &Term<A>,
+    text: &mut String<A>,
+) -> Result<(), AllocError>
+    ensures { Writes result text.old text.new (told.first_side (process_text (names_of names.now) (process_of side.now))) }
+{
+    let mut alone = String::new(alloc);
+    push_term(names, side, &mut alone)?;
+    if alone.as_str().starts_with("not ") {
+        push_mark("(", text)?;
+        push_mark(alone.as_str(), text)?;
+        return push_mark(")", text);
+    }
+    push_mark(alone.as_str(), text)
 }
 
 // What stands between the sides of a refinement.

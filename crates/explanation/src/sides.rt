@@ -8,11 +8,12 @@ ghost use Rattle.theory_search.specs.Terms.{IsAssertionOf};
 ghost use Rattle.csp_term.specs.Script.{assertion_of, property_of, script_of};
 ghost use Rattle.theory_explanation.specs.Faults.{IsFound};
 ghost use Rattle.csp_replay.specs.Hindrance.{hindrance_of};
+ghost use Rattle.explanation.specs.Running.{IsStop, stop_in};
 ghost use Rattle.explanation.specs.Sides.{IsSpecificationRun, IsSpecificationSide, side_run_of};
 
 use crate::told_run::{ToldRun, told_run};
-use csp_replay::{Hindrance, StuckRun, run_to_stuck};
-use csp_term::{AllocHandle, Assertion, Memory, Property, Script};
+use csp_replay::{Hindrance, StuckRun, replay_to_stuck, run_to_stuck};
+use csp_term::{Action, AllocHandle, Assertion, Memory, Property, Script, copy_all};
 
 /// A run of a side.
 #[derive(Drop)]
@@ -23,23 +24,28 @@ pub(crate) enum SideRun<A: AllocHandle> {
     Specification(ToldRun<A>),
 }
 
-/// A run of the implementation to a state that is stuck by this, or where none is found among `most` states one of the
-/// specification, where one is found among so many.
+/// A run of the side that stops: of the implementation by the path that stopped its search; or where no search was begun of
+/// the specification, if one is found among `most` states.
 pub(crate) fn side_run<A: AllocHandle>(
     alloc: A,
     script: &Script<A>,
     assertion: &Assertion<A>,
     hindrance: Hindrance,
+    stop: Option<&[Action<A>]>,
     most: usize,
 ) -> Result<Option<SideRun<A>>, Memory>
     requires terms { IsAssertionOf (script_of script.now) (assertion_of assertion.now) }
+    requires stop { IsStop (script_of script.now) (assertion_of assertion.now) (hindrance_of hindrance) (stop_in stop.entry) }
     ensures { IfOk result (λ found. IsFound (script_of script.now) (assertion_of assertion.now) (hindrance_of hindrance) most (option_map side_run_of found)) }
 {
-    let found = run_to_stuck(alloc, script, &assertion.implementation, hindrance, most)?;
-    let Some(run) = found else {
+    let Some(path) = stop else {
         return specification_side(alloc, script, &assertion.property, hindrance, most);
     };
-    let told = told_run(alloc, script, run)?;
+    let start = &assertion.implementation;
+    let found = replay_to_stuck(alloc, script, start, path, hindrance)?;
+    let states = found.unwrap();
+    let path = copy_all(alloc, path)?;
+    let told = told_run(alloc, script, StuckRun { path, states })?;
     Ok(Some(SideRun::Implementation(told)))
 }
 

@@ -7,20 +7,21 @@ ghost use Rattle.theory_runs.specs.States.{HasEnd};
 ghost use Rattle.csp_term.specs.Script.{assertion_of, script_of};
 ghost use Rattle.csp_term.specs.Term.{process_of};
 ghost use Rattle.verdict.specs.Outcome.{outcome_of, violation_of};
-ghost use Rattle.theory_explanation.specs.Telling.{IsTold, TellsCounterexample, TellsWhy};
+ghost use Rattle.theory_explanation.specs.Telling.{IsTold, TellsViolation, TellsWhy};
 ghost use Rattle.csp_print.specs.Writing.{Writes};
 ghost use Rattle.counterexample.specs.Styles.{style_of};
-ghost use Rattle.explanation.specs.Running.{HasRun};
+ghost use Rattle.explanation.specs.Running.{HasRun, HasStop, stop_in};
 
 use crate::faults::push_unknown;
 use crate::headline::headline_text;
-use counterexample::{Style, counterexample_of, push_counterexample, push_mark};
-use csp_term::{AllocHandle, Assertion, Memory, Script};
+use counterexample::{Replayed, Style, counterexample_of, push_counterexample, push_mark};
+use csp_term::{Action, AllocHandle, Assertion, Memory, Script};
 use verdict::{Outcome, Shown};
 
 /// What is told of an assertion between terms of the script, with its number and outcome: a headline, and why. Where the
 /// outcome shows a violation, a run by its path ends with its evidence, and such a run is told state by state, beside
-/// what the specification has along the path.
+/// what the specification has along the path. Where there is no answer for a state, `stop` is the path of the
+/// implementation that stopped the search, and with none no search was begun, for the specification's sake.
 ///
 /// `Memory` says that there is no room to tell.
 pub fn tell<A: AllocHandle>(
@@ -30,13 +31,15 @@ pub fn tell<A: AllocHandle>(
     number: usize,
     assertion: &Assertion<A>,
     outcome: &Outcome<A>,
+    stop: Option<&[Action<A>]>,
 ) -> Result<String<A>, Memory>
     requires terms { IsAssertionOf (script_of script.now) (assertion_of assertion.now) }
     requires run { HasRun (script_of script.now) (process_of assertion.now.implementation) (outcome_of outcome.now) }
+    requires stop { HasStop (script_of script.now) (assertion_of assertion.now) (outcome_of outcome.now) (stop_in stop.entry) }
     ensures { IfOk result (λ text. IsTold (style_of style.now) (script_of script.now) number (assertion_of assertion.now) (outcome_of outcome.now) (string_bytes text)) }
 {
     let mut text = headline_text(alloc, style.names, number, assertion, outcome)?;
-    push_why(alloc, style, script, assertion, outcome, &mut text)?;
+    push_why(alloc, style, script, assertion, outcome, stop, &mut text)?;
     Ok(text)
 }
 
@@ -47,16 +50,18 @@ fn push_why<A: AllocHandle>(
     script: &Script<A>,
     assertion: &Assertion<A>,
     outcome: &Outcome<A>,
+    stop: Option<&[Action<A>]>,
     text: &mut String<A>,
 ) -> Result<(), Memory>
     requires terms { IsAssertionOf (script_of script.now) (assertion_of assertion.now) }
     requires run { HasRun (script_of script.now) (process_of assertion.now.implementation) (outcome_of outcome.now) }
+    requires stop { HasStop (script_of script.now) (assertion_of assertion.now) (outcome_of outcome.now) (stop_in stop.entry) }
     ensures { OnOk result (TellsWhy (style_of style.now) (script_of script.now) (assertion_of assertion.now) (outcome_of outcome.now) (string_bytes text.old) (string_bytes text.new)) }
 {
     match outcome {
         Outcome::Holds => Ok(()),
         Outcome::Fails(shown) => push_violation(alloc, style, script, assertion, shown, text),
-        Outcome::Unknown(why) => push_unknown(alloc, style, script, assertion, *why, text),
+        Outcome::Unknown(why) => push_unknown(alloc, style, script, assertion, *why, stop, text),
         Outcome::Denied => push_sentence("  without `not` it holds\n", text),
     }
 }
@@ -79,9 +84,17 @@ fn push_violation<A: AllocHandle>(
 ) -> Result<(), Memory>
     requires terms { IsAssertionOf (script_of script.now) (assertion_of assertion.now) }
     requires run { HasEnd (script_of script.now) (process_of assertion.now.implementation) (violation_of shown.now) }
-    ensures { OnOk result (TellsCounterexample (style_of style.now) (script_of script.now) (assertion_of assertion.now) (violation_of shown.now) (string_bytes text.old) (string_bytes text.new)) }
+    ensures { OnOk result (TellsViolation (style_of style.now) (script_of script.now) (assertion_of assertion.now) (violation_of shown.now) (string_bytes text.old) (string_bytes text.new)) }
 {
-    let found = counterexample_of(alloc, script, assertion, shown, style.most)?;
-    let counterexample = found.unwrap();
-    push_counterexample(alloc, style, shown, &counterexample, text)
+    let found = counterexample_of(alloc, script, assertion, shown, style.most, style.reach)?;
+    match found {
+        Replayed::Counterexample(counterexample) => {
+            push_counterexample(alloc, style, shown, &counterexample, text)
+        }
+        Replayed::Nowhere => unreachable!(),
+        Replayed::TooMany => push_sentence(
+            "  behind its trace taus lead to too many states to tell one that goes on for ever\n",
+            text,
+        ),
+    }
 }

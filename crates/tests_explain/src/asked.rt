@@ -65,13 +65,17 @@ static ASKED: [Row; 6] = [
 1 fails  assert a -> b -> c -> STOP [| {a, b, c} |] a -> b -> c -> STOP :[deadlock free]
   0 start
       a -> b -> c  .. 43 more characters
-  1 a
+  1 a by left, right
       b -> c -> ST .. 28 more characters
-  2 b
+  2 b by left, right
       c -> STOP [| .. 23 more characters
-  3 c
+  3 c by left, right
       STOP [| {a, b, c} |] STOP
   then it can do nothing
+  by itself left can do {}
+      STOP
+  by itself right can do {}
+      STOP
 ",
     },
     Row {
@@ -82,13 +86,17 @@ static ASKED: [Row; 6] = [
 1 fails  assert a -> b -> c -> STOP [| {a, b, c} |] a -> b -> c -> STOP :[deadlock free]
   0 start
       a -> b -> c -> STOP [| {a, b, c} |] a -> b -> c -> STOP
-  1 a
+  1 a by left, right
       b -> c -> STOP [| {a, b, c} |] b -> c -> STOP
-  2 b
+  2 b by left, right
       c -> STOP [| {a, b, c} |] c -> STOP
-  3 c
+  3 c by left, right
       STOP [| {a, b, c} |] STOP
   then it can do nothing
+  by itself left can do {}
+      STOP
+  by itself right can do {}
+      STOP
 ",
     },
 ];

@@ -62,11 +62,15 @@ static COUNTED: [Row; 9] = [
 1 fails  assert a -> STOP ||| b -> STOP :[deadlock free]
   0 start
       a -> STOP ||| b -> STOP
-  1 a
+  1 a by left
       STOP ||| b ..
-  2 b
+  2 b by right
       STOP ||| STOP
   then it can do nothing
+  by itself left can do {}
+      STOP
+  by itself right can do {}
+      STOP
   4 pairs
 ",
     },
@@ -78,7 +82,9 @@ static COUNTED: [Row; 9] = [
 1 fails  assert P :[divergence free]
   0 start
       P
-  then it may go on with tau for ever
+  then it goes on with tau for ever:
+  1 tau: unfolds P
+      back to state 0
   1 pair
 ",
     },

@@ -44,13 +44,13 @@ assert BUFFER(<>) [F= MENDED
       (DROPPING(<>) [| {|pass|} |] CELL) \ {|pass|}
   2 tau: left: unfolds DROPPING
       ((#<> < 1 & put?x -> DROPPING(<> ^ <x>) [] #<> > 0 & pass!head(<>) -> DROPPING(tail(<>)) [] #<> == 1 & put?x -> DROPPING(tail(<>) ^ <x>)) [| {|pass|} |] ..
-  3 put.0
+  3 put.0 by left
       (DROPPING(<> ^ <0>) [| {|pass|} |] ..
       specification: BUFFER(<> ^ <0>)
       specification: #<0> < 2 & put?x -> BUFFER(<0> ^ <x>) [] #<0> > 0 & get!head(<0>) -> BUFFER(tail(<0>))
   4 tau: left: unfolds DROPPING
       ((#<0> < 1 & put?x -> DROPPING(<0> ^ <x>) [] #<0> > 0 & pass!head(<0>) -> DROPPING(tail(<0>)) [] #<0> == 1 & put?x -> DROPPING(tail(<0>) ^ <x>)) [| {|pass|} |] ..
-  5 put.0
+  5 put.0 by left
       (DROPPING(tail(<0>) ^ <0>) [| {|pass|} |] ..
       specification: BUFFER(<0> ^ <0>)
       specification: #<0,0> < 2 & put?x -> BUFFER(<0,0> ^ <x>) [] #<0,0> > 0 & get!head(<0,0>) -> BUFFER(tail(<0,0>))

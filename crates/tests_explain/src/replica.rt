@@ -46,11 +46,11 @@ assert STORE(0) [T= MENDED
       .. {|copy, confirm|} |] (copy?w -> confirm -> SECOND(w) [] read!0 -> SECOND(0))) \ {|copy, confirm|}
   3 tau: left: unfolds HASTY
       (write?v -> written -> copy!v -> confirm -> HASTY [| {|copy, confirm|} ..
-  4 write.1
+  4 write.1 by left
       (written -> copy!1 -> confirm -> ..
       specification: CHANGING(0,1)
       specification: read?x:{0,1} -> CHANGING(0,1) [] written -> STORE(1)
-  5 written
+  5 written by left
       (copy!1 -> confirm -> HASTY [| {|copy, confirm|} |] (copy?w -> confirm -> SECOND(w) [] read!0 -> SECOND(0))) \ {|copy, confirm|}
       specification: STORE(1)
       specification: read!1 -> STORE(1) [] write?w -> CHANGING(1,w)

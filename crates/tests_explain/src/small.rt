@@ -95,6 +95,10 @@ static SMALL: [Row; 19] = [
   1 tau: hidden a by right
       (STOP ||| STOP) \\ {a}
   then it can do nothing
+  by itself left can do {}
+      STOP
+  by itself right can do {}
+      STOP
 ",
     },
     Row {
@@ -105,7 +109,7 @@ static SMALL: [Row; 19] = [
 1 fails  assert (a -> STOP)[[a <- b]] \\ {b} :[deadlock free]
   0 start
       (a -> STOP)[[a <- b]] \\ {b}
-  1 tau: hidden b
+  1 tau: hidden b as a
       STOP[[a <- b]] \\ {b}
   then it can do nothing
 ",
@@ -132,9 +136,13 @@ static SMALL: [Row; 19] = [
 1 fails  assert ||| x:{0..1} @ if x == 0 then STOP else STOP |~| c!x -> STOP :[deadlock free]
   0 start
       ||| x:{0..1} @ if x == 0 then STOP else STOP |~| c!x -> STOP
-  1 tau: right, right: chooses its left side
+  1 tau: right.right: chooses its left side
       (if 0 == 0 then STOP else STOP |~| c!0 -> STOP) ||| STOP
   then it can do nothing
+  by itself left can do {}
+      if 0 == 0 then STOP else STOP |~| c!0 -> STOP
+  by itself right can do {}
+      STOP
 ",
     },
     Row {
@@ -145,7 +153,9 @@ static SMALL: [Row; 19] = [
 1 fails  assert P :[divergence free]
   0 start
       P
-  then it may go on with tau for ever
+  then it goes on with tau for ever:
+  1 tau: unfolds P
+      back to state 0
 ",
     },
     // One of the two offers comes first.
@@ -238,13 +248,17 @@ static SMALL: [Row; 19] = [
 1 fails  assert a -> b -> c -> STOP [| {a, b, c} |] a -> b -> c -> STOP :[deadlock free]
   0 start
       a -> b -> c -> STOP [| {a, b, c} |] a -> b -> c -> STOP
-  1 a
+  1 a by left, right
       b -> c -> STOP [| {a, b, c} |] b -> c ..
-  2 b
+  2 b by left, right
       c -> STOP [| {a, b, c} |] c -> STOP
-  3 c
+  3 c by left, right
       STOP [| {a, b, c} |] STOP
   then it can do nothing
+  by itself left can do {}
+      STOP
+  by itself right can do {}
+      STOP
 ",
     },
     Row {

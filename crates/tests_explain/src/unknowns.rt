@@ -74,6 +74,12 @@ static UNKNOWNS: [Row; 11] = [
         told: "\
 1 unknown  assert STOP [T= P(2147483647)
   a side comes to a number outside of 32 bits, or to a set or sequence that is too long
+  the implementation comes there by
+  0 start
+      P(2147483647)
+  1 tau: unfolds P
+      P(2147483647 + 1)
+  there a rule lacks a value
 ",
     },
     Row {

@@ -1,4 +1,5 @@
-//! Origins as texts: `left: hides a: does a` is the origin below the left side, where `a` is hidden.
+//! Origins as texts: `left: hides a: does a` is the origin below the left side, where `a` is hidden; `left branch` is below
+//! a choice, a sequence or a condition.
 
 use csp_moves::{Origin, Passage, Side};
 use csp_term::{Event, Script};
@@ -44,6 +45,11 @@ fn push_passage(
     match passage {
         Passage::OnSide(at) => text.push_str(side(*at)),
         Passage::InBody => text.push_str("body"),
+        Passage::OnBranch(at) => {
+            text.push_str(side(*at))?;
+            text.push_str(" branch")
+        }
+        Passage::UnderGuard => text.push_str("guard"),
         Passage::InChain => text.push_str("chain"),
         Passage::SideEnds(at) => {
             text.push_str(side(*at))?;

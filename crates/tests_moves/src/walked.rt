@@ -37,6 +37,8 @@ fn tells(origin: &Origin<Global>, action: &Action<Global>) -> bool {
         Origin::Below(passage, part) => match passage {
             Passage::OnSide(_) => tells(part, action),
             Passage::InBody => tells(part, action),
+            Passage::OnBranch(_) => tells(part, action),
+            Passage::UnderGuard => tells(part, action),
             Passage::InChain => tells(part, action),
             Passage::SideEnds(_) => matches!(action, Action::Tau) && tells(part, &Action::Tick),
             Passage::Hides(_) => matches!(action, Action::Tau),

@@ -1,11 +1,11 @@
 //! States on the way of a violation whose requests for memory are refused in turn: at the first of them, then at the
 //! second, until none is refused. That is told, or the states are as with ample memory.
 
-use crate::replays::are_named;
-use crate::row::Row;
+use crate::replays::{REACH, are_named};
+use crate::row::{End, Row};
 use crate::terms::term;
 use crate::texts::{OneRefused, script, shown, text};
-use csp_replay::replay;
+use csp_replay::{Replay, replay_of};
 use csp_term::{Memory, Script};
 use refusing_memory::RefusesOnce;
 use std::alloc::Global;
@@ -19,7 +19,7 @@ static ROW: Row = Row {
     start: "P [] (a -> b -> STOP)",
     path: "tau a b",
     evidence: "c",
-    states: Some(&[
+    end: End::States(&[
         "(a -> b -> c -> STOP) [] (a -> b -> STOP)",
         "b -> c -> STOP",
         "c -> STOP",
@@ -44,9 +44,10 @@ fn told<'m>(
     script: &Script<OneRefused<'m>>,
     shown: &Shown<OneRefused<'m>>,
 ) -> Result<Option<bool>, Fail> {
-    match replay(memory, script, term(script, 0)?, shown) {
-        Ok(Some(states)) => Ok(Some(are_named(script, &states)?)),
-        Ok(None) => Ok(Some(false)),
+    match replay_of(memory, script, term(script, 0)?, shown, REACH) {
+        Ok(Replay::States(states, _)) => Ok(Some(are_named(script, 0, &states)?)),
+        Ok(Replay::Nowhere) => Ok(Some(false)),
+        Ok(Replay::TooMany) => Ok(Some(false)),
         Err(Memory) => Ok(None),
     }
 }

@@ -1,6 +1,6 @@
 //! Scripts and violations as texts.
 
-use crate::row::Row;
+use crate::row::{End, Row};
 use csp_kinds::check;
 use csp_lex::tokens;
 use csp_parse::parse;
@@ -14,15 +14,19 @@ use verdict::{Evidence, Shown};
 /// Memory that refuses one request, or none.
 pub(crate) type OneRefused<'m> = &'m RefusesOnce<Global>;
 
-/// The text of a script with an assertion of the start and of each state, in order.
+/// The text of a script with an assertion of the start and of each state, in order, those of a loop behind the others.
 pub(crate) fn text(alloc: Global, row: &Row) -> Result<String, Fail> {
     let mut text = format!(in alloc;
         "channel a, b, c\n{}\nassert {} [T= STOP\n",
         row.definitions, row.start
     )?;
-    match row.states {
-        Some(states) => push_states(&mut text, states)?,
-        None => {}
+    match &row.end {
+        End::States(states) => push_states(&mut text, *states)?,
+        End::Loop(states, turns, _) => {
+            push_states(&mut text, *states)?;
+            push_states(&mut text, *turns)?;
+        }
+        End::Nowhere | End::TooMany => {}
     }
     Ok(text)
 }

@@ -11,7 +11,7 @@ use Rattle.theory_semantics.specs.Meaning.Limits.{depth, fits, max_depth, max_si
 use Rattle.theory_semantics.specs.Meaning.Transitions.{IsNotTick, IsVisible, RuleStep, skip, prefix, call, guard, if_true, if_false, external_tau_left, external_tau_right, external_left, external_right, internal_left, internal_right, sequential, sequential_tick, interrupt_left, interrupt_tick, interrupt_tau_right, interrupt_right, sliding_tau, sliding_left, sliding_away}
 use Rattle.theory_semantics.proofs.Causes.{external_cause, if_cause, interrupt_cause, sequential_cause, sliding_cause}
 use Rattle.theory_syntax.proofs.Truths.{and_first, and_second}
-use Rattle.theory_origins.specs.Origin.{Left, Right, OnSide, InBody, SideEnds, Origin, Does, Ends, Unfolds, Chooses, Slides, Below, ComesFrom}
+use Rattle.theory_origins.specs.Origin.{Left, Right, OnBranch, UnderGuard, SideEnds, Origin, Does, Ends, Unfolds, Chooses, Slides, Below, ComesFrom}
 use Rattle.theory_origins.specs.Telling.{Tells, TellsUnder}
 use Rattle.theory_origins.proofs.Ending.{ends_by_tick}
 
@@ -54,11 +54,11 @@ module _ (s : Script) (p q : Process) where
   external_no_tau t h k clear within (external_left visible step) = absurd visible
   external_no_tau t h k clear within (external_right visible step) = absurd visible
 
-  pub external_tau_left_comes : (t : Process) (o : Origin) → TellsUnder s (λ u. ExternalChoice u q) p Tau t (Some o) → ComesFrom s (ExternalChoice p q) Tau t (Below (OnSide Left) o)
-  external_tau_left_comes t o h = to_target h.1 (external_tau_left h.2.0, ap (Below (OnSide Left)) h.2.1)
+  pub external_tau_left_comes : (t : Process) (o : Origin) → TellsUnder s (λ u. ExternalChoice u q) p Tau t (Some o) → ComesFrom s (ExternalChoice p q) Tau t (Below (OnBranch Left) o)
+  external_tau_left_comes t o h = to_target h.1 (external_tau_left h.2.0, ap (Below (OnBranch Left)) h.2.1)
 
-  pub external_tau_right_comes : (t : Process) (o : Origin) → TellsUnder s (λ v. ExternalChoice p v) q Tau t (Some o) → ComesFrom s (ExternalChoice p q) Tau t (Below (OnSide Right) o)
-  external_tau_right_comes t o h = to_target h.1 (external_tau_right h.2.0, ap (Below (OnSide Right)) h.2.1)
+  pub external_tau_right_comes : (t : Process) (o : Origin) → TellsUnder s (λ v. ExternalChoice p v) q Tau t (Some o) → ComesFrom s (ExternalChoice p q) Tau t (Below (OnBranch Right) o)
+  external_tau_right_comes t o h = to_target h.1 (external_tau_right h.2.0, ap (Below (OnBranch Right)) h.2.1)
 
   pub external_none_visible : (x : Action) (t : Process) → IsVisible x → Tells s p x t None → Tells s q x t None → Tells s (ExternalChoice p q) x t None
   external_none_visible x t seen h k clear within (external_tau_left step) = absurd seen
@@ -66,11 +66,11 @@ module _ (s : Script) (p q : Process) where
   external_none_visible x t seen h k clear within (external_left visible step) = h (external_clear clear).0 within step
   external_none_visible x t seen h k clear within (external_right visible step) = k (external_clear clear).1 within step
 
-  pub external_left_comes : (x : Action) (t : Process) (o : Origin) → IsVisible x → ComesFrom s p x t o → ComesFrom s (ExternalChoice p q) x t (Below (OnSide Left) o)
-  external_left_comes x t o seen h = (external_left seen h.0, ap (Below (OnSide Left)) h.1)
+  pub external_left_comes : (x : Action) (t : Process) (o : Origin) → IsVisible x → ComesFrom s p x t o → ComesFrom s (ExternalChoice p q) x t (Below (OnBranch Left) o)
+  external_left_comes x t o seen h = (external_left seen h.0, ap (Below (OnBranch Left)) h.1)
 
-  pub external_right_comes : (x : Action) (t : Process) (o : Origin) → IsVisible x → ComesFrom s q x t o → ComesFrom s (ExternalChoice p q) x t (Below (OnSide Right) o)
-  external_right_comes x t o seen h = (external_right seen h.0, ap (Below (OnSide Right)) h.1)
+  pub external_right_comes : (x : Action) (t : Process) (o : Origin) → IsVisible x → ComesFrom s q x t o → ComesFrom s (ExternalChoice p q) x t (Below (OnBranch Right) o)
+  external_right_comes x t o seen h = (external_right seen h.0, ap (Below (OnBranch Right)) h.1)
 
   pub no_choice_but_tau : (x : Action) (t : Process) → RuleStep s (InternalChoice p q) x t → x ≡ Tau
   no_choice_but_tau x t internal_left = refl
@@ -95,8 +95,8 @@ module _ (s : Script) (p q : Process) where
       h (sym (sequential_cause s p q) ∙ clear) u refl (within_by u (Sequential u q) (omega arith) (omega arith) within) step
   sequential_none x t h k clear within (sequential_tick {t = u} step) = k (sym (sequential_cause s p q) ∙ clear) u refl (ended_within u step) step
 
-  pub sequential_comes : (x : Action) (t : Process) (o : Origin) → IsNotTick x → TellsUnder s (λ u. Sequential u q) p x t (Some o) → ComesFrom s (Sequential p q) x t (Below (OnSide Left) o)
-  sequential_comes x t o no_tick h = to_target h.1 (sequential no_tick h.2.0, ap (Below (OnSide Left)) h.2.1)
+  pub sequential_comes : (x : Action) (t : Process) (o : Origin) → IsNotTick x → TellsUnder s (λ u. Sequential u q) p x t (Some o) → ComesFrom s (Sequential p q) x t (Below (OnBranch Left) o)
+  sequential_comes x t o no_tick h = to_target h.1 (sequential no_tick h.2.0, ap (Below (OnBranch Left)) h.2.1)
 
   pub sequential_ends : (t : Process) (o : Origin) → t ≡ q → ComesFrom s p Tick Omega o → ComesFrom s (Sequential p q) Tau t (Below (SideEnds Left) o)
   sequential_ends t o is h = to_target is (sequential_tick h.0, ap (Below (SideEnds Left)) h.1)
@@ -117,17 +117,17 @@ module _ (s : Script) (p q : Process) where
   interrupt_no_tau t h k clear within (interrupt_tau_right {t = v} step) = k (interrupt_clear clear).1 v refl (within_by v (Interrupt p v) (omega arith) (omega arith) within) step
   interrupt_no_tau t h k clear within (interrupt_right visible step) = absurd visible
 
-  pub interrupt_left_comes : (x : Action) (t : Process) (o : Origin) → IsNotTick x → TellsUnder s (λ u. Interrupt u q) p x t (Some o) → ComesFrom s (Interrupt p q) x t (Below (OnSide Left) o)
-  interrupt_left_comes x t o no_tick h = to_target h.1 (interrupt_left no_tick h.2.0, ap (Below (OnSide Left)) h.2.1)
+  pub interrupt_left_comes : (x : Action) (t : Process) (o : Origin) → IsNotTick x → TellsUnder s (λ u. Interrupt u q) p x t (Some o) → ComesFrom s (Interrupt p q) x t (Below (OnBranch Left) o)
+  interrupt_left_comes x t o no_tick h = to_target h.1 (interrupt_left no_tick h.2.0, ap (Below (OnBranch Left)) h.2.1)
 
-  pub interrupt_tau_right_comes : (t : Process) (o : Origin) → TellsUnder s (λ v. Interrupt p v) q Tau t (Some o) → ComesFrom s (Interrupt p q) Tau t (Below (OnSide Right) o)
-  interrupt_tau_right_comes t o h = to_target h.1 (interrupt_tau_right h.2.0, ap (Below (OnSide Right)) h.2.1)
+  pub interrupt_tau_right_comes : (t : Process) (o : Origin) → TellsUnder s (λ v. Interrupt p v) q Tau t (Some o) → ComesFrom s (Interrupt p q) Tau t (Below (OnBranch Right) o)
+  interrupt_tau_right_comes t o h = to_target h.1 (interrupt_tau_right h.2.0, ap (Below (OnBranch Right)) h.2.1)
 
-  pub interrupt_right_comes : (x : Action) (t : Process) (o : Origin) → IsVisible x → ComesFrom s q x t o → ComesFrom s (Interrupt p q) x t (Below (OnSide Right) o)
-  interrupt_right_comes x t o seen h = (interrupt_right seen h.0, ap (Below (OnSide Right)) h.1)
+  pub interrupt_right_comes : (x : Action) (t : Process) (o : Origin) → IsVisible x → ComesFrom s q x t o → ComesFrom s (Interrupt p q) x t (Below (OnBranch Right) o)
+  interrupt_right_comes x t o seen h = (interrupt_right seen h.0, ap (Below (OnBranch Right)) h.1)
 
-  pub interrupt_tick_comes : (t : Process) (o : Origin) → ComesFrom s p Tick t o → ComesFrom s (Interrupt p q) Tick t (Below (OnSide Left) o)
-  interrupt_tick_comes t o h = to_target (ends_by_tick s p t h.0) (interrupt_tick h.0, ap (Below (OnSide Left)) h.1)
+  pub interrupt_tick_comes : (t : Process) (o : Origin) → ComesFrom s p Tick t o → ComesFrom s (Interrupt p q) Tick t (Below (OnBranch Left) o)
+  interrupt_tick_comes t o h = to_target (ends_by_tick s p t h.0) (interrupt_tick h.0, ap (Below (OnBranch Left)) h.1)
 
   pub interrupt_no_event : (e : Event) (t : Process) → TellsUnder s (λ u. Interrupt u q) p (Ev e) t None → Tells s q (Ev e) t None → Tells s (Interrupt p q) (Ev e) t None
   interrupt_no_event e t h k clear within (interrupt_left {t = u} no_tick step) = h (interrupt_clear clear).0 u refl (within_by u (Interrupt u q) (omega arith) (omega arith) within) step
@@ -146,8 +146,8 @@ module _ (s : Script) (p q : Process) where
   sliding_no_tau t h other clear within (sliding_left visible step) = absurd visible
   sliding_no_tau t h other clear within sliding_away = other refl
 
-  pub sliding_tau_comes : (t : Process) (o : Origin) → TellsUnder s (λ u. SlidingChoice u q) p Tau t (Some o) → ComesFrom s (SlidingChoice p q) Tau t (Below (OnSide Left) o)
-  sliding_tau_comes t o h = to_target h.1 (sliding_tau h.2.0, ap (Below (OnSide Left)) h.2.1)
+  pub sliding_tau_comes : (t : Process) (o : Origin) → TellsUnder s (λ u. SlidingChoice u q) p Tau t (Some o) → ComesFrom s (SlidingChoice p q) Tau t (Below (OnBranch Left) o)
+  sliding_tau_comes t o h = to_target h.1 (sliding_tau h.2.0, ap (Below (OnBranch Left)) h.2.1)
 
   pub slides : (t : Process) → t ≡ q → ComesFrom s (SlidingChoice p q) Tau t Slides
   slides t is = to_target is (sliding_away, refl)
@@ -157,8 +157,8 @@ module _ (s : Script) (p q : Process) where
   sliding_none_visible x t seen h clear within (sliding_left visible step) = h (sliding_clear clear) within step
   sliding_none_visible x t seen h clear within sliding_away = absurd seen
 
-  pub sliding_left_comes : (x : Action) (t : Process) (o : Origin) → IsVisible x → ComesFrom s p x t o → ComesFrom s (SlidingChoice p q) x t (Below (OnSide Left) o)
-  sliding_left_comes x t o seen h = (sliding_left seen h.0, ap (Below (OnSide Left)) h.1)
+  pub sliding_left_comes : (x : Action) (t : Process) (o : Origin) → IsVisible x → ComesFrom s p x t o → ComesFrom s (SlidingChoice p q) x t (Below (OnBranch Left) o)
+  sliding_left_comes x t o seen h = (sliding_left seen h.0, ap (Below (OnBranch Left)) h.1)
 
 -- ---- leaves
 
@@ -185,8 +185,8 @@ module _ (s : Script) (e : Expression) (p : Process) (x : Action) (t : Process) 
   pub guard_none : condition s.types e ≡ Ok true → Tells s p x t None → Tells s (Guard e p) x t None
   guard_none is h clear within (guard holds step) = h (ap (λ r. in_branch r (cause_in s p) None) (sym is) ∙ clear) within step
 
-  pub guard_comes : (o : Origin) → condition s.types e ≡ Ok true → ComesFrom s p x t o → ComesFrom s (Guard e p) x t (Below InBody o)
-  guard_comes o is h = (guard is h.0, ap (Below InBody) h.1)
+  pub guard_comes : (o : Origin) → condition s.types e ≡ Ok true → ComesFrom s p x t o → ComesFrom s (Guard e p) x t (Below UnderGuard o)
+  guard_comes o is h = (guard is h.0, ap (Below UnderGuard) h.1)
 
   pub guard_shut : ¬ (condition s.types e ≡ Ok true) → ¬ RuleStep s (Guard e p) x t
   guard_shut not (guard holds step) = not holds
@@ -199,15 +199,15 @@ module _ (s : Script) (e : Expression) (p q : Process) (x : Action) (t : Process
   if_none_first is h clear within (if_true holds step) = h (ap (λ r. in_branch r (cause_in s p) (cause_in s q)) (sym is) ∙ sym (if_cause s e p q) ∙ clear) within step
   if_none_first is h clear within (if_false fails step) = true_is_false (condition s.types e) is fails
 
-  pub if_first_comes : (o : Origin) → condition s.types e ≡ Ok true → ComesFrom s p x t o → ComesFrom s (If e p q) x t (Below (OnSide Left) o)
-  if_first_comes o is h = (if_true is h.0, ap (Below (OnSide Left)) h.1)
+  pub if_first_comes : (o : Origin) → condition s.types e ≡ Ok true → ComesFrom s p x t o → ComesFrom s (If e p q) x t (Below (OnBranch Left) o)
+  if_first_comes o is h = (if_true is h.0, ap (Below (OnBranch Left)) h.1)
 
   pub if_none_second : condition s.types e ≡ Ok false → Tells s q x t None → Tells s (If e p q) x t None
   if_none_second is h clear within (if_true holds step) = true_is_false (condition s.types e) holds is
   if_none_second is h clear within (if_false fails step) = h (ap (λ r. in_branch r (cause_in s p) (cause_in s q)) (sym is) ∙ sym (if_cause s e p q) ∙ clear) within step
 
-  pub if_second_comes : (o : Origin) → condition s.types e ≡ Ok false → ComesFrom s q x t o → ComesFrom s (If e p q) x t (Below (OnSide Right) o)
-  if_second_comes o is h = (if_false is h.0, ap (Below (OnSide Right)) h.1)
+  pub if_second_comes : (o : Origin) → condition s.types e ≡ Ok false → ComesFrom s q x t o → ComesFrom s (If e p q) x t (Below (OnBranch Right) o)
+  if_second_comes o is h = (if_false is h.0, ap (Below (OnBranch Right)) h.1)
 
   pub if_stuck : (c : Cause) → condition s.types e ≡ Err c → ¬ RuleStep s (If e p q) x t
   if_stuck c is (if_true holds step) = let e = sym is ∙ holds in absurd (cc e)

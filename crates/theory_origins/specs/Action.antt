@@ -1,11 +1,13 @@
 -- What is seen of a step, by its origin.
 use Rattle.theory_syntax.specs.Value.{Action, Tau, Tick, Ev}
-use Rattle.theory_origins.specs.Origin.{Passage, OnSide, InBody, InChain, SideEnds, Hides, Renames, Origin, Does, Ends, Unfolds, Chooses, Slides, Below, Together}
+use Rattle.theory_origins.specs.Origin.{Passage, OnSide, InBody, OnBranch, UnderGuard, InChain, SideEnds, Hides, Renames, Origin, Does, Ends, Unfolds, Chooses, Slides, Below, Together}
 
 -- the action that a part's action becomes on the way up
 abbrev pub action_above : Passage → Action → Action
 action_above (OnSide side) x = x
 action_above InBody x = x
+action_above (OnBranch side) x = x
+action_above UnderGuard x = x
 action_above InChain x = x
 action_above (SideEnds side) x = Tau
 action_above (Hides e) x = Tau

@@ -10,9 +10,12 @@ pub data Side : Type 0 where
 
 -- The way from a process down to a part that moves, and what the process makes of the part's step.
 pub data Passage : Type 0 where
-  -- to a side or a branch, to the body under a guard, hiding or renaming, and to the chain of a replicated form's instances
+  -- to a side of a parallel operator, and to the body under hiding or renaming: these stay as the part moves
   OnSide : (side : Side) → Passage
   InBody : Passage
+  -- to a side of another operator or a branch, to the body under a guard, and to the chain of a replicated form's instances
+  OnBranch : (side : Side) → Passage
+  UnderGuard : Passage
   InChain : Passage
   -- a side ends, which is a tau here
   SideEnds : (side : Side) → Passage
@@ -37,26 +40,26 @@ abbrev pub origin : {script : Script} {p t : Process} {x : Action} → RuleStep 
 origin skip = Ends
 origin (prefix {c = c} all m is has) = Does (record { channel = c; fields = m.values })
 origin (call {n = n} is) = Unfolds n
-origin (guard is step) = Below InBody (origin step)
-origin (if_true is step) = Below (OnSide Left) (origin step)
-origin (if_false is step) = Below (OnSide Right) (origin step)
-origin (external_tau_left step) = Below (OnSide Left) (origin step)
-origin (external_tau_right step) = Below (OnSide Right) (origin step)
-origin (external_left visible step) = Below (OnSide Left) (origin step)
-origin (external_right visible step) = Below (OnSide Right) (origin step)
+origin (guard is step) = Below UnderGuard (origin step)
+origin (if_true is step) = Below (OnBranch Left) (origin step)
+origin (if_false is step) = Below (OnBranch Right) (origin step)
+origin (external_tau_left step) = Below (OnBranch Left) (origin step)
+origin (external_tau_right step) = Below (OnBranch Right) (origin step)
+origin (external_left visible step) = Below (OnBranch Left) (origin step)
+origin (external_right visible step) = Below (OnBranch Right) (origin step)
 origin internal_left = Chooses Left
 origin internal_right = Chooses Right
-origin (sequential no_tick step) = Below (OnSide Left) (origin step)
+origin (sequential no_tick step) = Below (OnBranch Left) (origin step)
 origin (sequential_tick step) = Below (SideEnds Left) (origin step)
 origin (interleaving_left no_tick step) = Below (OnSide Left) (origin step)
 origin (interleaving_right no_tick step) = Below (OnSide Right) (origin step)
 origin (interleaving_tick_left step) = Below (SideEnds Left) (origin step)
 origin (interleaving_tick_right step) = Below (SideEnds Right) (origin step)
 origin interleaving_tick = Ends
-origin (interrupt_left no_tick step) = Below (OnSide Left) (origin step)
-origin (interrupt_tick step) = Below (OnSide Left) (origin step)
-origin (interrupt_tau_right step) = Below (OnSide Right) (origin step)
-origin (interrupt_right visible step) = Below (OnSide Right) (origin step)
+origin (interrupt_left no_tick step) = Below (OnBranch Left) (origin step)
+origin (interrupt_tick step) = Below (OnBranch Left) (origin step)
+origin (interrupt_tau_right step) = Below (OnBranch Right) (origin step)
+origin (interrupt_right visible step) = Below (OnBranch Right) (origin step)
 origin (generalised_left outside step) = Below (OnSide Left) (origin step)
 origin (generalised_right outside step) = Below (OnSide Right) (origin step)
 origin (generalised_both shared left right) = Together (origin left) (origin right)
@@ -79,8 +82,8 @@ origin (renaming_tick step) = Below InBody (origin step)
 origin (replicated_external vs is step) = Below InChain (origin step)
 origin (replicated_internal v vs is step) = Below InChain (origin step)
 origin (replicated_interleaving vs is step) = Below InChain (origin step)
-origin (sliding_tau step) = Below (OnSide Left) (origin step)
-origin (sliding_left visible step) = Below (OnSide Left) (origin step)
+origin (sliding_tau step) = Below (OnBranch Left) (origin step)
+origin (sliding_left visible step) = Below (OnBranch Left) (origin step)
 origin sliding_away = Slides
 
 -- the step comes from there: some rules give it that have this origin

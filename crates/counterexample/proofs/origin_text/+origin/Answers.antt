@@ -78,6 +78,6 @@ push_below_side-returns g t c =
     let two = string_bytes c.push_side.new.text in
     let all = string_bytes c.push_origin.new.text in
     let side = side_text (side_of c.args.side) in
-    let rest = origin_text names (codes ", ") (origin_of c.args.part.now) in
+    let rest = origin_text names (codes ".") (origin_of c.args.part.now) in
     behind r start one all c.args.mark.now (side ++ rest) c.in_ok-push_mark.ensures
     (behind r one two all side rest c.in_ok-push_side.ensures c.push_origin.ensures)

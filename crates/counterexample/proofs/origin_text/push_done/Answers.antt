@@ -1,9 +1,9 @@
 -- Each part is put one after the other.
 use Rattle.std.proofs.Common.{◌++◌}
-use Rattle.std.specs.Prelude.{codes}
 use Rattle.std.specs.String.{string_bytes}
 use Rattle.csp_value.specs.Action.{event_of}
 use Rattle.csp_moves.specs.Origin.{origin_of}
+use Rattle.theory_origins.specs.Doers.{doers}
 use Rattle.theory_explanation.specs.Actions.{event_text}
 use Rattle.theory_explanation.specs.Origins.{doers_text}
 use Rattle.csp_print.specs.Names.{names_of}
@@ -18,6 +18,6 @@ returns g c =
     let two = string_bytes c.push_event.new.text in
     let all = string_bytes c.push_doers.new.text in
     let event = event_text (names_of c.args.names.now) (event_of c.args.event.now) in
-    let sides = doers_text (codes " by ") (origin_of c.args.part.now) in
+    let sides = doers_text (names_of c.args.names.now) (event_of c.args.event.now) (doers (origin_of c.args.part.now)) in
     behind r start one all c.args.mark.now (event ++ sides) c.in_ok-push_mark.ensures
     (behind r one two all event sides c.in_ok-push_event.ensures c.push_doers.ensures)

@@ -10,5 +10,5 @@ use Rattle.csp_moves.proofs.sequential.by_tau.Goals as goal
 
 pub returns : goal.returns
 returns g c =
-    found_all (Sequential (process_of c.args.left.now) (process_of c.args.right.now)) Tau (process_of c.args.target.now) c.two_ways.result _ _ c.two_ways.ensures (two_same _ _ _ _ c.to_side-by_left.ensures refl)
+    found_all (Sequential (process_of c.args.left.now) (process_of c.args.right.now)) Tau (process_of c.args.target.now) c.two_ways.result _ _ c.two_ways.ensures (two_same _ _ _ _ c.through_branch-by_left.ensures refl)
     (λ s. sequential_tau_ways s (process_of c.args.left.now) (process_of c.args.right.now) (process_of c.args.target.now) (lent_process c.left_of.result) (lent_process c.end_at.result) c.left_of.ensures c.end_at.ensures)

@@ -10,10 +10,10 @@ use Rattle.csp_moves.proofs.sliding.by_tau.Goals as goal
 
 pub returns-then-equal_terms : goal.returns-then-equal_terms
 returns-then-equal_terms g c =
-    found_all (SlidingChoice (process_of c.args.left.now) (process_of c.args.right.now)) Tau (process_of c.args.target.now) c.two_ways.result _ _ c.two_ways.ensures (two_same _ _ _ _ c.to_side-by_left.ensures refl)
+    found_all (SlidingChoice (process_of c.args.left.now) (process_of c.args.right.now)) Tau (process_of c.args.target.now) c.two_ways.result _ _ c.two_ways.ensures (two_same _ _ _ _ c.through_branch-by_left.ensures refl)
     (λ s. sliding_away_ways s (process_of c.args.left.now) (process_of c.args.right.now) (process_of c.args.target.now) (lent_process c.left_of.result) c.left_of.ensures (c.equal_terms.ensures.0 c.if-equal_terms.true))
 
 pub returns : goal.returns
 returns g c =
-    found_all (SlidingChoice (process_of c.args.left.now) (process_of c.args.right.now)) Tau (process_of c.args.target.now) c.one_way.result _ _ c.one_way.ensures (one_same _ _ c.to_side-by_left.ensures)
+    found_all (SlidingChoice (process_of c.args.left.now) (process_of c.args.right.now)) Tau (process_of c.args.target.now) c.one_way.result _ _ c.one_way.ensures (one_same _ _ c.through_branch-by_left.ensures)
     (λ s. sliding_tau_ways s (process_of c.args.left.now) (process_of c.args.right.now) (process_of c.args.target.now) (lent_process c.left_of.result) c.left_of.ensures (λ same. let e : true ≡ false = sym (c.equal_terms.ensures.1 same) ∙ c.if-equal_terms.false in absurd (cc e)))

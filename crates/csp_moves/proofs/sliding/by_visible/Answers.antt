@@ -8,5 +8,5 @@ use Rattle.csp_moves.proofs.sliding.by_visible.Goals as goal
 
 pub returns : goal.returns
 returns g c =
-    found_all (SlidingChoice (process_of c.args.left.now) (process_of c.args.right.now)) (lent_action c.args.action) (process_of c.args.target.now) c.one_way.result _ _ c.one_way.ensures (one_same _ _ c.to_side.ensures)
+    found_all (SlidingChoice (process_of c.args.left.now) (process_of c.args.right.now)) (lent_action c.args.action) (process_of c.args.target.now) c.one_way.result _ _ c.one_way.ensures (one_same _ _ c.through_branch.ensures)
     (λ s. sliding_visible_ways s (process_of c.args.left.now) (process_of c.args.right.now) (process_of c.args.target.now) (lent_action c.args.action) c.requires)

@@ -16,7 +16,7 @@ term-requires g c = let low = c.loop-place-test.true in let long = c.len-place-e
 pub fire-requires : goal.fire-requires
 fire-requires g c =
     let t = process_of c.term.result.now in
-    record { closed = c.requires t (Contains-from_stands (terms_of c.args.layer.now) t (c.loop-place.place, c.term.ensures)) }
+    record { closed = c.requires.closed t (Contains-from_stands (terms_of c.args.layer.now) t (c.loop-place.place, c.term.ensures)) }
 
 pub returns-then-shows : goal.returns-then-shows
 returns-then-shows g c =

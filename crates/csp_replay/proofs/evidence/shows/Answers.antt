@@ -3,7 +3,6 @@ use Rattle.std.proofs.Common.{◌↔◌, List, Vec, IsTrue, Contains, map, refl,
 use Rattle.theory_runs.specs.States.{Shows}
 use Rattle.theory_runs.proofs.Firing.{not_both, not_large}
 use Rattle.theory_runs.proofs.Showing.{shows_step, shows_offer, shows_deadlock, stuck_shows_none}
-use Rattle.theory_syntax.specs.Value.{Tau}
 use Rattle.theory_syntax.specs.Process.{Process}
 use Rattle.csp_value.specs.declared.action.Action.{Action}
 use Rattle.csp_value.specs.Action.{action_of}
@@ -44,13 +43,7 @@ returns-in-Deadlock g c =
     subst P (sym c.in-Deadlock.is) (shows_deadlock e.script e.term (map step_of c.in-Steps.steps.items) _ form c.is_dead.result told)
 
 pub returns-in-Divergence : goal.returns-in-Divergence
-returns-in-Divergence g c =
-    let e = c.args.expansion.now in
-    let form = form_at e e.script e.term _ refl refl (ap form_of (sym c.in-Steps.is) ∙ c.form.ensures.value) c.form.ensures.exact in
-    let r = c.has_step_by-in-Divergence.result in
-    let S : List (Step g.row.A.Denot) → Type 0 = λ ss. IsTrue r ↔ HasStepBy (map step_of ss) Tau in
-    let P : Evidence g.row.A.Denot → Type 0 = λ v. IsTrue r ↔ Shows e.script e.term (evidence_of v) in
-    subst P (sym c.in-Divergence.is) (shows_step e.script e.term (map step_of c.in-Steps.steps.items) _ form Tau r (subst S c.deref-in-Divergence.ensures.value c.has_step_by-in-Divergence.ensures))
+returns-in-Divergence g c = absurd (c.requires (ap evidence_of c.in-Divergence.is))
 
 pub returns-in-Faulty : goal.returns-in-Faulty
 returns-in-Faulty g c =
@@ -66,9 +59,6 @@ returns-in-Large g c =
 
 pub has_step_by-requires : goal.has_step_by-requires
 has_step_by-requires g c = elim g.met.A.AllocHandle.small [ inl e ↦ rw (e.0, e.1) (lit≤ tt, lit≤ tt) | inr e ↦ rw (e.0, e.1) (lit≤ tt, lit≤ tt) ]
-
-pub has_step_by-requires-in-Divergence : goal.has_step_by-requires-in-Divergence
-has_step_by-requires-in-Divergence g c = elim g.met.A.AllocHandle.small [ inl e ↦ rw (e.0, e.1) (lit≤ tt, lit≤ tt) | inr e ↦ rw (e.0, e.1) (lit≤ tt, lit≤ tt) ]
 
 pub is_dead-requires : goal.is_dead-requires
 is_dead-requires g c = elim g.met.A.AllocHandle.small [ inl e ↦ rw (e.0, e.1) (search (lit≤)) | inr e ↦ rw (e.0, e.1) (search (lit≤)) ]

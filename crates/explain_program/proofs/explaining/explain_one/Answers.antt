@@ -62,8 +62,8 @@ explanation_text-requires g c =
     (λ b sides. record { specification = sides.0; implementation = sides.1 }) in
     let run = right_has_run script (assertion_of c.index-assertions-place.result) (request_of c.args.settings.now).bounds (outcome_of c.answer-answer.result.outcome) c.answer-answer.ensures.right in
     elim (g.met.A.AllocHandle g.world.𝓛 g.world.𝓜 g.world.𝓡 ((λ s x. x), (λ x. x), (λ x. x), λ x. x)).small [
-      | inl e ↦ rw (e.0, e.1) (lit< tt, (sides, (run, c.answer-answer.ensures.size)))
-      | inr e ↦ rw (e.0, e.1) (lit< tt, (sides, (run, c.answer-answer.ensures.size)))
+      | inl e ↦ rw (e.0, e.1) (lit< tt, (sides, (run, (c.answer-answer.ensures.size, c.answer-answer.ensures.stop))))
+      | inr e ↦ rw (e.0, e.1) (lit< tt, (sides, (run, (c.answer-answer.ensures.size, c.answer-answer.ensures.stop))))
     ]
 
 pub returns-in-Ok-clause-told : goal.returns-in-Ok-clause-told

@@ -3,7 +3,9 @@ use Rattle.std.proofs.Common.{inl, inr, lit<}
 use Rattle.csp_term.specs.Script.{assertion_of, script_of}
 use Rattle.pair_store.specs.Bounds.{bounds_of}
 use Rattle.verdict.specs.Outcome.{outcome_of, why_of}
+use Rattle.explain_program.specs.Stops.{stop_kept}
 use Rattle.explain_program.proofs.Sizes.{no_size, reason_right, told_right, told_size}
+use Rattle.explain_program.proofs.Stops.{not_begun_stop, stop_for}
 use Rattle.explain_program.proofs.searching.answer_alone.Goals as goal
 
 pub concluded-requires : goal.concluded-requires
@@ -28,6 +30,14 @@ returns-in-Err-clause-right g c = reason_right (script_of c.args.script.now) (as
 
 pub returns-in-Err-clause-size : goal.returns-in-Err-clause-size
 returns-in-Err-clause-size g c = no_size (script_of c.args.script.now) (assertion_of c.args.assertion.now) (bounds_of c.args.limits) (why_of c.in-Err.why) c.in-Err.ensures.why
+
+pub returns-in-Ok-clause-stop : goal.returns-in-Ok-clause-stop
+returns-in-Ok-clause-stop g c =
+    stop_for (script_of c.args.script.now) (assertion_of c.args.assertion.now) (bounds_of c.args.limits) c.in-Ok.store (outcome_of c.concluded.result.outcome) (stop_kept c.concluded.result.stop) c.in-Ok.ensures.same
+    c.concluded.ensures.stop
+
+pub returns-in-Err-clause-stop : goal.returns-in-Err-clause-stop
+returns-in-Err-clause-stop g c = not_begun_stop (script_of c.args.script.now) (assertion_of c.args.assertion.now) (bounds_of c.args.limits) (why_of c.in-Err.why) c.in-Err.ensures.why
 
 pub drop-store-inside-requires-in-Ok-15-room-T-Destruct : goal.drop-store-inside-requires-in-Ok-15-room-T-Destruct
 drop-store-inside-requires-in-Ok-15-room-T-Destruct g c κs within =

@@ -7,7 +7,9 @@ use Rattle.csp_term.specs.Script.{assertion_of, script_of}
 use Rattle.pair_store.specs.Bounds.{bounds_of}
 use Rattle.verdict.specs.Outcome.{outcome_of, why_of}
 use Rattle.explore.proofs.Ending.{of_some}
+use Rattle.explain_program.specs.Stops.{stop_kept}
 use Rattle.explain_program.proofs.Sizes.{no_size, reason_right, told_right, told_size}
+use Rattle.explain_program.proofs.Stops.{not_begun_stop, stop_for}
 use Rattle.explain_program.proofs.searching.answer_together.Goals as goal
 
 pub ended_together-requires-send-A : goal.ended_together-requires-send-A
@@ -53,6 +55,17 @@ returns-in-Err-clause-right g c = reason_right (script_of c.args.script.now) (as
 
 pub returns-in-Err-clause-size : goal.returns-in-Err-clause-size
 returns-in-Err-clause-size g c = no_size (script_of c.args.script.now) (assertion_of c.args.assertion.now) (bounds_of c.args.limits) (why_of c.in-Err.why) c.in-Err.ensures.why
+
+pub returns-in-Ok-Some-clause-stop : goal.returns-in-Ok-Some-clause-stop
+returns-in-Ok-Some-clause-stop g c =
+    let script = script_of c.args.script.now in
+    let a = assertion_of c.args.assertion.now in
+    let bounds = bounds_of c.args.limits in
+    let same = of_some (IsFor script a bounds) c.in-Ok-Some.field-0 c.in-Ok-Some.store c.in-Ok-Some.field-0-is c.in-Ok-Some.ensures.same in
+    stop_for script a bounds c.in-Ok-Some.store (outcome_of c.concluded.result.outcome) (stop_kept c.concluded.result.stop) same c.concluded.ensures.stop
+
+pub returns-in-Err-clause-stop : goal.returns-in-Err-clause-stop
+returns-in-Err-clause-stop g c = not_begun_stop (script_of c.args.script.now) (assertion_of c.args.assertion.now) (bounds_of c.args.limits) (why_of c.in-Err.why) c.in-Err.ensures.why
 
 pub drop-store-inside-requires-in-Ok-Some-15-room-T-Destruct : goal.drop-store-inside-requires-in-Ok-Some-15-room-T-Destruct
 drop-store-inside-requires-in-Ok-Some-15-room-T-Destruct g c κs within =

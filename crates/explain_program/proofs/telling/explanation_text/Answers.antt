@@ -1,10 +1,12 @@
 -- What is told stands with its size, or alone.
-use Rattle.std.proofs.Common.{subst, inl, inr, lit<}
+use Rattle.std.proofs.Common.{List, Option, sym, subst, inl, inr, lit<}
 use Rattle.std.specs.String.{string_bytes}
+use Rattle.theory_syntax.specs.Value.{Action}
 use Rattle.theory_explanation.specs.Styles.{Style}
 use Rattle.theory_explanation.specs.Telling.{IsTold}
 use Rattle.csp_term.specs.Script.{assertion_of, script_of}
 use Rattle.csp_print.specs.Names.{names_of}
+use Rattle.explanation.specs.Running.{HasStop}
 use Rattle.verdict.specs.Outcome.{outcome_of}
 use Rattle.explain_program.specs.Asking.{request_of}
 use Rattle.explain_program.proofs.Tellings.{told_alone, told_with_size}
@@ -12,9 +14,11 @@ use Rattle.explain_program.proofs.telling.explanation_text.Goals as goal
 
 pub tell-requires : goal.tell-requires
 tell-requires g c =
+    let S : Option (List Action) → Type 0 = HasStop (script_of c.args.named.now.script) (assertion_of c.args.assertion.now) (outcome_of c.args.answer.now.outcome) in
+    let stop = subst S (sym c.lent.ensures) c.requires.stop in
     elim g.met.A.AllocHandle.small [
-      | inl e ↦ rw (e.0, e.1) (lit< tt, (c.requires.terms, c.requires.run))
-      | inr e ↦ rw (e.0, e.1) (lit< tt, (c.requires.terms, c.requires.run))
+      | inl e ↦ rw (e.0, e.1) (lit< tt, (c.requires.terms, (c.requires.run, stop)))
+      | inr e ↦ rw (e.0, e.1) (lit< tt, (c.requires.terms, (c.requires.run, stop)))
     ]
 
 pub returns-then-settings : goal.returns-then-settings

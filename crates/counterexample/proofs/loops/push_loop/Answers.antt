@@ -1,0 +1,80 @@
+-- One more tau is told, or how many are left out.
+use Rattle.std.proofs.Common.{◌≡◌, List, ◌+◌, ◌-◌, ◌<◌, ◌++◌, length, map, option_map, Option, Some, slice_get, refl, sym, ◌∙◌, ap, inl, inr, lit≤, lit<, arith}
+use Rattle.std.proofs.lemmas.List.{length-map}
+use Rattle.std.proofs.lemmas.Option.{slice_get-map, slice_get_past, slice_get_read}
+use Rattle.std.specs.String.{string_bytes}
+use Rattle.theory_syntax.proofs.Places.{get_some}
+use Rattle.csp_term.specs.Term.{process_of}
+use Rattle.csp_term.specs.declared.term.Term.{Term}
+use Rattle.csp_moves.specs.Origin.{origin_of}
+use Rattle.csp_moves.specs.declared.origin.Origin.{Origin}
+use Rattle.theory_explanation.specs.Loops.{few_taus, left_out_line, loop_text, taus_told}
+use Rattle.csp_print.proofs.Writing.{alike, comes_to_end}
+use Rattle.counterexample.specs.Counterexample.{loop_of, origins_listed}
+use Rattle.counterexample.specs.Styles.{style_of}
+use Rattle.counterexample.proofs.LoopTexts.{loop_whole, no_tau_left, taus_cut_within, taus_left}
+use Rattle.counterexample.proofs.Putting.{put_last}
+use Rattle.counterexample.proofs.loops.push_loop.Goals as goal
+
+pub array_drop-tau-requires : goal.array_drop-tau-requires
+array_drop-tau-requires g c = elim g.met.A.AllocHandle.small [ inl e ↦ rw (e.0, e.1) (lit< tt) | inr e ↦ rw (e.0, e.1) (lit< tt) ]
+
+pub array_drop-tau-requires-then-place-told : goal.array_drop-tau-requires-then-place-told
+array_drop-tau-requires-then-place-told g c = elim g.met.A.AllocHandle.small [ inl e ↦ rw (e.0, e.1) (lit< tt) | inr e ↦ rw (e.0, e.1) (lit< tt) ]
+
+pub array_drop-tau-requires-in_err-push_step : goal.array_drop-tau-requires-in_err-push_step
+array_drop-tau-requires-in_err-push_step g c = elim g.met.A.AllocHandle.small [ inl e ↦ rw (e.0, e.1) (lit< tt) | inr e ↦ rw (e.0, e.1) (lit< tt) ]
+
+pub array_drop-tau-requires-in_err-push_next : goal.array_drop-tau-requires-in_err-push_next
+array_drop-tau-requires-in_err-push_next g c = elim g.met.A.AllocHandle.small [ inl e ↦ rw (e.0, e.1) (lit< tt) | inr e ↦ rw (e.0, e.1) (lit< tt) ]
+
+pub array_drop-tau-requires-2 : goal.array_drop-tau-requires-2
+array_drop-tau-requires-2 g c = elim g.met.A.AllocHandle.small [ inl e ↦ rw (e.0, e.1) (lit< tt) | inr e ↦ rw (e.0, e.1) (lit< tt) ]
+
+pub push_step-requires : goal.push_step-requires
+push_step-requires g c = elim g.met.A.AllocHandle.small [ inl e ↦ rw (e.0, e.1) (search (lit≤)) | inr e ↦ rw (e.0, e.1) (search (lit≤)) ]
+
+pub returns-in_default : goal.returns-in_default
+returns-in_default g c =
+    let style = style_of c.args.style.now in
+    let n = c.args.number in
+    let l = c.args.looping.now in
+    let loop = loop_of l in
+    let few = c.taus_told-told.result in
+    let i = c.loop-place.place in
+    let start = string_bytes c.args.text.now in
+    let now = string_bytes c.loop-place.text in
+    let same = c.taus_told-told.ensures ∙ ap (λ (ts : List (Term g.row.A.Denot)). taus_told style.taus (map process_of ts)) c.deref.ensures.value in
+    let os = c.deref-in-loop-place.result.now in
+    let past = slice_get-map (λ o. option_map origin_of o) os i ∙ ap (option_map (λ o. option_map origin_of o)) (slice_get_past os i c.in_default.ensures.lookup.3) in
+    let none = ap (λ (xs : List (Option (Origin g.row.A.Denot))). slice_get (origins_listed xs) i) (sym c.deref-in-loop-place.ensures.value) ∙ past in
+    comes_to_end start now (taus_left style few (n + 1) (n + l.back) loop.states loop.origins i) (few_taus style few (n + 1) (n + l.back) loop.states loop.origins) c.loop-place.invariant.text
+    (no_tau_left style few (n + 1) (n + l.back) loop.states loop.origins i none)
+    ∙ ap (λ ts. start ++ ts) (loop_whole style n few loop same)
+
+pub returns-then-place-told : goal.returns-then-place-told
+returns-then-place-told g c =
+    let style = style_of c.args.style.now in
+    let n = c.args.number in
+    let l = c.args.looping.now in
+    let loop = loop_of l in
+    let few = c.taus_told-told.result in
+    let i = c.loop-place.place in
+    let r = c.push_left_out.result in
+    let start = string_bytes c.args.text.now in
+    let now = string_bytes c.loop-place.text in
+    let all = string_bytes c.push_left_out.new.text in
+    let same = c.taus_told-told.ensures ∙ ap (λ (ts : List (Term g.row.A.Denot)). taus_told style.taus (map process_of ts)) c.deref.ensures.value in
+    let found = c.in-Some.ensures.lookup in
+    let os = c.deref-in-loop-place.result.now in
+    let read = get_some (λ o. option_map origin_of o) os i c.in-Some.origin.now (slice_get_read os (length os) i c.in-Some.origin.now refl found.3.0 found.1) in
+    let told = ap (λ (xs : List (Option (Origin g.row.A.Denot))). slice_get (origins_listed xs) i) (sym c.deref-in-loop-place.ensures.value) ∙ read in
+    let long = c.len-count.ensures in
+    let low = c.loop-place-test.true in
+    let mapped = length-map l.states.items process_of in
+    let here : i < length loop.states = omega (arith, long, low, mapped) in
+    let place : i ≡ few = c.if-place-told.true in
+    let number : length loop.states - i ≡ c.len-count.result - i = omega (arith, long, mapped) in
+    alike r start all _ _ (loop_whole style n few loop same)
+    (put_last r start now all (left_out_line (c.len-count.result - i) (n + l.back)) (taus_left style few (n + 1) (n + l.back) loop.states loop.origins i) (few_taus style few (n + 1) (n + l.back) loop.states loop.origins)
+    c.loop-place.invariant.text (taus_cut_within style few (n + 1) (n + l.back) loop.states loop.origins i _ here told (sym place) ∙ ap (λ k. left_out_line k (n + l.back)) number) c.push_left_out.ensures)
