@@ -4,6 +4,5 @@ pub mod Lacks
 pub mod Replays
 pub mod Sources
 pub mod Tellings
-pub mod Paths
 pub mod Stops
 pub mod Waiting

@@ -1,5 +1,5 @@
 -- Runs of a side to a state that is faulty or large, by which an assertion has no answer.
-use Rattle.std.specs.Prelude.{◌≡◌, ℕ, List, ◌++◌, codes, Option, Some, None}
+use Rattle.std.specs.Prelude.{◌≡◌, ℕ, List, [], ◌++◌, codes, Option, Some, None}
 use Rattle.theory_syntax.specs.Value.{Action}
 use Rattle.theory_syntax.specs.Process.{Process, Assertion, specification_of, Script}
 use Rattle.theory_search.specs.Counting.{AreMoreThan}
@@ -9,7 +9,7 @@ use Rattle.theory_runs.specs.Stuck.{Hindrance, ByCause, BySize}
 use Rattle.theory_runs.specs.Runs.{IsReached, IsStuckRun}
 use Rattle.theory_runs.specs.Stops.{StopsSearch}
 use Rattle.theory_explanation.specs.Counterexamples.{AreOriginsAlong}
-use Rattle.theory_explanation.specs.Paths.{path_text}
+use Rattle.theory_explanation.specs.Steps.{path_text}
 use Rattle.theory_explanation.specs.Styles.{Style}
 
 -- what a state of a side is stuck by, where there is no answer for that
@@ -51,8 +51,8 @@ stuck_line BySize = codes "  there it is too large, or what a step leads to\n"
 
 -- the side, its run state by state, and what is wrong at the end
 abbrev pub fault_run_text : Style → Hindrance → SideRun → List ℕ
-fault_run_text style h (OfImplementation path states origins) = codes "  the implementation comes there by\n" ++ (path_text style path states origins ++ stuck_line h)
-fault_run_text style h (OfSpecification path states origins) = codes "  the specification comes there by\n" ++ (path_text style path states origins ++ stuck_line h)
+fault_run_text style h (OfImplementation path states origins) = codes "  the implementation comes there by\n" ++ (path_text style path states origins [] ++ stuck_line h)
+fault_run_text style h (OfSpecification path states origins) = codes "  the specification comes there by\n" ++ (path_text style path states origins [] ++ stuck_line h)
 
 -- where there is no run, that the specification has too many states for one to be looked for
 abbrev pub found_text : Style → Hindrance → Option SideRun → List ℕ

@@ -7,11 +7,11 @@ pub mod Counting
 pub mod Cutting
 pub mod Ends
 pub mod Faults
+pub mod Folding
 pub mod Headline
 pub mod Lacking
 pub mod Loops
 pub mod Origins
-pub mod Paths
 pub mod Reasons
 pub mod Samples
 pub mod Steps

@@ -23,8 +23,8 @@ abbrev pub few_taus : Style → ℕ → ℕ → ℕ → List Process → List (O
 few_taus style few n back [] origins = []
 few_taus style few n back (s ∷ states) [] = []
 few_taus style zero n back (s ∷ states) (o ∷ origins) = left_out_line (length (s ∷ states)) back
-few_taus style (suc few) n back (s ∷ []) (o ∷ origins) = step_line style.names n Tau o ++ state_line (back_text back)
-few_taus style (suc few) n back (s ∷ t ∷ states) (o ∷ origins) = step_line style.names n Tau o ++ (behind_line style.names style.width s t ++ few_taus style few (suc n) back (t ∷ states) origins)
+few_taus style (suc few) n back (s ∷ []) (o ∷ origins) = step_line style.names n Tau o [] ++ state_line (back_text back)
+few_taus style (suc few) n back (s ∷ t ∷ states) (o ∷ origins) = step_line style.names n Tau o [] ++ (behind_line style.names style.width s t ++ few_taus style few (suc n) back (t ∷ states) origins)
 
 -- how many of the taus are told, where all or so many are to be
 abbrev pub taus_told : Width → List Process → ℕ

@@ -1,11 +1,12 @@
 -- Actions, origins and a style for the samples of texts, over the names of the notation's samples: the event `c.n`.
-use Rattle.std.specs.Prelude.{ℕ, true, [], ◌∷◌, pos}
+use Rattle.std.specs.Prelude.{ℕ, true, List, [], ◌∷◌, pos, Option, Some}
 use Rattle.theory_syntax.specs.Value.{Action, Ev, Event, Integer, Truth}
 use Rattle.theory_syntax.specs.Expression.{Apply, Literal, Not}
 use Rattle.theory_syntax.specs.Process.{Guard, Process, Stop}
-use Rattle.theory_origins.specs.Origin.{Below, OnSide, Origin, Side}
+use Rattle.theory_origins.specs.Origin.{Below, Does, Left, OnSide, Origin, Right, Side, Unfolds}
 use Rattle.theory_notation.specs.Samples.{names}
 use Rattle.theory_explanation.specs.Cutting.{UpTo, Whole}
+use Rattle.theory_explanation.specs.Folding.{EachStep, Telling}
 use Rattle.theory_explanation.specs.Styles.{Style}
 
 abbrev pub event : ℕ → Event
@@ -24,4 +25,12 @@ below side part = Below (OnSide side) part
 
 -- states are told whole, one of a specification at a time, and two taus of a loop
 abbrev pub told : Style
-told = record { names = names; width = Whole; few = 1; most = 2; taus = UpTo 2; reach = 3 }
+told = record { names = names; width = Whole; few = 1; most = 2; taus = UpTo 2; reach = 3; telling = EachStep }
+
+-- the same, with another way to tell the steps
+abbrev pub telling : Telling → Style
+telling how = record { names = names; width = Whole; few = 1; most = 2; taus = UpTo 2; reach = 3; telling = how }
+
+-- a step that unfolds a name, an event by the left side, and two steps that unfold
+abbrev pub unfolded_run : List (Option Origin)
+unfolded_run = Some (Unfolds 0) ∷ Some (below Left (Does (event 1))) ∷ Some (Below (OnSide Left) (Unfolds 0)) ∷ Some (Below (OnSide Right) (Unfolds 0)) ∷ []

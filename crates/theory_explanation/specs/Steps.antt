@@ -1,5 +1,5 @@
 -- The states of a path, one after each of its actions, and those of a specification beside them.
-use Rattle.std.specs.Prelude.{ℕ, suc, List, [], ◌∷◌, ◌++◌, drop, codes, decimal, Option}
+use Rattle.std.specs.Prelude.{ℕ, suc, List, [], ◌∷◌, ◌++◌, length, drop, codes, decimal, if◌then◌else◌, Option}
 use Rattle.theory_syntax.specs.Value.{Action, Tau, Tick, Ev}
 use Rattle.theory_syntax.specs.Process.{Process}
 use Rattle.theory_semantics.specs.Meaning.Violations.{Violation}
@@ -11,6 +11,7 @@ use Rattle.theory_explanation.specs.Changing.{change_text}
 use Rattle.theory_explanation.specs.Counterparts.{specification_text}
 use Rattle.theory_explanation.specs.Cutting.{Width, Whole, UpTo, cut, cut_after}
 use Rattle.theory_explanation.specs.Ends.{end_text}
+use Rattle.theory_explanation.specs.Folding.{ByEvents, Telling, folded, is_event, is_folded, state_behind, then_text}
 use Rattle.theory_explanation.specs.Origins.{source_text}
 use Rattle.theory_explanation.specs.Styles.{Style}
 
@@ -43,27 +44,64 @@ beside_text style (Ev e) along = first_text style along
 
 -- ---- a path
 
--- the number of a step, its action, and where a tau comes from
-abbrev pub step_line : Names → ℕ → Action → Option Origin → List ℕ
-step_line names n x o = codes "  " ++ (decimal n ++ (codes " " ++ (action_text names x ++ (source_text names x o ++ codes "\n"))))
+-- the number of a step, its action, where that comes from, and the names that are unfolded behind it
+abbrev pub step_line : Names → ℕ → Action → Option Origin → List ℕ → List ℕ
+step_line names n x o ns = codes "  " ++ (decimal n ++ (codes " " ++ (action_text names x ++ (source_text names x o ++ (then_text names ns ++ codes "\n")))))
 
 -- the state that a step leads to from another one
 abbrev pub behind_line : Names → Width → Process → Process → List ℕ
 behind_line names width before t = state_line (told_behind width (process_text names before) (process_text names t))
 
--- the steps of a path, numbered from n, with the states and origins on it, and the states of the specification behind each
-abbrev pub steps_text : Style → ℕ → List Action → List Process → List (Option Origin) → List (List Process) → List ℕ
-steps_text style n [] states origins along = []
-steps_text style n (x ∷ path) [] origins along = []
-steps_text style n (x ∷ path) (before ∷ []) origins along = []
-steps_text style n (x ∷ path) (before ∷ t ∷ states) [] along = []
-steps_text style n (x ∷ path) (before ∷ t ∷ states) (o ∷ origins) along =
-    step_line style.names n x o ++ (behind_line style.names (width_before style.width path) before t
-    ++ (beside_text style x along ++ steps_text style (suc n) path (t ∷ states) origins (drop 1 along)))
+-- A step with the names that are unfolded behind it, and what has changed then in the state since the one that was told
+-- before it. So much of the path is left behind that.
+abbrev pub step_text : Style → ℕ → Process → Action → Option Origin → List ℕ → List Action → Process → List ℕ
+step_text style n told x o ns path t = step_line style.names n x o ns ++ behind_line style.names (width_before style.width path) told t
 
--- the states at the start, the steps, and what is wrong at the end
+-- The steps of a path, numbered from n, with the states behind them and their origins, and the states of the specification
+-- behind each. A step that is told with the one before leads to the state that was told there.
+abbrev pub steps_text : Style → ℕ → Process → List Action → List Process → List (Option Origin) → List (List Process) → List ℕ
+steps_text style n told [] states origins along = []
+steps_text style n told (x ∷ path) [] origins along = []
+steps_text style n told (x ∷ path) (t ∷ states) [] along = []
+steps_text style n told (x ∷ path) (t ∷ states) (o ∷ origins) along =
+    let ns = folded style.telling origins in
+    if is_folded style.telling o then steps_text style (suc n) told path states origins (drop 1 along)
+    else step_text style n told x o ns (drop (length ns) path) (state_behind (length ns) t states)
+    ++ (beside_text style x along ++ steps_text style (suc n) (state_behind (length ns) t states) path states origins (drop 1 along))
+
+-- the names that are unfolded at the start, and the state behind that
+abbrev pub start_text : Style → List Action → Process → List Process → List (Option Origin) → List ℕ
+start_text style path t states origins =
+    let ns = folded style.telling origins in
+    codes "  0 start" ++ (then_text style.names ns ++ (codes "\n" ++ state_line (cut (width_before style.width (drop (length ns) path)) (process_text style.names (state_behind (length ns) t states)))))
+
+-- ---- events
+
+-- the steps that are events, seen or hidden
+abbrev pub events_text : Names → ℕ → List Action → List (Option Origin) → List ℕ
+events_text names n [] origins = []
+events_text names n (x ∷ path) [] = []
+events_text names n (x ∷ path) (o ∷ origins) = (if is_event x o then step_line names n x o [] else []) ++ events_text names (suc n) path origins
+
+-- the last state, whole
+abbrev pub last_line : Names → Process → List Process → List ℕ
+last_line names t [] = state_line (process_text names t)
+last_line names t (u ∷ states) = last_line names u states
+
+-- ---- a run
+
+-- the states at the start, and the steps; or the events, and the last state
+abbrev pub told_run : Telling → Style → List Action → Process → List Process → List (Option Origin) → List (List Process) → List ℕ
+told_run ByEvents style path t states origins along = events_text style.names 1 path origins ++ last_line style.names t states
+told_run telling style path t states origins along =
+    start_text style path t states origins ++ (first_text style along
+    ++ steps_text style 1 (state_behind (length (folded style.telling origins)) t states) path states origins (drop 1 along))
+
+-- a run of a side alone, or beside a specification
+abbrev pub path_text : Style → List Action → List Process → List (Option Origin) → List (List Process) → List ℕ
+path_text style path [] origins along = []
+path_text style path (t ∷ states) origins along = told_run style.telling style path t states origins along
+
+-- the run of a violation, and what is wrong at its end
 abbrev pub run_text : Style → Violation → List Process → List (Option Origin) → List (List Process) → List ℕ
-run_text style v [] origins along = []
-run_text style v (t ∷ states) origins along =
-    codes "  0 start\n" ++ (state_line (cut (width_before style.width v.path) (process_text style.names t))
-    ++ (first_text style along ++ (steps_text style 1 v.path (t ∷ states) origins (drop 1 along) ++ end_text style.names v.evidence)))
+run_text style v states origins along = path_text style v.path states origins along ++ end_text style.names v.evidence

@@ -22,11 +22,12 @@ ghost use Rattle.theory_explanation.specs.Counterparts.{lack_text, specification
 ghost use Rattle.theory_explanation.specs.Counting.{count_text};
 ghost use Rattle.theory_explanation.specs.Cutting.{Whole};
 ghost use Rattle.theory_explanation.specs.Faults.{IsFound, IsToldRun, OfImplementation, OfSpecification, found_text};
+ghost use Rattle.theory_explanation.specs.Folding.{ByEvents, EachStep, Folded};
 ghost use Rattle.theory_explanation.specs.Headline.{assertion_text};
 ghost use Rattle.theory_explanation.specs.Loops.{loop_text};
 ghost use Rattle.theory_explanation.specs.Origins.{source_text};
-ghost use Rattle.theory_explanation.specs.Samples.{below, c, event, not_true, told};
-ghost use Rattle.theory_explanation.specs.Steps.{step_line};
+ghost use Rattle.theory_explanation.specs.Samples.{below, c, event, not_true, telling, told, unfolded_run};
+ghost use Rattle.theory_explanation.specs.Steps.{path_text, step_line};
 ghost use Rattle.theory_explanation.specs.Waiting.{parts_text};
 
 /// Each state of a replay is reached by the path's beginning that leads up to it.
@@ -144,8 +145,8 @@ pub fn texts_of_doers()
 
 /// The line of a tau, and that of an event.
 pub fn texts_of_steps()
-    ensures tau { step_line names 3 Tau (Some (below Left (Unfolds 0))) ≡ codes "  3 tau: left: unfolds P\n" }
-    ensures event { step_line names 12 (c 1) (Some (below Left (Does (event 1)))) ≡ codes "  12 c.1 by left\n" }
+    ensures tau { step_line names 3 Tau (Some (below Left (Unfolds 0))) [] ≡ codes "  3 tau: left: unfolds P\n" }
+    ensures event { step_line names 12 (c 1) (Some (below Left (Does (event 1)))) [] ≡ codes "  12 c.1 by left\n" }
 {}
 
 /// A step after which the specification cannot go on.
@@ -172,4 +173,13 @@ pub fn texts_of_counts()
     ensures refinement { count_text (RefinementOf Traces Stop) 785 12 ≡ codes "  785 pairs, 12 nodes\n" }
     ensures one { count_text (RefinementOf Traces Stop) 1 1 ≡ codes "  1 pair, 1 node\n" }
     ensures freedom { count_text DeadlockFree 785 0 ≡ codes "  785 pairs\n" }
+{}
+
+/// Steps that unfold a name are told with the step before, or at the start, and behind them the state that they lead to;
+/// or each alone; or of a path its events alone, seen and hidden, and its last state.
+pub fn texts_of_tellings()
+    ensures folded { path_text (telling Folded) (Tau ∷ c 1 ∷ Tau ∷ Tau ∷ []) (p ∷ Stop ∷ p ∷ Skip ∷ Stop ∷ []) unfolded_run [] ≡ codes "  0 start, then unfolds P\n      STOP\n  2 c.1 by left, then unfolds P, P\n      STOP\n" }
+    ensures each { path_text (telling EachStep) (Tau ∷ []) (p ∷ Stop ∷ []) (Some (Unfolds 0) ∷ []) [] ≡ codes "  0 start\n      P\n  1 tau: unfolds P\n      STOP\n" }
+    ensures events { path_text (telling ByEvents) (Tau ∷ c 1 ∷ Tau ∷ Tau ∷ []) (p ∷ Stop ∷ p ∷ Skip ∷ Stop ∷ []) unfolded_run [] ≡ codes "  2 c.1 by left\n      STOP\n" }
+    ensures hidden { path_text (telling ByEvents) (Tau ∷ []) (p ∷ Skip ∷ []) (Some (Below (Hides (event 1)) (below Right (Does (event 1)))) ∷ []) [] ≡ codes "  1 tau: hidden c.1 by right\n      SKIP\n" }
 {}
