@@ -3,7 +3,7 @@ use Rattle.std.specs.Prelude.{ℕ, zero, suc, Bool, true, false, ◌&&◌, if◌
 use Rattle.theory_syntax.specs.Process.{Process}
 use Rattle.theory_syntax.specs.Value.{Action, Tau, Tick, Ev}
 use Rattle.theory_search.specs.Printing.{name_at}
-use Rattle.theory_origins.specs.Origin.{OnSide, InBody, OnBranch, UnderGuard, InChain, SideEnds, Hides, Renames, Origin, Does, Ends, Unfolds, Chooses, Slides, Below, Together}
+use Rattle.theory_origins.specs.Origin.{Passage, OnSide, InBody, OnBranch, UnderGuard, InChain, SideEnds, Hides, Renames, Origin, Does, Ends, Unfolds, Chooses, Slides, Below, Together}
 use Rattle.theory_notation.specs.Names.{Names}
 
 pub data Telling : Type 0 where
@@ -11,50 +11,61 @@ pub data Telling : Type 0 where
   Folded : Telling
   ByEvents : Telling
 
--- the equation whose name a step unfolds, in the process or in a part of it
-abbrev pub unfolds : Origin → Option ℕ
-unfolds (Does e) = None
-unfolds Ends = None
-unfolds (Unfolds n) = Some n
-unfolds (Chooses side) = None
-unfolds Slides = None
-unfolds (Below (OnSide side) part) = unfolds part
-unfolds (Below InBody part) = unfolds part
-unfolds (Below (OnBranch side) part) = unfolds part
-unfolds (Below UnderGuard part) = unfolds part
-unfolds (Below InChain part) = unfolds part
-unfolds (Below (SideEnds side) part) = None
-unfolds (Below (Hides e) part) = None
-unfolds (Below (Renames e f) part) = None
-unfolds (Together left right) = None
+-- what a tau is, in the process or in a part of it: it unfolds a name, hides an event, or is another one
+pub data Kind : Type 0 where
+  Unfolding : (equation : ℕ) → Kind
+  Hiding : Kind
+  Other : Kind
+
+abbrev pub kind_above : Passage → Kind → Kind
+kind_above (OnSide side) k = k
+kind_above InBody k = k
+kind_above (OnBranch side) k = k
+kind_above UnderGuard k = k
+kind_above InChain k = k
+kind_above (SideEnds side) k = Other
+kind_above (Hides e) k = Hiding
+kind_above (Renames e f) k = Other
+
+abbrev pub kind : Origin → Kind
+kind (Does e) = Other
+kind Ends = Other
+kind (Unfolds n) = Unfolding n
+kind (Chooses side) = Other
+kind Slides = Other
+kind (Below passage part) = kind_above passage (kind part)
+kind (Together left right) = Other
 
 -- the same of a step of which the origin is told
-abbrev pub unfolded : Option Origin → Option ℕ
-unfolded (Some o) = unfolds o
-unfolded None = None
+abbrev pub kind_told : Option Origin → Kind
+kind_told (Some o) = kind o
+kind_told None = Other
 
-abbrev pub before_others : Option ℕ → List ℕ → List ℕ
-before_others (Some n) ns = n ∷ ns
-before_others None ns = []
+-- ---- folding
 
--- the equations that the first of the steps unfold, one behind the other, up to a step that unfolds none
-abbrev pub unfoldings : List (Option Origin) → List ℕ
-unfoldings [] = []
-unfoldings (o ∷ origins) = before_others (unfolded o) (unfoldings origins)
-
-abbrev pub is_some : Option ℕ → Bool
-is_some (Some n) = true
-is_some None = false
-
--- whether steps that unfold a name are told with the one before
+-- whether steps that unfold a name are told with the step before, or at the start
 abbrev pub folds : Telling → Bool
 folds EachStep = false
 folds Folded = true
 folds ByEvents = true
 
--- whether this one is
+abbrev pub unfolds : Kind → Bool
+unfolds (Unfolding n) = true
+unfolds Hiding = false
+unfolds Other = false
+
 abbrev pub is_folded : Telling → Option Origin → Bool
-is_folded telling o = folds telling && is_some (unfolded o)
+is_folded telling o = folds telling && unfolds (kind_told o)
+
+abbrev pub before_others : Kind → List ℕ → List ℕ
+before_others (Unfolding n) ns = n ∷ ns
+before_others Hiding ns = []
+before_others Other ns = []
+
+-- the equations that the first of the steps unfold, one behind the other, up to a step that unfolds none
+abbrev pub unfoldings : List (Option Origin) → List ℕ
+unfoldings [] = []
+unfoldings (o ∷ origins) = before_others (kind_told o) (unfoldings origins)
 
 -- the equations that are told with a step that has these steps behind it
 abbrev pub folded : Telling → List (Option Origin) → List ℕ
@@ -66,26 +77,16 @@ state_behind zero t states = t
 state_behind (suc n) t [] = t
 state_behind (suc n) t (u ∷ states) = state_behind n u states
 
--- whether a step is an event that is seen, or hidden on the way up, or the end
-abbrev pub hides : Origin → Bool
-hides (Does e) = false
-hides Ends = false
-hides (Unfolds n) = false
-hides (Chooses side) = false
-hides Slides = false
-hides (Below (OnSide side) part) = hides part
-hides (Below InBody part) = hides part
-hides (Below (OnBranch side) part) = hides part
-hides (Below UnderGuard part) = hides part
-hides (Below InChain part) = hides part
-hides (Below (SideEnds side) part) = false
-hides (Below (Hides e) part) = true
-hides (Below (Renames e f) part) = hides part
-hides (Together left right) = false
+-- ---- events
 
+abbrev pub hides : Kind → Bool
+hides (Unfolding n) = false
+hides Hiding = true
+hides Other = false
+
+-- whether a step is an event, seen or hidden, or the end
 abbrev pub is_event : Action → Option Origin → Bool
-is_event Tau (Some o) = hides o
-is_event Tau None = false
+is_event Tau o = hides (kind_told o)
 is_event Tick o = true
 is_event (Ev e) o = true
 
