@@ -5,3 +5,5 @@ pub mod Loops
 pub mod Styles
 pub mod Texts
 pub mod Widths
+pub mod Folding
+pub mod Stories

@@ -12,8 +12,8 @@ ghost use Rattle.counterexample.specs.Widths.{width_of};
 
 use crate::looping::Looping;
 use crate::marks::{push_amount, push_mark, push_number};
-use crate::runs::push_step;
 use crate::states::push_behind;
+use crate::step::{Step, push_step};
 use crate::style::Style;
 use crate::width::Width;
 use csp_term::{Action, AllocHandle, Term};
@@ -43,7 +43,13 @@ pub(crate) fn push_loop<A: AllocHandle>(
         if place == told {
             return push_left_out(count - place, back, text);
         }
-        push_step(alloc, style.names, number + 1 + place, &tau, origin, text)?;
+        let step = Step {
+            number: number + 1 + place,
+            action: &tau,
+            origin,
+            equations: &[],
+        };
+        push_step(alloc, style.names, &step, text)?;
         let next = looping.states.get(place + 1);
         push_next(alloc, style, &looping.states[place], next, back, text)?;
     }

@@ -1,10 +1,11 @@
 //! How counterexamples are told.
 
+use crate::telling::Telling;
 use crate::width::Width;
 use csp_print::Names;
 use std::alloc::Allocator;
 
-/// By which names terms are told, how much of a state, and which states of a specification.
+/// By which names terms are told, how much of a state, which states of a specification, and how steps.
 #[derive(Clone, Copy, Drop)]
 pub struct Style<'n, 't, A: Allocator> {
     /// The names of the script.
@@ -19,4 +20,6 @@ pub struct Style<'n, 't, A: Allocator> {
     pub taus: Width,
     /// Among how many states a loop, or a state for which there is no answer, is looked for at most.
     pub reach: usize,
+    /// How the steps are told.
+    pub telling: Telling,
 }

@@ -1,5 +1,5 @@
 -- The steps that are left of a path, with the states behind them.
-use Rattle.std.proofs.Common.{◌≡◌, ℕ, zero, suc, ◌+◌, ◌≤◌, true, false, List, [], ◌∷◌, ◌++◌, length, drop, slice_get, Option, Some, None, refl, sym, ◌∙◌, ap, add-one}
+use Rattle.std.proofs.Common.{◌≡◌, ℕ, zero, suc, ◌+◌, ◌≤◌, true, false, List, [], ◌∷◌, ◌++◌, length, drop, slice_get, Option, Some, None, refl, sym, add-one}
 use Rattle.std.proofs.lemmas.List.{drop_all}
 use Rattle.theory_syntax.specs.Value.{Action}
 use Rattle.theory_syntax.specs.Process.{Process}
@@ -53,9 +53,9 @@ module _ (style : Style) where
   without_origins n told (x ∷ path) [] along = refl
   without_origins n told (x ∷ path) (t ∷ states) along = refl
 
-  -- the steps from this place on, of a run by all the states, behind the state that was told last
+  -- the steps from this place on, behind the state that was told last
   abbrev pub steps_left : List Action → List Process → List (Option Origin) → List (List Process) → ℕ → Process → List ℕ
-  steps_left path states origins along i told = steps_text style (suc i) told (drop i path) (drop (suc i) states) (drop i origins) (drop (suc i) along)
+  steps_left path states origins along i told = steps_text style (suc i) told (drop i path) (drop i states) (drop i origins) (drop (suc i) along)
 
   module _ (path : List Action) (states : List Process) (origins : List (Option Origin)) (along : List (List Process)) (i : ℕ) (told : Process) where
     -- the names that are told with the step, and the state behind them
@@ -63,29 +63,23 @@ module _ (style : Style) where
     names_with = folded style.telling (drop (i + 1) origins)
 
     abbrev pub state_with : Process → Process
-    state_with t = state_behind (length names_with) t (drop (suc (i + 1)) states)
+    state_with t = state_behind (length names_with) t (drop (i + 1) states)
 
-    module _ (x : Action) (t : Process) (o : Option Origin) (p : slice_get path i ≡ Some x) (at : slice_get states (i + 1) ≡ Some t) (from : slice_get origins i ≡ Some o) where
+    module _ (x : Action) (t : Process) (o : Option Origin) (p : slice_get path i ≡ Some x) (at : slice_get states i ≡ Some t) (from : slice_get origins i ≡ Some o) where
       pub step_left : is_folded style.telling o ≡ false →
           steps_left path states origins along i told
           ≡ step_text style (i + 1) told x o names_with (drop (length names_with) (drop (i + 1) path)) (state_with t)
           ++ (beside_text style x (drop (i + 1) along) ++ steps_left path states origins along (i + 1) (state_with t))
-      step_left alone =
-          let next : slice_get states (suc i) ≡ Some t = sym (ap (slice_get states) (add-one i)) ∙ at in
-          rw (add-one, drop_at path i x p, drop_at states (suc i) t next, drop_at origins i o from, alone, ← drop_one (suc i) along) refl
+      step_left alone = rw (add-one, drop_at path i x p, drop_at states i t at, drop_at origins i o from, alone, ← drop_one (suc i) along) refl
 
       pub step_folded : is_folded style.telling o ≡ true → steps_left path states origins along i told ≡ steps_left path states origins along (i + 1) told
-      step_folded with_it =
-          let next : slice_get states (suc i) ≡ Some t = sym (ap (slice_get states) (add-one i)) ∙ at in
-          rw (add-one, drop_at path i x p, drop_at states (suc i) t next, drop_at origins i o from, with_it, ← drop_one (suc i) along) refl
+      step_folded with_it = rw (add-one, drop_at path i x p, drop_at states i t at, drop_at origins i o from, with_it, ← drop_one (suc i) along) refl
 
-    pub no_state_left : slice_get states (i + 1) ≡ None → steps_left path states origins along i told ≡ []
-    no_state_left none =
-        let next : slice_get states (suc i) ≡ None = sym (ap (slice_get states) (add-one i)) ∙ none in
-        rw (drop_past states (suc i) next) (without_states (suc i) told (drop i path) (drop i origins) (drop (suc i) along))
+    pub no_state_left : slice_get states i ≡ None → steps_left path states origins along i told ≡ []
+    no_state_left none = rw (drop_past states i none) (without_states (suc i) told (drop i path) (drop i origins) (drop (suc i) along))
 
     pub no_origin_left : slice_get origins i ≡ None → steps_left path states origins along i told ≡ []
-    no_origin_left none = rw (drop_past origins i none) (without_origins (suc i) told (drop i path) (drop (suc i) states) (drop (suc i) along))
+    no_origin_left none = rw (drop_past origins i none) (without_origins (suc i) told (drop i path) (drop i states) (drop (suc i) along))
 
     pub no_step_left : length path ≤ i → steps_left path states origins along i told ≡ []
     no_step_left past = rw (drop_all i path past) refl

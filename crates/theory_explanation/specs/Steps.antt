@@ -11,7 +11,7 @@ use Rattle.theory_explanation.specs.Changing.{change_text}
 use Rattle.theory_explanation.specs.Counterparts.{specification_text}
 use Rattle.theory_explanation.specs.Cutting.{Width, Whole, UpTo, cut, cut_after}
 use Rattle.theory_explanation.specs.Ends.{end_text}
-use Rattle.theory_explanation.specs.Folding.{ByEvents, Telling, folded, is_event, is_folded, state_behind, then_text}
+use Rattle.theory_explanation.specs.Folding.{ByEvents, EachStep, Folded, Telling, folded, is_event, is_folded, state_behind, then_text}
 use Rattle.theory_explanation.specs.Origins.{source_text}
 use Rattle.theory_explanation.specs.Styles.{Style}
 
@@ -69,11 +69,9 @@ steps_text style n told (x ∷ path) (t ∷ states) (o ∷ origins) along =
     else step_text style n told x o ns (drop (length ns) path) (state_behind (length ns) t states)
     ++ (beside_text style x along ++ steps_text style (suc n) (state_behind (length ns) t states) path states origins (drop 1 along))
 
--- the names that are unfolded at the start, and the state behind that
-abbrev pub start_text : Style → List Action → Process → List Process → List (Option Origin) → List ℕ
-start_text style path t states origins =
-    let ns = folded style.telling origins in
-    codes "  0 start" ++ (then_text style.names ns ++ (codes "\n" ++ state_line (cut (width_before style.width (drop (length ns) path)) (process_text style.names (state_behind (length ns) t states)))))
+-- the names that are unfolded at the start of the path, and the state behind that
+abbrev pub start_line : Style → List ℕ → Process → List Action → List ℕ
+start_line style ns t path = codes "  0 start" ++ (then_text style.names ns ++ (codes "\n" ++ state_line (cut (width_before style.width (drop (length ns) path)) (process_text style.names t))))
 
 -- ---- events
 
@@ -90,12 +88,18 @@ last_line names t (u ∷ states) = last_line names u states
 
 -- ---- a run
 
--- the states at the start, and the steps; or the events, and the last state
+-- the states at the start, and the steps with those that they lead to
+abbrev pub states_text : Style → List Action → Process → List Process → List (Option Origin) → List (List Process) → List ℕ
+states_text style path t states origins along =
+    let ns = folded style.telling origins in
+    let told = state_behind (length ns) t states in
+    start_line style ns told path ++ (first_text style along ++ steps_text style 1 told path states origins (drop 1 along))
+
+-- so, or the events alone, and the last state
 abbrev pub told_run : Telling → Style → List Action → Process → List Process → List (Option Origin) → List (List Process) → List ℕ
+told_run EachStep style path t states origins along = states_text style path t states origins along
+told_run Folded style path t states origins along = states_text style path t states origins along
 told_run ByEvents style path t states origins along = events_text style.names 1 path origins ++ last_line style.names t states
-told_run telling style path t states origins along =
-    start_text style path t states origins ++ (first_text style along
-    ++ steps_text style 1 (state_behind (length (folded style.telling origins)) t states) path states origins (drop 1 along))
 
 -- a run of a side alone, or beside a specification
 abbrev pub path_text : Style → List Action → List Process → List (Option Origin) → List (List Process) → List ℕ
