@@ -1,21 +1,21 @@
 //! Steps that unfold a name, which may be told with the step before.
 
-ghost use Rattle.std.specs.Prelude.{◌≡◌, length, map, option_map};
-ghost use Rattle.theory_explanation.specs.Folding.{folded, folds, is_event, is_folded, state_behind, then_text};
-ghost use Rattle.csp_value.specs.Action.{action_of};
+ghost use Rattle.std.specs.Prelude.{◌≡◌, IfOk, map, option_map};
+ghost use Rattle.theory_explanation.specs.Folding.{folded, folds, is_folded, names_behind, state_behind, then_text, unfolds};
 ghost use Rattle.csp_term.specs.Term.{process_of};
 ghost use Rattle.csp_moves.specs.Origin.{origin_of};
 ghost use Rattle.csp_print.specs.Names.{names_of};
 ghost use Rattle.csp_print.specs.Writing.{Writes};
 ghost use Rattle.counterexample.specs.Counterexample.{origins_listed};
-ghost use Rattle.counterexample.specs.Folding.{equations_listed, telling_of};
+ghost use Rattle.counterexample.specs.Folding.{equations_listed, kind_of, telling_of};
 
 use crate::kind::{Kind, kind_told};
 use crate::marks::push_mark;
+use crate::specification::first_few;
 use crate::telling::Telling;
 use csp_moves::Origin;
 use csp_print::Names;
-use csp_term::{Action, AllocHandle, EquationId, Term};
+use csp_term::{AllocHandle, EquationId, Term};
 use std::alloc::AllocError;
 
 /// Whether the step is told with the one before.
@@ -23,6 +23,16 @@ pub(crate) fn is_folded<A: AllocHandle>(telling: Telling, origin: &Option<Origin
     ensures { result ≡ is_folded (telling_of telling) (option_map origin_of origin.now) }
 {
     folds(telling) && unfolds(kind_told(origin))
+}
+
+// Whether the tau unfolds a name.
+fn unfolds(kind: Kind) -> bool
+    ensures { result ≡ unfolds (kind_of kind) }
+{
+    match kind {
+        Kind::Unfolding(_) => true,
+        Kind::Hiding | Kind::Other => false,
+    }
 }
 
 // Whether steps that unfold a name are told with the step before, or at the start.
@@ -64,11 +74,7 @@ pub(crate) fn state_behind<'t, A: AllocHandle>(
 ) -> &'t Term<A>
     ensures { process_of result.now ≡ state_behind count (process_of state.now) (map process_of states.now) }
 {
-    let mut last = state;
-    for state in states.iter().take(count) {
-        last = state;
-    }
-    last
+    first_few(states, count).last().unwrap_or(state)
 }
 
 /// What is told behind a step of the names that are unfolded then.

@@ -28,8 +28,8 @@ pub(crate) fn push_specification<A: AllocHandle>(
     push_more(style.few, states.len(), text)
 }
 
-// The first few of the states, or all.
-fn first_few<A: AllocHandle>(states: &[Term<A>], few: usize) -> &[Term<A>]
+/// The first few of the states, or all.
+pub(crate) fn first_few<A: AllocHandle>(states: &[Term<A>], few: usize) -> &[Term<A>]
     ensures { result.now ≡ take few states.now }
 {
     if few < states.len() {

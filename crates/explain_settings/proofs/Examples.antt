@@ -36,3 +36,11 @@ count_given = refl
 no_count : value (codes "count") (codes "f" ∷ []) ≡ Some (codes "false")
 unfolding clap_on_literals
 no_count = refl
+
+events_given : value (codes "events") (codes "f" ∷ codes "--events" ∷ []) ≡ Some (codes "true")
+unfolding clap_on_literals
+events_given = refl
+
+no_steps : value (codes "steps") (codes "--events" ∷ codes "f" ∷ []) ≡ Some (codes "false")
+unfolding clap_on_literals
+no_steps = refl

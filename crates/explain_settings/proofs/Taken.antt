@@ -89,7 +89,7 @@ module _ (c : Command) (m : ArgMatches) (words : List Text) (is : app_of c ≡ c
   rule_at : (j : ℕ) (d : Arg) → rule_of (slice_index_or (args_of c) j d) ≡ slice_index_or command_rules j (rule_of d)
   rule_at j d = sym (get_or-map rule_of (args_of c) j d) ∙ ap (λ rs. slice_index_or rs j (rule_of d)) rules_are
 
-  count : length (args_of c) ≡ 7
+  count : length (args_of c) ≡ 9
   count = sym (length-map (args_of c) rule_of) ∙ ap length rules_are
 
   -- some argument of the command
@@ -127,7 +127,7 @@ module _ (c : Command) (m : ArgMatches) (words : List Text) (is : app_of c ≡ c
   abbrev IsNumber : Text → ℕ → ℕ → Rule → Type 0
   IsNumber name least most r = (default : Text) × (r.id ≡ name) × (r.defaults ≡ default ∷ []) × (r.parser ≡ Some (vp.Unsigned least most)) × (r.action ≡ Some Set) × (r.range ≡ None)
 
-  number_text : (k : ℕ) (name : Text) (least most : ℕ) → k < 7 → is_only_at name k command_rules ≡ true → is_own name ≡ false
+  number_text : (k : ℕ) (name : Text) (least most : ℕ) → k < 9 → is_only_at name k command_rules ≡ true → is_own name ≡ false
       → IsNumber name least most (slice_index_or command_rules k (rule_of first_arg)) → (t : Text) × IsNumberText name least most t
   number_text k name least most below only own_name r =
       let d = first_arg in
@@ -168,19 +168,19 @@ module _ (c : Command) (m : ArgMatches) (words : List Text) (is : app_of c ≡ c
   width = number_text 3 (codes "width") 0 1000000 (omega arith) refl refl (codes "200", refl, refl, refl, refl, refl)
 
   pub assertion : (t : Text) × IsNumberText (codes "assertion") 0 1000000 t
-  assertion = number_text 6 (codes "assertion") 0 1000000 (omega arith) refl refl (codes "0", refl, refl, refl, refl, refl)
+  assertion = number_text 8 (codes "assertion") 0 1000000 (omega arith) refl refl (codes "0", refl, refl, refl, refl, refl)
 
   file_has_value : is_some (first_value (found_of m) (codes "file")) ≡ true
   file_has_value =
-      let lt : 5 < length (args_of c) = subst (λ n. 5 < n) (sym count) (omega arith) in
-      let at : rule_of (slice_index_or (args_of c) 5 first_arg) ≡ file_rule = rule_at 5 first_arg in
-      let id : (slice_index_or (args_of c) 5 first_arg).id.now ≡ codes "file" = ap (λ (x : Rule). x.id) at in
-      let enough : 1 ≤ least_values (slice_index_or (args_of c) 5 first_arg) =
+      let lt : 7 < length (args_of c) = subst (λ n. 7 < n) (sym count) (omega arith) in
+      let at : rule_of (slice_index_or (args_of c) 7 first_arg) ≡ file_rule = rule_at 7 first_arg in
+      let id : (slice_index_or (args_of c) 7 first_arg).id.now ≡ codes "file" = ap (λ (x : Rule). x.id) at in
+      let enough : 1 ≤ least_values (slice_index_or (args_of c) 7 first_arg) =
       subst (λ o. 1 ≤ (unwrap_or_range o).start_inclusive) (sym (ap (λ (x : Rule). x.range) at)) (omega arith) in
       subst (λ t. is_some (first_value (found_of m) t) ≡ true) id
-      (required_has_value c m p plain simple.globals (ap (λ (a : App). a.top.subcommand_negates_reqs) is) 5 first_arg lt
-      (ap (λ (x : Rule). x.required) at) (ap (λ (x : Rule). x.action) at) (simple.args 5 first_arg lt).delimiter enough
-      (unique_at 5 first_arg (codes "file") id refl)
+      (required_has_value c m p plain simple.globals (ap (λ (a : App). a.top.subcommand_negates_reqs) is) 7 first_arg lt
+      (ap (λ (x : Rule). x.required) at) (ap (λ (x : Rule). x.action) at) (simple.args 7 first_arg lt).delimiter enough
+      (unique_at 7 first_arg (codes "file") id refl)
       (λ e. differ (codes "file") [] refl (sym id ∙ e))
       (λ auto. elim auto [
         | inl h ↦ differ (codes "file") (codes "help") refl (sym id ∙ h)

@@ -28,7 +28,7 @@ command_rules = number_rule (codes "workers") (codes "1") 64
     ∷ number_rule (codes "max-pairs") (codes "100000") 1000000
     ∷ number_rule (codes "max-nodes") (codes "10000") 100000
     ∷ count_option (codes "width") (codes "200") 1000000
-    ∷ flag_rule (codes "count")
+    ∷ flag_rule (codes "count") ∷ flag_rule (codes "events") ∷ flag_rule (codes "steps")
     ∷ file_rule ∷ count_rule (codes "assertion") (codes "0") 1000000 ∷ []
 
 -- the command, whose words do not begin with the program's name

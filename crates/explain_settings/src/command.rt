@@ -13,6 +13,11 @@ use std::alloc::{AllocError, Global};
 /// The most characters of a state that may be asked for, and the greatest number of an assertion. A text has no more.
 pub(crate) const MOST: usize = 1_000_000;
 
+// What is told of the options without a value.
+const COUNT: &str = "Tell how many pairs and nodes the search of each assertion had";
+const EVENTS: &str = "Tell of each path its events alone, seen and hidden, and its last state";
+const STEPS: &str = "Tell steps that unfold a name one by one; with --events no matter";
+
 /// The command line of the program, without the program's name.
 pub(crate) fn command_line<'a>(alloc: Global) -> Result<Command<'a>, AllocError>
     ensures { IfOk result (λ c. app_of c ≡ command_line) }
@@ -29,9 +34,9 @@ pub(crate) fn command_line<'a>(alloc: Global) -> Result<Command<'a>, AllocError>
     let width = count(alloc, "width", "200", MOST).long("width").help(
         "The most characters that are told of a state, or 0 for all of it",
     );
-    let counted = flag(alloc, "count").help(
-        "Tell how many pairs and nodes the search of each assertion had",
-    );
+    let counted = flag(alloc, "count", COUNT);
+    let events = flag(alloc, "events", EVENTS);
+    let steps = flag(alloc, "steps", STEPS);
     let file = file(alloc);
     let assertion = count(alloc, "assertion", "0", MOST).help(
         "The number of the assertion to tell of, or 0 for each",
@@ -46,6 +51,8 @@ pub(crate) fn command_line<'a>(alloc: Global) -> Result<Command<'a>, AllocError>
         .arg(nodes)?
         .arg(width)?
         .arg(counted)?
+        .arg(events)?
+        .arg(steps)?
         .arg(file)?
         .arg(assertion)
 }
@@ -89,9 +96,12 @@ fn count<'a>(alloc: Global, name: &'a str, default: &'a str, most: usize) -> Arg
 }
 
 // An option without a value of its own.
-fn flag<'a>(alloc: Global, name: &'a str) -> Arg<'a>
+fn flag<'a>(alloc: Global, name: &'a str, help: &'a str) -> Arg<'a>
     ensures rule { rule_of result ≡ flag_rule name.now }
     ensures local { result.global ≡ false }
 {
-    Arg::new(alloc, name).long(name).action(ArgAction::SetTrue)
+    Arg::new(alloc, name)
+        .long(name)
+        .action(ArgAction::SetTrue)
+        .help(help)
 }

@@ -27,6 +27,10 @@ pub struct Settings<'a> {
     pub width: usize,
     /// Whether it is told how large the search of an assertion was.
     pub count: bool,
+    /// Whether of a path only the events are told, seen and hidden, and the last state.
+    pub events: bool,
+    /// Whether steps that unfold a name are told one by one, where each step is told.
+    pub steps: bool,
     /// The name of the script's file.
     pub file: &'a str,
     /// The number of the assertion to tell of, or 0 for each.
@@ -48,6 +52,8 @@ pub fn read<'a>(alloc: Global, words: &'a [&'a str]) -> Result<Settings<'a>, Com
     ensures nodes { IfOk result (λ s. HasNumber (value (codes "max-nodes") (texts words.entry.now)) s.max_nodes) }
     ensures width { IfOk result (λ s. HasNumber (value (codes "width") (texts words.entry.now)) s.width) }
     ensures count { IfOk result (λ s. IsTrue s.count ↔ IsUsed (codes "count") (texts words.entry.now)) }
+    ensures events { IfOk result (λ s. IsTrue s.events ↔ IsUsed (codes "events") (texts words.entry.now)) }
+    ensures steps { IfOk result (λ s. IsTrue s.steps ↔ IsUsed (codes "steps") (texts words.entry.now)) }
     ensures file { IfOk result (λ s. value (codes "file") (texts words.entry.now) ≡ Some s.file.now) }
     ensures assertion { IfOk result (λ s. HasNumber (value (codes "assertion") (texts words.entry.now)) s.assertion) }
     ensures fault { IfErr result (IsFaultOf (texts words.entry.now)) }
@@ -62,6 +68,8 @@ pub fn read<'a>(alloc: Global, words: &'a [&'a str]) -> Result<Settings<'a>, Com
         max_nodes: number(&matches, "max-nodes"),
         width: number(&matches, "width"),
         count: is_used(&matches, "count"),
+        events: is_used(&matches, "events"),
+        steps: is_used(&matches, "steps"),
         file: matches.get_str("file").unwrap(),
         assertion: number(&matches, "assertion"),
     })

@@ -4,7 +4,7 @@ use Rattle.clap.specs.Simple.{app_of_fields, new_app, on_top, with_rule}
 use Rattle.clap.specs.Words.{Rule, app_of, rule_of}
 use Rattle.clap.specs.declared.builder.arg.Arg.{Arg}
 use Rattle.settings.specs.CommandLine.{number_rule}
-use Rattle.explain_settings.specs.CommandLine.{count_option, count_rule, flag_rule}
+use Rattle.explain_settings.specs.CommandLine.{count_option, count_rule}
 use Rattle.explain_settings.proofs.command.command_line.Goals as goal
 
 pub returns : goal.returns
@@ -15,8 +15,6 @@ returns c =
     let width_is : rule_of c.help-width.result ≡ count_option (codes "width") (codes "200") 1000000 =
     ap rule_of c.help-width.ensures ∙ ap rule_of c.long.ensures ∙ ap (λ (r : Rule). record r { long = Some (codes "width") }) c.count.ensures.rule in
     let width_local : c.help-width.result.global ≡ false = ap (λ (a : Arg). a.global) c.help-width.ensures ∙ ap (λ (a : Arg). a.global) c.long.ensures ∙ c.count.ensures.local in
-    let counted_is : rule_of c.help-counted.result ≡ flag_rule (codes "count") = ap rule_of c.help-counted.ensures ∙ c.flag.ensures.rule in
-    let counted_local : c.help-counted.result.global ≡ false = ap (λ (a : Arg). a.global) c.help-counted.ensures ∙ c.flag.ensures.local in
     let assertion_is : rule_of c.help-assertion.result ≡ count_rule (codes "assertion") (codes "0") 1000000 = ap rule_of c.help-assertion.ensures ∙ c.count-2.ensures.rule in
     let assertion_local : c.help-assertion.result.global ≡ false = ap (λ (a : Arg). a.global) c.help-assertion.ensures ∙ c.count-2.ensures.local in
     let named : app_of c.after_help.result ≡ on_top (λ s. record s { no_binary_name = true; has_version = true }) (new_app (codes "explain")) =
@@ -26,6 +24,8 @@ returns c =
     let two = c.in_ok-arg-2.ensures.shape (ap (λ (a : Arg). a.global) c.help-pairs.ensures ∙ c.option-2.ensures.local) ∙ ap₂ with_rule one pairs_is in
     let three = c.in_ok-arg-3.ensures.shape (ap (λ (a : Arg). a.global) c.help-nodes.ensures ∙ c.option-3.ensures.local) ∙ ap₂ with_rule two nodes_is in
     let four = c.in_ok-arg-4.ensures.shape width_local ∙ ap₂ with_rule three width_is in
-    let five = c.in_ok-arg-5.ensures.shape counted_local ∙ ap₂ with_rule four counted_is in
-    let six = c.in_ok-arg-6.ensures.shape c.file-file.ensures.local ∙ ap₂ with_rule five c.file-file.ensures.rule in
-    IfOk-weaker c.arg-7.result _ _ (λ x h. h.shape assertion_local ∙ ap₂ with_rule six assertion_is) c.arg-7.ensures
+    let five = c.in_ok-arg-5.ensures.shape c.flag-counted.ensures.local ∙ ap₂ with_rule four c.flag-counted.ensures.rule in
+    let six = c.in_ok-arg-6.ensures.shape c.flag-events.ensures.local ∙ ap₂ with_rule five c.flag-events.ensures.rule in
+    let seven = c.in_ok-arg-7.ensures.shape c.flag-steps.ensures.local ∙ ap₂ with_rule six c.flag-steps.ensures.rule in
+    let eight = c.in_ok-arg-8.ensures.shape c.file-file.ensures.local ∙ ap₂ with_rule seven c.file-file.ensures.rule in
+    IfOk-weaker c.arg-9.result _ _ (λ x h. h.shape assertion_local ∙ ap₂ with_rule eight assertion_is) c.arg-9.ensures

@@ -60,6 +60,16 @@ returns-clause-count c =
     let P : Option (List ℕ) → Type 0 = λ found. IsTrue c.is_used.result ↔ (found ≡ Some (codes "true")) in
     subst P (taken.same_value c.in_ok-command_line.field-0 c.in-Ok.matches (texts c.args.words.now) c.in_ok-command_line.ensures c.in-Ok.ensures.parsed c.in-Ok.ensures.matches (codes "count")) c.is_used.ensures
 
+pub returns-clause-events : goal.returns-clause-events
+returns-clause-events c =
+    let P : Option (List ℕ) → Type 0 = λ found. IsTrue c.is_used-2.result ↔ (found ≡ Some (codes "true")) in
+    subst P (taken.same_value c.in_ok-command_line.field-0 c.in-Ok.matches (texts c.args.words.now) c.in_ok-command_line.ensures c.in-Ok.ensures.parsed c.in-Ok.ensures.matches (codes "events")) c.is_used-2.ensures
+
+pub returns-clause-steps : goal.returns-clause-steps
+returns-clause-steps c =
+    let P : Option (List ℕ) → Type 0 = λ found. IsTrue c.is_used-3.result ↔ (found ≡ Some (codes "true")) in
+    subst P (taken.same_value c.in_ok-command_line.field-0 c.in-Ok.matches (texts c.args.words.now) c.in_ok-command_line.ensures c.in-Ok.ensures.parsed c.in-Ok.ensures.matches (codes "steps")) c.is_used-3.ensures
+
 pub returns-clause-file : goal.returns-clause-file
 returns-clause-file c =
     let text = taken.file c.in_ok-command_line.field-0 c.in-Ok.matches (texts c.args.words.now) c.in_ok-command_line.ensures c.in-Ok.ensures.parsed c.in-Ok.ensures.matches in

@@ -10,7 +10,7 @@ use Rattle.theory_explanation.proofs.Comparings.{first_there, none_there}
 use Rattle.csp_print.proofs.Writing.{alike}
 use Rattle.csp_replay.specs.Along.{states_listed}
 use Rattle.counterexample.specs.Styles.{style_of}
-use Rattle.counterexample.proofs.runs.push_first.Goals as goal
+use Rattle.counterexample.proofs.story.push_first.Goals as goal
 
 pub returns-in_default : goal.returns-in_default
 returns-in_default g c =

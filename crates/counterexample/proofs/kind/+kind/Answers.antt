@@ -1,0 +1,41 @@
+-- The kind of each form of an origin. The part is smaller than what it is a part of.
+use Rattle.std.proofs.Common.{◌≡◌, ◌+◌, ◌<◌, sym, ◌∙◌, ap, inl, inr, lit≤, arith}
+use Rattle.theory_explanation.specs.Folding.{kind, kind_above}
+use Rattle.csp_moves.specs.Origin.{origin_of}
+use Rattle.csp_moves.specs.Passage.{passage_of}
+use Rattle.csp_moves.specs.declared.origin.Origin.{Origin}
+use Rattle.csp_moves.proofs.Origins.{of_below, of_chooses, of_does, of_ends, of_slides, of_together, of_unfolds}
+use Rattle.counterexample.proofs.Sizes.{origin_size}
+use Rattle.counterexample.proofs.kind.+kind.Goals as goal
+
+pub kind_in-kind_in-requires : goal.kind_in-kind_in-requires
+kind_in-kind_in-requires g t c κs within =
+    let size = λ (o : Origin g.row.A.Denot). origin_size (origin_of o) in
+    let whole = ap size c.in-Below.is ∙ ap origin_size (of_below g.row.A.Denot c.in-Below.passage c.in-Below.part) in
+    let part = ap size c.deref.ensures in
+    let smaller : origin_size (origin_of c.deref.result.now) < origin_size (origin_of c.args.origin.now) = omega (arith, whole, part) in
+    (omega (arith, c.requires, smaller), (within, elim g.met.A.AllocHandle.small [ inl e ↦ rw (e.0, e.1) (search (lit≤)) | inr e ↦ rw (e.0, e.1) (search (lit≤)) ]))
+
+pub kind_in-returns-in-Does : goal.kind_in-returns-in-Does
+kind_in-returns-in-Does g t c = sym (ap kind (ap origin_of c.in-Does.is ∙ of_does g.row.A.Denot c.in-Does.field-0))
+
+pub kind_in-returns-in-Ends : goal.kind_in-returns-in-Ends
+kind_in-returns-in-Ends g t c = sym (ap kind (ap origin_of c.in-Ends.is ∙ of_ends g.row.A.Denot))
+
+pub kind_in-returns-in-Unfolds : goal.kind_in-returns-in-Unfolds
+kind_in-returns-in-Unfolds g t c = sym (ap kind (ap origin_of c.in-Unfolds.is ∙ of_unfolds g.row.A.Denot c.in-Unfolds.equation))
+
+pub kind_in-returns-in-Chooses : goal.kind_in-returns-in-Chooses
+kind_in-returns-in-Chooses g t c = sym (ap kind (ap origin_of c.in-Chooses.is ∙ of_chooses g.row.A.Denot c.in-Chooses.field-0))
+
+pub kind_in-returns-in-Slides : goal.kind_in-returns-in-Slides
+kind_in-returns-in-Slides g t c = sym (ap kind (ap origin_of c.in-Slides.is ∙ of_slides g.row.A.Denot))
+
+pub kind_in-returns-in-Below : goal.kind_in-returns-in-Below
+kind_in-returns-in-Below g t c =
+    let passage = c.in-Below.passage in
+    let part = ap (λ (o : Origin g.row.A.Denot). kind_above (passage_of passage) (kind (origin_of o))) c.deref.ensures in
+    c.kind_above.ensures ∙ ap (kind_above (passage_of passage)) c.kind_in.ensures ∙ part ∙ sym (ap kind (ap origin_of c.in-Below.is ∙ of_below g.row.A.Denot passage c.in-Below.part))
+
+pub kind_in-returns-in-Together : goal.kind_in-returns-in-Together
+kind_in-returns-in-Together g t c = sym (ap kind (ap origin_of c.in-Together.is ∙ of_together g.row.A.Denot c.in-Together.field-0 c.in-Together.field-1))
