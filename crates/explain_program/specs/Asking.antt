@@ -1,20 +1,22 @@
 -- What the words ask for.
-use Rattle.std.specs.Prelude.{◌≡◌, ◌⊎◌, ◌↔◌, ℕ, Bool, IsTrue, zero, suc, List, [], Some, codes, take, drop}
+use Rattle.std.specs.Prelude.{◌≡◌, ◌⊎◌, ◌↔◌, ℕ, Bool, true, false, IsTrue, zero, suc, List, [], Some, codes, take, drop}
 use Rattle.theory_search.specs.Outcome.{Bounds}
 use Rattle.theory_notation.specs.Names.{Names}
 use Rattle.theory_explanation.specs.Cutting.{Width, Whole, UpTo}
+use Rattle.theory_explanation.specs.Folding.{ByEvents, EachStep, Folded, Telling}
 use Rattle.theory_explanation.specs.Styles.{Style}
 use Rattle.settings.specs.CommandLine.{HasNumber}
 use Rattle.explain_settings.specs.CommandLine.{IsUsed, value}
 use Rattle.explain_settings.specs.Faults.{AskForHelp, AskForVersion, faults_of}
 use Rattle.explain_settings.specs.declared.options.Settings.{Settings}
 
--- a file, limits, how much of a state is told, whether it is told how large a search was, and the number of an assertion,
--- or 0 for each
+-- a file, limits, how much of a state is told, how steps are, whether it is told how large a search was, and the number of an
+-- assertion, or 0 for each
 pub record Request : Type 0 where
   pub name : List ℕ
   pub bounds : Bounds
   pub width : Width
+  pub telling : Telling
   pub count : Bool
   pub number : ℕ
 
@@ -31,10 +33,16 @@ abbrev pub taus_told : Width → Width
 taus_told Whole = Whole
 taus_told (UpTo n) = UpTo 50
 
+-- events alone, or each step, one by one or with the names that it unfolds
+abbrev pub telling_for : (events steps : Bool) → Telling
+telling_for true steps = ByEvents
+telling_for false true = EachStep
+telling_for false false = Folded
+
 -- How assertions are told by names: three states of a specification at a time, of which there may be as many as its nodes. Loops
 -- are looked for among as many states as there may be pairs.
 abbrev pub style_for : Request → Names → Style
-style_for request names = record { names = names; width = request.width; few = 3; most = request.bounds.max_nodes; taus = taus_told request.width; reach = request.bounds.max_pairs }
+style_for request names = record { names = names; width = request.width; few = 3; most = request.bounds.max_nodes; taus = taus_told request.width; reach = request.bounds.max_pairs; telling = request.telling }
 
 -- what the settings ask for
 abbrev pub request_of : Settings → Request
@@ -42,6 +50,7 @@ request_of settings = record {
   name = settings.file.now;
   bounds = bounds_asked settings;
   width = width_of_number settings.width;
+  telling = telling_for settings.events settings.steps;
   count = settings.count;
   number = settings.assertion;
 }
@@ -50,6 +59,14 @@ request_of settings = record {
 abbrev pub IsWidthOf : Width → ℕ → Type 0
 IsWidthOf width n = width ≡ width_of_number n
 
+-- the words ask for the events, or each step, so
+pub record AskForTelling (words : List (List ℕ)) (telling : Telling) : Type 0 where
+  pub events : Bool
+  pub steps : Bool
+  pub is : telling ≡ telling_for events steps
+  pub events_used : IsTrue events ↔ IsUsed (codes "events") words
+  pub steps_used : IsTrue steps ↔ IsUsed (codes "steps") words
+
 -- The words have no fault, and ask for this. A number that no word gives is the default.
 pub record AskForExplanation (words : List (List ℕ)) (request : Request) : Type 0 where
   pub taken : faults_of words ≡ []
@@ -57,6 +74,7 @@ pub record AskForExplanation (words : List (List ℕ)) (request : Request) : Typ
   pub pairs : HasNumber (value (codes "max-pairs") words) request.bounds.max_pairs
   pub nodes : HasNumber (value (codes "max-nodes") words) request.bounds.max_nodes
   pub width : (n : ℕ) × HasNumber (value (codes "width") words) n × IsWidthOf request.width n
+  pub telling : AskForTelling words request.telling
   pub count : IsTrue request.count ↔ IsUsed (codes "count") words
   pub number : HasNumber (value (codes "assertion") words) request.number
 

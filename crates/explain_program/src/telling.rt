@@ -6,11 +6,12 @@ ghost use Rattle.theory_search.specs.Terms.{IsAssertionOf};
 ghost use Rattle.csp_term.specs.Script.{assertion_of, script_of};
 ghost use Rattle.csp_term.specs.Term.{process_of};
 ghost use Rattle.csp_print.specs.Names.{names_of};
+ghost use Rattle.counterexample.specs.Folding.{telling_of};
 ghost use Rattle.counterexample.specs.Styles.{style_of};
 ghost use Rattle.counterexample.specs.Widths.{width_of};
 ghost use Rattle.explanation.specs.Running.{HasRun, HasStop, stop_in};
 ghost use Rattle.verdict.specs.Outcome.{outcome_of};
-ghost use Rattle.explain_program.specs.Asking.{bounds_asked, request_of, style_for, taus_told, width_of_number};
+ghost use Rattle.explain_program.specs.Asking.{bounds_asked, request_of, style_for, taus_told, telling_for, width_of_number};
 ghost use Rattle.explain_program.specs.Sizes.{IsSizeFor};
 ghost use Rattle.explain_program.specs.Stops.{stop_kept};
 ghost use Rattle.explain_program.specs.Telling.{IsToldAsAsked};
@@ -18,7 +19,7 @@ ghost use Rattle.explain_program.specs.Telling.{IsToldAsAsked};
 use crate::counting::with_size;
 use crate::reader::NamedScript;
 use crate::searching::Answer;
-use counterexample::{Style, Width};
+use counterexample::{Style, Telling, Width};
 use csp_print::Names;
 use csp_term::{Action, AllocHandle, Assertion, Memory};
 use explain_settings::Settings;
@@ -74,6 +75,20 @@ fn style<'n, 't, A: AllocHandle>(
         most: settings.max_nodes,
         taus: taus(settings.width),
         reach: settings.max_pairs,
+        telling: telling(settings.events, settings.steps),
+    }
+}
+
+// Events alone, or each step, one by one or with the names that it unfolds.
+fn telling(events: bool, steps: bool) -> Telling
+    ensures { telling_of result ≡ telling_for events steps }
+{
+    if events {
+        Telling::ByEvents
+    } else if steps {
+        Telling::EachStep
+    } else {
+        Telling::Folded
     }
 }
 
