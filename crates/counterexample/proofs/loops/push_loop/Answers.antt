@@ -109,7 +109,7 @@ loop-place-preserved g c =
     let second : all ≡ one ++ next_text style back (process_of s) (slice_get loop.states (i + 1)) = c.in_ok-push_next.ensures ∙ ap (λ u. one ++ next_text style back (process_of s) u) next in
     record {
       few = omega (arith, low);
-      text = goes_on now one all (step_line style.names (n + 1 + i) Tau o) (next_text style back (process_of s) (slice_get loop.states (i + 1)))
+      text = goes_on now one all (step_line style.names (n + 1 + i) Tau o []) (next_text style back (process_of s) (slice_get loop.states (i + 1)))
           (taus_left style few (n + 1) back loop.states loop.origins i) (taus_left style few (n + 1) back loop.states loop.origins (i + 1))
           (string_bytes c.args.text.now ++ few_taus style few (n + 1) back loop.states loop.origins) c.loop-place.invariant.text
           (taus_next style few (n + 1) back loop.states loop.origins i (process_of s) o here told low) c.in_ok-push_step.ensures second;
