@@ -58,7 +58,7 @@ module _ (style : Style) (few n back : ℕ) (states : List Process) (origins : L
         counted (v ∷ ss) (suc k) u at = let h = counted ss k u at in omega (arith, h)
 
     abbrev line : List ℕ
-    line = step_line style.names (n + i) Tau o
+    line = step_line style.names (n + i) Tau o []
 
     from : i < few → taus_left style few n back states origins i ≡ few_taus style (suc (few - (i + 1))) (n + i) back (s ∷ drop (suc i) states) (o ∷ drop (suc i) origins)
     from low =

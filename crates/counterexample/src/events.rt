@@ -11,6 +11,7 @@ ghost use Rattle.csp_print.specs.Writing.{Writes};
 ghost use Rattle.counterexample.specs.Counterexample.{origins_listed};
 ghost use Rattle.counterexample.specs.Folding.{kind_of};
 
+use crate::folding::state_behind;
 use crate::kind::{Kind, kind_told};
 use crate::states::push_state;
 use crate::step::{Step, push_step};
@@ -77,6 +78,6 @@ pub(crate) fn push_last<A: AllocHandle>(
 ) -> Result<(), AllocError>
     ensures { Writes result text.old text.new (last_line (names_of names.now) (process_of state.now) (map process_of states.now)) }
 {
-    let last = states.last().unwrap_or(state);
+    let last = state_behind(states.len(), state, states);
     push_state(alloc, names, Width::Whole, last, text)
 }

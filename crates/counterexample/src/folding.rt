@@ -1,7 +1,7 @@
 //! Steps that unfold a name, which may be told with the step before.
 
 ghost use Rattle.std.specs.Prelude.{◌≡◌, IfOk, map, option_map};
-ghost use Rattle.theory_explanation.specs.Folding.{folded, folds, is_folded, names_behind, state_behind, then_text, unfolds};
+ghost use Rattle.theory_explanation.specs.Folding.{folded, folds, is_folded, name_text, names_behind, state_behind, then_text, unfoldings, unfolds};
 ghost use Rattle.csp_term.specs.Term.{process_of};
 ghost use Rattle.csp_moves.specs.Origin.{origin_of};
 ghost use Rattle.csp_print.specs.Names.{names_of};
@@ -53,15 +53,26 @@ pub(crate) fn folded<A: AllocHandle>(
 ) -> Result<Vec<EquationId, A>, AllocError>
     ensures { IfOk result (λ equations. equations_listed equations.items ≡ folded (telling_of telling) (origins_listed origins.now)) }
 {
-    let mut equations = Vec::new(alloc);
-    if !folds(telling) {
-        return Ok(equations);
+    if folds(telling) {
+        return unfoldings(alloc, origins);
     }
-    for origin in origins {
-        let Kind::Unfolding(equation) = kind_told(origin) else {
-            return Ok(equations);
-        };
-        equations.push(equation)?;
+    Ok(Vec::new(alloc))
+}
+
+// The equations that the first of the steps unfold, up to a step that unfolds none.
+fn unfoldings<A: AllocHandle>(
+    alloc: A,
+    origins: &[Option<Origin<A>>],
+) -> Result<Vec<EquationId, A>, AllocError>
+    ensures { IfOk result (λ equations. equations_listed equations.items ≡ unfoldings (origins_listed origins.now)) }
+{
+    let mut equations = Vec::new(alloc);
+    for place in 0..origins.len() {
+        match kind_told(&origins[place]) {
+            Kind::Unfolding(equation) => equations.push(equation)?,
+            Kind::Hiding => return Ok(equations),
+            Kind::Other => return Ok(equations),
+        }
     }
     Ok(equations)
 }
@@ -74,7 +85,11 @@ pub(crate) fn state_behind<'t, A: AllocHandle>(
 ) -> &'t Term<A>
     ensures { process_of result.now ≡ state_behind count (process_of state.now) (map process_of states.now) }
 {
-    first_few(states, count).last().unwrap_or(state)
+    let few = first_few(states, count);
+    match few.last() {
+        Some(last) => last,
+        None => state,
+    }
 }
 
 /// What is told behind a step of the names that are unfolded then.
@@ -87,8 +102,7 @@ pub(crate) fn push_then<A: AllocHandle>(
 {
     match equations.split_first() {
         Some((first, others)) => {
-            push_mark(", then unfolds ", text)?;
-            names.push_equation(*first, text)?;
+            push_name(names, ", then unfolds ", *first, text)?;
             push_names_behind(names, others, text)
         }
         None => Ok(()),
@@ -104,8 +118,20 @@ fn push_names_behind<A: AllocHandle>(
     ensures { Writes result text.old text.new (names_behind (names_of names.now) (equations_listed equations.now)) }
 {
     for equation in equations {
-        push_mark(", ", text)?;
-        names.push_equation(*equation, text)?;
+        push_name(names, ", ", *equation, text)?;
     }
     Ok(())
+}
+
+// The name of the equation, behind the mark.
+fn push_name<A: AllocHandle>(
+    names: &Names<'_, A>,
+    mark: &str,
+    equation: EquationId,
+    text: &mut String<A>,
+) -> Result<(), AllocError>
+    ensures { Writes result text.old text.new (name_text (names_of names.now) mark.now equation.0) }
+{
+    push_mark(mark, text)?;
+    names.push_equation(equation, text)
 }

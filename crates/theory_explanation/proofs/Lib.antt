@@ -1,4 +1,5 @@
 pub mod Comparings
+pub mod Folding
 pub mod Lacking
 pub mod Lacks
 pub mod Replays

@@ -92,12 +92,16 @@ is_event (Ev e) o = true
 
 -- ---- the text
 
+-- the name of an equation, behind a mark
+abbrev pub name_text : Names → List ℕ → ℕ → List ℕ
+name_text names mark n = mark ++ name_at names.equations n
+
 -- names with `, ` before each
 abbrev pub names_behind : Names → List ℕ → List ℕ
 names_behind names [] = []
-names_behind names (n ∷ ns) = codes ", " ++ (name_at names.equations n ++ names_behind names ns)
+names_behind names (n ∷ ns) = name_text names (codes ", ") n ++ names_behind names ns
 
 -- what is told behind a step of the names that are unfolded then
 abbrev pub then_text : Names → List ℕ → List ℕ
 then_text names [] = []
-then_text names (n ∷ ns) = codes ", then unfolds " ++ (name_at names.equations n ++ names_behind names ns)
+then_text names (n ∷ ns) = name_text names (codes ", then unfolds ") n ++ names_behind names ns

@@ -8,34 +8,37 @@ use Rattle.csp_moves.proofs.Origins.{of_below, of_chooses, of_does, of_ends, of_
 use Rattle.counterexample.proofs.Sizes.{origin_size}
 use Rattle.counterexample.proofs.kind.+kind.Goals as goal
 
-pub kind_in-kind_in-requires : goal.kind_in-kind_in-requires
-kind_in-kind_in-requires g t c κs within =
+pub kind_in-requires : goal.kind_in-requires
+kind_in-requires g t c κs within =
     let size = λ (o : Origin g.row.A.Denot). origin_size (origin_of o) in
     let whole = ap size c.in-Below.is ∙ ap origin_size (of_below g.row.A.Denot c.in-Below.passage c.in-Below.part) in
     let part = ap size c.deref.ensures in
     let smaller : origin_size (origin_of c.deref.result.now) < origin_size (origin_of c.args.origin.now) = omega (arith, whole, part) in
     (omega (arith, c.requires, smaller), (within, elim g.met.A.AllocHandle.small [ inl e ↦ rw (e.0, e.1) (search (lit≤)) | inr e ↦ rw (e.0, e.1) (search (lit≤)) ]))
 
-pub kind_in-returns-in-Does : goal.kind_in-returns-in-Does
-kind_in-returns-in-Does g t c = sym (ap kind (ap origin_of c.in-Does.is ∙ of_does g.row.A.Denot c.in-Does.field-0))
+pub returns-in-Does : goal.returns-in-Does
+returns-in-Does g t c = sym (ap kind (ap origin_of c.in-Does.is ∙ of_does g.row.A.Denot c.in-Does.field-0))
 
-pub kind_in-returns-in-Ends : goal.kind_in-returns-in-Ends
-kind_in-returns-in-Ends g t c = sym (ap kind (ap origin_of c.in-Ends.is ∙ of_ends g.row.A.Denot))
+pub returns-in-Ends : goal.returns-in-Ends
+returns-in-Ends g t c = sym (ap kind (ap origin_of c.in-Ends.is ∙ of_ends g.row.A.Denot))
 
-pub kind_in-returns-in-Unfolds : goal.kind_in-returns-in-Unfolds
-kind_in-returns-in-Unfolds g t c = sym (ap kind (ap origin_of c.in-Unfolds.is ∙ of_unfolds g.row.A.Denot c.in-Unfolds.equation))
+pub returns-in-Unfolds : goal.returns-in-Unfolds
+returns-in-Unfolds g t c = sym (ap kind (ap origin_of c.in-Unfolds.is ∙ of_unfolds g.row.A.Denot c.in-Unfolds.equation))
 
-pub kind_in-returns-in-Chooses : goal.kind_in-returns-in-Chooses
-kind_in-returns-in-Chooses g t c = sym (ap kind (ap origin_of c.in-Chooses.is ∙ of_chooses g.row.A.Denot c.in-Chooses.field-0))
+pub returns-in-Chooses : goal.returns-in-Chooses
+returns-in-Chooses g t c = sym (ap kind (ap origin_of c.in-Chooses.is ∙ of_chooses g.row.A.Denot c.in-Chooses.field-0))
 
-pub kind_in-returns-in-Slides : goal.kind_in-returns-in-Slides
-kind_in-returns-in-Slides g t c = sym (ap kind (ap origin_of c.in-Slides.is ∙ of_slides g.row.A.Denot))
+pub returns-in-Slides : goal.returns-in-Slides
+returns-in-Slides g t c = sym (ap kind (ap origin_of c.in-Slides.is ∙ of_slides g.row.A.Denot))
 
-pub kind_in-returns-in-Below : goal.kind_in-returns-in-Below
-kind_in-returns-in-Below g t c =
+pub returns-in-Below : goal.returns-in-Below
+returns-in-Below g t c =
     let passage = c.in-Below.passage in
     let part = ap (λ (o : Origin g.row.A.Denot). kind_above (passage_of passage) (kind (origin_of o))) c.deref.ensures in
     c.kind_above.ensures ∙ ap (kind_above (passage_of passage)) c.kind_in.ensures ∙ part ∙ sym (ap kind (ap origin_of c.in-Below.is ∙ of_below g.row.A.Denot passage c.in-Below.part))
 
-pub kind_in-returns-in-Together : goal.kind_in-returns-in-Together
-kind_in-returns-in-Together g t c = sym (ap kind (ap origin_of c.in-Together.is ∙ of_together g.row.A.Denot c.in-Together.field-0 c.in-Together.field-1))
+pub returns-in-Together : goal.returns-in-Together
+returns-in-Together g t c = sym (ap kind (ap origin_of c.in-Together.is ∙ of_together g.row.A.Denot c.in-Together.field-0 c.in-Together.field-1))
+
+pub kind_above-requires : goal.kind_above-requires
+kind_above-requires g t c = elim g.met.A.AllocHandle.small [ inl e ↦ rw (e.0, e.1) (search (lit≤)) | inr e ↦ rw (e.0, e.1) (search (lit≤)) ]

@@ -1,5 +1,5 @@
 -- The lasso with the origins of its taus is a loop.
-use Rattle.std.proofs.Common.{◌≡◌, [], ◌∷◌, ◌++◌, List, Option, Some, length, map, replicate, slice_get, sym, subst, inl, inr, lit<, lit≤}
+use Rattle.std.proofs.Common.{◌≡◌, ◌<◌, [], ◌∷◌, ◌++◌, List, Option, Some, None, length, map, replicate, slice_get, sym, subst, inl, inr, lit<, lit≤}
 use Rattle.theory_syntax.specs.Value.{Tau}
 use Rattle.theory_syntax.specs.Process.{Process}
 use Rattle.theory_explanation.specs.Counterexamples.{AreOriginsAlong}

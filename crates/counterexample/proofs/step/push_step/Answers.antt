@@ -1,5 +1,5 @@
 -- Each part is put one after the other.
-use Rattle.std.proofs.Common.{◌++◌, option_map}
+use Rattle.std.proofs.Common.{◌++◌, option_map, inl, inr, lit≤}
 use Rattle.std.specs.Prelude.{codes, decimal}
 use Rattle.std.specs.String.{string_bytes}
 use Rattle.csp_value.specs.Action.{action_of}
@@ -27,3 +27,9 @@ returns g c =
     (behind r (string_bytes c.push_mark-2.new.text) (string_bytes c.push_action.new.text) all did (source ++ (then ++ codes "\n")) c.in_ok-push_action.ensures
     (behind r (string_bytes c.push_action.new.text) (string_bytes c.push_source.new.text) all source (then ++ codes "\n") c.in_ok-push_source.ensures
     (behind r (string_bytes c.push_source.new.text) (string_bytes c.push_then.new.text) all then (codes "\n") c.in_ok-push_then.ensures c.push_mark-3.ensures)))))
+
+pub push_action-requires : goal.push_action-requires
+push_action-requires g c = elim g.met.A.AllocHandle.small [ inl e ↦ rw (e.0, e.1) (search (lit≤)) | inr e ↦ rw (e.0, e.1) (search (lit≤)) ]
+
+pub push_source-requires : goal.push_source-requires
+push_source-requires g c = elim g.met.A.AllocHandle.small [ inl e ↦ rw (e.0, e.1) (search (lit≤)) | inr e ↦ rw (e.0, e.1) (search (lit≤)) ]
