@@ -2,7 +2,7 @@
 
 use crate::rows::Row;
 
-static LOOPS: [Row; 6] = [
+static LOOPS: [Row; 8] = [
     // Of two states after the trace one diverges, and the other one has taus too, but not for ever.
     Row {
         words: &["script"],
@@ -105,6 +105,42 @@ static LOOPS: [Row; 6] = [
   then it goes on with tau for ever:
   3 tau: unfolds D
       back to state 2
+",
+    },
+    // Each state whole.
+    Row {
+        words: &["--width=0", "script"],
+        status: 1,
+        text: "channel a\nP = a -> P\nassert (P [| {a} |] P) \\ {a} :[divergence free]\n",
+        told: "\
+1 fails  assert (P [| {a} |] P) \\ {a} :[divergence free]
+  0 start
+      (P [| {a} |] P) \\ {a}
+  then it goes on with tau for ever:
+  1 tau: right: unfolds P
+      (P [| {a} |] a -> P) \\ {a}
+  2 tau: left: unfolds P
+      (a -> P [| {a} |] a -> P) \\ {a}
+  3 tau: hidden a by left, right
+      back to state 0
+",
+    },
+    // Five characters of what has changed; the end of the path is told whole.
+    Row {
+        words: &["--width=5", "script"],
+        status: 1,
+        text: "channel a\nP = a -> P\nassert (P [| {a} |] P) \\ {a} :[divergence free]\n",
+        told: "\
+1 fails  assert (P [| {a} |] P) \\ {a} :[divergence free]
+  0 start
+      (P [| {a} |] P) \\ {a}
+  then it goes on with tau for ever:
+  1 tau: right: unfolds P
+      .. [| .. 21 more characters
+  2 tau: left: unfolds P
+      (a -> .. 15 more characters
+  3 tau: hidden a by left, right
+      back to state 0
 ",
     },
 ];
