@@ -2,9 +2,9 @@
 
 use crate::rows::Row;
 
-/// The assertion that shows the fault.
+/// All assertions, of which one shows the fault.
 pub(crate) const COLLISION: Row = Row {
-    words: &["script", "1"],
+    words: &["script"],
     status: 1,
     text: r"-- Two stations share a line. Where both send at once, both hear the crash, give way, and send again. On the faulty line
 -- they can give way to each other for ever; the mended one lets the first station send alone after a crash.
@@ -59,5 +59,6 @@ assert MENDED :[divergence free]
       ((STATION(0) [| {crash} |] STATION(1)) [| {|send, through, crash|} |] LINE) \ {|send, ..
   9 tau: right: unfolds LINE
       back to state 3
+2 holds  assert MENDED :[divergence free]
 ",
 };

@@ -2,9 +2,9 @@
 
 use crate::rows::Row;
 
-/// The assertion that shows the fault.
+/// All assertions, of which one shows the fault.
 pub(crate) const CREDITS: Row = Row {
-    words: &["script", "2"],
+    words: &["script"],
     status: 1,
     text: r"-- A sender has a credit for each place of the receiver's store, and sends where it has one. The faulty receiver forgets
 -- to give the credit back where an item is taken while the store is full, so that a place is never filled again.
@@ -35,7 +35,8 @@ assert BUFFER(0) [T= FAULTY
 assert BUFFER(0) [F= FAULTY
 assert BUFFER(0) [F= MENDED
 ",
-    told: r"2 fails  assert BUFFER(0) [F= FAULTY
+    told: r"1 holds  assert BUFFER(0) [T= FAULTY
+2 fails  assert BUFFER(0) [F= FAULTY
   0 start
       FAULTY
       specification: BUFFER(0)
@@ -74,5 +75,6 @@ assert BUFFER(0) [F= MENDED
       0 > 0 & put -> SENDER(0 - 1) [] credit -> SENDER(0 + 1)
   by itself right can do {put,get}
       1 < 2 & put -> FORGETFUL(1 + 1) [] 1 == 1 & get -> credit -> FORGETFUL(0) [] 1 == 2 & get -> FORGETFUL(1)
+3 holds  assert BUFFER(0) [F= MENDED
 ",
 };

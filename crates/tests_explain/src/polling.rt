@@ -2,9 +2,9 @@
 
 use crate::rows::Row;
 
-/// The assertion that shows the fault.
+/// All assertions, of which one shows the fault.
 pub(crate) const POLLING: Row = Row {
-    words: &["script", "1"],
+    words: &["script"],
     status: 1,
     text: r"-- A reader looks into a box until it finds a letter there. In the faulty system it looks over and over while the box is
 -- empty, so that inside something goes on for ever; in the mended one it sleeps until the box rings.
@@ -46,5 +46,6 @@ assert MENDED :[divergence free]
       ((none -> RESTLESS [] some -> read -> RESTLESS) [| {look, none, some} |] none -> EMPTY) \ {look, none, ..
   5 tau: hidden none by left, right
       back to state 1
+2 holds  assert MENDED :[divergence free]
 ",
 };

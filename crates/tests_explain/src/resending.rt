@@ -2,9 +2,9 @@
 
 use crate::rows::Row;
 
-/// The assertion that shows the fault.
+/// All assertions, of which one shows the fault.
 pub(crate) const RESENDING: Row = Row {
-    words: &["script", "1"],
+    words: &["script"],
     status: 1,
     text: r"-- A sender sends a frame again until it hears that it has arrived. On a line that may lose each frame it does so for
 -- ever, and nothing is seen of it; the mended sender gives up after the second loss, and says so.
@@ -60,5 +60,7 @@ assert TRIAL [F= MENDED
       ((SENDING [| {confirm} |] arrive -> get -> confirm -> RECEIVER) [| {send, arrive, lost} |] LINE) \ {send, arrive, ..
   9 tau: right: unfolds LINE
       back to state 5
+2 holds  assert MENDED :[divergence free]
+3 holds  assert TRIAL [F= MENDED
 ",
 };
