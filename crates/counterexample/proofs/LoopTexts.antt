@@ -1,9 +1,11 @@
 -- The text of a loop from one of its states on.
-use Rattle.std.proofs.Common.{◌≡◌, ℕ, zero, suc, ◌+◌, ◌-◌, ◌<◌, ◌≤◌, List, [], ◌∷◌, ◌++◌, Option, Some, None, length, drop, get_or, slice_get, refl, sym, ◌∙◌, ap, subst, append-nil, arith, drop-cons}
+use Rattle.std.proofs.Common.{◌≡◌, ℕ, zero, suc, ◌+◌, ◌-◌, ◌<◌, ◌≤◌, List, [], ◌∷◌, ◌++◌, Option, Some, None, option_map, length, map, drop, get_or, slice_get, refl, sym, ◌∙◌, ap, subst, append-nil, arith, drop-cons}
 use Rattle.theory_syntax.specs.Value.{Tau}
-use Rattle.std.proofs.lemmas.Option.{slice_get-get_or}
+use Rattle.std.proofs.lemmas.Option.{slice_get-get_or, slice_get-map, slice_get_past, slice_get_read}
+use Rattle.std.specs.Borrow.{Bor}
+use Rattle.std.specs.Slice.{IsItemAt}
 use Rattle.theory_syntax.specs.Process.{Process, Stop}
-use Rattle.theory_syntax.proofs.Places.{drop_at}
+use Rattle.theory_syntax.proofs.Places.{drop_at, get_some}
 use Rattle.theory_origins.specs.Origin.{Origin}
 use Rattle.theory_explanation.specs.Counterexamples.{Loop}
 use Rattle.theory_explanation.specs.Loops.{back_text, few_taus, left_out_line, loop_text, taus_told}
@@ -105,3 +107,10 @@ pub loop_whole : (style : Style) (n few : ℕ) (loop : Loop) → few ≡ taus_to
 loop_whole style n few loop same =
     ap (λ k. few_taus style k (n + 1) (n + loop.back) loop.states loop.origins) same
     ∙ ap (λ k. few_taus style (taus_told style.taus loop.states) k (n + loop.back) loop.states loop.origins) (let e : n + 1 ≡ suc n = omega arith in e)
+
+-- ---- items that are lent
+
+-- what is lent of the item at the place, if there is one, stands for what stands there
+pub lent_at : {X Y : Type 0} (f : X → Y) (xs : List X) (i : ℕ) (r : Option (Bor X)) → IsItemAt xs i r → option_map (λ x. f x.now) r ≡ slice_get (map f xs) i
+lent_at f xs i (Some x) at = sym (get_some f xs i x.now (slice_get_read xs (length xs) i x.now refl at.3.0 at.1))
+lent_at f xs i None at = sym (slice_get-map f xs i ∙ ap (option_map f) (slice_get_past xs i at.3))

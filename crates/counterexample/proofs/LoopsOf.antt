@@ -1,14 +1,17 @@
 -- Loops that lassos are told as.
-use Rattle.std.proofs.Common.{◌<◌, List, Option, Some, None, length, map, option_map, arith}
+use Rattle.std.proofs.Common.{◌≡◌, ◌<◌, ℕ, List, [], ◌∷◌, ◌++◌, Vec, Option, Some, None, length, map, option_map, replicate, slice_get, sym, subst, arith}
 use Rattle.std.proofs.lemmas.List.{length-map}
 use Rattle.std.proofs.lemmas.Option.{slice_get_within}
+use Rattle.theory_syntax.specs.Value.{Tau}
 use Rattle.theory_syntax.specs.Process.{Process, Script}
 use Rattle.theory_semantics.specs.Meaning.Violations.{Evidence, ByEvent, ByOffers, ByDeadlock, ByDivergence}
-use Rattle.theory_explanation.specs.Counterexamples.{IsLoopFor}
+use Rattle.theory_explanation.specs.Counterexamples.{AreOriginsAlong, IsLoopFor}
 use Rattle.csp_term.specs.Term.{process_of}
+use Rattle.csp_term.specs.declared.term.Term.{Term}
+use Rattle.csp_moves.specs.declared.origin.Origin.{Origin}
 use Rattle.csp_replay.specs.Endings.{IsLassoFor}
 use Rattle.csp_replay.specs.declared.lasso.Lasso.{Lasso}
-use Rattle.counterexample.specs.Counterexample.{ComesBack, IsLoopOf, loop_of}
+use Rattle.counterexample.specs.Counterexample.{ComesBack, GoesRound, IsLoopOf, loop_of, origins_listed}
 use Rattle.counterexample.specs.declared.looping.Looping.{Looping}
 
 module _ (A : Type 0) (script : Script) where
@@ -39,3 +42,29 @@ module _ (A : Type 0) (script : Script) where
   loop_told (ByEvent x) t None (Some l) is told = absurd told
   loop_told (ByOffers xs) t None (Some l) is told = absurd told
   loop_told ByDeadlock t None (Some l) is told = absurd told
+
+  -- a lasso is told as a loop where its taus have their origins
+  pub is_loop : (states : Vec (Term A) A) (back : ℕ) (origins : Vec (Option (Origin A)) A) →
+      ((again : Process) → slice_get (map process_of states.items) back ≡ Some again → AreOriginsAlong script (replicate (length states.items) Tau) (map process_of states.items ++ again ∷ []) (origins_listed origins.items)) →
+      IsLoopOf script (Some (record { states = states; back = back })) (Some (record { states = states; back = back; origins = origins }))
+  is_loop states back origins told = λ t is.
+      let taus = sym (length-map states.items process_of) in
+      record {
+        again = is.0;
+        lasso = is.1;
+        told = subst (λ k. AreOriginsAlong script (replicate k Tau) (map process_of states.items ++ is.0 ∷ []) (origins_listed origins.items)) taus (told is.0 is.1.stands);
+      }
+
+  -- the last tau of a loop that is told leads back to one of its states
+  pub goes_round : (e : Evidence) (t : Process) (l : Option (Looping A)) → IsLoopFor script e t (option_map loop_of l) → GoesRound l
+  goes_round (ByEvent x) t (Some l) is = absurd is
+  goes_round (ByOffers xs) t (Some l) is = absurd is
+  goes_round ByDeadlock t (Some l) is = absurd is
+  goes_round ByDivergence t (Some l) is =
+      let inside : l.back < length (map process_of l.states.items) = slice_get_within (map process_of l.states.items) l.back is.again is.lasso.stands in
+      let long = length-map l.states.items process_of in
+      omega (arith, inside, long)
+  goes_round (ByEvent x) t None is = tt
+  goes_round (ByOffers xs) t None is = tt
+  goes_round ByDeadlock t None is = tt
+  goes_round ByDivergence t None is = tt

@@ -1,15 +1,19 @@
 -- Where the steps come from, what the specification has beside them, the loop, and the parts that wait.
-use Rattle.std.proofs.Common.{◌≡◌, suc, List, Option, IfSome, length, map, sym, subst, ap, inl, inr, lit≤, lit<, arith}
+use Rattle.std.proofs.Common.{◌≡◌, ◌∙◌, suc, List, Option, IfSome, length, map, option_map, sym, subst, ap, inl, inr, lit≤, lit<, arith}
 use Rattle.std.proofs.lemmas.List.{length-map}
 use Rattle.theory_syntax.specs.Process.{Process}
 use Rattle.theory_semantics.specs.Kinds.Scripts.{IsTermOf}
+use Rattle.theory_explanation.specs.Counterexamples.{AreOriginsAlong, AreWaitingFor, IsCounterpartFor}
 use Rattle.theory_explanation.proofs.Replays.{replay_length}
 use Rattle.csp_value.specs.Action.{action_of}
-use Rattle.csp_term.specs.Script.{script_of}
+use Rattle.csp_value.specs.declared.action.Action.{Action}
+use Rattle.csp_term.specs.Script.{assertion_of, script_of}
 use Rattle.csp_term.specs.Term.{process_of}
+use Rattle.csp_term.specs.declared.term.Term.{Term}
 use Rattle.verdict.specs.Outcome.{evidence_of, violation_of}
-use Rattle.counterexample.specs.Counterexample.{ComesBack, specification_in}
-use Rattle.counterexample.proofs.LoopsOf.{comes_back}
+use Rattle.counterexample.specs.Counterexample.{ComesBack, counterpart_of, origins_listed, specification_in, waiting_of}
+use Rattle.counterexample.proofs.Last.{end_closed, last_read}
+use Rattle.counterexample.proofs.LoopsOf.{comes_back, loop_told}
 use Rattle.counterexample.proofs.counterexamples.along.Goals as goal
 
 pub origins_along-requires : goal.origins_along-requires
@@ -57,3 +61,34 @@ drop-counterpart-requires-in_err-waiting-3-room-T-Destruct g c κs within = elim
 
 pub drop-origins-requires-in_err-waiting-room-T-Destruct : goal.drop-origins-requires-in_err-waiting-room-T-Destruct
 drop-origins-requires-in_err-waiting-room-T-Destruct g c κs within = elim g.met.A.AllocHandle.small [ inl e ↦ rw (e.0, e.1) (lit< tt) | inr e ↦ rw (e.0, e.1) (lit< tt) ]
+
+pub waiting_at-requires : goal.waiting_at-requires
+waiting_at-requires g c =
+    let script = script_of c.args.script.now in
+    let a = assertion_of c.args.assertion.now in
+    let v = violation_of c.args.shown.now in
+    let replay = c.requires.replay.0 in
+    let same = last_read script v.path a.implementation replay.end c.args.states.items c.len.result c.index-states-len.result replay.visits (c.len.ensures ∙ sym (length-map c.args.shown.now.path.items action_of)) c.index-states-len.is in
+    let closed : IsTermOf script (process_of c.index-states-len.result) = subst (IsTermOf script) (sym same) (end_closed script a.implementation v (map process_of c.args.states.items) replay c.requires.terms.implementation) in
+    elim g.met.A.AllocHandle.small [ inl e ↦ rw (e.0, e.1) (search (lit≤, closed)) | inr e ↦ rw (e.0, e.1) (search (lit≤, closed)) ]
+
+pub returns : goal.returns
+returns g c =
+    let script = script_of c.args.script.now in
+    let a = assertion_of c.args.assertion.now in
+    let v = violation_of c.args.shown.now in
+    let most = c.args.most in
+    let replay = c.requires.replay.0 in
+    let origins = origins_listed c.in_ok-origins.origins.items in
+    let P : List (Action g.row.A.Denot) → Type 0 = λ path. AreOriginsAlong script (map action_of path) (map process_of c.deref-2.result.now) origins in
+    let S : List (Term g.row.A.Denot) → Type 0 = λ states. AreOriginsAlong script v.path (map process_of states) origins in
+    let counterpart = option_map counterpart_of c.in_ok-counterpart.counterpart in
+    let Q : List (Action g.row.A.Denot) → Type 0 = λ path. IsCounterpartFor script (specification_in c.specification-specification.result) (map action_of path) most counterpart in
+    let same = last_read script v.path a.implementation replay.end c.args.states.items c.len.result c.index-states-len.result replay.visits (c.len.ensures ∙ sym (length-map c.args.shown.now.path.items action_of)) c.index-states-len.is in
+    record {
+      replay = replay;
+      origins = subst S c.deref-2.ensures.value (subst P c.deref.ensures.value c.in_ok-origins.ensures);
+      counterpart = subst (λ s. IsCounterpartFor script s v.path most counterpart) c.specification-specification.ensures (subst Q c.deref-3.ensures.value c.in_ok-counterpart.ensures);
+      loop = loop_told g.row.A.Denot script v.evidence replay.end c.args.lasso c.in_ok-looping.looping c.requires.replay.1 c.in_ok-looping.ensures;
+      waiting = subst (λ t. AreWaitingFor script v.evidence t (map waiting_of c.in_ok-waiting.waiting.items)) same c.in_ok-waiting.ensures;
+    }

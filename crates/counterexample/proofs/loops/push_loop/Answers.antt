@@ -1,18 +1,21 @@
 -- One more tau is told, or how many are left out.
 use Rattle.std.proofs.Common.{◌≡◌, List, ◌+◌, ◌-◌, ◌<◌, ◌++◌, length, map, option_map, Option, Some, slice_get, refl, sym, ◌∙◌, ap, inl, inr, lit≤, lit<, arith}
 use Rattle.std.proofs.lemmas.List.{length-map}
-use Rattle.std.proofs.lemmas.Option.{slice_get-map, slice_get_past, slice_get_read}
+use Rattle.std.proofs.lemmas.Option.{slice_get-get_or, slice_get-map, slice_get_past, slice_get_read}
 use Rattle.std.specs.String.{string_bytes}
 use Rattle.theory_syntax.proofs.Places.{get_some}
 use Rattle.csp_term.specs.Term.{process_of}
 use Rattle.csp_term.specs.declared.term.Term.{Term}
 use Rattle.csp_moves.specs.Origin.{origin_of}
 use Rattle.csp_moves.specs.declared.origin.Origin.{Origin}
+use Rattle.theory_syntax.specs.Value.{Tau}
 use Rattle.theory_explanation.specs.Loops.{few_taus, left_out_line, loop_text, taus_told}
-use Rattle.csp_print.proofs.Writing.{alike, comes_to_end}
+use Rattle.theory_explanation.specs.Steps.{step_line}
+use Rattle.csp_print.proofs.Writing.{alike, comes_to_end, goes_on}
 use Rattle.counterexample.specs.Counterexample.{loop_of, origins_listed}
 use Rattle.counterexample.specs.Styles.{style_of}
-use Rattle.counterexample.proofs.LoopTexts.{loop_whole, no_tau_left, taus_cut_within, taus_left}
+use Rattle.counterexample.specs.Loops.{next_text}
+use Rattle.counterexample.proofs.LoopTexts.{lent_at, loop_whole, no_loop_left, no_tau_left, taus_cut_within, taus_left, taus_next}
 use Rattle.counterexample.proofs.Putting.{put_last}
 use Rattle.counterexample.proofs.loops.push_loop.Goals as goal
 
@@ -78,3 +81,54 @@ returns-then-place-told g c =
     alike r start all _ _ (loop_whole style n few loop same)
     (put_last r start now all (left_out_line (c.len-count.result - i) (n + l.back)) (taus_left style few (n + 1) (n + l.back) loop.states loop.origins i) (few_taus style few (n + 1) (n + l.back) loop.states loop.origins)
     c.loop-place.invariant.text (taus_cut_within style few (n + 1) (n + l.back) loop.states loop.origins i _ here told (sym place) ∙ ap (λ k. left_out_line k (n + l.back)) number) c.push_left_out.ensures)
+
+pub loop-place-preserved : goal.loop-place-preserved
+loop-place-preserved g c =
+    let style = style_of c.args.style.now in
+    let n = c.args.number in
+    let l = c.args.looping.now in
+    let loop = loop_of l in
+    let few = c.taus_told-told.result in
+    let back = n + l.back in
+    let i = c.loop-place.place in
+    let now = string_bytes c.loop-place.text in
+    let one = string_bytes c.push_step.new.text in
+    let all = string_bytes c.push_next.new.text in
+    let found = c.in-Some.ensures.lookup in
+    let os = c.deref-in-loop-place.result.now in
+    let read = get_some (λ o. option_map origin_of o) os i c.in-Some.origin.now (slice_get_read os (length os) i c.in-Some.origin.now refl found.3.0 found.1) in
+    let told = ap (λ (xs : List (Option (Origin g.row.A.Denot))). slice_get (origins_listed xs) i) (sym c.deref-in-loop-place.ensures.value) ∙ read in
+    let o = option_map origin_of c.in-Some.origin.now in
+    let s = c.index-states-place.result in
+    let here = get_some process_of l.states.items i s (slice_get-get_or l.states.items i s c.index-states-place.in_bounds ∙ ap Some (sym c.index-states-place.is)) in
+    let most = c.loop-place.invariant.few in
+    let other = c.if-place-told.false in
+    let low : i < few = omega (arith, most, other) in
+    let t = c.get-next.result in
+    let next = lent_at process_of c.deref-in-loop-place-2.result.now (i + 1) t c.get-next.ensures.lookup ∙ ap (λ (ts : List (Term g.row.A.Denot)). slice_get (map process_of ts) (i + 1)) c.deref-in-loop-place-2.ensures.value in
+    let second : all ≡ one ++ next_text style back (process_of s) (slice_get loop.states (i + 1)) = c.in_ok-push_next.ensures ∙ ap (λ u. one ++ next_text style back (process_of s) u) next in
+    record {
+      few = omega (arith, low);
+      text = goes_on now one all (step_line style.names (n + 1 + i) Tau o) (next_text style back (process_of s) (slice_get loop.states (i + 1)))
+        (taus_left style few (n + 1) back loop.states loop.origins i) (taus_left style few (n + 1) back loop.states loop.origins (i + 1))
+        (string_bytes c.args.text.now ++ few_taus style few (n + 1) back loop.states loop.origins) c.loop-place.invariant.text
+        (taus_next style few (n + 1) back loop.states loop.origins i (process_of s) o here told low) c.in_ok-push_step.ensures second;
+    }
+
+pub returns : goal.returns
+returns g c =
+    let style = style_of c.args.style.now in
+    let n = c.args.number in
+    let l = c.args.looping.now in
+    let loop = loop_of l in
+    let few = c.taus_told-told.result in
+    let i = c.loop-place.place in
+    let start = string_bytes c.args.text.now in
+    let now = string_bytes c.loop-place.text in
+    let same = c.taus_told-told.ensures ∙ ap (λ (ts : List (Term g.row.A.Denot)). taus_told style.taus (map process_of ts)) c.deref.ensures.value in
+    let long = c.len-count.ensures in
+    let past = c.loop-place-test.false in
+    let mapped = length-map l.states.items process_of in
+    comes_to_end start now (taus_left style few (n + 1) (n + l.back) loop.states loop.origins i) (few_taus style few (n + 1) (n + l.back) loop.states loop.origins) c.loop-place.invariant.text
+    (no_loop_left style few (n + 1) (n + l.back) loop.states loop.origins i (omega (arith, long, past, mapped)))
+    ∙ ap (λ ts. start ++ ts) (loop_whole style n few loop same)

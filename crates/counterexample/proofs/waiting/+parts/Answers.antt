@@ -1,6 +1,8 @@
 -- The parts of both sides, or of what is below hiding or renaming, or the term itself.
-use Rattle.std.proofs.Common.{◌≡◌, IfOk, List, [], ◌∷◌, ◌++◌, append-nil, map, sym, subst, ◌∙◌, ap}
+use Rattle.std.proofs.Common.{◌≡◌, ◌<◌, ◌+◌, IfOk, List, [], ◌∷◌, ◌++◌, append-nil, map, sym, subst, ◌∙◌, ap, inl, inr, lit<, lit≤, arith}
 use Rattle.std.proofs.lemmas.List.{map-append}
+use Rattle.theory_semantics.specs.Kinds.Scripts.{IsTermOf}
+use Rattle.theory_semantics.specs.Meaning.Limits.{size}
 use Rattle.theory_origins.specs.Origin.{Side, Left, Right}
 use Rattle.theory_origins.specs.Parts.{Placed, placed_on, placed_parts}
 use Rattle.theory_explanation.specs.Counterexamples.{AreWaiting}
@@ -12,7 +14,7 @@ use Rattle.csp_moves.specs.declared.passage.Side as code
 use Rattle.counterexample.specs.Counterexample.{waiting_of}
 use Rattle.counterexample.specs.Waiting.{Alone, Beside, Inside, all_placed_behind, standing, standing_of}
 use Rattle.counterexample.specs.declared.waiting.Waiting.{Waiting}
-use Rattle.counterexample.proofs.Besides.{parts_placed, placed_by}
+use Rattle.counterexample.proofs.Besides.{AreTerms, IsSmaller, parts_placed, parts_smaller, parts_terms, placed_by}
 use Rattle.counterexample.proofs.WaitingBehind.{both_placed, both_waiting, placed_further_behind}
 use Rattle.counterexample.proofs.waiting.+parts.Goals as goal
 
@@ -60,3 +62,21 @@ parts_of_both-returns g t c =
     let put : map waiting_of c.append.new.self.items ≡ all ++ others = ap (λ (ws : List (Waiting g.row.A.Denot)). map waiting_of ws) c.in_ok-append.ensures.items ∙ map-append waiting_of c.in_ok-all.all.items c.in_ok-others.others.items in
     let F : List pure.Waiting → Type 0 = AreWaiting script (all_placed_behind way (placed_on Left one ++ placed_on Right other)) in
     subst F (sym put) (subst (λ ds. AreWaiting script ds (all ++ others)) (sym (both_placed way (placed_on Left one) (placed_on Right other))) both)
+
+pub parts_in-parts_of_both-requires : goal.parts_in-parts_of_both-requires
+parts_in-parts_of_both-requires g t c κs within =
+    let script = script_of c.args.script.now in
+    let term = process_of c.args.term.now in
+    let is : standing term ≡ Beside (process_of c.in-Beside.left.now) (process_of c.in-Beside.right.now) = sym c.standing_in.ensures ∙ ap standing_of c.in-Beside.is in
+    let smaller : size (process_of c.in-Beside.left.now) + size (process_of c.in-Beside.right.now) < size term = subst (IsSmaller (size term)) is (parts_smaller term) in
+    let terms : AreTerms script (Beside (process_of c.in-Beside.left.now) (process_of c.in-Beside.right.now)) = subst (AreTerms script) is (parts_terms script term c.requires) in
+    (omega (arith, c.decreases, smaller), (within, elim g.met.A.AllocHandle.small [ inl e ↦ rw (e.0, e.1) (search (lit≤, lit<, terms.0, terms.1)) | inr e ↦ rw (e.0, e.1) (search (lit≤, lit<, terms.0, terms.1)) ]))
+
+pub parts_in-parts_in-requires : goal.parts_in-parts_in-requires
+parts_in-parts_in-requires g t c κs within =
+    let script = script_of c.args.script.now in
+    let term = process_of c.args.term.now in
+    let is : standing term ≡ Inside (process_of c.in-Inside.body.now) = sym c.standing_in.ensures ∙ ap standing_of c.in-Inside.is in
+    let smaller : size (process_of c.in-Inside.body.now) < size term = subst (IsSmaller (size term)) is (parts_smaller term) in
+    let closed : IsTermOf script (process_of c.in-Inside.body.now) = subst (AreTerms script) is (parts_terms script term c.requires) in
+    (omega (arith, c.decreases, smaller), (within, elim g.met.A.AllocHandle.small [ inl e ↦ rw (e.0, e.1) (search (lit≤, lit<, closed)) | inr e ↦ rw (e.0, e.1) (search (lit≤, lit<, closed)) ]))

@@ -1,5 +1,5 @@
 -- A run is found and told, or none is.
-use Rattle.std.proofs.Common.{Option, Some, None, option_map, sym, subst, append-nil, inl, inr, lit<}
+use Rattle.std.proofs.Common.{Option, Some, None, option_map, subst, inl, inr, lit<}
 use Rattle.std.specs.String.{string_bytes}
 use Rattle.csp_term.specs.Script.{assertion_of, script_of}
 use Rattle.theory_explanation.specs.Faults.{IsFound}
@@ -8,16 +8,16 @@ use Rattle.explanation.specs.Sides.{side_run_of}
 use Rattle.explanation.specs.declared.sides.SideRun.{SideRun}
 use Rattle.explanation.proofs.faults.push_found.Goals as goal
 
-pub returns-in_default : goal.returns-in_default
-returns-in_default g c =
+pub returns-in_ok-push_mark : goal.returns-in_ok-push_mark
+returns-in_ok-push_mark g c =
     let h = hindrance_of c.args.hindrance in
-    let F : Option (SideRun g.row.A.Denot) → Type 0 = λ found. IsFound (script_of c.args.script.now) (assertion_of c.args.assertion.now) h c.args.style.now.most (option_map side_run_of found) in
-    (None, subst F c.in_default.is c.in_ok-found.ensures, sym (append-nil (string_bytes c.args.text.now)))
+    let F : Option (SideRun g.row.A.Denot) → Type 0 = λ found. IsFound (script_of c.args.script.now) (assertion_of c.args.assertion.now) h c.args.style.now.reach (option_map side_run_of found) in
+    (None, subst F c.in_default.is c.in_ok-found.ensures, c.in_ok-push_mark.ensures)
 
 pub returns : goal.returns
 returns g c =
     let h = hindrance_of c.args.hindrance in
-    let F : Option (SideRun g.row.A.Denot) → Type 0 = λ found. IsFound (script_of c.args.script.now) (assertion_of c.args.assertion.now) h c.args.style.now.most (option_map side_run_of found) in
+    let F : Option (SideRun g.row.A.Denot) → Type 0 = λ found. IsFound (script_of c.args.script.now) (assertion_of c.args.assertion.now) h c.args.style.now.reach (option_map side_run_of found) in
     (Some (side_run_of c.in-Some.run'), subst F c.in-Some.is c.in_ok-found.ensures, c.in_ok-push_side_run.ensures)
 
 pub drop-run-requires-room-T-Destruct : goal.drop-run-requires-room-T-Destruct
