@@ -1,5 +1,5 @@
 -- What stops the explanations, and what went out till then.
-use Rattle.std.proofs.Common.{◌≡◌, ℕ, suc, ◌<◌, ◌≤◌, Bool, false, List, length, take, drop, refl, sym, subst, inl, inr, arith}
+use Rattle.std.proofs.Common.{◌≡◌, ℕ, suc, ◌<◌, ◌≤◌, Bool, false, List, length, take, drop, refl, sym, ap, subst, inl, inr, arith}
 use Rattle.std.specs.Prelude.{Option, Result, Ok, Err, IfOk, IfErr}
 use Rattle.std.specs.Result.{IsErr, IsErrAnd}
 use Rattle.std.proofs.lemmas.Result.{err_from_is_err_and}
@@ -20,7 +20,10 @@ use Rattle.explain_program.specs.Asking.{Request, chosen, first_number, one_at}
 use Rattle.explain_program.specs.Explaining.{IsBegun, StopsBy, TellsAll, TellsFew}
 use Rattle.explain_program.specs.Giving.{AreTold, GoesOut, LeavesText}
 use Rattle.explain_program.specs.Naming.{IsNamedFile}
-use Rattle.explain_program.specs.Running.{IsStopCause, Leaves, of_untold}
+use Rattle.explain_program.specs.Refusals.{TellsUnread}
+use Rattle.explain_program.specs.Refusals as refusals
+use Rattle.explain_program.specs.Running.{IsStopCause, Leaves, TellsStop, of_untold}
+use Rattle.explain_program.specs.Running as running
 use Rattle.explain_program.specs.declared.untold.Untold.{Untold}
 use Rattle.explain_program.specs.declared.untold.Untold.TheVariants as untold
 use Rattle.explain_program.specs.declared.stop.Stop.{Stop}
@@ -129,6 +132,11 @@ unread_cause given name unread.Memory lacks = tt
 pub unread_leaves : (given : Given) (request : Request) (fault : Unread) (out : Sent) → out.Unchanged → Leaves given request (stop.Refused (of_file fault)) out
 unread_leaves given request unread.File out same = same
 unread_leaves given request unread.Memory out same = inl same
+
+-- and is told by its line, or by its name
+pub unread_told : (given : Given) (name : List ℕ) (fault : Unread) (err : Sent) → TellsUnread name fault err → TellsStop given name (stop.Refused (of_file fault)) err
+unread_told given name fault err (refusals.by_line line) = running.by_line line
+unread_told given name fault err (refusals.by_name is line) = running.of_name (ap (λ f. stop.Refused (of_file f)) is) line
 
 -- ---- what is answered
 

@@ -4,10 +4,13 @@ use Rattle.diagnostics.specs.Messages.{IsMessage}
 use Rattle.diagnostics.specs.declared.faults.Fault.TheVariants as fault
 use Rattle.diagnostics.specs.declared.faults.Refusal as text
 use Rattle.program.specs.Given.{Sent}
-use Rattle.program.specs.Refusal.{refusal_line}
+use Rattle.program.specs.Refusal.{of_file, refusal_line}
 use Rattle.program.specs.Running.{IsGiven}
+use Rattle.program.specs.declared.files.Unread.{Unread}
+use Rattle.program.specs.declared.files.Unread.TheVariants as unread
 use Rattle.program.specs.declared.refusal.Refusal.{Refusal}
 use Rattle.program.specs.declared.refusal.Refusal.TheVariants as refusal
+use Rattle.explain_program.specs.FileNames.{shown_name, unread_line}
 
 -- what is refused of a text, where that is what is refused
 abbrev pub refused_text : Refusal → Option text.Refusal
@@ -16,7 +19,13 @@ refused_text (refusal.Grammar f p) = Some (record { fault = fault.Grammar f; pla
 refused_text (refusal.Kinds f p) = Some (record { fault = fault.Kinds f; place = p })
 refused_text _ = None
 
--- The line of the refusal was given, or where a text is refused its message on these bytes of the file.
+-- The line of the refusal was given, or where a text is refused its message on these bytes of the file, by the name that is
+-- shown.
 pub data TellsRefusal (file bytes : List ℕ) (why : Refusal) (err : Sent) : Type 0 where
   by_line : IsGiven err (refusal_line why) → TellsRefusal file bytes why err
-  in_words : (refused : text.Refusal) (message : List ℕ) → refused_text why ≡ Some refused → IsMessage file bytes refused message → IsGiven err message → TellsRefusal file bytes why err
+  in_words : (refused : text.Refusal) (message : List ℕ) → refused_text why ≡ Some refused → IsMessage (shown_name file) bytes refused message → IsGiven err message → TellsRefusal file bytes why err
+
+-- The line of why a file is not read was given, or where it cannot be read the same with its name.
+pub data TellsUnread (file : List ℕ) (fault : Unread) (err : Sent) : Type 0 where
+  by_line : IsGiven err (refusal_line (of_file fault)) → TellsUnread file fault err
+  by_name : fault ≡ unread.File → IsGiven err (unread_line file) → TellsUnread file fault err

@@ -10,6 +10,7 @@ use Rattle.program.specs.declared.refusal.Refusal.{Refusal}
 use Rattle.program.specs.declared.refusal.Refusal.TheVariants as refusal
 use Rattle.explain_program.specs.Asking.{Request, AskForExplanation, AskForText}
 use Rattle.explain_program.specs.Explaining.{IsBegun, IsExplained, LacksAssertion}
+use Rattle.explain_program.specs.FileNames.{unread_line}
 use Rattle.explain_program.specs.Refusals.{TellsRefusal}
 use Rattle.explain_program.specs.declared.untold.Untold.{Untold}
 use Rattle.explain_program.specs.declared.untold.Untold.TheVariants as untold
@@ -43,9 +44,11 @@ Leaves given request (stop.Refused refusal.Output) out = IsBegun given request (
 Leaves given request (stop.Refused refusal.Memory) out = out.Unchanged ⊎ IsBegun given request (Sends out.old out.new out.failed)
 Leaves given request _ out = out.Unchanged
 
--- What is told of what stops a run: its line, or of a text that is refused the message on what is read of the file.
+-- What is told of what stops a run: its line, of a file that cannot be read the same with its name, or of a text that is
+-- refused the message on what is read of the file.
 pub data TellsStop (given : Given) (name : List ℕ) (why : Stop) (err : Sent) : Type 0 where
   by_line : IsGiven err (stop_line why) → TellsStop given name why err
+  of_name : why ≡ stop.Refused refusal.File → IsGiven err (unread_line name) → TellsStop given name why err
   of_text : (refused : Refusal) (bytes : List ℕ) → why ≡ stop.Refused refused → IsBeginning (given.may_hold name) bytes → TellsRefusal name bytes refused err → TellsStop given name why err
 
 -- A request is not met, with the cause, which the error output is told, and the other one is left so.

@@ -10,6 +10,7 @@
 mod answering;
 mod counting;
 mod explaining;
+mod file_name;
 mod reader;
 mod refusals;
 mod running;

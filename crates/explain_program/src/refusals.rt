@@ -1,13 +1,48 @@
-//! Refusals of a script, in words.
+//! Refusals of a file or a script, in words.
 
-ghost use Rattle.std.specs.Prelude.{◌≡◌, false};
+ghost use Rattle.std.specs.Prelude.{◌≡◌, IfOk, false};
+ghost use Rattle.std.specs.String.{string_bytes};
+ghost use Rattle.diagnostics.specs.Messages.{IsMessage};
 ghost use Rattle.program.specs.Given.{sent};
-ghost use Rattle.explain_program.specs.Refusals.{TellsRefusal, refused_text};
+ghost use Rattle.program.specs.declared.files.Unread.TheVariants as unread;
+ghost use Rattle.explain_program.specs.FileNames.{shown_name};
+ghost use Rattle.explain_program.specs.Refusals.{TellsRefusal, TellsUnread, refused_text};
 
+use crate::file_name::{shown_name, unread_line};
 use diagnostics::{Fault, message};
-use program::{Refusal, refuse, refuse_words};
+use program::{Refusal, Unread, refuse, refuse_words};
 use report::Sink;
-use std::alloc::Allocator;
+use std::alloc::{AllocError, Allocator};
+
+/// Tells `err` why the file is not read, and answers the status of a refusal. A file that cannot be read is told by its
+/// name, unless memory is refused for it.
+pub(crate) fn refuse_unread<A: Allocator + Copy, E: Sink>(
+    alloc: A,
+    file: &str,
+    fault: Unread,
+    err: &mut E,
+) -> u8
+    requires { E.has_failed err.old ≡ false }
+    ensures status { result ≡ 3 }
+    ensures told { TellsUnread file.now fault (sent E.taken E.has_failed err.old err.new) }
+{
+    match fault {
+        Unread::File => refuse_name(alloc, file, err),
+        Unread::Memory => refuse(Refusal::Memory, err),
+    }
+}
+
+// The same of a file that cannot be read.
+fn refuse_name<A: Allocator + Copy, E: Sink>(alloc: A, file: &str, err: &mut E) -> u8
+    requires { E.has_failed err.old ≡ false }
+    ensures status { result ≡ 3 }
+    ensures told { TellsUnread file.now unread.File (sent E.taken E.has_failed err.old err.new) }
+{
+    match unread_line(alloc, file) {
+        Ok(line) => refuse_words(line.as_str(), err),
+        Err(_) => refuse(Refusal::File, err),
+    }
+}
 
 /// Tells `err` why the text of this file is refused, and answers the status of a refusal. It is told in words, or where
 /// memory is refused for them by its line.
@@ -25,10 +60,23 @@ pub(crate) fn refuse_text<A: Allocator + Copy, E: Sink>(
     let Some(refused) = refused_text(why) else {
         return refuse(why, err);
     };
-    match message(alloc, file, text, refused) {
+    match words(alloc, file, text, refused) {
         Ok(words) => refuse_words(words.as_str(), err),
         Err(_) => refuse(why, err),
     }
+}
+
+// The refusal in words, with the file's name as it is shown.
+fn words<A: Allocator + Copy>(
+    alloc: A,
+    file: &str,
+    text: &[u8],
+    refused: diagnostics::Refusal,
+) -> Result<String<A>, AllocError>
+    ensures { IfOk result (λ words. IsMessage (shown_name file.now) text.now refused (string_bytes words)) }
+{
+    let name = shown_name(alloc, file)?;
+    message(alloc, name.as_str(), text, refused)
 }
 
 // What is refused of a text, where that is what is refused.

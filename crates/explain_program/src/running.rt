@@ -9,7 +9,7 @@ ghost use Rattle.explain_program.specs.Explaining.{IsExplained};
 
 use crate::explaining::explain_script;
 use crate::reader::read;
-use crate::refusals::refuse_text;
+use crate::refusals::{refuse_text, refuse_unread};
 use crate::stop::report_stop;
 use csp_term::AllocHandle;
 use explain_settings::Settings;
@@ -83,7 +83,7 @@ fn explain<A: AllocHandle + Send + Sync, R: Threads + Wait + Sync, F: Files<A>, 
 {
     let text = match files.read(settings.file) {
         Ok(text) => text,
-        Err(fault) => return refuse(Refusal::from(fault), err),
+        Err(fault) => return refuse_unread(resources.alloc, settings.file, fault, err),
     };
     if !resources.stack.takes(text.len()) {
         return refuse(Refusal::Thread, err);

@@ -16,10 +16,11 @@ pub(crate) const ABOUT: &str =
 
 /// What is told, what each status means, and an example.
 pub(crate) const STATUS: &str = "\
-For an assertion that fails it tells each step of the path: its number, what is seen of it, and what
-has changed in the state of the implementation, the last of which is told whole. At the start and
-behind each step that is seen stand states of the specification; and at the end what is wrong
-there, and what the specification has.
+For an assertion that fails it tells each step of the path: its number, what is seen of it and which
+parts do it, and what has changed in the state of the implementation, the last of which is told
+whole. At the start and behind each step that is seen stand states of the specification; and at the
+end what is wrong there, and what the specification has; of a divergence the loop that goes on for
+ever; and where the implementation waits what each of its parts can do by itself.
 
 Status, as refcheck's:
   0  every assertion holds

@@ -2,17 +2,25 @@
 
 use crate::asked::asked_for;
 use crate::cache::CACHE;
+use crate::collision::COLLISION;
 use crate::command_lines::{refused, wrong_words};
 use crate::counted::counted;
+use crate::credits::CREDITS;
 use crate::dropping::DROPPING;
 use crate::election::ELECTION;
 use crate::interlocking::INTERLOCKING;
+use crate::long_loop::LONG_LOOP;
+use crate::loops::loops;
 use crate::lossy_line::LOSSY_LINE;
 use crate::monitor::MONITOR;
+use crate::parts::parts;
+use crate::polling::POLLING;
 use crate::replica::REPLICA;
+use crate::resending::RESENDING;
 use crate::rows::Row;
 use crate::runs::run_on;
 use crate::small::small_scripts;
+use crate::tour::TOUR;
 use crate::turns::TURNS;
 use crate::unknowns::unknowns;
 use std::alloc::Global;
@@ -45,6 +53,25 @@ fn small_scripts_are_told_so(rt: HostRuntime) -> Result<(), Fail> {
 }
 
 #[test]
+fn parts_are_told_so(rt: HostRuntime) -> Result<(), Fail> {
+    for row in parts() {
+        is_told(&rt, rt.alloc(), row)?;
+    }
+    Ok(())
+}
+
+#[test]
+fn divergences_are_told_so(rt: HostRuntime) -> Result<(), Fail> {
+    for row in loops() {
+        is_told(&rt, rt.alloc(), row)?;
+    }
+    for row in &[LONG_LOOP, COLLISION, POLLING, RESENDING] {
+        is_told(&rt, rt.alloc(), row)?;
+    }
+    Ok(())
+}
+
+#[test]
 fn unknowns_are_told_so(rt: HostRuntime) -> Result<(), Fail> {
     for row in unknowns() {
         is_told(&rt, rt.alloc(), row)?;
@@ -62,7 +89,15 @@ fn searches_are_counted_so(rt: HostRuntime) -> Result<(), Fail> {
 
 #[test]
 fn examples_are_told_so(rt: HostRuntime) -> Result<(), Fail> {
-    for row in &[DROPPING, ELECTION, INTERLOCKING, REPLICA, TURNS] {
+    for row in &[
+        CREDITS,
+        DROPPING,
+        ELECTION,
+        INTERLOCKING,
+        REPLICA,
+        TOUR,
+        TURNS,
+    ] {
         is_told(&rt, rt.alloc(), row)?;
     }
     Ok(())

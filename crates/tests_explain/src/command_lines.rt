@@ -5,12 +5,26 @@ pub(crate) type Refused = (&'static [&'static str], &'static str, &'static str);
 
 const ONE: &str = "channel a\nassert STOP [T= a -> STOP\n";
 
-static REFUSED: [Refused; 6] = [
+static REFUSED: [Refused; 7] = [
     (&["script", "2"], ONE, "refused assertion\n"),
     (&["script", "1"], "", "refused assertion\n"),
     (&["script", "1000000"], ONE, "refused assertion\n"),
-    (&["other"], ONE, "refused file\n"),
-    (&["other", "2"], ONE, "refused file\n"),
+    (
+        &["other"],
+        ONE,
+        "other: refused file: there is no such file, or it cannot be read\n",
+    ),
+    (
+        &["other", "2"],
+        ONE,
+        "other: refused file: there is no such file, or it cannot be read\n",
+    ),
+    // A control character is shown as a space.
+    (
+        &["ot\u{1b}[2J\u{9b}her\n"],
+        ONE,
+        "ot [2J her : refused file: there is no such file, or it cannot be read\n",
+    ),
     (
         &["script", "2"],
         "channel",

@@ -11,9 +11,13 @@ mod asked;
 #[cfg(test)]
 mod cache;
 #[cfg(test)]
+mod collision;
+#[cfg(test)]
 mod command_lines;
 #[cfg(test)]
 mod counted;
+#[cfg(test)]
+mod credits;
 #[cfg(test)]
 mod dropping;
 #[cfg(test)]
@@ -23,6 +27,10 @@ mod full;
 #[cfg(test)]
 mod interlocking;
 #[cfg(test)]
+mod long_loop;
+#[cfg(test)]
+mod loops;
+#[cfg(test)]
 mod lossy_line;
 #[cfg(test)]
 mod memory;
@@ -31,15 +39,23 @@ mod monitor;
 #[cfg(test)]
 mod outputs;
 #[cfg(test)]
+mod parts;
+#[cfg(test)]
+mod polling;
+#[cfg(test)]
 mod refusals;
 #[cfg(test)]
 mod replica;
+#[cfg(test)]
+mod resending;
 #[cfg(test)]
 mod rows;
 #[cfg(test)]
 mod runs;
 #[cfg(test)]
 mod small;
+#[cfg(test)]
+mod tour;
 #[cfg(test)]
 mod turns;
 #[cfg(test)]

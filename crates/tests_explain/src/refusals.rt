@@ -1,6 +1,6 @@
 //! Texts that are refused, and what is told of them. The file `script` holds them.
 
-use crate::runs::run_on_stack;
+use crate::runs::{run_on_file, run_on_stack};
 use program::Stack;
 use std::alloc::Global;
 use std::process::Abort;
@@ -102,6 +102,21 @@ fn refusals_are_told_in_words(rt: HostRuntime) -> Result<(), Fail> {
         is_refused(&rt, rt.alloc(), Stack::Large, text.as_bytes(), expected)?;
         is_refused(&rt, rt.alloc(), Stack::Found, text.as_bytes(), expected)?;
     }
+    Ok(())
+}
+
+// A control character in the name of a file is shown as a space.
+#[test]
+fn names_of_files_are_shown_so(rt: HostRuntime) -> Result<(), Fail> {
+    let told = run_on_file(
+        rt.alloc(),
+        &rt,
+        "a\u{1b}[2J\u{9b}b\n\u{e9}",
+        b"channel a, a\n",
+    );
+    let expected = "a [2J b \u{e9}:1:12: K02: this name is declared already\n";
+    assert!(rt; told.status == 3 && told.out.is_empty());
+    assert!(rt; told.err.as_slice().starts_with(expected.as_bytes()));
     Ok(())
 }
 

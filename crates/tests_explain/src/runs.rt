@@ -77,6 +77,21 @@ pub(crate) fn run_on_stack<'w, R: Threads + Wait + Sync>(
     run_with(&resources(stack, alloc, alloc, rt), words, &mut files)
 }
 
+// A run on the file of that name, which holds the text.
+pub(crate) fn run_on_file<R: Threads + Wait + Sync>(
+    alloc: Global,
+    rt: &R,
+    name: &str,
+    text: &[u8],
+) -> Told {
+    let mut files = OneText { name, text, alloc };
+    run_with(
+        &resources(Stack::Large, alloc, alloc, rt),
+        &[name],
+        &mut files,
+    )
+}
+
 // A run on the words, where the file `script` holds the text.
 pub(crate) fn run_on<'w, R: Threads + Wait + Sync>(
     alloc: Global,

@@ -2,7 +2,7 @@
 
 use crate::rows::Row;
 
-static UNKNOWNS: [Row; 11] = [
+static UNKNOWNS: [Row; 19] = [
     Row {
         words: &["--max-pairs", "1", "script"],
         status: 2,
@@ -148,6 +148,125 @@ static UNKNOWNS: [Row; 11] = [
 1 unknown  assert c!2 -> STOP [T= STOP
   a side comes to a value that lies outside of the set of its field
   the specification comes there by
+  0 start
+      c!2 -> STOP
+  there a rule lacks a value
+",
+    },
+    // The specification comes there, by what the implementation never does.
+    Row {
+        words: &["script"],
+        status: 2,
+        text: "channel a, b\nchannel c : {0..1}\nassert a -> c!2 -> STOP [T= STOP\n",
+        told: "\
+1 unknown  assert a -> c!2 -> STOP [T= STOP
+  a side comes to a value that lies outside of the set of its field
+  the specification comes there by
+  0 start
+      a -> c!2 -> STOP
+  1 a
+      c!2 -> STOP
+  there a rule lacks a value
+",
+    },
+    // It has two states, and one is looked at.
+    Row {
+        words: &["--max-pairs", "1", "script"],
+        status: 2,
+        text: "channel a, b\nchannel c : {0..1}\nassert a -> c!2 -> STOP [T= STOP\n",
+        told: "\
+1 unknown  assert a -> c!2 -> STOP [T= STOP
+  a side comes to a value that lies outside of the set of its field
+  the specification comes there, and has too many states to tell how
+",
+    },
+    // Where both sides are faulty, it is the specification that stops.
+    Row {
+        words: &["script"],
+        status: 2,
+        text: "channel c : {0..1}\nassert c!2 -> STOP [T= c!(1 % 0) -> STOP\n",
+        told: "\
+1 unknown  assert c!2 -> STOP [T= c!(1 % 0) -> STOP
+  a side comes to a value that lies outside of the set of its field
+  the specification comes there by
+  0 start
+      c!2 -> STOP
+  there a rule lacks a value
+",
+    },
+    // The nearest of two states that stop the search.
+    Row {
+        words: &["script"],
+        status: 2,
+        text: "channel a, b\nchannel c : {0..1}\nR = a -> R [] b -> R\nassert R [T= b -> a -> c!2 -> STOP [] a -> c!2 -> STOP\n",
+        told: "\
+1 unknown  assert R [T= b -> a -> c!2 -> STOP [] a -> c!2 -> STOP
+  a side comes to a value that lies outside of the set of its field
+  the implementation comes there by
+  0 start
+      b -> a -> c!2 -> STOP [] a -> c!2 -> STOP
+  1 a
+      c!2 -> STOP
+  there a rule lacks a value
+",
+    },
+    // Of two that are as near the one whose path comes first.
+    Row {
+        words: &["script"],
+        status: 2,
+        text: "channel a, b\nchannel c : {0..1}\nR = a -> R [] b -> R\nassert R [T= b -> c!2 -> STOP [] a -> c!2 -> c!1 -> STOP\n",
+        told: "\
+1 unknown  assert R [T= b -> c!2 -> STOP [] a -> c!2 -> c!1 -> STOP
+  a side comes to a value that lies outside of the set of its field
+  the implementation comes there by
+  0 start
+      b -> c!2 -> STOP [] a -> c!2 -> c!1 -> STOP
+  1 a
+      c!2 -> c!1 -> STOP
+  there a rule lacks a value
+",
+    },
+    // By hidden steps.
+    Row {
+        words: &["script"],
+        status: 2,
+        text: "channel a, b\nchannel c : {0..1}\nassert STOP [T= (a -> c!2 -> STOP [| {a} |] a -> STOP) \\ {a}\n",
+        told: "\
+1 unknown  assert STOP [T= (a -> c!2 -> STOP [| {a} |] a -> STOP) \\ {a}
+  a side comes to a value that lies outside of the set of its field
+  the implementation comes there by
+  0 start
+      (a -> c!2 -> STOP [| {a} |] a -> STOP) \\ {a}
+  1 tau: hidden a by left, right
+      (c!2 -> STOP [| {a} |] STOP) \\ {a}
+  there a rule lacks a value
+",
+    },
+    // Without a specification.
+    Row {
+        words: &["script"],
+        status: 2,
+        text: "channel a, b\nchannel c : {0..1}\nassert a -> c!2 -> STOP :[deadlock free]\n",
+        told: "\
+1 unknown  assert a -> c!2 -> STOP :[deadlock free]
+  a side comes to a value that lies outside of the set of its field
+  the implementation comes there by
+  0 start
+      a -> c!2 -> STOP
+  1 a
+      c!2 -> STOP
+  there a rule lacks a value
+",
+    },
+    // Its contrary has no answer either.
+    Row {
+        words: &["script"],
+        status: 2,
+        text: "channel c : {0..1}\nassert not STOP [T= c!2 -> STOP\n",
+        told: "\
+1 unknown  assert not STOP [T= c!2 -> STOP
+  a side comes to a value that lies outside of the set of its field
+  the implementation comes there by
   0 start
       c!2 -> STOP
   there a rule lacks a value

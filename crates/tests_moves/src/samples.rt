@@ -41,15 +41,23 @@ pub(crate) const WALKED: [&str; 33] = [
 pub(crate) type Row = (&'static str, usize, &'static str);
 
 /// Written by hand from the rules. The steps rise by their actions, tau first, and then by their targets.
-pub(crate) const ROWS: [Row; 32] = [
+pub(crate) const ROWS: [Row; 36] = [
     ("SKIP", 0, "ends"),
     ("a -> STOP", 0, "does a"),
     ("c?x -> STOP", 1, "does c.1"),
     ("TWO", 0, "unfolds 0"),
     ("OUT(2)", 0, "unfolds 1"),
     ("(1 < 2) & a -> STOP", 0, "guard: does a"),
-    ("if 1 < 2 then a -> STOP else STOP", 0, "left branch: does a"),
-    ("if 2 < 1 then STOP else a -> STOP", 0, "right branch: does a"),
+    (
+        "if 1 < 2 then a -> STOP else STOP",
+        0,
+        "left branch: does a",
+    ),
+    (
+        "if 2 < 1 then STOP else a -> STOP",
+        0,
+        "right branch: does a",
+    ),
     ("a -> STOP [] b -> STOP", 0, "left branch: does a"),
     ("a -> STOP [] b -> STOP", 1, "right branch: does b"),
     ("TWO [] b -> STOP", 0, "left branch: unfolds 0"),
@@ -86,4 +94,21 @@ pub(crate) const ROWS: [Row; 32] = [
         "chain: left branch: left branch: does d.0",
     ),
     ("||| x:{0..1} @ OUT(x)", 0, "chain: right: unfolds 1"),
+    // Who does an event, below hiding and renaming.
+    (
+        "(a -> STOP ||| b -> STOP) \\ {b}",
+        0,
+        "hides b: right: does b",
+    ),
+    ("(a -> STOP ||| b -> STOP) \\ {b}", 1, "body: left: does a"),
+    (
+        "((a -> STOP) [[a <- b]]) [| {b} |] b -> STOP",
+        0,
+        "both: renames a to b: does a; does b",
+    ),
+    (
+        "(a -> STOP [| {a} |] a -> SKIP) [[a <- b]]",
+        0,
+        "renames a to b: both: does a; does a",
+    ),
 ];

@@ -107,6 +107,19 @@ assert PROTOCOL :[divergence free]
 assert not PROTOCOL :[divergence free]
 ";
 
+// Each of two holds the key that the other one waits for.
+const KEYS: &str = r"nametype Key = {0..1}
+channel take, drop : Key
+channel work
+
+LEFT = take.0 -> take.1 -> work -> drop.1 -> drop.0 -> LEFT
+RIGHT = take.1 -> take.0 -> work -> drop.0 -> drop.1 -> RIGHT
+KEY(k) = take.k -> drop.k -> KEY(k)
+
+SYSTEM = ((LEFT ||| RIGHT) [| {| take, drop |} |] (KEY(0) ||| KEY(1))) \ {| take, drop |}
+assert SYSTEM :[deadlock free]
+";
+
 // A frame is one value.
 const FRAMES: &str = r"datatype Frame = Numbered.{0..1}.{0..1} | Empty
 channel send, receive : Frame
@@ -119,12 +132,18 @@ const MIXED_OPERATORS: &str = r"channel a
 P = STOP [] a -> STOP |~| STOP
 ";
 
-static TOUR: [Stop; 11] = [
+static TOUR: [Stop; 12] = [
     (
         &["protocol.csp"],
         1,
         (UNNUMBERED, ""),
         "1 fails trace <put.0,get.0> event get.0\n",
+    ),
+    (
+        &["protocol.csp"],
+        1,
+        (KEYS, ""),
+        "1 fails trace <> deadlock\n",
     ),
     (
         &["protocol.csp"],

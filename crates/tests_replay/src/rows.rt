@@ -182,6 +182,58 @@ static ROWS: &[Row] = &[
         evidence: "divergence",
         end: End::TooMany,
     },
+    Row {
+        definitions: "ENDS = STOP |~| ENDS",
+        start: "ENDS",
+        path: "",
+        evidence: "divergence",
+        end: End::Loop(&[], &["ENDS", "STOP |~| ENDS"], 0),
+    },
+    Row {
+        definitions: CALLS,
+        start: "(LOOP [| {a} |] LOOP) \\ {a}",
+        path: "",
+        evidence: "divergence",
+        end: End::Loop(
+            &[],
+            &[
+                "(LOOP [| {a} |] LOOP) \\ {a}",
+                "(LOOP [| {a} |] a -> LOOP) \\ {a}",
+                "(a -> LOOP [| {a} |] a -> LOOP) \\ {a}",
+            ],
+            0,
+        ),
+    },
+    // As many states as are looked at, and one more.
+    Row {
+        definitions: "P(n) = P((n + 1) % 9)",
+        start: "P(0)",
+        path: "",
+        evidence: "divergence",
+        end: End::Loop(
+            &[],
+            &[
+                "P(0)",
+                "P((0 + 1) % 9)",
+                "P((1 + 1) % 9)",
+                "P((2 + 1) % 9)",
+                "P((3 + 1) % 9)",
+                "P((4 + 1) % 9)",
+                "P((5 + 1) % 9)",
+                "P((6 + 1) % 9)",
+                "P((7 + 1) % 9)",
+                "P((8 + 1) % 9)",
+            ],
+            1,
+        ),
+    },
+    Row {
+        definitions: "P(n) = P((n + 1) % 10)",
+        start: "P(0)",
+        path: "",
+        evidence: "divergence",
+        end: End::TooMany,
+    },
 ];
 
 /// All rows.

@@ -4,9 +4,7 @@ use Rattle.csp_term.specs.Script.{script_of}
 use Rattle.csp_print.specs.Names.{names_of}
 use Rattle.program.specs.Given.{given_of, sent}
 use Rattle.program.specs.Reading.{IsRefusalOf}
-use Rattle.program.specs.Refusal.{of_file, refusal_line}
-use Rattle.program.specs.Running.{IsGiven}
-use Rattle.program.specs.declared.refusal.Refusal.{Refusal}
+use Rattle.program.specs.Refusal.{of_file}
 use Rattle.program.specs.declared.refusal.Refusal.TheVariants as refusal
 use Rattle.program.proofs.Beginnings.{cause_of_text, too_long}
 use Rattle.explain_program.specs.Asking.{request_of}
@@ -15,7 +13,7 @@ use Rattle.explain_program.specs.Refusals.{TellsRefusal}
 use Rattle.explain_program.specs.Running as running
 use Rattle.explain_program.specs.declared.stop.Stop.TheVariants as stop
 use Rattle.explain_program.proofs.Beginnings.{named_file}
-use Rattle.explain_program.proofs.Stopping.{stop_cause, stop_leaves, unread_cause, unread_leaves, untouched}
+use Rattle.explain_program.proofs.Stopping.{stop_cause, stop_leaves, unread_cause, unread_leaves, unread_told, untouched}
 use Rattle.explain_program.proofs.running.explain.Goals as goal
 
 pub returns-in-Err-clause-stopped : goal.returns-in-Err-clause-stopped
@@ -23,13 +21,11 @@ returns-in-Err-clause-stopped g c three =
     let request = request_of c.args.settings.now in
     let given = given_of g.F.Files.may_hold g.F.Files.may_lack c.args.files.now c.args.resources.now.stack in
     let fault = c.in-Err.fault in
-    let told = c.refuse.new.err in
-    let L : Refusal → Type 0 = λ why. IsGiven (sent g.E.Sink.taken g.E.Sink.has_failed c.args.err.now told) (refusal_line why) in
     record {
       why = stop.Refused (of_file fault);
       cause = unread_cause given request.name fault (λ file. c.in-Err.ensures.lacks (ap Err file));
       output = unread_leaves given request fault (sent g.O.Sink.taken g.O.Sink.has_failed c.args.out.now c.args.out.now) refl;
-      told = running.by_line (subst L c.from.ensures c.refuse.ensures.line);
+      told = unread_told given request.name fault (sent g.E.Sink.taken g.E.Sink.has_failed c.args.err.now c.refuse_unread.new.err) c.refuse_unread.ensures.told;
     }
 
 pub returns-in-Err-read-clause-stopped : goal.returns-in-Err-read-clause-stopped

@@ -14,20 +14,20 @@ conclude-requires g c =
       | inr e ↦ rw (e.0, e.1) (lit< tt, c.requires)
     ]
 
-pub as_written-requires : goal.as_written-requires
-as_written-requires g c =
+pub as_written-outcome-requires : goal.as_written-outcome-requires
+as_written-outcome-requires g c =
     elim g.met.A.AllocHandle.small [
       | inl e ↦ rw (e.0, e.1) (lit< tt)
       | inr e ↦ rw (e.0, e.1) (lit< tt)
     ]
 
 pub returns-in-Ok-clause-told : goal.returns-in-Ok-clause-told
-returns-in-Ok-clause-told g c = (outcome_of c.conclude.result, c.conclude.ensures.told, c.as_written.ensures)
+returns-in-Ok-clause-told g c = (outcome_of c.conclude.result, c.conclude.ensures.told, c.as_written-outcome.ensures)
 
 pub returns-in-Ok-clause-stop : goal.returns-in-Ok-clause-stop
 returns-in-Ok-clause-stop g c =
     let s = c.args.store.now in
-    told_stop s c.conclude.ensures.lawful c.args.negated (outcome_of c.as_written.result) (stop_kept c.in-Ok.stop) (outcome_of c.conclude.result, c.conclude.ensures.told, c.as_written.ensures)
+    told_stop s c.conclude.ensures.lawful c.args.negated (outcome_of c.as_written-outcome.result) (stop_kept c.in-Ok.stop) (outcome_of c.conclude.result, c.conclude.ensures.told, c.as_written-outcome.ensures)
     (kept_stop s.search c.in-Ok.stop c.in-Ok.ensures.some c.in-Ok.ensures.none)
 
 pub returns-in-Err-clause-told : goal.returns-in-Err-clause-told
@@ -35,3 +35,31 @@ returns-in-Err-clause-told g c = (Unknown NoMemory, inr refl, sym (unknown_stays
 
 pub returns-in-Err-clause-stop : goal.returns-in-Err-clause-stop
 returns-in-Err-clause-stop g c = stop_without_memory c.args.store.now c.conclude.ensures.lawful None
+
+pub stopped-requires : goal.stopped-requires
+stopped-requires g c =
+    elim g.met.A.AllocHandle.small [
+      | inl e ↦ rw (e.0, e.1) (lit< tt)
+      | inr e ↦ rw (e.0, e.1) (lit< tt)
+    ]
+
+pub drop-outcome-requires-room-T-Destruct : goal.drop-outcome-requires-room-T-Destruct
+drop-outcome-requires-room-T-Destruct g c κs within =
+    elim g.met.A.AllocHandle.small [
+      | inl e ↦ rw (e.0, e.1) (lit< tt)
+      | inr e ↦ rw (e.0, e.1) (lit< tt)
+    ]
+
+pub array_drop-outcome-requires : goal.array_drop-outcome-requires
+array_drop-outcome-requires g c =
+    elim g.met.A.AllocHandle.small [
+      | inl e ↦ rw (e.0, e.1) (lit< tt)
+      | inr e ↦ rw (e.0, e.1) (lit< tt)
+    ]
+
+pub drop-requires-in-Err-2-room-T-Destruct : goal.drop-requires-in-Err-2-room-T-Destruct
+drop-requires-in-Err-2-room-T-Destruct g c κs within =
+    elim g.met.A.AllocHandle.small [
+      | inl e ↦ rw (e.0, e.1) (lit< tt)
+      | inr e ↦ rw (e.0, e.1) (lit< tt)
+    ]
