@@ -27,6 +27,7 @@ mod notes;
 mod places;
 mod tables;
 mod texts;
+mod value_bodies;
 
 pub use advice_table::{AdviceTable, advice_tables};
 pub use characters::{CHARACTERS, CharacterAdvice};

@@ -2,7 +2,7 @@
 
 ghost use Rattle.std.specs.Prelude.{◌≡◌, ◌≤◌, IfOk, length};
 ghost use Rattle.diagnostics.specs.Places.{front_length, is_opening, last_opening, stands_before};
-ghost use Rattle.diagnostics.specs.Surroundings.{surroundings_of, token_before};
+ghost use Rattle.diagnostics.specs.Surroundings.{before_token, surroundings_of, token_before};
 
 use crate::brackets::open_bracket;
 use csp_lex::{Keyword, Place, Sign, Token, TokenKind};
@@ -13,8 +13,12 @@ use std::alloc::{AllocError, Allocator};
 pub struct Surroundings<'t> {
     /// The last token before the place that is `=`, `[T=`, `[F=` or the keyword of a declaration.
     pub opening: Option<Token<'t>>,
+    /// The second token before that one, which is the keyword of a datatype or nametype if it is the `=` of one.
+    pub declaring: Option<Token<'t>>,
     /// The innermost round or curly bracket that is open at the place.
     pub bracket: Option<Token<'t>>,
+    /// The token before that bracket.
+    pub outside: Option<Token<'t>>,
     /// The token before the one before the place.
     pub earlier: Option<Token<'t>>,
     /// The token before the place.
@@ -35,10 +39,13 @@ pub fn surroundings_at<'t, A: Allocator>(
 {
     let index = front_length(tokens, place);
     let front = &tokens[..index];
+    let opening = last_opening(front);
     let bracket = open_bracket(alloc, front)?;
     Ok(Surroundings {
-        opening: last_opening(front),
+        opening,
+        declaring: before_token(tokens, opening, 2),
         bracket,
+        outside: before_token(tokens, bracket, 1),
         earlier: token_before(tokens, index, 2),
         before: token_before(tokens, index, 1),
         here: tokens.get(index).copied(),
@@ -54,8 +61,22 @@ fn token_before<'t>(tokens: &[Token<'t>], index: usize, count: usize) -> Option<
     tokens.get(at).copied()
 }
 
-// How many tokens stand before the place.
-fn front_length(tokens: &[Token<'_>], place: Place) -> usize
+// The token so many before that token, if there is one.
+fn before_token<'t>(
+    tokens: &[Token<'t>],
+    token: Option<Token<'_>>,
+    count: usize,
+) -> Option<Token<'t>>
+    ensures { result ≡ before_token tokens.now token.entry count }
+{
+    match token {
+        Some(token) => token_before(tokens, front_length(tokens, token.place), count),
+        None => None,
+    }
+}
+
+/// How many tokens stand before the place.
+pub(crate) fn front_length(tokens: &[Token<'_>], place: Place) -> usize
     ensures value { result ≡ front_length tokens.now place }
     ensures within { result ≤ length tokens.now }
 {

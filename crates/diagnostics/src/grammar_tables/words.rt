@@ -12,6 +12,8 @@ const CHANGES: &str =
 const COMPRESSION: &str =
     "leave the line out, and the functions that it names where they are called: they change no answer";
 
+const FREEDOM: &str = "write `:[deadlock free]` and `:[divergence free]`, without `-`";
+
 const ROWS: &[Advice] = &[
     Advice {
         when: &[Here("within")],
@@ -52,6 +54,18 @@ const ROWS: &[Advice] = &[
     Advice {
         when: &[Earlier("free"), Before("["), Here("FD")],
         text: "write `:[deadlock free]`, and beside it `assert P :[divergence free]`",
+    },
+    Advice {
+        when: &[Earlier("free"), Before("["), HereName],
+        text: "write `:[deadlock free]` or `:[deadlock free [F]]`, which ask for one thing",
+    },
+    Advice {
+        when: &[Before("deadlock"), Here("-")],
+        text: FREEDOM,
+    },
+    Advice {
+        when: &[Before("divergence"), Here("-")],
+        text: FREEDOM,
     },
     Advice {
         when: &[Before("["), Here("FD")],
