@@ -124,18 +124,17 @@ fn is_function(token: Option<Token<'_>>) -> bool
     match token {
         Some(
             Token {
-                kind:
-                    TokenKind::Keyword(
-                        Keyword::Head
-                        | Keyword::Tail
-                        | Keyword::Null
-                        | Keyword::Elem
-                        | Keyword::Member
-                        | Keyword::Union
-                        | Keyword::Inter
-                        | Keyword::Diff
-                        | Keyword::Card,
-                    ),
+                kind: TokenKind::Keyword(
+                    Keyword::Head
+                    | Keyword::Tail
+                    | Keyword::Null
+                    | Keyword::Elem
+                    | Keyword::Member
+                    | Keyword::Union
+                    | Keyword::Inter
+                    | Keyword::Diff
+                    | Keyword::Card,
+                ),
                 ..
             },
         ) => true,

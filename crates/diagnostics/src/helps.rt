@@ -2,17 +2,19 @@
 
 use crate::advice_table::advice_at;
 use crate::characters::{CHARACTERS, character_advice, character_at};
+use crate::clashes::{clash_note, first_clash};
 use crate::declared_names::declared_names;
 use crate::excerpts::excerpt;
 use crate::faults::{Fault, Refusal};
 use crate::grammar_tables::{LOOK_ABOVE, LOOK_BACK, NO_DECLARATION};
+use crate::items::item_tokens;
 use crate::notes::{bracket_note, end_note, name_note, value_note};
 use crate::places::{Surroundings, surroundings_at};
 use crate::texts::readable;
 use crate::value_bodies::{ValueBody, value_body};
 use csp_lex::{Place, TextFault, Token, TokenList, tokens};
 use csp_names::KindFault;
-use csp_parse::{GrammarFault, parse};
+use csp_parse::{GrammarFault, Raw, parse};
 use std::alloc::{AllocError, Allocator};
 
 const OTHER_CHARACTER: &str = "leave it out, or write it within a comment";
@@ -160,13 +162,28 @@ fn note_at<A: Allocator + Copy>(
         return Ok(String::new(alloc));
     };
     match parse(alloc, list) {
-        Ok(raw) => {
-            let names = declared_names(alloc, &raw)?;
-            name_note(alloc, fault, here.text, &names)
-        }
+        Ok(raw) => raw_note(alloc, fault, &raw, &list.tokens, here),
         Err(csp_parse::Refused::Grammar { .. }) => Ok(String::new(alloc)),
         Err(csp_parse::Refused::Memory) => Err(AllocError),
     }
+}
+
+// What is told of the kinds that are seen to clash, or else of the name that stands there.
+fn raw_note<'t, A: Allocator + Copy>(
+    alloc: A,
+    fault: KindFault,
+    raw: &Raw<'t, A>,
+    tokens: &[Token<'t>],
+    here: Token<'t>,
+) -> Result<String<A>, AllocError> {
+    if fault == KindFault::WrongKind
+        && let Some(item) = item_tokens(raw, tokens, here.place)
+        && let Some(clash) = first_clash(raw, item)
+    {
+        return clash_note(alloc, clash);
+    }
+    let names = declared_names(alloc, raw)?;
+    name_note(alloc, fault, here.text, &names)
 }
 
 /// A line of advice, if there is some.

@@ -87,7 +87,7 @@ pub(crate) fn front_length(tokens: &[Token<'_>], place: Place) -> usize
 }
 
 /// Whether one place stands before another.
-fn stands_before(first: Place, second: Place) -> bool
+pub(crate) fn stands_before(first: Place, second: Place) -> bool
     ensures { result ≡ stands_before first second }
 {
     first.line < second.line || (first.line == second.line && first.column < second.column)

@@ -10,7 +10,8 @@ const KEYWORD: &str = "`{here}` is a keyword, so it names nothing: `{here}'` is 
 
 const KEYWORD_BEFORE: &str = "`{before}` is a keyword, so it names nothing: `{before}'` is a name";
 
-const PROCESS: &str = "`{here}` is a process, and here stands a value, or a name";
+const PROCESS: &str =
+    "`{here}` is a process, and here stands none: an equation is called with values, and its parameters are names";
 
 const ROWS: &[Advice] = &[
     Advice {

@@ -1,6 +1,6 @@
 //! For words of FDR, and for what is asked in an assertion.
 
-use crate::conditions::Condition::{Before, Behind, Earlier, Here, HereName};
+use crate::conditions::Condition::{Before, Behind, Earlier, Here, HereName, Opening};
 use crate::grammar_tables::texts::{REFINED_FD, REFINED_RV, REFINEMENT};
 use crate::tables::Advice;
 
@@ -56,15 +56,15 @@ const ROWS: &[Advice] = &[
         text: "write `:[deadlock free]`, and beside it `assert P :[divergence free]`",
     },
     Advice {
-        when: &[Earlier("free"), Before("["), HereName],
+        when: &[Opening("assert"), Earlier("free"), Before("["), HereName],
         text: "write `:[deadlock free]` or `:[deadlock free [F]]`, which ask for one thing",
     },
     Advice {
-        when: &[Before("deadlock"), Here("-")],
+        when: &[Earlier("["), Before("deadlock"), Here("-")],
         text: FREEDOM,
     },
     Advice {
-        when: &[Before("divergence"), Here("-")],
+        when: &[Earlier("["), Before("divergence"), Here("-")],
         text: FREEDOM,
     },
     Advice {

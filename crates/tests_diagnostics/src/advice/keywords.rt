@@ -1,10 +1,11 @@
 //! For keywords that stand where a name is asked for.
 
-pub(crate) const ROWS: &str = r"`STOP` is a process, and here stands a value, or a name
+pub(crate) const ROWS: &str =
+    r"`STOP` is a process, and here stands none: an equation is called with values, and its parameters are names
 P(STOP) = SKIP
 P(x,STOP) = SKIP
 
-`SKIP` is a process, and here stands a value, or a name
+`SKIP` is a process, and here stands none: an equation is called with values, and its parameters are names
 P = Q(SKIP)
 P = Q(1,SKIP)
 
