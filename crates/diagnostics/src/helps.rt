@@ -152,11 +152,11 @@ fn tokens_of<A: Allocator>(alloc: A, text: &[u8]) -> Result<Option<TokenList<'_,
 }
 
 // What is told of the name that stands there.
-fn note_at<A: Allocator + Copy>(
+fn note_at<'t, A: Allocator + Copy>(
     alloc: A,
     fault: KindFault,
-    list: &TokenList<'_, A>,
-    around: &Surroundings<'_>,
+    list: &TokenList<'t, A>,
+    around: &Surroundings<'t>,
 ) -> Result<String<A>, AllocError> {
     let Some(here) = around.here else {
         return Ok(String::new(alloc));

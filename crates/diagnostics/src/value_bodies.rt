@@ -20,10 +20,10 @@ pub(crate) struct ValueBody {
 
 /// The value that alone stands between the `=` of an equation and the place, where that is the end of the text or
 /// another declaration begins there.
-pub(crate) fn value_body<A: Allocator + Copy>(
+pub(crate) fn value_body<'t, A: Allocator + Copy>(
     alloc: A,
-    list: &TokenList<'_, A>,
-    around: &Surroundings<'_>,
+    list: &TokenList<'t, A>,
+    around: &Surroundings<'t>,
     place: Place,
 ) -> Result<Option<ValueBody>, AllocError> {
     let Some(equals) = equals_of_equation(around) else {
