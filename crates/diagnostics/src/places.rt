@@ -1,6 +1,6 @@
 //! The tokens around a place.
 
-ghost use Rattle.std.specs.Prelude.{◌≡◌, ◌≤◌, IfOk, length};
+ghost use Rattle.std.specs.Prelude.{◌≡◌, ◌≤◌, IfOk, length, slice_get};
 ghost use Rattle.diagnostics.specs.Places.{front_length, is_opening, last_opening, stands_before};
 ghost use Rattle.diagnostics.specs.Surroundings.{before_token, surroundings_of, token_before};
 
@@ -48,9 +48,16 @@ pub fn surroundings_at<'t, A: Allocator>(
         outside: before_token(tokens, bracket, 1),
         earlier: token_before(tokens, index, 2),
         before: token_before(tokens, index, 1),
-        here: tokens.get(index).copied(),
-        behind: tokens.get(index + 1).copied(),
+        here: token_at(tokens, index),
+        behind: token_at(tokens, index + 1),
     })
+}
+
+// The token at the index, if there is one.
+fn token_at<'t>(tokens: &[Token<'t>], index: usize) -> Option<Token<'t>>
+    ensures { result ≡ slice_get tokens.now index }
+{
+    tokens.get(index).copied()
 }
 
 // The token so many before the one at the index, if there is one.
@@ -58,7 +65,7 @@ fn token_before<'t>(tokens: &[Token<'t>], index: usize, count: usize) -> Option<
     ensures { result ≡ token_before tokens.now index count }
 {
     let at = index.checked_sub(count)?;
-    tokens.get(at).copied()
+    token_at(tokens, at)
 }
 
 // The token so many before that token, if there is one.
