@@ -20,7 +20,7 @@ first_advice (advice ∷ others) around = cond (applies advice around) (Some adv
 -- the fault of each table
 abbrev pub table_faults : List Fault
 table_faults =
-    replicate 10 (fault.Grammar grammar.UnexpectedToken)
+    replicate 12 (fault.Grammar grammar.UnexpectedToken)
     ++ (fault.Grammar grammar.Nested ∷ fault.Grammar grammar.UnexpectedEnd ∷ fault.Grammar grammar.MixedOperators ∷ [])
     ++ replicate 2 (fault.Kinds kinds.UnknownName)
     ++ (fault.Kinds kinds.DeclaredTwice ∷ fault.Kinds kinds.WrongKind ∷ fault.Kinds kinds.WrongCount ∷ fault.Kinds kinds.BadFieldSet ∷ fault.Kinds kinds.TooManyEvents ∷ [])

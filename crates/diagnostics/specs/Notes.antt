@@ -26,6 +26,10 @@ abbrev pub end_note : GrammarFault → Option Token → List ℕ
 end_note grammar.UnexpectedEnd last = last_note last
 end_note _ last = []
 
+-- a value where the process of an equation has to stand
+abbrev pub value_note : Place → List ℕ
+value_note p = concat (codes "note: at " ∷ place_text p ∷ codes " a value stands in place of the process of an equation\n" ∷ [])
+
 abbrev pub below_note : DeclaredName → List ℕ
 below_note d =
     concat (codes "note: `" ∷ d.name.text.now ∷ codes "` is declared at " ∷ place_text d.name.place ∷ codes ", and a set uses only names that are declared above it\n" ∷ [])

@@ -5,8 +5,8 @@ ghost use Rattle.diagnostics.specs.Advice.{table_faults};
 
 use crate::faults::Fault;
 use crate::grammar_tables::{
-    calls, comparisons, constants, ends, events, mixed, nested, notation, operands, operators,
-    sets, values, words,
+    calls, comparisons, constants, ends, events, keywords, mixed, nested, notation, operands,
+    operators, patterns, sets, values, words,
 };
 use crate::kind_tables::{
     BAD_SET, TOO_MANY, TWICE, WRONG_COUNT, unknown_processes, unknown_values, wrong_kinds,
@@ -27,7 +27,7 @@ pub struct AdviceTable {
 
 /// All tables of advice. Of those on one fault the first that has something counts. Which rows they have is data, of
 /// which the contract says nothing.
-pub fn advice_tables() -> [AdviceTable; 20]
+pub fn advice_tables() -> [AdviceTable; 22]
     ensures { map (λ table. table.fault) result ≡ table_faults }
 {
     let unexpected = Fault::Grammar(GrammarFault::UnexpectedToken);
@@ -36,6 +36,8 @@ pub fn advice_tables() -> [AdviceTable; 20]
         on(unexpected, words::rows()),
         on(unexpected, sets::rows()),
         on(unexpected, calls::rows()),
+        on(unexpected, patterns::rows()),
+        on(unexpected, keywords::rows()),
         on(unexpected, operands::rows()),
         on(unexpected, events::rows()),
         on(unexpected, constants::rows()),

@@ -1,18 +1,22 @@
 //! What may be so around a place.
 
 ghost use Rattle.std.specs.Prelude.{◌≡◌};
-ghost use Rattle.diagnostics.specs.Conditions.{is_name, is_number, is_written, meets};
+ghost use Rattle.diagnostics.specs.Conditions.{is_function, is_keyword, is_name, is_number, is_written, meets};
 
 use crate::places::Surroundings;
-use csp_lex::{Token, TokenKind};
+use csp_lex::{Keyword, Token, TokenKind};
 
 /// Something that may be so around a place.
 #[derive(Clone, Copy)]
 pub enum Condition {
     /// The last `=`, `[T=`, `[F=` or keyword of a declaration before the place is written so.
     Opening(&'static str),
+    /// The second token before that one is written so.
+    Declaring(&'static str),
     /// The innermost bracket that is open at the place is written so.
     Open(&'static str),
+    /// The token before that bracket is written so.
+    Outside(&'static str),
     /// No bracket is open at the place.
     NoneOpen,
     /// The token before the one before the place is written so.
@@ -27,10 +31,16 @@ pub enum Condition {
     BeforeName,
     /// The token before the place is a number.
     BeforeNumber,
+    /// The token before the place is a keyword.
+    BeforeKeyword,
+    /// The token before the place is a keyword that is called in an expression, as `head`.
+    BeforeFunction,
     /// The token at the place is a name.
     HereName,
     /// The token at the place is a number.
     HereNumber,
+    /// The token at the place is a keyword.
+    HereKeyword,
 }
 
 /// Whether the condition is met.
@@ -39,7 +49,9 @@ pub(crate) fn meets(around: &Surroundings<'_>, condition: Condition) -> bool
 {
     match condition {
         Condition::Opening(text) => is_written(around.opening, text),
+        Condition::Declaring(text) => is_written(around.declaring, text),
         Condition::Open(text) => is_written(around.bracket, text),
+        Condition::Outside(text) => is_written(around.outside, text),
         Condition::NoneOpen => around.bracket.is_none(),
         Condition::Earlier(text) => is_written(around.earlier, text),
         Condition::Before(text) => is_written(around.before, text),
@@ -47,8 +59,11 @@ pub(crate) fn meets(around: &Surroundings<'_>, condition: Condition) -> bool
         Condition::Behind(text) => is_written(around.behind, text),
         Condition::BeforeName => is_name(around.before),
         Condition::BeforeNumber => is_number(around.before),
+        Condition::BeforeKeyword => is_keyword(around.before),
+        Condition::BeforeFunction => is_function(around.before),
         Condition::HereName => is_name(around.here),
         Condition::HereNumber => is_number(around.here),
+        Condition::HereKeyword => is_keyword(around.here),
     }
 }
 
@@ -80,6 +95,46 @@ fn is_number(token: Option<Token<'_>>) -> bool
         Some(
             Token {
                 kind: TokenKind::Number(_),
+                ..
+            },
+        ) => true,
+        _ => false,
+    }
+}
+
+/// Whether there is a token, which is a keyword.
+fn is_keyword(token: Option<Token<'_>>) -> bool
+    ensures { result ≡ is_keyword token.entry }
+{
+    match token {
+        Some(
+            Token {
+                kind: TokenKind::Keyword(_),
+                ..
+            },
+        ) => true,
+        _ => false,
+    }
+}
+
+/// Whether there is a token, which is a keyword that is called in an expression.
+fn is_function(token: Option<Token<'_>>) -> bool
+    ensures { result ≡ is_function token.entry }
+{
+    match token {
+        Some(
+            Token {
+                kind: TokenKind::Keyword(
+                    Keyword::Head
+                    | Keyword::Tail
+                    | Keyword::Null
+                    | Keyword::Elem
+                    | Keyword::Member
+                    | Keyword::Union
+                    | Keyword::Inter
+                    | Keyword::Diff
+                    | Keyword::Card,
+                ),
                 ..
             },
         ) => true,

@@ -2,15 +2,19 @@
 
 use crate::advice_table::advice_at;
 use crate::characters::{CHARACTERS, character_advice, character_at};
+use crate::clashes::{clash_note, first_clash};
 use crate::declared_names::declared_names;
+use crate::excerpts::excerpt;
 use crate::faults::{Fault, Refusal};
-use crate::grammar_tables::LOOK_BACK;
-use crate::notes::{bracket_note, end_note, name_note};
+use crate::grammar_tables::{LOOK_ABOVE, LOOK_BACK, NO_DECLARATION};
+use crate::items::item_tokens;
+use crate::notes::{bracket_note, end_note, name_note, value_note};
 use crate::places::{Surroundings, surroundings_at};
 use crate::texts::readable;
-use csp_lex::{Place, TextFault, TokenList, tokens};
+use crate::value_bodies::{ValueBody, value_body};
+use csp_lex::{Place, TextFault, Token, TokenList, tokens};
 use csp_names::KindFault;
-use csp_parse::{GrammarFault, parse};
+use csp_parse::{GrammarFault, Raw, parse};
 use std::alloc::{AllocError, Allocator};
 
 const OTHER_CHARACTER: &str = "leave it out, or write it within a comment";
@@ -68,19 +72,35 @@ fn grammar_help<A: Allocator + Copy>(
     };
     let around = surroundings_at(alloc, &list.tokens, place)?;
     let note = end_note(alloc, fault, around.before)?;
-    let help = advice_or_back(alloc, advice_at(Fault::Grammar(fault), &around), &around)?;
+    let help = match value_body(alloc, &list, &around, place)? {
+        Some(body) => value_help(alloc, text, body)?,
+        None => advice_or_back(alloc, Fault::Grammar(fault), &around, place)?,
+    };
     format!(in alloc; "{note}{help}")
+}
+
+// The place of the value that stands where a process has to stand, the line there, and what may be meant.
+fn value_help<A: Allocator + Copy>(
+    alloc: A,
+    text: &[u8],
+    body: ValueBody,
+) -> Result<String<A>, AllocError> {
+    let note = value_note(alloc, body.place)?;
+    let excerpt = excerpt(alloc, readable(text), body.place)?;
+    let help = help_line(alloc, Some(body.advice))?;
+    format!(in alloc; "{note}{excerpt}{help}")
 }
 
 // The advice, or where there is none the bracket that is open, and that something may be missing.
 fn advice_or_back<A: Allocator + Copy>(
     alloc: A,
-    advice: Option<&'static str>,
+    fault: Fault,
     around: &Surroundings<'_>,
+    place: Place,
 ) -> Result<String<A>, AllocError> {
-    match advice {
-        Some(text) => help_line(alloc, Some(text)),
-        None => looking_back(alloc, around),
+    match advice_at(fault, around) {
+        Some(text) => told(alloc, text, around),
+        None => looking_back(alloc, around, place),
     }
 }
 
@@ -88,9 +108,20 @@ fn advice_or_back<A: Allocator + Copy>(
 fn looking_back<A: Allocator + Copy>(
     alloc: A,
     around: &Surroundings<'_>,
+    place: Place,
 ) -> Result<String<A>, AllocError> {
     let note = bracket_note(alloc, around.bracket)?;
-    format!(in alloc; "{note}help: {LOOK_BACK}\n")
+    let advice = look_back_advice(around.opening, place);
+    format!(in alloc; "{note}help: {advice}\n")
+}
+
+/// Where to look back to, by where the declaration before the place has begun.
+fn look_back_advice(opening: Option<Token<'_>>, place: Place) -> &'static str {
+    match opening {
+        Some(token) if token.place.line < place.line => LOOK_ABOVE,
+        Some(_) => LOOK_BACK,
+        None => NO_DECLARATION,
+    }
 }
 
 fn kind_help<A: Allocator + Copy>(
@@ -104,7 +135,10 @@ fn kind_help<A: Allocator + Copy>(
     };
     let around = surroundings_at(alloc, &list.tokens, place)?;
     let note = note_at(alloc, fault, &list, &around)?;
-    let help = help_line(alloc, advice_at(Fault::Kinds(fault), &around))?;
+    let help = match advice_at(Fault::Kinds(fault), &around) {
+        Some(text) => told(alloc, text, &around)?,
+        None => String::new(alloc),
+    };
     format!(in alloc; "{note}{help}")
 }
 
@@ -118,23 +152,38 @@ fn tokens_of<A: Allocator>(alloc: A, text: &[u8]) -> Result<Option<TokenList<'_,
 }
 
 // What is told of the name that stands there.
-fn note_at<A: Allocator + Copy>(
+fn note_at<'t, A: Allocator + Copy>(
     alloc: A,
     fault: KindFault,
-    list: &TokenList<'_, A>,
-    around: &Surroundings<'_>,
+    list: &TokenList<'t, A>,
+    around: &Surroundings<'t>,
 ) -> Result<String<A>, AllocError> {
     let Some(here) = around.here else {
         return Ok(String::new(alloc));
     };
     match parse(alloc, list) {
-        Ok(raw) => {
-            let names = declared_names(alloc, &raw)?;
-            name_note(alloc, fault, here.text, &names)
-        }
+        Ok(raw) => raw_note(alloc, fault, &raw, &list.tokens, here),
         Err(csp_parse::Refused::Grammar { .. }) => Ok(String::new(alloc)),
         Err(csp_parse::Refused::Memory) => Err(AllocError),
     }
+}
+
+// What is told of the kinds that are seen to clash, or else of the name that stands there.
+fn raw_note<'t, A: Allocator + Copy>(
+    alloc: A,
+    fault: KindFault,
+    raw: &Raw<'t, A>,
+    tokens: &[Token<'t>],
+    here: Token<'t>,
+) -> Result<String<A>, AllocError> {
+    if fault == KindFault::WrongKind
+        && let Some(item) = item_tokens(raw, tokens, here.place)
+        && let Some(clash) = first_clash(raw, item)
+    {
+        return clash_note(alloc, clash);
+    }
+    let names = declared_names(alloc, raw)?;
+    name_note(alloc, fault, here.text, &names)
 }
 
 /// A line of advice, if there is some.
@@ -145,5 +194,26 @@ fn help_line<A: Allocator>(
     match advice {
         Some(text) => format!(in alloc; "help: {text}\n"),
         None => Ok(String::new(alloc)),
+    }
+}
+
+/// A line of advice of a table, in which the tokens around the place are put.
+fn told<A: Allocator + Copy>(
+    alloc: A,
+    text: &str,
+    around: &Surroundings<'_>,
+) -> Result<String<A>, AllocError> {
+    let here = spelling(around.here);
+    let before = spelling(around.before);
+    let text = text.replace(alloc, "{here}", here)?;
+    let text = text.replace(alloc, "{before}", before)?;
+    format!(in alloc; "help: {text}\n")
+}
+
+/// How the token is written, if there is one.
+fn spelling<'t>(token: Option<Token<'t>>) -> &'t str {
+    match token {
+        Some(token) => token.text,
+        None => "",
     }
 }

@@ -14,19 +14,24 @@
 mod advice_table;
 mod brackets;
 mod characters;
+mod clashes;
 mod conditions;
 mod declared_names;
 mod excerpts;
 mod faults;
 mod grammar_tables;
 mod helps;
+mod items;
 mod kind_tables;
 mod messages;
 mod nearest_names;
 mod notes;
+mod open_events;
 mod places;
+mod seen_kinds;
 mod tables;
 mod texts;
+mod value_bodies;
 
 pub use advice_table::{AdviceTable, advice_tables};
 pub use characters::{CHARACTERS, CharacterAdvice};

@@ -2,11 +2,11 @@
 
 ghost use Rattle.std.specs.Prelude.{◌≡◌, IfOk};
 ghost use Rattle.std.specs.String.{string_bytes};
-ghost use Rattle.diagnostics.specs.Notes.{below_note, bracket_note, declared_note, end_note, parts_text};
+ghost use Rattle.diagnostics.specs.Notes.{below_note, bracket_note, declared_note, end_note, parts_text, value_note};
 
 use crate::declared_names::{Class, DeclaredName, declared_as};
 use crate::nearest_names::nearest;
-use csp_lex::Token;
+use csp_lex::{Place, Token};
 use csp_names::KindFault;
 use csp_parse::GrammarFault;
 use std::alloc::{AllocError, Allocator};
@@ -40,6 +40,13 @@ pub(crate) fn end_note<A: Allocator>(
         }
         _ => Ok(String::new(alloc)),
     }
+}
+
+/// A line on a value that stands where the process of an equation has to stand.
+pub(crate) fn value_note<A: Allocator>(alloc: A, place: Place) -> Result<String<A>, AllocError>
+    ensures { IfOk result (λ note. string_bytes note ≡ value_note place) }
+{
+    format!(in alloc; "note: at {place} a value stands in place of the process of an equation\n")
 }
 
 /// A line on what is declared of the word, or on the declared name that is spelled most like it.

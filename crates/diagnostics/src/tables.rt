@@ -12,7 +12,7 @@ use crate::places::Surroundings;
 pub struct Advice {
     /// The conditions.
     pub when: &'static [Condition],
-    /// The sentence.
+    /// The sentence, in which `{here}` stands for the token at the place and `{before}` for the one before it.
     pub text: &'static str,
 }
 

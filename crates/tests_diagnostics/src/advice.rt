@@ -11,11 +11,13 @@ mod constants;
 mod declarations;
 mod ends;
 mod events;
+mod keywords;
 mod mixed;
 mod nested;
 mod notation;
 mod operands;
 mod operators;
+mod patterns;
 mod sets;
 mod unknown_processes;
 mod unknown_values;
@@ -30,10 +32,12 @@ use std::alloc::{AllocError, Global};
 use std::test::Fail;
 
 /// What is told, and the scripts that are told so.
-const TABLES: [&str; 17] = [
+const TABLES: [&str; 19] = [
     words::ROWS,
     sets::ROWS,
     calls::ROWS,
+    patterns::ROWS,
+    keywords::ROWS,
     operands::ROWS,
     events::ROWS,
     constants::ROWS,

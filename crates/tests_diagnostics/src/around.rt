@@ -2,8 +2,8 @@
 
 use csp_lex::{Place, tokens};
 use diagnostics::Condition::{
-    Before, BeforeName, BeforeNumber, Behind, Earlier, Here, HereName, HereNumber, NoneOpen, Open,
-    Opening,
+    Before, BeforeFunction, BeforeKeyword, BeforeName, BeforeNumber, Behind, Declaring, Earlier,
+    Here, HereKeyword, HereName, HereNumber, NoneOpen, Open, Opening, Outside,
 };
 use diagnostics::{Advice, Condition, first_advice, surroundings_at};
 use std::test::Fail;
@@ -17,10 +17,12 @@ const PLUS: Place = Place {
 };
 
 /// What is so at the `+`.
-static MET: [&[Condition]; 8] = [
+static MET: [&[Condition]; 10] = [
     &[],
     &[Opening("=")],
+    &[Declaring("n")],
     &[Open("(")],
+    &[Outside("!")],
     &[Earlier("n")],
     &[Before(")")],
     &[Here("+")],
@@ -29,25 +31,31 @@ static MET: [&[Condition]; 8] = [
 ];
 
 /// What is not so there.
-static UNMET: [&[Condition]; 9] = [
+static UNMET: [&[Condition]; 14] = [
     &[Opening("channel")],
+    &[Declaring("nametype")],
     &[Open("{")],
+    &[Outside("(")],
     &[NoneOpen],
     &[Before("n")],
     &[BeforeName],
     &[BeforeNumber],
+    &[BeforeKeyword],
+    &[BeforeFunction],
     &[HereName],
     &[HereNumber],
+    &[HereKeyword],
     &[Here("+"), Behind("+")],
 ];
 
 /// What is so at the first token, at the last one, and behind it.
-static MET_ELSEWHERE: [(u32, u32, &[Condition]); 7] = [
-    (1, 1, &[NoneOpen, Here("channel"), Behind("c")]),
-    (1, 9, &[Opening("channel"), HereName, NoneOpen]),
+static MET_ELSEWHERE: [(u32, u32, &[Condition]); 8] = [
+    (1, 1, &[NoneOpen, Here("channel"), HereKeyword]),
+    (1, 9, &[Opening("channel"), BeforeKeyword, HereName]),
     (1, 14, &[Open("{"), Earlier(":"), HereNumber]),
     (1, 15, &[Open("{"), BeforeNumber, Here("..")]),
-    (2, 3, &[Open("("), Earlier("P"), Here("n")]),
+    (2, 3, &[Open("("), Outside("P"), Here("n")]),
+    (2, 15, &[Before("head"), BeforeFunction, Behind("n")]),
     (2, 27, &[NoneOpen, Before("->"), Here("STOP")]),
     (2, 31, &[NoneOpen, Earlier("->"), Before("STOP")]),
 ];

@@ -88,6 +88,14 @@ assert STOP :[divergence free]
 fine
 
 channel a, b channel c, d : {0..2}
+assert STOP :[divergence free [FD]]
+--
+script.csp:2:31: S04: brackets have to say what this operator joins
+    assert STOP :[divergence free [FD]]
+                                  ^
+help: write `:[divergence free]`, without a model behind it
+
+channel a, b channel c, d : {0..2}
 assert STOP :[livelock free]
 --
 script.csp:2:15: S01: this token cannot stand here

@@ -48,7 +48,7 @@ static ROWS: [(&str, &str); 13] = [
     ),
     (
         "channel\n\n\n  ",
-        "script.csp:4:3: S03: the text ends within a declaration\n      \n      ^\nnote: the last token is the `channel` at 1:1\nhelp: where something is missing before it, look back: the declaration above may lack a `)`, an `else`, or a process\n",
+        "script.csp:4:3: S03: the text ends within a declaration\n      \n      ^\nnote: the last token is the `channel` at 1:1\nhelp: behind `channel` stands a name\n",
     ),
     (
         "-- 45678901234567890123456789012345678901234567890123456789012345678901234567890\nP = aaaaaaaaaaaaaaaaaaaabbbbbbbbbbbbbbbbbbbbccccccccccccccccccccdddddddddd $ eeeeeeeeeeeeeeeeeeee",

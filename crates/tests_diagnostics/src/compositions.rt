@@ -22,7 +22,7 @@ Q = || n:{0..2} @ [{a,c.n}] P(n)
 script.csp:3:5: S01: this token cannot stand here
     Q = || n:{0..2} @ [{a,c.n}] P(n)
         ^
-help: a composition of many parts is an equation that calls itself: `Q(n) = if n == 0 then P(0) else Q(n-1) [| A |] P(n)`
+help: write the parts out, each with its events: `(P(0) [A || B] P(1)) [C || D] P(2)`, with the events of `A`, as `{a.0, b}`, in place of its name, and in `C` those of `A` and of `B`
 
 channel a, b channel c, d : {0..2}
 P(n) = c!n -> a -> P(n)
@@ -81,4 +81,19 @@ P = STOP [+ {a} +] STOP
 script.csp:2:11: S01: this token cannot stand here
     P = STOP [+ {a} +] STOP
               ^
-help: there is no `[+ A +]`, and nothing stands in its place";
+help: there is no `[+ A +]`, and nothing stands in its place
+
+channel a, b channel c, d : {0..2}
+P = a -> P
+Q = P |[ {a} ]| P
+--
+script.csp:3:7: S01: this token cannot stand here
+    Q = P |[ {a} ]| P
+          ^
+help: write `P [| A |] Q` for `P |[ A ]| Q`, with the events of `A`, as `P [| {| a |} |] Q`
+
+channel a, b channel c, d : {0..2}
+P = a -> P
+Q = P [| {a} |] P
+--
+fine";

@@ -173,7 +173,63 @@ script.csp:1:10: S03: the text ends within a declaration
              ^
 note: the last token is the `STOP` at 1:6
 note: the `(` at 1:5 is open here
-help: where something is missing before it, look back: the declaration above may lack a `)`, an `else`, or a process
+help: where something is missing before it, look back: what stands before it may lack a `)`, an `else`, or a process
+
+)
+--
+script.csp:1:1: S01: this token cannot stand here
+    )
+    ^
+help: no bracket is open here: leave it out, or look back for the one that it closes
+
+[T= STOP
+--
+script.csp:1:1: S01: this token cannot stand here
+    [T= STOP
+    ^
+help: a declaration begins with `channel`, `datatype`, `nametype` or `assert`, or with a head, as `P = Q` and `P(x) = Q`
+
+COPY
+--
+script.csp:1:5: S03: the text ends within a declaration
+    COPY
+        ^
+note: the last token is the `COPY` at 1:1
+help: a declaration begins with `channel`, `datatype`, `nametype` or `assert`, or with a head, as `P = Q` and `P(x) = Q`
+
+channel a, channel
+P = a -> STOP
+--
+script.csp:1:12: S01: this token cannot stand here
+    channel a, channel
+               ^
+help: `channel` is a keyword, so it names nothing: `channel'` is a name
+
+channel a, channel'
+P = a -> STOP
+--
+fine
+
+channel c : {0..2}
+P = c?head -> c!head -> P
+--
+script.csp:2:7: S01: this token cannot stand here
+    P = c?head -> c!head -> P
+          ^
+help: `head` is a keyword, so it names nothing: `head'` is a name
+
+channel c : {0..2}
+P = c?head' -> c!head' -> P
+--
+fine
+
+channel c : {0..2}
+P = c?x -> c!head -> P
+--
+script.csp:2:19: S01: this token cannot stand here
+    P = c?x -> c!head -> P
+                      ^
+help: `head` is a keyword, and stands before its arguments in brackets: it names nothing, and `head'` is a name
 
 P = (((((((((((((((((((((((((((((((((((((((((((((((((((((((((((((((((((((((((((((((((((((((((((((((((((((
 --

@@ -7,6 +7,9 @@ nametype Id = {0..N-1}
 script.csp:3:1: S01: this token cannot stand here
     nametype Id = {0..N-1}
     ^
+note: at 2:5 a value stands in place of the process of an equation
+    N = 3
+        ^
 help: an equation is a process, and no value: a constant is the size of a nametype, as `card(N)` of `nametype N = {0..2}`, and what a function would compute is written where it is used
 
 channel a, b channel c, d : {0..2}
@@ -22,6 +25,9 @@ P(x) = c!x -> P(next(x))
 script.csp:3:1: S01: this token cannot stand here
     P(x) = c!x -> P(next(x))
     ^
+note: at 2:11 a value stands in place of the process of an equation
+    next(x) = (x+1) % 3
+              ^
 help: an equation is a process, and no value: a constant is the size of a nametype, as `card(N)` of `nametype N = {0..2}`, and what a function would compute is written where it is used
 
 channel a, b channel c, d : {0..2}
@@ -94,5 +100,40 @@ help: an expression has no `if`: write it around the process, as `if x == 0 then
 
 channel a, b channel c, d : {0..2}
 P(x) = if x == 0 then c!1 -> STOP else c!0 -> STOP
+--
+fine
+
+channel a, b channel c, d : {0..2}
+N = 3
+--
+script.csp:2:6: S03: the text ends within a declaration
+    N = 3
+         ^
+note: the last token is the `3` at 2:5
+note: at 2:5 a value stands in place of the process of an equation
+    N = 3
+        ^
+help: an equation is a process, and no value: a constant is the size of a nametype, as `card(N)` of `nametype N = {0..2}`, and what a function would compute is written where it is used
+
+channel a, b channel c, d : {0..2}
+nametype N = {0..2}
+P(n) = n < card(N) & c!n -> P(n+1)
+--
+fine
+
+channel a, b channel c, d : {0..2}
+IsLow(x) = x < 2
+P(x) = IsLow(x) & c!x -> P(x+1)
+--
+script.csp:3:1: S01: this token cannot stand here
+    P(x) = IsLow(x) & c!x -> P(x+1)
+    ^
+note: at 2:12 a value stands in place of the process of an equation
+    IsLow(x) = x < 2
+               ^
+help: an equation is a process, and no value: behind a guard stands `&` with its process, as `x == 0 & P`
+
+channel a, b channel c, d : {0..2}
+P(x) = x < 2 & c!x -> P(x+1)
 --
 fine";

@@ -94,6 +94,7 @@ nametype N = {0,true}
 script.csp:1:14: K03: this is of another kind than its place asks for
     nametype N = {0,true}
                  ^
+note: the first member of the set is a whole number, and at 1:17 stands a truth value
 help: numbers, truth values, each datatype, sequences and sets are kinds of their own: look at what each parameter, field and operator is given here and above; `<` and `<=` are of numbers
 
 channel c : {0..1}
@@ -102,7 +103,88 @@ P = c!true -> STOP
 script.csp:2:1: K03: this is of another kind than its place asks for
     P = c!true -> STOP
     ^
-note: `P` is the equation declared at 2:1, with 0 parameters
+note: field 1 of the channel `c` is a whole number, and at 2:7 stands a truth value
+help: numbers, truth values, each datatype, sequences and sets are kinds of their own: look at what each parameter, field and operator is given here and above; `<` and `<=` are of numbers
+
+datatype D = A | B
+datatype E = X
+channel d : {0..1}.Bool.D
+P(x) = d!x?y!A -> d.0!(not y)!X -> STOP
+--
+script.csp:4:1: K03: this is of another kind than its place asks for
+    P(x) = d!x?y!A -> d.0!(not y)!X -> STOP
+    ^
+note: field 3 of the channel `d` is a value of `D`, and at 4:31 stands a value of `E`
+help: numbers, truth values, each datatype, sequences and sets are kinds of their own: look at what each parameter, field and operator is given here and above; `<` and `<=` are of numbers
+
+datatype D = A | B
+datatype E = X
+channel d : {0..1}.Bool.D
+P(x) = d!x?y!A -> d.0!(not y)!B -> STOP
+--
+fine
+
+nametype N = {<>,<0>}
+channel c : N
+P = c!3 -> STOP
+--
+script.csp:3:1: K03: this is of another kind than its place asks for
+    P = c!3 -> STOP
+    ^
+note: field 1 of the channel `c` is a sequence, and at 3:7 stands a whole number
+help: numbers, truth values, each datatype, sequences and sets are kinds of their own: look at what each parameter, field and operator is given here and above; `<` and `<=` are of numbers
+
+P(s) = s <= {0,1} & STOP
+--
+script.csp:1:1: K03: this is of another kind than its place asks for
+    P(s) = s <= {0,1} & STOP
+    ^
+note: an operand of `<=` is a whole number, and at 1:13 stands a set
+help: numbers, truth values, each datatype, sequences and sets are kinds of their own: look at what each parameter, field and operator is given here and above; `<` and `<=` are of numbers
+
+P(s) = s ^ 1 == s & STOP
+--
+script.csp:1:1: K03: this is of another kind than its place asks for
+    P(s) = s ^ 1 == s & STOP
+    ^
+note: an operand of `^` is a sequence, and at 1:12 stands a whole number
+help: numbers, truth values, each datatype, sequences and sets are kinds of their own: look at what each parameter, field and operator is given here and above; `<` and `<=` are of numbers
+
+P(s) = s ^ <1> == s & STOP
+--
+fine
+
+P(n) = n + 1 == true & STOP
+--
+script.csp:1:1: K03: this is of another kind than its place asks for
+    P(n) = n + 1 == true & STOP
+    ^
+note: the left side of `==` is a whole number, and at 1:17 stands a truth value
+help: numbers, truth values, each datatype, sequences and sets are kinds of their own: look at what each parameter, field and operator is given here and above; `<` and `<=` are of numbers
+
+P = 1 & STOP
+--
+script.csp:1:1: K03: this is of another kind than its place asks for
+    P = 1 & STOP
+    ^
+note: a condition is a truth value, and at 1:5 stands a whole number
+help: numbers, truth values, each datatype, sequences and sets are kinds of their own: look at what each parameter, field and operator is given here and above; `<` and `<=` are of numbers
+
+P = STOP
+assert if Bool then STOP else P [T= P
+--
+script.csp:2:1: K03: this is of another kind than its place asks for
+    assert if Bool then STOP else P [T= P
+    ^
+note: a condition is a truth value, and at 2:11 stands a set
+help: numbers, truth values, each datatype, sequences and sets are kinds of their own: look at what each parameter, field and operator is given here and above; `<` and `<=` are of numbers
+
+P(n) = P(<n>)
+--
+script.csp:1:1: K03: this is of another kind than its place asks for
+    P(n) = P(<n>)
+    ^
+note: `P` is the equation declared at 1:1, with 1 parameter
 help: numbers, truth values, each datatype, sequences and sets are kinds of their own: look at what each parameter, field and operator is given here and above; `<` and `<=` are of numbers
 
 P(n) = STOP

@@ -118,4 +118,53 @@ help: write the sets, as `{{}, {0}, {1}, {0, 1}}` for `Set({0, 1})`
 
 channel e : {{},{0},{1},{0,1}}
 --
+fine
+
+channel a, b channel c, d : {0..2}
+A = {a}
+P = STOP \ A
+--
+script.csp:3:1: S01: this token cannot stand here
+    P = STOP \ A
+    ^
+note: at 2:5 a value stands in place of the process of an equation
+    A = {a}
+        ^
+help: an equation is a process: a set of values is named by `nametype S = {0..2}`, and a set of events has no name: write it where it is used, as `{| c, d |}`
+
+channel a, b channel c, d : {0..2}
+P = STOP \ {a}
+--
+fine
+
+channel a, b channel c, d : {0..2}
+A(i) = {c.i}
+P = STOP \ A(0)
+--
+script.csp:2:10: S01: this token cannot stand here
+    A(i) = {c.i}
+             ^
+help: an equation is a process: a set of values is named by `nametype S = {0..2}`, and a set of events has no name: write it where it is used, as `{| c, d |}`
+
+channel a, b channel c, d : {0..2}
+P = STOP \ {c.0}
+--
+fine
+
+channel a, b channel c, d : {0..2}
+S = {0..1}
+P = c?x:S -> P
+--
+script.csp:3:1: S01: this token cannot stand here
+    P = c?x:S -> P
+    ^
+note: at 2:5 a value stands in place of the process of an equation
+    S = {0..1}
+        ^
+help: an equation is a process: a set of values is named by `nametype S = {0..2}`, and a set of events has no name: write it where it is used, as `{| c, d |}`
+
+channel a, b channel c, d : {0..2}
+nametype S = {0..1}
+P = c?x:S -> P
+--
 fine";

@@ -93,7 +93,7 @@ assert P({0}) [T= STOP
 script.csp:2:1: K03: this is of another kind than its place asks for
     P(s) = s <= {0,1} & STOP
     ^
-note: `P` is the equation declared at 2:1, with 1 parameter
+note: an operand of `<=` is a whole number, and at 2:13 stands a set
 help: numbers, truth values, each datatype, sequences and sets are kinds of their own: look at what each parameter, field and operator is given here and above; `<` and `<=` are of numbers
 
 channel a, b channel c, d : {0..2}

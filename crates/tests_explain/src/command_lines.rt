@@ -32,7 +32,7 @@ static REFUSED: [Refused; 7] = [
     channel
            ^
 note: the last token is the `channel` at 1:1
-help: where something is missing before it, look back: the declaration above may lack a `)`, an `else`, or a process
+help: behind `channel` stands a name
 ",
     ),
 ];

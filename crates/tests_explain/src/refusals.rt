@@ -35,7 +35,7 @@ help: the arrow is written `->`
              ^
 note: the last token is the `STOP` at 1:6
 note: the `(` at 1:5 is open here
-help: where something is missing before it, look back: the declaration above may lack a `)`, an `else`, or a process
+help: where something is missing before it, look back: what stands before it may lack a `)`, an `else`, or a process
 ",
     ),
     (

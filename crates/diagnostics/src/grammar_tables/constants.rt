@@ -1,6 +1,6 @@
 //! For equations that are values.
 
-use crate::conditions::Condition::{BeforeNumber, Earlier, Here, HereName, NoneOpen};
+use crate::conditions::Condition::{BeforeName, BeforeNumber, Earlier, Here, HereName, NoneOpen};
 use crate::grammar_tables::texts::CONSTANT;
 use crate::tables::Advice;
 
@@ -8,27 +8,31 @@ const CONDITION: &str = "behind the condition of an `if` stands `then`, and behi
 
 const ROWS: &[Advice] = &[
     Advice {
-        when: &[Earlier("=="), BeforeNumber, HereName],
+        when: &[Earlier("=="), HereName],
         text: CONDITION,
     },
     Advice {
-        when: &[Earlier("!="), BeforeNumber, HereName],
+        when: &[Earlier("!="), HereName],
         text: CONDITION,
     },
     Advice {
-        when: &[Earlier("<"), BeforeNumber, HereName],
+        when: &[Earlier("<"), HereName],
         text: CONDITION,
     },
     Advice {
-        when: &[Earlier("<="), BeforeNumber, HereName],
+        when: &[Earlier("<="), HereName],
         text: CONDITION,
     },
     Advice {
-        when: &[Earlier(">"), BeforeNumber, HereName],
+        when: &[Earlier(">"), HereName],
         text: CONDITION,
     },
     Advice {
-        when: &[Earlier(">="), BeforeNumber, HereName],
+        when: &[Earlier(">="), HereName],
+        text: CONDITION,
+    },
+    Advice {
+        when: &[Earlier("if"), BeforeName, HereName],
         text: CONDITION,
     },
     Advice {

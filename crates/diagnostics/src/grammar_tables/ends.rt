@@ -1,15 +1,33 @@
 //! For a text that ends within a declaration.
 
-use crate::conditions::Condition::{Before, Earlier, NoneOpen, Opening};
-use crate::grammar_tables::texts::{ASSERTION, EVENT_ALONE};
+use crate::conditions::Condition::{Before, BeforeFunction, Earlier, NoneOpen, Opening};
+use crate::grammar_tables::texts::{ASSERTION, EVENT_ALONE, UNCALLED};
 use crate::tables::Advice;
+
+const NAMED: &str = "behind `{before}` stands a name";
 
 const OPERATOR_END: &str = "behind this operator stands a process";
 
 const ROWS: &[Advice] = &[
     Advice {
+        when: &[Before("channel")],
+        text: NAMED,
+    },
+    Advice {
+        when: &[Before("datatype")],
+        text: NAMED,
+    },
+    Advice {
+        when: &[Before("nametype")],
+        text: NAMED,
+    },
+    Advice {
         when: &[Before("->")],
         text: "behind `->` stands a process",
+    },
+    Advice {
+        when: &[BeforeFunction],
+        text: UNCALLED,
     },
     Advice {
         when: &[Earlier("!")],

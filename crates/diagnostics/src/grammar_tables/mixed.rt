@@ -1,8 +1,10 @@
 //! For an operator between processes, or the beginning of one, that cannot stand where it does.
 
-use crate::conditions::Condition::{Before, BeforeNumber, Behind, Earlier, Here, Opening};
+use crate::conditions::Condition::{
+    Before, BeforeFunction, BeforeNumber, Behind, Earlier, Here, Opening,
+};
 use crate::grammar_tables::texts::{
-    CONSTANT, EVENT_ALONE, MANY, NO_END, REFINED_FD, REFINED_RV, REFINEMENT,
+    CONSTANT, EVENT_ALONE, MANY, NO_END, REFINED_FD, REFINED_RV, REFINEMENT, UNCALLED,
 };
 use crate::tables::Advice;
 
@@ -10,6 +12,14 @@ const ROWS: &[Advice] = &[
     Advice {
         when: &[Opening("channel"), Here(";")],
         text: NO_END,
+    },
+    Advice {
+        when: &[Earlier("divergence"), Before("free"), Here("[")],
+        text: "write `:[divergence free]`, without a model behind it",
+    },
+    Advice {
+        when: &[BeforeFunction],
+        text: UNCALLED,
     },
     Advice {
         when: &[Here("["), Behind("FD")],

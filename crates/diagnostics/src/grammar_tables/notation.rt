@@ -3,7 +3,7 @@
 use crate::conditions::Condition::{
     Before, BeforeName, BeforeNumber, Behind, Earlier, Here, NoneOpen,
 };
-use crate::grammar_tables::texts::NO_END;
+use crate::grammar_tables::texts::{EQUALITY, NO_END};
 use crate::tables::Advice;
 
 const NO_BRACKET: &str =
@@ -23,16 +23,20 @@ const ROWS: &[Advice] = &[
         text: "parallel composition names the events that are shared, as `P [| {| a |} |] Q`, or those of each side, as `P [{| a |} || {| b |}] Q`",
     },
     Advice {
+        when: &[Here("|"), Behind("[")],
+        text: "write `P [| A |] Q` for `P |[ A ]| Q`, with the events of `A`, as `P [| {| a |} |] Q`",
+    },
+    Advice {
         when: &[Here("!")],
         text: "negation is written `not`, and an output stands behind a channel, as `c!x -> P`",
     },
     Advice {
         when: &[Earlier("if"), BeforeName, Here("=")],
-        text: "equality is written `==`",
+        text: EQUALITY,
     },
     Advice {
         when: &[BeforeNumber, Here("=")],
-        text: "equality is written `==`",
+        text: EQUALITY,
     },
     Advice {
         when: &[Here(">="), Behind("=")],

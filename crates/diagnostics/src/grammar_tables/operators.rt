@@ -1,6 +1,8 @@
 //! For operators in expressions, and for what is missing before a token.
 
-use crate::conditions::Condition::{Before, BeforeName, Earlier, Here, NoneOpen, Opening};
+use crate::conditions::Condition::{
+    Before, BeforeName, Earlier, Here, HereName, NoneOpen, Open, Opening,
+};
 use crate::grammar_tables::texts::{ASSERTION, NO_END};
 use crate::tables::Advice;
 
@@ -91,6 +93,14 @@ const ROWS: &[Advice] = &[
     Advice {
         when: &[Here("->")],
         text: EVENT,
+    },
+    Advice {
+        when: &[BeforeName, HereName, NoneOpen],
+        text: "where a name begins an equation, `=` or `(` stands behind it; two processes are joined by an operator, as `P ; Q`",
+    },
+    Advice {
+        when: &[BeforeName, HereName, Open("(")],
+        text: "parameters, and what an equation is called with, are kept apart by commas, as `P(x, y)`, and processes are joined by an operator, as `P ; Q`",
     },
 ];
 

@@ -1,6 +1,6 @@
 //! For words of FDR, and for what is asked in an assertion.
 
-use crate::conditions::Condition::{Before, Behind, Earlier, Here, HereName};
+use crate::conditions::Condition::{Before, Behind, Earlier, Here, HereName, Opening};
 use crate::grammar_tables::texts::{REFINED_FD, REFINED_RV, REFINEMENT};
 use crate::tables::Advice;
 
@@ -11,6 +11,8 @@ const CHANGES: &str =
 
 const COMPRESSION: &str =
     "leave the line out, and the functions that it names where they are called: they change no answer";
+
+const FREEDOM: &str = "write `:[deadlock free]` and `:[divergence free]`, without `-`";
 
 const ROWS: &[Advice] = &[
     Advice {
@@ -52,6 +54,18 @@ const ROWS: &[Advice] = &[
     Advice {
         when: &[Earlier("free"), Before("["), Here("FD")],
         text: "write `:[deadlock free]`, and beside it `assert P :[divergence free]`",
+    },
+    Advice {
+        when: &[Opening("assert"), Earlier("free"), Before("["), HereName],
+        text: "write `:[deadlock free]` or `:[deadlock free [F]]`, which ask for one thing",
+    },
+    Advice {
+        when: &[Earlier("["), Before("deadlock"), Here("-")],
+        text: FREEDOM,
+    },
+    Advice {
+        when: &[Earlier("["), Before("divergence"), Here("-")],
+        text: FREEDOM,
     },
     Advice {
         when: &[Before("["), Here("FD")],

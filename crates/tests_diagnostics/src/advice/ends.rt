@@ -1,7 +1,19 @@
 //! For a text that ends within a declaration.
 
-pub(crate) const ROWS: &str = r"behind `->` stands a process
+pub(crate) const ROWS: &str = r"behind `channel` stands a name
+channel
+
+behind `datatype` stands a name
+datatype
+
+behind `nametype` stands a name
+nametype
+
+behind `->` stands a process
 channel a P = a ->
+
+`tail` is a keyword, and stands before its arguments in brackets: it names nothing, and `tail'` is a name
+channel a P = a -> tail
 
 an event is no process: behind it stands `->`, as `c!x -> SKIP`
 channel c : {0..1} P = c!0

@@ -3,6 +3,12 @@
 pub(crate) const ROWS: &str = r"no `;` ends a declaration
 channel a; channel b
 
+write `:[divergence free]`, without a model behind it
+P = STOP assert P :[divergence free [FD]]
+
+`head` is a keyword, and stands before its arguments in brackets: it names nothing, and `head'` is a name
+P = head [] STOP
+
 there is no `[FD=`: write `[F=`, and beside it `assert Q :[divergence free]`
 P = STOP assert P [] P [FD= STOP
 

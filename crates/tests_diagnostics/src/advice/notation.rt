@@ -10,6 +10,9 @@ P(x) = x == 0 || x == 1 & STOP
 parallel composition names the events that are shared, as `P [| {| a |} |] Q`, or those of each side, as `P [{| a |} || {| b |}] Q`
 P = STOP || STOP
 
+write `P [| A |] Q` for `P |[ A ]| Q`, with the events of `A`, as `P [| {| a |} |] Q`
+channel a P = STOP |[ {a} ]| STOP
+
 negation is written `not`, and an output stands behind a channel, as `c!x -> P`
 P(x) = !(x == 0) & STOP
 

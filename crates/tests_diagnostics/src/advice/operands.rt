@@ -1,18 +1,6 @@
-//! For parameters that are patterns, and for `if`.
+//! For `if` where an operand or an expression is asked for.
 
-pub(crate) const ROWS: &str =
-    r"a parameter is a name, and no pattern: ask for its value in the body, as `P(n) = if n == 0 then Q else R`, with `null`, `head` and `tail` for a sequence
-P(0) = STOP
-P(<>) = STOP
-P({}) = STOP
-P(true) = STOP
-P(false) = STOP
-P(n+1) = STOP
-P(n-1) = STOP
-P(s^t) = STOP
-P(B.x) = STOP
-
-put the `if` in brackets, as `a -> (if x == 0 then P else Q)`
+pub(crate) const ROWS: &str = r"put the `if` in brackets, as `a -> (if x == 0 then P else Q)`
 channel a P(x) = a -> if x == 0 then STOP else SKIP
 P(x) = x < 3 & if x == 0 then STOP else SKIP
 P(x) = STOP [] if x == 0 then STOP else SKIP

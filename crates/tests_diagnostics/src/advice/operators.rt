@@ -34,4 +34,10 @@ this `=` makes the name before it the head of an equation: the declaration above
 channel a P = a -> Q = STOP
 
 before `->` stands an event, a channel with its fields: a process is followed by `;`
-P = STOP -> STOP";
+P = STOP -> STOP
+
+where a name begins an equation, `=` or `(` stands behind it; two processes are joined by an operator, as `P ; Q`
+P = Q R S
+
+parameters, and what an equation is called with, are kept apart by commas, as `P(x, y)`, and processes are joined by an operator, as `P ; Q`
+P(x y) = STOP";

@@ -24,6 +24,13 @@ external normal
 write `:[deadlock free]`, and beside it `assert P :[divergence free]`
 P = STOP assert P :[deadlock free [FD]]
 
+write `:[deadlock free]` or `:[deadlock free [F]]`, which ask for one thing
+P = STOP assert P :[deadlock free [T]]
+
+write `:[deadlock free]` and `:[divergence free]`, without `-`
+P = STOP assert P :[deadlock-free]
+P = STOP assert P :[divergence-free]
+
 there is no `[FD=`: write `[F=`, and beside it `assert Q :[divergence free]`
 P = STOP assert P [FD= STOP
 
