@@ -22,9 +22,9 @@ use csp_value::{AllocHandle, ChannelId, Event, FieldSet, Memory};
 #[derive(Drop)]
 pub struct Images<A: AllocHandle> {
     /// Each event of the first channel becomes the one of the second with its fields.
-    channels: Vec<(ChannelId, ChannelId), A>,
+    pub(crate) channels: Vec<(ChannelId, ChannelId), A>,
     /// The first event becomes the second.
-    events: Vec<(Event<A>, Event<A>), A>,
+    pub(crate) events: Vec<(Event<A>, Event<A>), A>,
 }
 
 fn is_bare<A: AllocHandle>(written: &EventExpression<A>) -> bool
