@@ -271,18 +271,20 @@ fn line_with_value(alloc: Global, layers: Layers) -> Result<String, AllocError> 
     Ok(line)
 }
 
-// Whether the text with the nametypes is answered so.
+// Whether the text with the nametypes, and the row at the place behind them, is answered so.
 fn is_nested_answered<R: Threads + Wait + Sync>(
     rt: &R,
     alloc: Global,
     stack: Stack,
     layers: Layers,
-    row: &(&str, u8, &str),
+    place: usize,
 ) -> Result<bool, AllocError> {
-    let (behind, status, lines) = *row;
+    let Some((behind, status, lines)) = BEHIND.get(place) else {
+        return Ok(false);
+    };
     let text = nametypes(alloc, layers, behind)?;
     let told = run_on_stack(stack, alloc, rt, &["script"], text.as_bytes());
-    Ok(told.is_answered(status, lines))
+    Ok(told.is_answered(*status, lines))
 }
 
 // Whether the value is shown by so many workers.
@@ -299,61 +301,77 @@ fn is_shown<R: Threads + Wait + Sync>(
     Ok(told.is_answered(1, line.as_str()))
 }
 
-// Whether the text of the pieces is answered so.
+// Whether the high text at the place is answered so.
 fn is_high_answered<R: Threads + Wait + Sync>(
     rt: &R,
     alloc: Global,
     stack: Stack,
-    row: &(u8, Pieces, Pieces),
+    place: usize,
 ) -> Result<bool, AllocError> {
-    let (status, pieces, lines) = *row;
+    let Some((status, pieces, lines)) = HIGH.get(place) else {
+        return Ok(false);
+    };
     let text = put_together(alloc, pieces)?;
     let lines = put_together(alloc, lines)?;
     let told = run_on_stack(stack, alloc, rt, &["script"], text.as_bytes());
-    Ok(told.is_answered(status, lines.as_str()))
+    Ok(told.is_answered(*status, lines.as_str()))
 }
 
 #[test]
 fn texts_with_deep_sets_are_answered_so(rt: HostRuntime) -> Result<(), Fail> {
-    for row in &BEHIND {
+    for place in 0..BEHIND.len() {
         let is_so = on_large_stack(&rt, move |stack| {
-            is_nested_answered(&rt, rt.alloc(), stack, SETS, row)
+            is_nested_answered(&rt, rt.alloc(), stack, SETS, place)
         })?;
-        assert!(rt; is_so, "at {}", row.0);
+        assert!(rt; is_so, "at {place}");
     }
     Ok(())
 }
 
 #[test]
 fn texts_with_deep_sequences_are_answered_so(rt: HostRuntime) -> Result<(), Fail> {
-    for row in &BEHIND {
+    for place in 0..BEHIND.len() {
         let is_so = on_large_stack(&rt, move |stack| {
-            is_nested_answered(&rt, rt.alloc(), stack, SEQUENCES, row)
+            is_nested_answered(&rt, rt.alloc(), stack, SEQUENCES, place)
         })?;
-        assert!(rt; is_so, "at {}", row.0);
+        assert!(rt; is_so, "at {place}");
     }
     Ok(())
 }
 
 #[test]
-fn deep_sets_are_shown(rt: HostRuntime) -> Result<(), Fail> {
-    for workers in &WORKERS {
-        let is_so = on_large_stack(&rt, move |stack| {
-            is_shown(&rt, rt.alloc(), stack, DEEPEST, workers)
-        })?;
-        assert!(rt; is_so, "with {workers}");
-    }
+fn deep_sets_are_shown_by_one_worker(rt: HostRuntime) -> Result<(), Fail> {
+    let is_so = on_large_stack(&rt, move |stack| {
+        is_shown(&rt, rt.alloc(), stack, DEEPEST, "--workers=1")
+    })?;
+    assert!(rt; is_so);
     Ok(())
 }
 
 #[test]
-fn deep_sequences_are_shown(rt: HostRuntime) -> Result<(), Fail> {
-    for workers in &WORKERS {
-        let is_so = on_large_stack(&rt, move |stack| {
-            is_shown(&rt, rt.alloc(), stack, SEQUENCES, workers)
-        })?;
-        assert!(rt; is_so, "with {workers}");
-    }
+fn deep_sets_are_shown_by_four_workers(rt: HostRuntime) -> Result<(), Fail> {
+    let is_so = on_large_stack(&rt, move |stack| {
+        is_shown(&rt, rt.alloc(), stack, DEEPEST, "--workers=4")
+    })?;
+    assert!(rt; is_so);
+    Ok(())
+}
+
+#[test]
+fn deep_sequences_are_shown_by_one_worker(rt: HostRuntime) -> Result<(), Fail> {
+    let is_so = on_large_stack(&rt, move |stack| {
+        is_shown(&rt, rt.alloc(), stack, SEQUENCES, "--workers=1")
+    })?;
+    assert!(rt; is_so);
+    Ok(())
+}
+
+#[test]
+fn deep_sequences_are_shown_by_four_workers(rt: HostRuntime) -> Result<(), Fail> {
+    let is_so = on_large_stack(&rt, move |stack| {
+        is_shown(&rt, rt.alloc(), stack, SEQUENCES, "--workers=4")
+    })?;
+    assert!(rt; is_so);
     Ok(())
 }
 
@@ -368,11 +386,11 @@ fn short_deep_sets_are_shown_on_the_stack_that_is_there(rt: HostRuntime) -> Resu
 
 #[test]
 fn high_texts_are_answered_so(rt: HostRuntime) -> Result<(), Fail> {
-    for row in &HIGH {
+    for place in 0..HIGH.len() {
         let is_so = on_large_stack(&rt, move |stack| {
-            is_high_answered(&rt, rt.alloc(), stack, row)
+            is_high_answered(&rt, rt.alloc(), stack, place)
         })?;
-        assert!(rt; is_so, "at {:?}", row.1);
+        assert!(rt; is_so, "at {place}");
     }
     Ok(())
 }
