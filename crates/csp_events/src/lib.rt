@@ -16,7 +16,6 @@ mod images;
 pub mod laws;
 mod limits;
 mod renaming_pair;
-mod sources;
 mod substitution;
 
 pub use channel::Channel;
