@@ -4,9 +4,8 @@ use Rattle.std.specs.Prelude.{Option}
 use Rattle.theory_syntax.specs.Process.{Script, Assertion}
 use Rattle.theory_search.specs.Outcome.{Bounds, Outcome, Holds, Fails, Unknown, Denied}
 use Rattle.theory_notation.specs.Names.{Names}
-use Rattle.theory_runs.proofs.Visiting.{has_end}
-use Rattle.explore.specs.Answering.{IsRightAsWritten}
-use Rattle.explanation.specs.Running.{HasRun}
+use Rattle.explore.specs.Answering.{IsRight, IsRightAsWritten}
+use Rattle.explanation.specs.Running.{HasViolation}
 use Rattle.report.specs.Sending.{Sends}
 use Rattle.program.specs.Running.{outcome_status}
 use Rattle.explain_program.specs.Asking.{Request, one_at}
@@ -36,9 +35,9 @@ one_told request script names n asked a o Q alone right text told out =
 pub went_out : (o : Outcome) (old new : Option (List ℕ)) (failed : Bool) (text : List ℕ) → Sends old new failed text → GoesOut old new failed (outcome_status o) (o ∷ []) text
 went_out o old new failed text sends = record { bytes = sends; status_is = omega arith }
 
--- a violation that a right outcome shows has a run that ends with its evidence
-pub right_has_run : (script : Script) (a : Assertion) (bounds : Bounds) (o : Outcome) → IsRightAsWritten script a bounds o → HasRun script a.implementation o
-right_has_run script a bounds Holds right = tt
-right_has_run script a bounds (Fails v) right = has_end script a v right.true_of
-right_has_run script a bounds (Unknown why) right = tt
-right_has_run script a bounds Denied right = tt
+-- a violation that a right outcome shows is one
+pub right_has_violation : (script : Script) (a : Assertion) (bounds : Bounds) (o : Outcome) → IsRight script a bounds o → HasViolation script a o
+right_has_violation script a bounds Holds right = tt
+right_has_violation script a bounds (Fails v) right = right.true_of
+right_has_violation script a bounds (Unknown why) right = tt
+right_has_violation script a bounds Denied right = tt

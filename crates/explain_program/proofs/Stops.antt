@@ -1,9 +1,9 @@
 -- The path that stopped a search, and why there is none where no search was begun.
-use Rattle.std.proofs.Common.{◌≡◌, ◌↔◌, inl, inr, List, Bool, true, false, Option, Some, None, IsNone, IfSome, map, refl, sym, ◌∙◌, ap, subst}
+use Rattle.std.proofs.Common.{◌≡◌, ◌↔◌, inl, inr, List, Option, Some, None, IsNone, IfSome, map, refl, sym, ◌∙◌, ap, subst}
 use Rattle.std.specs.declared.vec.Vec.{Vec}
 use Rattle.theory_syntax.specs.Value as pure
 use Rattle.theory_syntax.specs.Process.{Assertion, Script, specification_of}
-use Rattle.theory_search.specs.Answer.{HasNoForm, as_written}
+use Rattle.theory_search.specs.Answer.{HasNoForm}
 use Rattle.theory_search.specs.Outcome.{Bounds, Why, TooManyPairs, TooManyNodes, LargeTerm, Fault, NoMemory, Outcome, Holds, Fails, Unknown, Denied}
 use Rattle.theory_search.specs.Search.{IsLawful, Mark, Search, Stopped, recorded_path}
 use Rattle.theory_search.specs.Sound.{IsFor, ScriptSearch}
@@ -16,7 +16,6 @@ use Rattle.csp_value.specs.declared.action.Action.{Action}
 use Rattle.pair_store.specs.Stopped.{IsStoppedBy, IsStoppedByNone, IsStuckFor}
 use Rattle.explore.specs.Answering.{IsNotBegun, IsToldOrNoMemory}
 use Rattle.explanation.specs.Running.{HasStop}
-use Rattle.explain_program.specs.Sizes.{IsToldAsWritten}
 use Rattle.explain_program.specs.Stops.{stop_kept}
 
 -- the path is that of the row that stopped the search; or no such row did
@@ -65,29 +64,16 @@ module _ (s : ScriptSearch) (lawful : IsLawful s.script s.search) where
       let W : Why → Type 0 = λ w. IsStuckFor w row.1.mark in
       absurd (none why ended row.0 row.1 row.2 (subst W (sym (why_is why h e)) (stuck_for h row.1.mark row.3)))
 
-  as_unknown : (negated : Bool) (told : Outcome) (why : Why) → Unknown why ≡ as_written negated told → Unknown why ≡ told
-  as_unknown true Holds why e = absurd (cc e)
-  as_unknown true (Fails v) why e = absurd (cc e)
-  as_unknown true (Unknown w) why e = e
-  as_unknown true Denied why e = absurd (cc e)
-  as_unknown false told why e = e
-
   no_memory : (stop : Option (List pure.Action)) (why : Why) → Unknown why ≡ Unknown NoMemory → HasStop s.script s.search.assertion (Unknown why) stop
   no_memory stop why e = λ h is. absurd (let f : NoMemory ≡ why = cc (sym e) in let g : hindrance NoMemory ≡ Some h = ap hindrance f ∙ is in cc g)
 
   -- whatever it tells
-  pub told_stop : (negated : Bool) (o : Outcome) (stop : Option (List pure.Action)) → IsToldAsWritten negated s.search o → IsKeptStop s.search stop → HasStop s.script s.search.assertion o stop
-  told_stop negated Holds stop told is = tt
-  told_stop negated (Fails v) stop told is = tt
-  told_stop negated (Unknown why) stop told is = by (subst T (sym (as_unknown negated told.0 why told.2)) told.1)
-    where
-      T : Outcome → Type 0
-      T = IsToldOrNoMemory s.search
-
-      by : IsToldOrNoMemory s.search (Unknown why) → HasStop s.script s.search.assertion (Unknown why) stop
-      by (inl ended) = by_path why stop ended is
-      by (inr e) = no_memory stop why e
-  told_stop negated Denied stop told is = tt
+  pub told_stop : (o : Outcome) (stop : Option (List pure.Action)) → IsToldOrNoMemory s.search o → IsKeptStop s.search stop → HasStop s.script s.search.assertion o stop
+  told_stop Holds stop told is = tt
+  told_stop (Fails v) stop told is = tt
+  told_stop (Unknown why) stop (inl ended) is = by_path why stop ended is
+  told_stop (Unknown why) stop (inr e) is = no_memory stop why e
+  told_stop Denied stop told is = tt
 
   -- where memory was refused
   pub stop_without_memory : (stop : Option (List pure.Action)) → HasStop s.script s.search.assertion (Unknown NoMemory) stop

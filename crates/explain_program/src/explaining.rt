@@ -111,7 +111,7 @@ fn explain_one<A: AllocHandle + Send + Sync, R: Threads + Wait + Sync, O: Sink>(
     let answer = answer(alloc, rt, settings, &named.script, assertion);
     let text = explanation_text(alloc, settings, named, place + 1, assertion, &answer)?;
     match push_all(text.as_str().as_bytes(), out) {
-        Ok(()) => Ok(outcome_status(&answer.outcome)),
+        Ok(()) => Ok(outcome_status(&answer.found, assertion.negated)),
         Err(_) => Err(Untold::Output),
     }
 }

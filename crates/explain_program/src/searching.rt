@@ -1,14 +1,15 @@
 //! The search for the answer to an assertion, of which the answer keeps how large it was, and the path that stopped it.
 
 ghost use Rattle.std.specs.Prelude.{◌≢◌, ◌≤◌, IsSomeAnd};
+ghost use Rattle.theory_search.specs.Answer.{as_written};
 ghost use Rattle.theory_search.specs.Search.{Open, IsLawful};
 ghost use Rattle.theory_search.specs.Terms.{IsAssertionOf};
 ghost use Rattle.csp_term.specs.Script.{assertion_of, script_of};
 ghost use Rattle.pair_store.specs.Bounds.{bounds_of};
-ghost use Rattle.explore.specs.Answering.{IsRightAsWritten};
+ghost use Rattle.explore.specs.Answering.{IsRight, IsToldOrNoMemory};
 ghost use Rattle.explanation.specs.Running.{HasStop};
 ghost use Rattle.verdict.specs.Outcome.{outcome_of};
-ghost use Rattle.explain_program.specs.Sizes.{HasSize, IsSizeFor, IsToldAsWritten};
+ghost use Rattle.explain_program.specs.Sizes.{HasSize, IsSizeFor};
 ghost use Rattle.explain_program.specs.Stops.{stop_kept};
 
 use crate::search_size::{SearchSize, size_in};
@@ -22,8 +23,8 @@ use verdict::{Outcome, Why};
 /// The answer to an assertion.
 #[derive(Drop)]
 pub(crate) struct Answer<A: AllocHandle> {
-    /// The outcome.
-    pub(crate) outcome: Outcome<A>,
+    /// The outcome that it has but for a `not`.
+    pub(crate) found: Outcome<A>,
     /// How large the search for it was, if there was one.
     pub(crate) size: Option<SearchSize>,
     /// The path that stopped it, if a state of the implementation for which there is no answer did.
@@ -42,9 +43,10 @@ pub(crate) fn answer_together<A: AllocHandle + Send + Sync, R: Threads + Wait + 
 ) -> Answer<A>
     requires terms { IsAssertionOf (script_of script.now) (assertion_of assertion.now) }
     requires workers { (1 ≤ workers) × (workers ≤ 64) }
-    ensures right { IsRightAsWritten (script_of script.now) (assertion_of assertion.now) (bounds_of limits) (outcome_of result.outcome) }
-    ensures size { IsSizeFor (script_of script.now) (assertion_of assertion.now) (bounds_of limits) (outcome_of result.outcome) result.size }
-    ensures stop { HasStop (script_of script.now) (assertion_of assertion.now) (outcome_of result.outcome) (stop_kept result.stop) }
+    ensures right { IsRight (script_of script.now) (assertion_of assertion.now) (bounds_of limits) (outcome_of result.found) }
+    ensures size { let outcome = as_written assertion.now.negated (outcome_of result.found) in
+        IsSizeFor (script_of script.now) (assertion_of assertion.now) (bounds_of limits) outcome result.size }
+    ensures stop { HasStop (script_of script.now) (assertion_of assertion.now) (outcome_of result.found) (stop_kept result.stop) }
 {
     match ended_together(
         alloc,
@@ -55,10 +57,10 @@ pub(crate) fn answer_together<A: AllocHandle + Send + Sync, R: Threads + Wait + 
         workers,
         &explore::Open,
     ) {
-        Ok(Some(store)) => concluded(alloc, &store, assertion.negated),
+        Ok(Some(store)) => concluded(alloc, &store),
         Ok(None) => answer_alone(alloc, script, assertion, limits),
         Err(why) => Answer {
-            outcome: Outcome::Unknown(why),
+            found: Outcome::Unknown(why),
             size: None,
             stop: None,
         },
@@ -73,14 +75,15 @@ fn answer_alone<A: AllocHandle>(
     limits: Limits,
 ) -> Answer<A>
     requires { IsAssertionOf (script_of script.now) (assertion_of assertion.now) }
-    ensures right { IsRightAsWritten (script_of script.now) (assertion_of assertion.now) (bounds_of limits) (outcome_of result.outcome) }
-    ensures size { IsSizeFor (script_of script.now) (assertion_of assertion.now) (bounds_of limits) (outcome_of result.outcome) result.size }
-    ensures stop { HasStop (script_of script.now) (assertion_of assertion.now) (outcome_of result.outcome) (stop_kept result.stop) }
+    ensures right { IsRight (script_of script.now) (assertion_of assertion.now) (bounds_of limits) (outcome_of result.found) }
+    ensures size { let outcome = as_written assertion.now.negated (outcome_of result.found) in
+        IsSizeFor (script_of script.now) (assertion_of assertion.now) (bounds_of limits) outcome result.size }
+    ensures stop { HasStop (script_of script.now) (assertion_of assertion.now) (outcome_of result.found) (stop_kept result.stop) }
 {
     match ended_search(alloc, script, assertion, limits) {
-        Ok(store) => concluded(alloc, &store, assertion.negated),
+        Ok(store) => concluded(alloc, &store),
         Err(why) => Answer {
-            outcome: Outcome::Unknown(why),
+            found: Outcome::Unknown(why),
             size: None,
             stop: None,
         },
@@ -88,23 +91,19 @@ fn answer_alone<A: AllocHandle>(
 }
 
 // What a search tells that has ended, how large it is, and the path that stopped it.
-fn concluded<A: AllocHandle>(alloc: A, store: &Store<'_, A>, negated: bool) -> Answer<A>
+fn concluded<A: AllocHandle>(alloc: A, store: &Store<'_, A>) -> Answer<A>
     requires { store.now.search.verdict ≢ Open }
     ensures lawful { IsLawful store.now.script store.now.search }
-    ensures told { IsToldAsWritten negated store.now.search (outcome_of result.outcome) }
+    ensures told { IsToldOrNoMemory store.now.search (outcome_of result.found) }
     ensures size { IsSomeAnd result.size (HasSize store.now.search) }
-    ensures stop { HasStop store.now.script store.now.search.assertion (outcome_of result.outcome) (stop_kept result.stop) }
+    ensures stop { HasStop store.now.script store.now.search.assertion (outcome_of result.found) (stop_kept result.stop) }
 {
-    let outcome = conclude(alloc, store).as_written(negated);
+    let found = conclude(alloc, store);
     let size = Some(size_in(store));
     match store.stopped(alloc) {
-        Ok(stop) => Answer {
-            outcome,
-            size,
-            stop,
-        },
+        Ok(stop) => Answer { found, size, stop },
         Err(Memory) => Answer {
-            outcome: Outcome::Unknown(Why::Memory),
+            found: Outcome::Unknown(Why::Memory),
             size,
             stop: None,
         },

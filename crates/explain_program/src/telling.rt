@@ -2,14 +2,14 @@
 
 ghost use Rattle.std.specs.Prelude.{◌≡◌, IfOk};
 ghost use Rattle.std.specs.String.{string_bytes};
+ghost use Rattle.theory_search.specs.Answer.{as_written};
 ghost use Rattle.theory_search.specs.Terms.{IsAssertionOf};
 ghost use Rattle.csp_term.specs.Script.{assertion_of, script_of};
-ghost use Rattle.csp_term.specs.Term.{process_of};
 ghost use Rattle.csp_print.specs.Names.{names_of};
 ghost use Rattle.counterexample.specs.Folding.{telling_of};
 ghost use Rattle.counterexample.specs.Styles.{style_of};
 ghost use Rattle.counterexample.specs.Widths.{width_of};
-ghost use Rattle.explanation.specs.Running.{HasRun, HasStop, stop_in};
+ghost use Rattle.explanation.specs.Running.{HasStop, HasViolation, stop_in};
 ghost use Rattle.verdict.specs.Outcome.{outcome_of};
 ghost use Rattle.explain_program.specs.Asking.{bounds_asked, request_of, style_for, taus_told, telling_for, width_of_number};
 ghost use Rattle.explain_program.specs.Sizes.{IsSizeFor};
@@ -35,10 +35,12 @@ pub(crate) fn explanation_text<A: AllocHandle>(
     answer: &Answer<A>,
 ) -> Result<String<A>, Memory>
     requires terms { IsAssertionOf (script_of named.now.script) (assertion_of assertion.now) }
-    requires run { HasRun (script_of named.now.script) (process_of assertion.now.implementation) (outcome_of answer.now.outcome) }
-    requires size { IsSizeFor (script_of named.now.script) (assertion_of assertion.now) (bounds_asked settings.now) (outcome_of answer.now.outcome) answer.now.size }
-    requires stop { HasStop (script_of named.now.script) (assertion_of assertion.now) (outcome_of answer.now.outcome) (stop_kept answer.now.stop) }
-    ensures { IfOk result (λ text. IsToldAsAsked (request_of settings.now) (script_of named.now.script) (names_of named.now.names) number (assertion_of assertion.now) (outcome_of answer.now.outcome) (string_bytes text)) }
+    requires shown { HasViolation (script_of named.now.script) (assertion_of assertion.now) (outcome_of answer.now.found) }
+    requires size { let outcome = as_written assertion.now.negated (outcome_of answer.now.found) in
+        IsSizeFor (script_of named.now.script) (assertion_of assertion.now) (bounds_asked settings.now) outcome answer.now.size }
+    requires stop { HasStop (script_of named.now.script) (assertion_of assertion.now) (outcome_of answer.now.found) (stop_kept answer.now.stop) }
+    ensures { let outcome = as_written assertion.now.negated (outcome_of answer.now.found) in
+        IfOk result (λ text. IsToldAsAsked (request_of settings.now) (script_of named.now.script) (names_of named.now.names) number (assertion_of assertion.now) outcome (string_bytes text)) }
 {
     let style = style(settings, &named.names);
     let text = tell(
@@ -47,7 +49,7 @@ pub(crate) fn explanation_text<A: AllocHandle>(
         &named.script,
         number,
         assertion,
-        &answer.outcome,
+        &answer.found,
         lent(&answer.stop),
     )?;
     if settings.count {

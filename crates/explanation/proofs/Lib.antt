@@ -1,2 +1,3 @@
 pub mod ToldRuns
 pub mod FirstSides
+pub mod OnOks

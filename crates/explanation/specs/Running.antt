@@ -1,22 +1,22 @@
--- Outcomes whose violations have runs, and what is known where there is no answer.
+-- What is known of an outcome that is told.
 use Rattle.std.specs.Prelude.{◌≡◌, ℕ, List, Option, Some, map, option_map, ⊤}
 use Rattle.std.specs.Borrow.{Bor}
 use Rattle.theory_syntax.specs.Value as pure
-use Rattle.theory_syntax.specs.Process.{Assertion, Process, Script}
+use Rattle.theory_syntax.specs.Process.{Assertion, Script}
+use Rattle.theory_semantics.specs.Meaning.Violations.{IsViolation}
 use Rattle.theory_search.specs.Outcome.{Outcome, Holds, Fails, Unknown, Denied}
-use Rattle.theory_runs.specs.States.{HasEnd}
 use Rattle.theory_runs.specs.Stops.{IsStopFor}
 use Rattle.theory_runs.specs.Stuck.{Hindrance}
 use Rattle.theory_explanation.specs.Faults.{hindrance}
 use Rattle.csp_value.specs.Action.{action_of}
 use Rattle.csp_value.specs.declared.action.Action.{Action}
 
--- where it shows a violation, a run of the process by its path ends with its evidence
-abbrev pub HasRun : Script → Process → Outcome → Type 0
-HasRun script p Holds = ⊤
-HasRun script p (Fails v) = HasEnd script p v
-HasRun script p (Unknown why) = ⊤
-HasRun script p Denied = ⊤
+-- where it shows a violation, that is one of the assertion without its `not`
+abbrev pub HasViolation : Script → Assertion → Outcome → Type 0
+HasViolation script a Holds = ⊤
+HasViolation script a (Fails v) = IsViolation script a v
+HasViolation script a (Unknown why) = ⊤
+HasViolation script a Denied = ⊤
 
 -- a path that is lent, if there is one
 abbrev pub stop_in : {A : Type 0} → Option (Bor (List (Action A))) → Option (List pure.Action)

@@ -3,6 +3,7 @@
 ghost use Rattle.std.specs.Prelude.{◌≡◌, IfOk};
 ghost use Rattle.std.specs.String.{string_bytes};
 ghost use Rattle.theory_syntax.specs.Models.{model_of};
+ghost use Rattle.theory_search.specs.Answer.{as_written};
 ghost use Rattle.csp_term.specs.Script.{assertion_of, property_of};
 ghost use Rattle.csp_term.specs.Term.{process_of};
 ghost use Rattle.verdict.specs.Outcome.{outcome_of};
@@ -17,18 +18,18 @@ use csp_term::{AllocHandle, Assertion, Model, Property, Term};
 use std::alloc::AllocError;
 use verdict::Outcome;
 
-/// The number of the assertion, its answer, and the assertion.
+/// The number of the assertion, its answer, and the assertion. `found` is the answer that it has but for a `not`.
 pub(crate) fn headline_text<A: AllocHandle>(
     alloc: A,
     names: &Names<'_, A>,
     number: usize,
     assertion: &Assertion<A>,
-    outcome: &Outcome<A>,
+    found: &Outcome<A>,
 ) -> Result<String<A>, AllocError>
-    ensures { IfOk result (λ text. string_bytes text ≡ told.headline (names_of names.now) number (assertion_of assertion.now) (outcome_of outcome.now)) }
+    ensures { IfOk result (λ text. string_bytes text ≡ told.headline (names_of names.now) number (assertion_of assertion.now) (as_written assertion.now.negated (outcome_of found.now))) }
 {
     let mut text = String::new(alloc);
-    push_headline(alloc, names, number, assertion, outcome, &mut text)?;
+    push_headline(alloc, names, number, assertion, found, &mut text)?;
     Ok(text)
 }
 
@@ -37,28 +38,28 @@ fn push_headline<A: AllocHandle>(
     names: &Names<'_, A>,
     number: usize,
     assertion: &Assertion<A>,
-    outcome: &Outcome<A>,
+    found: &Outcome<A>,
     text: &mut String<A>,
 ) -> Result<(), AllocError>
-    ensures { Writes result text.old text.new (told.headline (names_of names.now) number (assertion_of assertion.now) (outcome_of outcome.now)) }
+    ensures { Writes result text.old text.new (told.headline (names_of names.now) number (assertion_of assertion.now) (as_written assertion.now.negated (outcome_of found.now))) }
 {
     push_number(number, text)?;
     push_mark(" ", text)?;
-    push_mark(outcome_word(outcome), text)?;
+    push_mark(outcome_word(found, assertion.negated), text)?;
     push_mark("  assert ", text)?;
     push_assertion(alloc, names, assertion, text)?;
     push_mark("\n", text)
 }
 
 // The answer in a word.
-fn outcome_word<A: AllocHandle>(outcome: &Outcome<A>) -> &'static str
-    ensures { result.now ≡ told.outcome_word (outcome_of outcome.now) }
+fn outcome_word<A: AllocHandle>(found: &Outcome<A>, negated: bool) -> &'static str
+    ensures { result.now ≡ told.outcome_word (as_written negated (outcome_of found.now)) }
 {
-    match outcome {
-        Outcome::Holds => "holds",
-        Outcome::Fails(_) => "fails",
+    match found {
         Outcome::Unknown(_) => "unknown",
-        Outcome::Denied => "fails",
+        Outcome::Holds => if negated { "fails" } else { "holds" },
+        Outcome::Fails(_) => if negated { "holds" } else { "fails" },
+        Outcome::Denied => if negated { "holds" } else { "fails" },
     }
 }
 

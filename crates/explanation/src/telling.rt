@@ -1,16 +1,17 @@
 //! What is told of an assertion.
 
-ghost use Rattle.std.specs.Prelude.{IfOk, OnOk};
+ghost use Rattle.std.specs.Prelude.{◌≡◌, ◌++◌, IfOk, OnOk};
 ghost use Rattle.std.specs.String.{string_bytes};
+ghost use Rattle.theory_search.specs.Answer.{as_written};
 ghost use Rattle.theory_search.specs.Terms.{IsAssertionOf};
 ghost use Rattle.theory_runs.specs.States.{HasEnd};
 ghost use Rattle.csp_term.specs.Script.{assertion_of, script_of};
 ghost use Rattle.csp_term.specs.Term.{process_of};
 ghost use Rattle.verdict.specs.Outcome.{outcome_of, violation_of};
-ghost use Rattle.theory_explanation.specs.Telling.{IsTold, TellsViolation, TellsWhy};
+ghost use Rattle.theory_explanation.specs.Telling.{IsTold, TellsViolation, TellsWhy, failing_text, holding_text};
 ghost use Rattle.csp_print.specs.Writing.{Writes};
 ghost use Rattle.counterexample.specs.Styles.{style_of};
-ghost use Rattle.explanation.specs.Running.{HasRun, HasStop, stop_in};
+ghost use Rattle.explanation.specs.Running.{HasStop, HasViolation, stop_in};
 
 use crate::faults::push_unknown;
 use crate::headline::headline_text;
@@ -18,10 +19,11 @@ use counterexample::{Replayed, Style, counterexample_of, push_counterexample, pu
 use csp_term::{Action, AllocHandle, Assertion, Memory, Script};
 use verdict::{Outcome, Shown};
 
-/// What is told of an assertion between terms of the script, with its number and outcome: a headline, and why. Where the
-/// outcome shows a violation, a run by its path ends with its evidence, and such a run is told state by state, beside
-/// what the specification has along the path. Where there is no answer for a state, `stop` is the path of the
-/// implementation that stopped the search, and with none no search was begun, for the specification's sake.
+/// What is told of an assertion between terms of the script, with its number: a headline with its outcome, and why. `found`
+/// is the outcome that it has but for a `not`. Where that is a violation, a run by its path ends with its evidence, and such
+/// a run is told state by state, beside what the specification has along the path. Where there is no answer for a state,
+/// `stop` is the path of the implementation that stopped the search, and with none no search was begun, for the
+/// specification's sake.
 ///
 /// `Memory` says that there is no room to tell.
 pub fn tell<A: AllocHandle>(
@@ -30,39 +32,61 @@ pub fn tell<A: AllocHandle>(
     script: &Script<A>,
     number: usize,
     assertion: &Assertion<A>,
-    outcome: &Outcome<A>,
+    found: &Outcome<A>,
     stop: Option<&[Action<A>]>,
 ) -> Result<String<A>, Memory>
     requires terms { IsAssertionOf (script_of script.now) (assertion_of assertion.now) }
-    requires run { HasRun (script_of script.now) (process_of assertion.now.implementation) (outcome_of outcome.now) }
-    requires stop { HasStop (script_of script.now) (assertion_of assertion.now) (outcome_of outcome.now) (stop_in stop.entry) }
-    ensures { IfOk result (λ text. IsTold (style_of style.now) (script_of script.now) number (assertion_of assertion.now) (outcome_of outcome.now) (string_bytes text)) }
+    requires shown { HasViolation (script_of script.now) (assertion_of assertion.now) (outcome_of found.now) }
+    requires stop { HasStop (script_of script.now) (assertion_of assertion.now) (outcome_of found.now) (stop_in stop.entry) }
+    ensures { IfOk result (λ text. IsTold (style_of style.now) (script_of script.now) number (assertion_of assertion.now) (as_written assertion.now.negated (outcome_of found.now)) (string_bytes text)) }
 {
-    let mut text = headline_text(alloc, style.names, number, assertion, outcome)?;
-    push_why(alloc, style, script, assertion, outcome, stop, &mut text)?;
+    let mut text = headline_text(alloc, style.names, number, assertion, found)?;
+    push_why(alloc, style, script, assertion, found, stop, &mut text)?;
     Ok(text)
 }
 
-// Why the assertion has the outcome.
+// Why the assertion has its outcome.
 fn push_why<A: AllocHandle>(
     alloc: A,
     style: &Style<'_, '_, A>,
     script: &Script<A>,
     assertion: &Assertion<A>,
-    outcome: &Outcome<A>,
+    found: &Outcome<A>,
     stop: Option<&[Action<A>]>,
     text: &mut String<A>,
 ) -> Result<(), Memory>
     requires terms { IsAssertionOf (script_of script.now) (assertion_of assertion.now) }
-    requires run { HasRun (script_of script.now) (process_of assertion.now.implementation) (outcome_of outcome.now) }
-    requires stop { HasStop (script_of script.now) (assertion_of assertion.now) (outcome_of outcome.now) (stop_in stop.entry) }
-    ensures { OnOk result (TellsWhy (style_of style.now) (script_of script.now) (assertion_of assertion.now) (outcome_of outcome.now) (string_bytes text.old) (string_bytes text.new)) }
+    requires shown { HasViolation (script_of script.now) (assertion_of assertion.now) (outcome_of found.now) }
+    requires stop { HasStop (script_of script.now) (assertion_of assertion.now) (outcome_of found.now) (stop_in stop.entry) }
+    ensures { OnOk result (TellsWhy (style_of style.now) (script_of script.now) (assertion_of assertion.now) (outcome_of found.now) (string_bytes text.old) (string_bytes text.new)) }
 {
-    match outcome {
-        Outcome::Holds => Ok(()),
-        Outcome::Fails(shown) => push_violation(alloc, style, script, assertion, shown, text),
+    match found {
+        Outcome::Holds => push_sentence(holding_text(assertion.negated), text),
+        Outcome::Fails(shown) => push_failing(alloc, style, script, assertion, shown, text),
         Outcome::Unknown(why) => push_unknown(alloc, style, script, assertion, *why, stop, text),
-        Outcome::Denied => push_sentence("  without `not` it holds\n", text),
+        Outcome::Denied => Ok(()),
+    }
+}
+
+// What is told where an assertion holds but for its `not`, if it has one.
+fn holding_text(negated: bool) -> &'static str
+    ensures { result.now ≡ holding_text negated }
+{
+    if negated {
+        "  without `not` it holds\n"
+    } else {
+        ""
+    }
+}
+
+// What is told before a violation of an assertion without its `not`, if it has one.
+fn failing_text(negated: bool) -> &'static str
+    ensures { result.now ≡ failing_text negated }
+{
+    if negated {
+        "  without `not` it fails:\n"
+    } else {
+        ""
     }
 }
 
@@ -71,6 +95,24 @@ fn push_sentence<A: AllocHandle>(sentence: &str, text: &mut String<A>) -> Result
 {
     push_mark(sentence, text)?;
     Ok(())
+}
+
+// The violation, behind the word that it is one without the `not`, if there is a `not`.
+fn push_failing<A: AllocHandle>(
+    alloc: A,
+    style: &Style<'_, '_, A>,
+    script: &Script<A>,
+    assertion: &Assertion<A>,
+    shown: &Shown<A>,
+    text: &mut String<A>,
+) -> Result<(), Memory>
+    requires terms { IsAssertionOf (script_of script.now) (assertion_of assertion.now) }
+    requires run { HasEnd (script_of script.now) (process_of assertion.now.implementation) (violation_of shown.now) }
+    ensures { let before = string_bytes text.old ++ failing_text assertion.now.negated in
+        OnOk result (TellsViolation (style_of style.now) (script_of script.now) (assertion_of assertion.now) (violation_of shown.now) before (string_bytes text.new)) }
+{
+    push_mark(failing_text(assertion.negated), text)?;
+    push_violation(alloc, style, script, assertion, shown, text)
 }
 
 // A counterexample of the violation: a run by its path, state by state, beside what the specification has along it.

@@ -1,7 +1,8 @@
 -- What is told of an assertion.
-use Rattle.std.specs.Prelude.{◌≡◌, ◌⊎◌, ℕ, suc, List, [], ◌∷◌, ◌++◌, codes, Option, Some, None}
+use Rattle.std.specs.Prelude.{◌≡◌, ◌⊎◌, ℕ, suc, Bool, true, false, List, [], ◌∷◌, ◌++◌, codes, Option, Some, None}
 use Rattle.theory_syntax.specs.Process.{Script, Assertion}
-use Rattle.theory_semantics.specs.Meaning.Violations.{Violation}
+use Rattle.theory_semantics.specs.Meaning.Violations.{IsViolation, Violation}
+use Rattle.theory_search.specs.Answer.{as_written}
 use Rattle.theory_search.specs.Outcome.{Outcome, Holds, Fails, Unknown, Denied, Why}
 use Rattle.theory_runs.specs.Stuck.{Hindrance}
 use Rattle.theory_explanation.specs.Comparing.{counterexample_text, wide_end_text}
@@ -29,16 +30,27 @@ TellsFound style script a (Some h) old new = (found : Option SideRun) × IsFound
 abbrev pub TellsUnknown : Style → Script → Assertion → Why → List ℕ → List ℕ → Type 0
 TellsUnknown style script a why old new = TellsFound style script a (hindrance why) (old ++ reason why) new
 
--- behind the old text stands why the assertion has this outcome
-abbrev pub TellsWhy : Style → Script → Assertion → Outcome → List ℕ → List ℕ → Type 0
-TellsWhy style script a Holds old new = new ≡ old
-TellsWhy style script a (Fails v) old new = TellsViolation style script a v old new
-TellsWhy style script a (Unknown why) old new = TellsUnknown style script a why old new
-TellsWhy style script a Denied old new = new ≡ old ++ codes "  without `not` it holds\n"
+-- why an assertion with a `not` has its outcome: without it, it fails, or holds
+abbrev pub failing_text : (negated : Bool) → List ℕ
+failing_text true = codes "  without `not` it fails:\n"
+failing_text false = []
 
--- the text tells of the assertion with this number and outcome: its headline, and why
+abbrev pub holding_text : (negated : Bool) → List ℕ
+holding_text true = codes "  without `not` it holds\n"
+holding_text false = []
+
+-- Behind the old text stands why the assertion has its outcome, by the one that it has but for a `not`: where that one is a
+-- violation, it is told.
+abbrev pub TellsWhy : Style → Script → Assertion → (found : Outcome) → List ℕ → List ℕ → Type 0
+TellsWhy style script a Holds old new = new ≡ old ++ holding_text a.negated
+TellsWhy style script a (Fails v) old new = IsViolation script a v × TellsViolation style script a v (old ++ failing_text a.negated) new
+TellsWhy style script a (Unknown why) old new = TellsUnknown style script a why old new
+TellsWhy style script a Denied old new = new ≡ old
+
+-- The text tells of the assertion with this number and outcome: its headline, and why, by the outcome that it has but for a
+-- `not`.
 abbrev pub IsTold : Style → Script → ℕ → Assertion → Outcome → List ℕ → Type 0
-IsTold style script n a o text = TellsWhy style script a o (headline style.names n a o) text
+IsTold style script n a o text = (found : Outcome) × (o ≡ as_written a.negated found) × TellsWhy style script a found (headline style.names n a o) text
 
 -- The text tells of the assertions with these outcomes, one behind the other, numbered from n.
 abbrev pub Tells : Style → Script → ℕ → List Assertion → List Outcome → List ℕ → Type 0

@@ -1,9 +1,10 @@
 -- The limits are those that are asked for.
 use denote.Param.Send.{sendable}
 use Rattle.std.proofs.Common.{subst, inl, inr, lit<}
+use Rattle.theory_search.specs.Answer.{as_written}
 use Rattle.theory_search.specs.Outcome.{Bounds}
 use Rattle.csp_term.specs.Script.{assertion_of, script_of}
-use Rattle.explore.specs.Answering.{IsRightAsWritten}
+use Rattle.explore.specs.Answering.{IsRight}
 use Rattle.verdict.specs.Outcome.{outcome_of}
 use Rattle.explain_program.specs.Sizes.{IsSizeFor}
 use Rattle.explain_program.proofs.answering.answer.Goals as goal
@@ -35,10 +36,10 @@ answer_together-requires g c =
 
 pub returns-clause-right : goal.returns-clause-right
 returns-clause-right g c =
-    let P : Bounds → Type 0 = λ bounds. IsRightAsWritten (script_of c.args.script.now) (assertion_of c.args.assertion.now) bounds (outcome_of c.answer_together.result.outcome) in
+    let P : Bounds → Type 0 = λ bounds. IsRight (script_of c.args.script.now) (assertion_of c.args.assertion.now) bounds (outcome_of c.answer_together.result.found) in
     subst P c.limits-limits.ensures c.answer_together.ensures.right
 
 pub returns-clause-size : goal.returns-clause-size
 returns-clause-size g c =
-    let P : Bounds → Type 0 = λ bounds. IsSizeFor (script_of c.args.script.now) (assertion_of c.args.assertion.now) bounds (outcome_of c.answer_together.result.outcome) c.answer_together.result.size in
+    let P : Bounds → Type 0 = λ bounds. IsSizeFor (script_of c.args.script.now) (assertion_of c.args.assertion.now) bounds (as_written c.args.assertion.now.negated (outcome_of c.answer_together.result.found)) c.answer_together.result.size in
     subst P c.limits-limits.ensures c.answer_together.ensures.size

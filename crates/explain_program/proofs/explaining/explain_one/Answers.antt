@@ -4,8 +4,10 @@ use Rattle.std.proofs.Common.{◌≡◌, ◌<◌, ℕ, suc, ◌+◌, List, [], �
 use Rattle.std.proofs.lemmas.List.{length-map}
 use Rattle.std.specs.String.{string_bytes}
 use Rattle.theory_syntax.specs.Process as pure
+use Rattle.theory_search.specs.Answer.{as_written}
 use Rattle.csp_term.specs.Script.{HasSidesOf, assertion_of, script_of}
 use Rattle.csp_print.specs.Names.{names_of}
+use Rattle.explore.proofs.Exchanging.{right_as_written}
 use Rattle.report.specs.Sending.{Breaks, Sends}
 use Rattle.verdict.specs.Outcome.{outcome_of}
 use Rattle.program.specs.Running.{outcome_status}
@@ -14,7 +16,7 @@ use Rattle.program.proofs.Reporting.{status_at_most}
 use Rattle.explain_program.specs.Asking.{one_at, request_of}
 use Rattle.explain_program.specs.Giving.{AreTold, GoesOut}
 use Rattle.explain_program.specs.Telling.{IsToldAsAsked}
-use Rattle.explain_program.proofs.Giving.{alone_at, one_told, right_has_run, went_out}
+use Rattle.explain_program.proofs.Giving.{alone_at, one_told, right_has_violation, went_out}
 use Rattle.explain_program.proofs.explaining.explain_one.Goals as goal
 
 pub answer-answer-requires : goal.answer-answer-requires
@@ -60,10 +62,10 @@ explanation_text-requires g c =
     let within : c.args.place < length items = omega (arith, whole, mapped, there) in
     let sides = sides_at assertion_of (HasSidesOf script) script items c.args.place c.index-assertions-place.result c.assertions-assertions.ensures.sides within c.index-assertions-place.is
     (λ b sides. record { specification = sides.0; implementation = sides.1 }) in
-    let run = right_has_run script (assertion_of c.index-assertions-place.result) (request_of c.args.settings.now).bounds (outcome_of c.answer-answer.result.outcome) c.answer-answer.ensures.right in
+    let shown = right_has_violation script (assertion_of c.index-assertions-place.result) (request_of c.args.settings.now).bounds (outcome_of c.answer-answer.result.found) c.answer-answer.ensures.right in
     elim (g.met.A.AllocHandle g.world.𝓛 g.world.𝓜 g.world.𝓡 ((λ s x. x), (λ x. x), (λ x. x), λ x. x)).small [
-      | inl e ↦ rw (e.0, e.1) (lit< tt, (sides, (run, (c.answer-answer.ensures.size, c.answer-answer.ensures.stop))))
-      | inr e ↦ rw (e.0, e.1) (lit< tt, (sides, (run, (c.answer-answer.ensures.size, c.answer-answer.ensures.stop))))
+      | inl e ↦ rw (e.0, e.1) (lit< tt, (sides, (shown, (c.answer-answer.ensures.size, c.answer-answer.ensures.stop))))
+      | inr e ↦ rw (e.0, e.1) (lit< tt, (sides, (shown, (c.answer-answer.ensures.size, c.answer-answer.ensures.stop))))
     ]
 
 pub returns-in-Ok-clause-told : goal.returns-in-Ok-clause-told
@@ -74,7 +76,9 @@ returns-in-Ok-clause-told g c =
     let place = c.args.place in
     let items = c.assertions-assertions.result.now in
     let a = assertion_of c.index-assertions-place.result in
-    let o = outcome_of c.answer-answer.result.outcome in
+    let found = outcome_of c.answer-answer.result.found in
+    let o = as_written a.negated found in
+    let right = right_as_written script a request.bounds found c.answer-answer.ensures.right in
     let whole = ap length c.assertions-assertions.ensures.value in
     let mapped = length-map items assertion_of in
     let there = c.requires.there in
@@ -94,7 +98,7 @@ returns-in-Ok-clause-told g c =
     let is = c.outcome_status.ensures in
     let most = status_at_most (o ∷ []) in (
       omega (arith, is, most),
-      subst T (sym is) (one_told request script names (suc place) (one_at place script.assertions) a o (GoesOut old new failed (outcome_status o)) alone c.answer-answer.ensures.right bytes told (went_out o old new failed bytes sends)),
+      subst T (sym is) (one_told request script names (suc place) (one_at place script.assertions) a o (GoesOut old new failed (outcome_status o)) alone right bytes told (went_out o old new failed bytes sends)),
     )
 
 pub returns-clause-left : goal.returns-clause-left
@@ -105,7 +109,9 @@ returns-clause-left g c =
     let place = c.args.place in
     let items = c.assertions-assertions.result.now in
     let a = assertion_of c.index-assertions-place.result in
-    let o = outcome_of c.answer-answer.result.outcome in
+    let found = outcome_of c.answer-answer.result.found in
+    let o = as_written a.negated found in
+    let right = right_as_written script a request.bounds found c.answer-answer.ensures.right in
     let whole = ap length c.assertions-assertions.ensures.value in
     let mapped = length-map items assertion_of in
     let there = c.requires.there in
@@ -121,7 +127,7 @@ returns-clause-left g c =
     let failed = g.O.Sink.has_failed c.push_all.new.sink in
     let S : List ℕ → Type 0 = λ ts. Breaks old new failed ts in
     let breaks = subst S (c.as_bytes.ensures.value ∙ c.as_str.ensures.value) c.in-Err.ensures.beginning in
-    one_told request script names (suc place) (one_at place script.assertions) a o (λ os text. Breaks old new failed text) alone c.answer-answer.ensures.right bytes told breaks
+    one_told request script names (suc place) (one_at place script.assertions) a o (λ os text. Breaks old new failed text) alone right bytes told breaks
 
 pub drop-answer-requires-room-T-Destruct : goal.drop-answer-requires-room-T-Destruct
 drop-answer-requires-room-T-Destruct g c κs within = elim (g.met.A.AllocHandle g.world.𝓛 g.world.𝓜 g.world.𝓡 ((λ s x. x), (λ x. x), (λ x. x), λ x. x)).small [ inl e ↦ rw (e.0, e.1) (lit< tt) | inr e ↦ rw (e.0, e.1) (lit< tt) ]

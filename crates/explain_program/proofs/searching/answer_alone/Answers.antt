@@ -3,8 +3,9 @@ use Rattle.std.proofs.Common.{inl, inr, lit<}
 use Rattle.csp_term.specs.Script.{assertion_of, script_of}
 use Rattle.pair_store.specs.Bounds.{bounds_of}
 use Rattle.verdict.specs.Outcome.{outcome_of, why_of}
+use Rattle.explore.proofs.Ending.{not_begun_right, right_for}
 use Rattle.explain_program.specs.Stops.{stop_kept}
-use Rattle.explain_program.proofs.Sizes.{no_size, reason_right, told_right, told_size}
+use Rattle.explain_program.proofs.Sizes.{no_size, told_size}
 use Rattle.explain_program.proofs.Stops.{not_begun_stop, stop_for}
 use Rattle.explain_program.proofs.searching.answer_alone.Goals as goal
 
@@ -17,23 +18,23 @@ concluded-requires g c =
 
 pub returns-in-Ok-clause-right : goal.returns-in-Ok-clause-right
 returns-in-Ok-clause-right g c =
-    told_right (script_of c.args.script.now) (assertion_of c.args.assertion.now) (bounds_of c.args.limits) c.in-Ok.store (outcome_of c.concluded.result.outcome) c.in-Ok.ensures.same c.concluded.ensures.lawful
+    right_for (script_of c.args.script.now) (assertion_of c.args.assertion.now) (bounds_of c.args.limits) c.in-Ok.store (outcome_of c.concluded.result.found) c.in-Ok.ensures.same c.concluded.ensures.lawful
     c.in-Ok.ensures.begun c.concluded.ensures.told
 
 pub returns-in-Ok-clause-size : goal.returns-in-Ok-clause-size
 returns-in-Ok-clause-size g c =
-    told_size (script_of c.args.script.now) (assertion_of c.args.assertion.now) (bounds_of c.args.limits) c.in-Ok.store (outcome_of c.concluded.result.outcome) c.concluded.result.size c.in-Ok.ensures.same
+    told_size (script_of c.args.script.now) (assertion_of c.args.assertion.now) (bounds_of c.args.limits) c.in-Ok.store (outcome_of c.concluded.result.found) c.concluded.result.size c.in-Ok.ensures.same
     c.concluded.ensures.lawful c.in-Ok.ensures.ended c.concluded.ensures.told c.concluded.ensures.size
 
 pub returns-in-Err-clause-right : goal.returns-in-Err-clause-right
-returns-in-Err-clause-right g c = reason_right (script_of c.args.script.now) (assertion_of c.args.assertion.now) (bounds_of c.args.limits) (why_of c.in-Err.why) c.in-Err.ensures.why
+returns-in-Err-clause-right g c = not_begun_right (script_of c.args.script.now) (assertion_of c.args.assertion.now) (bounds_of c.args.limits) (why_of c.in-Err.why) c.in-Err.ensures.why
 
 pub returns-in-Err-clause-size : goal.returns-in-Err-clause-size
 returns-in-Err-clause-size g c = no_size (script_of c.args.script.now) (assertion_of c.args.assertion.now) (bounds_of c.args.limits) (why_of c.in-Err.why) c.in-Err.ensures.why
 
 pub returns-in-Ok-clause-stop : goal.returns-in-Ok-clause-stop
 returns-in-Ok-clause-stop g c =
-    stop_for (script_of c.args.script.now) (assertion_of c.args.assertion.now) (bounds_of c.args.limits) c.in-Ok.store (outcome_of c.concluded.result.outcome) (stop_kept c.concluded.result.stop) c.in-Ok.ensures.same
+    stop_for (script_of c.args.script.now) (assertion_of c.args.assertion.now) (bounds_of c.args.limits) c.in-Ok.store (outcome_of c.concluded.result.found) (stop_kept c.concluded.result.stop) c.in-Ok.ensures.same
     c.concluded.ensures.stop
 
 pub returns-in-Err-clause-stop : goal.returns-in-Err-clause-stop

@@ -6,9 +6,9 @@ use Rattle.theory_search.specs.Sound.{IsFor, ScriptSearch}
 use Rattle.csp_term.specs.Script.{assertion_of, script_of}
 use Rattle.pair_store.specs.Bounds.{bounds_of}
 use Rattle.verdict.specs.Outcome.{outcome_of, why_of}
-use Rattle.explore.proofs.Ending.{of_some}
+use Rattle.explore.proofs.Ending.{not_begun_right, of_some, right_for}
 use Rattle.explain_program.specs.Stops.{stop_kept}
-use Rattle.explain_program.proofs.Sizes.{no_size, reason_right, told_right, told_size}
+use Rattle.explain_program.proofs.Sizes.{no_size, told_size}
 use Rattle.explain_program.proofs.Stops.{not_begun_stop, stop_for}
 use Rattle.explain_program.proofs.searching.answer_together.Goals as goal
 
@@ -39,7 +39,7 @@ returns-in-Ok-Some-clause-right g c =
     let a = assertion_of c.args.assertion.now in
     let bounds = bounds_of c.args.limits in
     let same = of_some (IsFor script a bounds) c.in-Ok-Some.field-0 c.in-Ok-Some.store c.in-Ok-Some.field-0-is c.in-Ok-Some.ensures.same in
-    told_right script a bounds c.in-Ok-Some.store (outcome_of c.concluded.result.outcome) same c.concluded.ensures.lawful c.in-Ok-Some.ensures.begun c.concluded.ensures.told
+    right_for script a bounds c.in-Ok-Some.store (outcome_of c.concluded.result.found) same c.concluded.ensures.lawful c.in-Ok-Some.ensures.begun c.concluded.ensures.told
 
 pub returns-in-Ok-Some-clause-size : goal.returns-in-Ok-Some-clause-size
 returns-in-Ok-Some-clause-size g c =
@@ -48,10 +48,10 @@ returns-in-Ok-Some-clause-size g c =
     let bounds = bounds_of c.args.limits in
     let same = of_some (IsFor script a bounds) c.in-Ok-Some.field-0 c.in-Ok-Some.store c.in-Ok-Some.field-0-is c.in-Ok-Some.ensures.same in
     let ended = of_some (λ (s : ScriptSearch). s.search.verdict ≢ Open) c.in-Ok-Some.field-0 c.in-Ok-Some.store c.in-Ok-Some.field-0-is c.in-Ok-Some.ensures.ended in
-    told_size script a bounds c.in-Ok-Some.store (outcome_of c.concluded.result.outcome) c.concluded.result.size same c.concluded.ensures.lawful ended c.concluded.ensures.told c.concluded.ensures.size
+    told_size script a bounds c.in-Ok-Some.store (outcome_of c.concluded.result.found) c.concluded.result.size same c.concluded.ensures.lawful ended c.concluded.ensures.told c.concluded.ensures.size
 
 pub returns-in-Err-clause-right : goal.returns-in-Err-clause-right
-returns-in-Err-clause-right g c = reason_right (script_of c.args.script.now) (assertion_of c.args.assertion.now) (bounds_of c.args.limits) (why_of c.in-Err.why) c.in-Err.ensures.why
+returns-in-Err-clause-right g c = not_begun_right (script_of c.args.script.now) (assertion_of c.args.assertion.now) (bounds_of c.args.limits) (why_of c.in-Err.why) c.in-Err.ensures.why
 
 pub returns-in-Err-clause-size : goal.returns-in-Err-clause-size
 returns-in-Err-clause-size g c = no_size (script_of c.args.script.now) (assertion_of c.args.assertion.now) (bounds_of c.args.limits) (why_of c.in-Err.why) c.in-Err.ensures.why
@@ -62,7 +62,7 @@ returns-in-Ok-Some-clause-stop g c =
     let a = assertion_of c.args.assertion.now in
     let bounds = bounds_of c.args.limits in
     let same = of_some (IsFor script a bounds) c.in-Ok-Some.field-0 c.in-Ok-Some.store c.in-Ok-Some.field-0-is c.in-Ok-Some.ensures.same in
-    stop_for script a bounds c.in-Ok-Some.store (outcome_of c.concluded.result.outcome) (stop_kept c.concluded.result.stop) same c.concluded.ensures.stop
+    stop_for script a bounds c.in-Ok-Some.store (outcome_of c.concluded.result.found) (stop_kept c.concluded.result.stop) same c.concluded.ensures.stop
 
 pub returns-in-Err-clause-stop : goal.returns-in-Err-clause-stop
 returns-in-Err-clause-stop g c = not_begun_stop (script_of c.args.script.now) (assertion_of c.args.assertion.now) (bounds_of c.args.limits) (why_of c.in-Err.why) c.in-Err.ensures.why

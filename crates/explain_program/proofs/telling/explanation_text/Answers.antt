@@ -2,6 +2,7 @@
 use Rattle.std.proofs.Common.{List, Option, sym, subst, inl, inr, lit<}
 use Rattle.std.specs.String.{string_bytes}
 use Rattle.theory_syntax.specs.Value.{Action}
+use Rattle.theory_search.specs.Answer.{as_written}
 use Rattle.theory_explanation.specs.Styles.{Style}
 use Rattle.theory_explanation.specs.Telling.{IsTold}
 use Rattle.csp_term.specs.Script.{assertion_of, script_of}
@@ -14,18 +15,18 @@ use Rattle.explain_program.proofs.telling.explanation_text.Goals as goal
 
 pub tell-requires : goal.tell-requires
 tell-requires g c =
-    let S : Option (List Action) → Type 0 = HasStop (script_of c.args.named.now.script) (assertion_of c.args.assertion.now) (outcome_of c.args.answer.now.outcome) in
+    let S : Option (List Action) → Type 0 = HasStop (script_of c.args.named.now.script) (assertion_of c.args.assertion.now) (outcome_of c.args.answer.now.found) in
     let stop = subst S (sym c.lent.ensures) c.requires.stop in
     elim g.met.A.AllocHandle.small [
-      | inl e ↦ rw (e.0, e.1) (lit< tt, (c.requires.terms, (c.requires.run, stop)))
-      | inr e ↦ rw (e.0, e.1) (lit< tt, (c.requires.terms, (c.requires.run, stop)))
+      | inl e ↦ rw (e.0, e.1) (lit< tt, (c.requires.terms, (c.requires.shown, stop)))
+      | inr e ↦ rw (e.0, e.1) (lit< tt, (c.requires.terms, (c.requires.shown, stop)))
     ]
 
 pub returns-then-settings : goal.returns-then-settings
 returns-then-settings g c =
     let script = script_of c.args.named.now.script in
     let a = assertion_of c.args.assertion.now in
-    let o = outcome_of c.args.answer.now.outcome in
+    let o = as_written c.args.assertion.now.negated (outcome_of c.args.answer.now.found) in
     let told = string_bytes c.in_ok-text.text in
     let W : Style → Type 0 = λ w. IsTold w script c.args.number a o told in
     told_with_size (request_of c.args.settings.now) script (names_of c.args.named.now.names) c.args.number a o c.with_size.result told c.args.answer.now.size c.if-settings.true
@@ -35,7 +36,7 @@ pub returns-else-settings : goal.returns-else-settings
 returns-else-settings g c =
     let script = script_of c.args.named.now.script in
     let a = assertion_of c.args.assertion.now in
-    let o = outcome_of c.args.answer.now.outcome in
+    let o = as_written c.args.assertion.now.negated (outcome_of c.args.answer.now.found) in
     let told = string_bytes c.in_ok-text.text in
     let W : Style → Type 0 = λ w. IsTold w script c.args.number a o told in
     told_alone (request_of c.args.settings.now) script (names_of c.args.named.now.names) c.args.number a o told c.if-settings.false (subst W c.style-style.ensures c.in_ok-text.ensures)

@@ -2,6 +2,7 @@
 use Rattle.std.proofs.Common.{◌≡◌, ◌++◌, ap, ◌∙◌}
 use Rattle.std.specs.Prelude.{codes, decimal}
 use Rattle.std.specs.String.{string_bytes}
+use Rattle.theory_search.specs.Answer.{as_written}
 use Rattle.csp_term.specs.Script.{assertion_of}
 use Rattle.verdict.specs.Outcome.{outcome_of}
 use Rattle.theory_explanation.specs.Headline.{assertion_text, outcome_word}
@@ -20,7 +21,7 @@ returns g c =
     let four = string_bytes c.push_mark-3.new.text in
     let five = string_bytes c.push_assertion.new.text in
     let n = decimal c.args.number in
-    let word = outcome_word (outcome_of c.args.outcome.now) in
+    let word = outcome_word (as_written c.args.assertion.now.negated (outcome_of c.args.found.now)) in
     let a = assertion_text (names_of c.args.names.now) (assertion_of c.args.assertion.now) in
     let said : three ≡ two ++ word = c.in_ok-push_mark-2.ensures ∙ ap (λ ts. two ++ ts) c.outcome_word.ensures in
     behind r start one all n (codes " " ++ (word ++ (codes "  assert " ++ (a ++ codes "\n")))) c.in_ok-push_number.ensures

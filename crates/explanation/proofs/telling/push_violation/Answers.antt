@@ -1,5 +1,5 @@
 -- A run is told, since there is one, or that there are too many states for its loop.
-use Rattle.std.proofs.Common.{◌≡◌, ◌++◌, ◌⊎◌, inl, inr, Result, Ok, Err, OnOk, subst, lit<, lit≤}
+use Rattle.std.proofs.Common.{◌≡◌, ◌++◌, inl, inr, subst, lit<, lit≤}
 use Rattle.std.specs.String.{string_bytes}
 use Rattle.theory_explanation.specs.Comparing.{counterexample_text, wide_end_text}
 use Rattle.theory_explanation.specs.Counterexamples.{HasWideEnd, IsCounterexample}
@@ -10,11 +10,8 @@ use Rattle.counterexample.specs.Counterexample.{GoesRound, TellsReplayed, counte
 use Rattle.counterexample.specs.Styles.{style_of}
 use Rattle.counterexample.specs.declared.counterexamples.Replayed.{Replayed}
 use Rattle.counterexample.proofs.LoopsOf.{goes_round}
+use Rattle.explanation.proofs.OnOks.{on_ok_so}
 use Rattle.explanation.proofs.telling.push_violation.Goals as goal
-
-on_ok_so : {T E : Type 0} (r : Result T E) (X Y : Type 0) → (X → Y) → OnOk r X → OnOk r Y
-on_ok_so (Ok t) X Y weaker is = weaker is
-on_ok_so (Err e) X Y weaker is = tt
 
 pub push_counterexample-requires : goal.push_counterexample-requires
 push_counterexample-requires g c =
