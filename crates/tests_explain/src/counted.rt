@@ -33,7 +33,16 @@ static COUNTED: [Row; 9] = [
         words: &["--count", "script", "2"],
         status: 0,
         text: "channel a\nassert STOP [T= STOP\nassert not STOP [T= a -> STOP\n",
-        told: "2 holds  assert not STOP [T= a -> STOP\n  1 pair, 1 node\n",
+        told: "\
+2 holds  assert not STOP [T= a -> STOP
+  without `not` it fails:
+  0 start
+      a -> STOP
+      specification: STOP
+  then it does a, and the specification cannot
+  there the specification can do no more than {}
+  1 pair, 1 node
+",
     },
     // Of the two pairs behind the first one decides, and the other leads to a fourth. STOP is one node, behind a and b,b.
     Row {

@@ -261,6 +261,20 @@ static SMALL: [Row; 19] = [
       STOP
 ",
     },
+    // Events of channels that are named as actions are told apart from them.
+    Row {
+        words: &["script"],
+        status: 1,
+        text: "channel tau, tick\nassert tau -> STOP [T= tick -> STOP\n",
+        told: "\
+1 fails  assert tau -> STOP [T= tick -> STOP
+  0 start
+      tick -> STOP
+      specification: tau -> STOP
+  then it does event tick, and the specification cannot
+  there the specification can do no more than {event tau}
+",
+    },
     Row {
         words: &["script"],
         status: 1,
@@ -269,6 +283,12 @@ static SMALL: [Row; 19] = [
 1 fails  assert not a -> STOP [T= STOP
   without `not` it holds
 2 holds  assert not STOP [T= a -> STOP
+  without `not` it fails:
+  0 start
+      a -> STOP
+      specification: STOP
+  then it does a, and the specification cannot
+  there the specification can do no more than {}
 ",
     },
 ];
