@@ -4,7 +4,7 @@ use crate::rows::Row;
 
 /// The assertion that shows the fault.
 pub(crate) const CACHE: Row = Row {
-    words: &["script", "1"],
+    words: &["--steps", "script", "1"],
     status: 1,
     text: r"-- Two caches in front of a memory of one word. A write goes through to the memory, and the other cache is told to
 -- forget the word. A LAZY one goes on with the word that it holds.

@@ -4,7 +4,7 @@ use crate::rows::Row;
 
 /// All assertions, of which one shows the fault.
 pub(crate) const CREDITS: Row = Row {
-    words: &["script"],
+    words: &["--steps", "script"],
     status: 1,
     text: r"-- A sender has a credit for each place of the receiver's store, and sends where it has one. The faulty receiver forgets
 -- to give the credit back where an item is taken while the store is full, so that a place is never filled again.

@@ -4,7 +4,7 @@ use crate::rows::Row;
 
 /// The assertion that shows the fault.
 pub(crate) const DROPPING: Row = Row {
-    words: &["script", "1"],
+    words: &["--steps", "script", "1"],
     status: 1,
     text: r"-- A buffer of two places made of a queue in front of a cell. The faulty queue takes an item also where it is full,
 -- and drops the oldest one.

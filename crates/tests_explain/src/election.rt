@@ -4,7 +4,7 @@ use crate::rows::Row;
 
 /// The assertion that shows the fault.
 pub(crate) const ELECTION: Row = Row {
-    words: &["script", "1"],
+    words: &["--steps", "script", "1"],
     status: 1,
     text: r"-- An election on a ring of three: each sends its name on, passes on a greater one, drops a lesser one, and is the
 -- leader where its own comes back. In the faulty ring two members have the same name.

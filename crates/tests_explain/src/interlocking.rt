@@ -4,7 +4,7 @@ use crate::rows::Row;
 
 /// The assertion that shows the fault.
 pub(crate) const INTERLOCKING: Row = Row {
-    words: &["script", "1"],
+    words: &["--steps", "script", "1"],
     status: 1,
     text: r"-- Two points lead trains into one section of track. A signal shows green only where the section is free and the
 -- other signal is red. The faulty interlocking looks at the section alone.

@@ -5,7 +5,7 @@ use crate::rows::Row;
 static LOOPS: [Row; 8] = [
     // Of two states after the trace one diverges, and the other one has taus too, but not for ever.
     Row {
-        words: &["script"],
+        words: &["--steps", "script"],
         status: 1,
         text: "channel a\nQ = STOP |~| SKIP\nD = D\nP = a -> Q [] a -> D\nassert P :[divergence free]\n",
         told: "\

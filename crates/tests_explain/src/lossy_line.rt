@@ -4,7 +4,7 @@ use crate::rows::Row;
 
 /// The assertion that shows the fault.
 pub(crate) const LOSSY_LINE: Row = Row {
-    words: &["script", "1"],
+    words: &["--steps", "script", "1"],
     status: 1,
     text: r"-- A sender numbers its frames modulo 2, and the receiver gives out a frame only where its number is the one that it
 -- waits for. FORGETFUL changes the number that it waits for also where it has seen the frame before.

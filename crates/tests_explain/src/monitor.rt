@@ -4,7 +4,7 @@ use crate::rows::Row;
 
 /// The assertion that shows the fault.
 pub(crate) const MONITOR: Row = Row {
-    words: &["script", "1"],
+    words: &["--steps", "script", "1"],
     status: 1,
     text: r"-- A producer and a consumer with one place between them. Who can do nothing looks first and then goes to sleep; who
 -- has done something wakes the other, and a bell that nobody sleeps for is not heard. In the faulty system the other

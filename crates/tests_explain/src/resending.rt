@@ -4,7 +4,7 @@ use crate::rows::Row;
 
 /// All assertions, of which one shows the fault.
 pub(crate) const RESENDING: Row = Row {
-    words: &["script"],
+    words: &["--steps", "script"],
     status: 1,
     text: r"-- A sender sends a frame again until it hears that it has arrived. On a line that may lose each frame it does so for
 -- ever, and nothing is seen of it; the mended sender gives up after the second loss, and says so.

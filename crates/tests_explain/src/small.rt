@@ -43,7 +43,7 @@ static SMALL: [Row; 19] = [
     },
     // A call unfolds by a tau.
     Row {
-        words: &["script"],
+        words: &["--steps", "script"],
         status: 1,
         text: "channel a\nP = a -> STOP\nassert P :[deadlock free]\n",
         told: "\

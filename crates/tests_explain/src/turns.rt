@@ -4,7 +4,7 @@ use crate::rows::Row;
 
 /// The assertion that shows the fault.
 pub(crate) const TURNS: Row = Row {
-    words: &["script", "2"],
+    words: &["--steps", "script", "2"],
     status: 1,
     text: r"-- Mutual exclusion by two flags and a turn, as Peterson's. The faulty one has the flags alone: each waits while the
 -- other's flag is up.

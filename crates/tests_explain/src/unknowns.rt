@@ -23,7 +23,7 @@ static UNKNOWNS: [Row; 19] = [
 ",
     },
     Row {
-        words: &["script"],
+        words: &["--steps", "script"],
         status: 2,
         text: "channel a\nchannel c : {0..63}\nP = a -> (||| x:{0..63} @ c!x -> c!x -> c!x -> c!x -> c!x -> c!x -> c!x -> c!x -> c!x -> c!x -> STOP)\nassert a -> STOP [T= P\n",
         told: "\
@@ -53,7 +53,7 @@ static UNKNOWNS: [Row; 19] = [
 ",
     },
     Row {
-        words: &["script"],
+        words: &["--steps", "script"],
         status: 2,
         text: "P(n) = P(n+1)\nassert STOP [T= P(2147483647)\n",
         told: "\
@@ -68,7 +68,7 @@ static UNKNOWNS: [Row; 19] = [
 ",
     },
     Row {
-        words: &["--max-nodes", "1", "script"],
+        words: &["--steps", "--max-nodes", "1", "script"],
         status: 2,
         text: "P(n) = P(n+1)\nassert STOP [T= P(2147483647)\n",
         told: "\
@@ -83,7 +83,7 @@ static UNKNOWNS: [Row; 19] = [
 ",
     },
     Row {
-        words: &["script"],
+        words: &["--steps", "script"],
         status: 2,
         text: "channel c : {0..1}\nP(s) = c!head(s) -> STOP\nassert STOP [T= P(<>)\n",
         told: "\
@@ -111,7 +111,7 @@ static UNKNOWNS: [Row; 19] = [
 ",
     },
     Row {
-        words: &["script"],
+        words: &["--steps", "script"],
         status: 2,
         text: "channel a\nchannel c : {0..1}\nP = a -> P\nQ(n) = a -> c!(1 % n) -> STOP\nassert P [T= Q(0)\n",
         told: "\
