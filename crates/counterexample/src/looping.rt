@@ -33,12 +33,13 @@ pub(crate) fn looping_of<A: AllocHandle>(
     requires { ComesBack lasso }
     ensures { IfOk result (IsLoopOf (script_of script.now) lasso) }
 {
-    let Some(Lasso { states, back }) = lasso else {
+    let Some(lasso) = lasso else {
         return Ok(None);
     };
-    let origins = origins_round(alloc, script, &states, back)?;
+    let back = lasso.back;
+    let origins = origins_round(alloc, script, &lasso.states, back)?;
     Ok(Some(Looping {
-        states,
+        states: lasso.states,
         back,
         origins,
     }))

@@ -34,7 +34,6 @@ pub(crate) fn push_loop<A: AllocHandle>(
     let count = looping.states.len();
     let told = taus_told(style.taus, &looping.states);
     let back = number + looping.back;
-    let tau = Action::Tau;
     for place in 0..count {
         let found = looping.origins.get(place);
         let Some(origin) = found else {
@@ -43,6 +42,7 @@ pub(crate) fn push_loop<A: AllocHandle>(
         if place == told {
             return push_left_out(count - place, back, text);
         }
+        let tau = Action::Tau;
         let step = Step {
             number: number + 1 + place,
             action: &tau,

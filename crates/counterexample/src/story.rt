@@ -115,7 +115,7 @@ fn push_steps<A: AllocHandle>(
         if !is_folded(style.telling, origin) {
             let equations = folded(alloc, style.telling, &story.origins[place + 1..])?;
             let behind = state_behind(equations.len(), state, &story.states[place + 1..]);
-            let width = width_behind(style.width, story.path, place + 1 + equations.len());
+            let width = width_behind(style.width, &story.path[place + 1..], equations.len());
             let step = Step {
                 number: place + 1,
                 action,
