@@ -11,7 +11,7 @@ use Rattle.csp_term.specs.Script.{assertion_of, script_of}
 use Rattle.csp_term.specs.Term.{process_of}
 use Rattle.csp_term.specs.declared.term.Term.{Term}
 use Rattle.verdict.specs.Outcome.{evidence_of, violation_of}
-use Rattle.counterexample.specs.Counterexample.{ComesBack, counterpart_of, origins_listed, specification_in, waiting_of}
+use Rattle.counterexample.specs.Counterexample.{counterpart_of, origins_listed, specification_in, waiting_of}
 use Rattle.counterexample.proofs.Last.{end_closed, last_read}
 use Rattle.counterexample.proofs.LoopsOf.{comes_back, loop_told}
 use Rattle.counterexample.proofs.counterexamples.along.Goals as goal
@@ -34,9 +34,7 @@ counterpart_for-requires g c =
     elim g.met.A.AllocHandle.small [ inl e ↦ rw (e.0, e.1) (search (lit≤, given)) | inr e ↦ rw (e.0, e.1) (search (lit≤, given)) ]
 
 pub looping_of-requires : goal.looping_of-requires
-looping_of-requires g c =
-    let back : ComesBack c.args.lasso = comes_back g.row.A.Denot (script_of c.args.script.now) (evidence_of c.args.shown.now.evidence) c.requires.replay.0.end c.args.lasso c.requires.replay.1 in
-    elim g.met.A.AllocHandle.small [ inl e ↦ rw (e.0, e.1) (search (lit≤, lit<, back)) | inr e ↦ rw (e.0, e.1) (search (lit≤, lit<, back)) ]
+looping_of-requires g c = comes_back g.row.A.Denot (script_of c.args.script.now) (evidence_of c.args.shown.now.evidence) c.requires.replay.0.end c.args.lasso c.requires.replay.1
 
 pub drop-origins-requires-room-T-Destruct : goal.drop-origins-requires-room-T-Destruct
 drop-origins-requires-room-T-Destruct g c κs within = elim g.met.A.AllocHandle.small [ inl e ↦ rw (e.0, e.1) (lit< tt) | inr e ↦ rw (e.0, e.1) (lit< tt) ]
@@ -62,14 +60,26 @@ drop-counterpart-requires-in_err-waiting-3-room-T-Destruct g c κs within = elim
 pub drop-origins-requires-in_err-waiting-room-T-Destruct : goal.drop-origins-requires-in_err-waiting-room-T-Destruct
 drop-origins-requires-in_err-waiting-room-T-Destruct g c κs within = elim g.met.A.AllocHandle.small [ inl e ↦ rw (e.0, e.1) (lit< tt) | inr e ↦ rw (e.0, e.1) (lit< tt) ]
 
+pub index-requires : goal.index-requires
+index-requires g c =
+    let states = c.args.states.items in
+    let path = c.args.shown.now.path in
+    let long = replay_length (script_of c.args.script.now) (process_of c.args.assertion.now.implementation) (violation_of c.args.shown.now) (map process_of states) c.requires.replay.0 in
+    let terms = length-map states process_of in
+    let actions = length-map path.items action_of in
+    let asked = c.len.ensures in
+    let steps = path.ok.0 in
+    let kept = c.args.states.ok.0 in
+    omega (arith, long, terms, actions, asked, steps, kept)
+
 pub waiting_at-requires : goal.waiting_at-requires
 waiting_at-requires g c =
     let script = script_of c.args.script.now in
     let a = assertion_of c.args.assertion.now in
     let v = violation_of c.args.shown.now in
     let replay = c.requires.replay.0 in
-    let same = last_read script v.path a.implementation replay.end c.args.states.items c.len.result c.index-states-len.result replay.visits (c.len.ensures ∙ sym (length-map c.args.shown.now.path.items action_of)) c.index-states-len.is in
-    let closed : IsTermOf script (process_of c.index-states-len.result) = subst (IsTermOf script) (sym same) (end_closed script a.implementation v (map process_of c.args.states.items) replay c.requires.terms.implementation) in
+    let same = last_read script v.path a.implementation replay.end c.args.states.items c.len.result c.index.result.now replay.visits (c.len.ensures ∙ c.args.shown.now.path.ok.0 ∙ sym (length-map c.args.shown.now.path.items action_of)) c.index.ensures in
+    let closed : IsTermOf script (process_of c.index.result.now) = subst (IsTermOf script) (sym same) (end_closed script a.implementation v (map process_of c.args.states.items) replay c.requires.terms.implementation) in
     elim g.met.A.AllocHandle.small [ inl e ↦ rw (e.0, e.1) (search (lit≤, closed)) | inr e ↦ rw (e.0, e.1) (search (lit≤, closed)) ]
 
 pub returns : goal.returns
@@ -84,7 +94,7 @@ returns g c =
     let S : List (Term g.row.A.Denot) → Type 0 = λ states. AreOriginsAlong script v.path (map process_of states) origins in
     let counterpart = option_map counterpart_of c.in_ok-counterpart.counterpart in
     let Q : List (Action g.row.A.Denot) → Type 0 = λ path. IsCounterpartFor script (specification_in c.specification-specification.result) (map action_of path) most counterpart in
-    let same = last_read script v.path a.implementation replay.end c.args.states.items c.len.result c.index-states-len.result replay.visits (c.len.ensures ∙ sym (length-map c.args.shown.now.path.items action_of)) c.index-states-len.is in
+    let same = last_read script v.path a.implementation replay.end c.args.states.items c.len.result c.index.result.now replay.visits (c.len.ensures ∙ c.args.shown.now.path.ok.0 ∙ sym (length-map c.args.shown.now.path.items action_of)) c.index.ensures in
     record {
       replay = replay;
       origins = subst S c.deref-2.ensures.value (subst P c.deref.ensures.value c.in_ok-origins.ensures);

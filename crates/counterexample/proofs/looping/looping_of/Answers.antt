@@ -19,16 +19,16 @@ returns-in_default g c =
 pub origins_round-requires : goal.origins_round-requires
 origins_round-requires g c =
     let B : Option (Lasso g.row.A.Denot) → Type 0 = λ l. ComesBack l in
-    let back : c.in-Some.back < length c.in-Some.states.items = subst B c.in-Some.is c.requires in
-    let S : List (Term g.row.A.Denot) → Type 0 = λ ts. c.in-Some.back < length ts in
-    let given : c.in-Some.back < length c.deref.result.now = subst S (sym c.deref.ensures.value) back in
+    let back : c.in-Some.lasso.back < length c.in-Some.lasso.states.items = subst B c.in-Some.is c.requires in
+    let S : List (Term g.row.A.Denot) → Type 0 = λ ts. c.in-Some.lasso.back < length ts in
+    let given : c.in-Some.lasso.back < length c.deref.result.now = subst S (sym c.deref.ensures.value) back in
     elim g.met.A.AllocHandle.small [ inl e ↦ rw (e.0, e.1) (search (lit≤, given)) | inr e ↦ rw (e.0, e.1) (search (lit≤, given)) ]
 
 pub returns : goal.returns
 returns g c =
     let script = script_of c.args.script.now in
-    let states = c.in-Some.states in
-    let back = c.in-Some.back in
+    let states = c.in-Some.lasso.states in
+    let back = c.in-Some.lasso.back in
     let origins = c.in_ok-origins.origins in
     let T : List (Term g.row.A.Denot) → Type 0 = λ ts. (again : Process) → slice_get (map process_of ts) back ≡ Some again → AreOriginsAlong script (replicate (length ts) Tau) (map process_of ts ++ again ∷ []) (origins_listed origins.items) in
     let told = subst T c.deref.ensures.value c.in_ok-origins.ensures in

@@ -22,17 +22,8 @@ use Rattle.counterexample.proofs.loops.push_loop.Goals as goal
 pub array_drop-tau-requires : goal.array_drop-tau-requires
 array_drop-tau-requires g c = elim g.met.A.AllocHandle.small [ inl e ↦ rw (e.0, e.1) (lit< tt) | inr e ↦ rw (e.0, e.1) (lit< tt) ]
 
-pub array_drop-tau-requires-then-place-told : goal.array_drop-tau-requires-then-place-told
-array_drop-tau-requires-then-place-told g c = elim g.met.A.AllocHandle.small [ inl e ↦ rw (e.0, e.1) (lit< tt) | inr e ↦ rw (e.0, e.1) (lit< tt) ]
-
-pub array_drop-tau-requires-in_err-push_step : goal.array_drop-tau-requires-in_err-push_step
-array_drop-tau-requires-in_err-push_step g c = elim g.met.A.AllocHandle.small [ inl e ↦ rw (e.0, e.1) (lit< tt) | inr e ↦ rw (e.0, e.1) (lit< tt) ]
-
 pub array_drop-tau-requires-in_err-push_next : goal.array_drop-tau-requires-in_err-push_next
 array_drop-tau-requires-in_err-push_next g c = elim g.met.A.AllocHandle.small [ inl e ↦ rw (e.0, e.1) (lit< tt) | inr e ↦ rw (e.0, e.1) (lit< tt) ]
-
-pub array_drop-tau-requires-2 : goal.array_drop-tau-requires-2
-array_drop-tau-requires-2 g c = elim g.met.A.AllocHandle.small [ inl e ↦ rw (e.0, e.1) (lit< tt) | inr e ↦ rw (e.0, e.1) (lit< tt) ]
 
 pub returns-in_default : goal.returns-in_default
 returns-in_default g c =
@@ -96,8 +87,11 @@ loop-place-preserved g c =
     let read = get_some (λ o. option_map origin_of o) os i c.in-Some.origin.now (slice_get_read os (length os) i c.in-Some.origin.now refl found.3.0 found.1) in
     let told = ap (λ (xs : List (Option (Origin g.row.A.Denot))). slice_get (origins_listed xs) i) (sym c.deref-in-loop-place.ensures.value) ∙ read in
     let o = option_map origin_of c.in-Some.origin.now in
-    let s = c.index-states-place.result in
-    let here = get_some process_of l.states.items i s (slice_get-get_or l.states.items i s c.index-states-place.in_bounds ∙ ap Some (sym c.index-states-place.is)) in
+    let s = c.index.result.now in
+    let long = c.len-count.ensures in
+    let below = c.loop-place-test.true in
+    let whole = l.states.ok.0 in
+    let here = get_some process_of l.states.items i s (slice_get-get_or l.states.items i s (omega (arith, long, below, whole)) ∙ ap Some (sym c.index.ensures)) in
     let most = c.loop-place.invariant.few in
     let other = c.if-place-told.false in
     let low : i < few = omega (arith, most, other) in

@@ -1,5 +1,5 @@
 -- The sides, the loop and the parts are put one behind the other.
-use Rattle.std.proofs.Common.{◌≡◌, ◌++◌, List, length, map, option_map, sym, ◌∙◌, ap}
+use Rattle.std.proofs.Common.{◌≡◌, ◌++◌, ℕ, List, length, map, option_map, sym, ◌∙◌, ap}
 use Rattle.std.proofs.lemmas.List.{length-map}
 use Rattle.std.specs.String.{string_bytes}
 use Rattle.csp_value.specs.Action.{action_of}
@@ -23,8 +23,8 @@ returns g c =
     let all = string_bytes c.push_parts.new.text in
     let loop = option_map loop_of told.looping in
     let parts = λ (ws : List (Waiting g.row.A.Denot)). parts_text style (map waiting_of ws) in
-    let long = c.len.ensures ∙ sym (length-map c.args.shown.now.path.items action_of) in
-    let second = c.in_ok-push_looping.ensures ∙ ap (λ n. one ++ loop_text style n loop) long in
+    let long = c.len.ensures ∙ c.args.shown.now.path.ok.0 ∙ sym (length-map c.args.shown.now.path.items action_of) in
+    let second = c.in_ok-push_looping.ensures ∙ ap (λ (n : ℕ). one ++ loop_text style n loop) long in
     let third = c.in_ok-push_parts.ensures ∙ ap (λ (ws : List (Waiting g.row.A.Denot)). two ++ parts ws) c.deref.ensures.value in
     put_behind start one all (sides_text style v (counterexample_of told)) (loop_text style (length v.path) loop ++ parts told.waiting.items) c.in_ok-push_sides.ensures
     (put_behind one two all (loop_text style (length v.path) loop) (parts told.waiting.items) second third)

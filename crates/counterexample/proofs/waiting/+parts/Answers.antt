@@ -70,7 +70,7 @@ parts_in-parts_of_both-requires g t c κs within =
     let is : standing term ≡ Beside (process_of c.in-Beside.left.now) (process_of c.in-Beside.right.now) = sym c.standing_in.ensures ∙ ap standing_of c.in-Beside.is in
     let smaller : size (process_of c.in-Beside.left.now) + size (process_of c.in-Beside.right.now) < size term = subst (IsSmaller (size term)) is (parts_smaller term) in
     let terms : AreTerms script (Beside (process_of c.in-Beside.left.now) (process_of c.in-Beside.right.now)) = subst (AreTerms script) is (parts_terms script term c.requires) in
-    (omega (arith, c.decreases, smaller), (within, elim g.met.A.AllocHandle.small [ inl e ↦ rw (e.0, e.1) (search (lit≤, lit<, terms.0, terms.1)) | inr e ↦ rw (e.0, e.1) (search (lit≤, lit<, terms.0, terms.1)) ]))
+    (omega (arith, c.decreases, smaller), (within, (terms.0, terms.1)))
 
 pub parts_in-parts_in-requires : goal.parts_in-parts_in-requires
 parts_in-parts_in-requires g t c κs within =
@@ -79,4 +79,4 @@ parts_in-parts_in-requires g t c κs within =
     let is : standing term ≡ Inside (process_of c.in-Inside.body.now) = sym c.standing_in.ensures ∙ ap standing_of c.in-Inside.is in
     let smaller : size (process_of c.in-Inside.body.now) < size term = subst (IsSmaller (size term)) is (parts_smaller term) in
     let closed : IsTermOf script (process_of c.in-Inside.body.now) = subst (AreTerms script) is (parts_terms script term c.requires) in
-    (omega (arith, c.decreases, smaller), (within, elim g.met.A.AllocHandle.small [ inl e ↦ rw (e.0, e.1) (search (lit≤, lit<, closed)) | inr e ↦ rw (e.0, e.1) (search (lit≤, lit<, closed)) ]))
+    (omega (arith, c.decreases, smaller), (within, closed))
