@@ -35,7 +35,7 @@ pub(crate) fn push_unknown<A: AllocHandle>(
     text: &mut String<A>,
 ) -> Result<(), Memory>
     requires terms { IsAssertionOf (script_of script.now) (assertion_of assertion.now) }
-    requires stop { HasStop (script_of script.now) (assertion_of assertion.now) (Unknown (why_of why)) (stop_in stop.entry) }
+    requires stop { HasStop (script_of script.now) (assertion_of assertion.now) (Unknown (why_of why)) (stop_in stop) }
     ensures { OnOk result (TellsUnknown (style_of style.now) (script_of script.now) (assertion_of assertion.now) (why_of why) (string_bytes text.old) (string_bytes text.new)) }
 {
     push_mark(reason(why), text)?;
@@ -70,7 +70,7 @@ fn push_found<A: AllocHandle>(
     text: &mut String<A>,
 ) -> Result<(), Memory>
     requires terms { IsAssertionOf (script_of script.now) (assertion_of assertion.now) }
-    requires stop { IsStop (script_of script.now) (assertion_of assertion.now) (hindrance_of hindrance) (stop_in stop.entry) }
+    requires stop { IsStop (script_of script.now) (assertion_of assertion.now) (hindrance_of hindrance) (stop_in stop) }
     ensures { OnOk result (TellsFound (style_of style.now) (script_of script.now) (assertion_of assertion.now) (Some (hindrance_of hindrance)) (string_bytes text.old) (string_bytes text.new)) }
 {
     let found = side_run(alloc, script, assertion, hindrance, stop, style.reach)?;

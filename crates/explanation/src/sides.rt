@@ -35,7 +35,7 @@ pub(crate) fn side_run<A: AllocHandle>(
     most: usize,
 ) -> Result<Option<SideRun<A>>, Memory>
     requires terms { IsAssertionOf (script_of script.now) (assertion_of assertion.now) }
-    requires stop { IsStop (script_of script.now) (assertion_of assertion.now) (hindrance_of hindrance) (stop_in stop.entry) }
+    requires stop { IsStop (script_of script.now) (assertion_of assertion.now) (hindrance_of hindrance) (stop_in stop) }
     ensures { IfOk result (λ found. IsFound (script_of script.now) (assertion_of assertion.now) (hindrance_of hindrance) most (option_map side_run_of found)) }
 {
     let Some(path) = stop else {

@@ -37,7 +37,7 @@ pub fn tell<A: AllocHandle>(
 ) -> Result<String<A>, Memory>
     requires terms { IsAssertionOf (script_of script.now) (assertion_of assertion.now) }
     requires shown { HasViolation (script_of script.now) (assertion_of assertion.now) (outcome_of found.now) }
-    requires stop { HasStop (script_of script.now) (assertion_of assertion.now) (outcome_of found.now) (stop_in stop.entry) }
+    requires stop { HasStop (script_of script.now) (assertion_of assertion.now) (outcome_of found.now) (stop_in stop) }
     ensures { IfOk result (λ text. IsTold (style_of style.now) (script_of script.now) number (assertion_of assertion.now) (as_written assertion.now.negated (outcome_of found.now)) (string_bytes text)) }
 {
     let mut text = headline_text(alloc, style.names, number, assertion, found)?;
@@ -57,7 +57,7 @@ fn push_why<A: AllocHandle>(
 ) -> Result<(), Memory>
     requires terms { IsAssertionOf (script_of script.now) (assertion_of assertion.now) }
     requires shown { HasViolation (script_of script.now) (assertion_of assertion.now) (outcome_of found.now) }
-    requires stop { HasStop (script_of script.now) (assertion_of assertion.now) (outcome_of found.now) (stop_in stop.entry) }
+    requires stop { HasStop (script_of script.now) (assertion_of assertion.now) (outcome_of found.now) (stop_in stop) }
     ensures { OnOk result (TellsWhy (style_of style.now) (script_of script.now) (assertion_of assertion.now) (outcome_of found.now) (string_bytes text.old) (string_bytes text.new)) }
 {
     match found {

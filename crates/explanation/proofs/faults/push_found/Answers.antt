@@ -8,8 +8,8 @@ use Rattle.explanation.specs.Sides.{side_run_of}
 use Rattle.explanation.specs.declared.sides.SideRun.{SideRun}
 use Rattle.explanation.proofs.faults.push_found.Goals as goal
 
-pub returns-in_ok-push_mark : goal.returns-in_ok-push_mark
-returns-in_ok-push_mark g c =
+pub returns-in_default : goal.returns-in_default
+returns-in_default g c =
     let h = hindrance_of c.args.hindrance in
     let F : Option (SideRun g.row.A.Denot) → Type 0 = λ found. IsFound (script_of c.args.script.now) (assertion_of c.args.assertion.now) h c.args.style.now.reach (option_map side_run_of found) in
     (None, subst F c.in_default.is c.in_ok-found.ensures, c.in_ok-push_mark.ensures)

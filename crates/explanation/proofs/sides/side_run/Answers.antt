@@ -84,7 +84,7 @@ returns g c =
     let F : Option (Vec (Term g.row.A.Denot) g.row.A.Denot) → Type 0 = λ found. IfSome found (λ ts. IsStuckRun script p h (map action_of c.in-Some.path.now) (map process_of ts.items)) in
     let same = copies_same action_of c.in-Some.path.now c.in_ok-path.path.items c.in_ok-path.ensures in
     let P : List value.Action → Type 0 = λ xs. IsStuckRun script p h xs (map process_of states.items) in
-    let run = record { path = c.in_ok-path.path; states = states } in
+    let run : StuckRun g.row.A.Denot = record { path = c.in_ok-path.path; states = states } in
     let T : StuckRun g.row.A.Denot → Type 0 = λ r. StopsSearch script a h (map action_of r.path.items) in
     record {
       stops = subst T (sym c.in_ok-told.ensures.0) (subst (StopsSearch script a h) (sym same) stops.1);

@@ -20,7 +20,7 @@ push_counterexample-requires g c =
     let T : Replayed g.row.A.Denot → Type 0 = λ found. TellsReplayed script (assertion_of c.args.assertion.now) v c.args.style.now.most c.args.style.now.reach found in
     let is = subst T c.in-Counterexample.is c.in_ok-found.ensures in
     let round : GoesRound c.in-Counterexample.counterexample.looping = goes_round g.row.A.Denot script v.evidence is.replay.end c.in-Counterexample.counterexample.looping is.loop in
-    elim g.met.A.AllocHandle.small [ inl e ↦ rw (e.0, e.1) (search (lit≤, lit<, round)) | inr e ↦ rw (e.0, e.1) (search (lit≤, lit<, round)) ]
+    elim g.met.A.AllocHandle.small [ inl e ↦ rw (e.0, e.1) (search (lit≤, round)) | inr e ↦ rw (e.0, e.1) (search (lit≤, round)) ]
 
 pub returns-in-Counterexample : goal.returns-in-Counterexample
 returns-in-Counterexample g c =
@@ -46,3 +46,21 @@ returns-in-TooMany g c =
     let T : Replayed g.row.A.Denot → Type 0 = λ found. TellsReplayed script a v style.most style.reach found in
     let is : HasWideEnd script a v style.reach = subst T c.in-TooMany.is c.in_ok-found.ensures in
     on_ok_so c.push_sentence.result (new ≡ old ++ wide_end_text) (TellsViolation style script a v old new) (λ put. inr (is, put)) c.push_sentence.ensures
+
+pub unreachable-requires : goal.unreachable-requires
+unreachable-requires g c =
+    let T : Replayed g.row.A.Denot → Type 0 = λ found. TellsReplayed (script_of c.args.script.now) (assertion_of c.args.assertion.now) (violation_of c.args.shown.now) c.args.style.now.most c.args.style.now.reach found in
+    let none = subst T c.in-Nowhere.is c.in_ok-found.ensures in
+    none c.requires.run.0 c.requires.run.1 c.requires.run.2
+
+pub drop-counterexample-requires-in-Counterexample-room-T-Destruct : goal.drop-counterexample-requires-in-Counterexample-room-T-Destruct
+drop-counterexample-requires-in-Counterexample-room-T-Destruct g c κs within = elim g.met.A.AllocHandle.small [ inl e ↦ rw (e.0, e.1) (lit< tt) | inr e ↦ rw (e.0, e.1) (lit< tt) ]
+
+pub drop-counterexample-requires-in-Counterexample-3-room-T-Destruct : goal.drop-counterexample-requires-in-Counterexample-3-room-T-Destruct
+drop-counterexample-requires-in-Counterexample-3-room-T-Destruct g c κs within = elim g.met.A.AllocHandle.small [ inl e ↦ rw (e.0, e.1) (search (lit≤)) | inr e ↦ rw (e.0, e.1) (search (lit≤)) ]
+
+pub drop-counterexample-requires-in-Counterexample-4-room-T-Destruct : goal.drop-counterexample-requires-in-Counterexample-4-room-T-Destruct
+drop-counterexample-requires-in-Counterexample-4-room-T-Destruct g c κs within = elim g.met.A.AllocHandle.small [ inl e ↦ rw (e.0, e.1) (search (lit≤)) | inr e ↦ rw (e.0, e.1) (search (lit≤)) ]
+
+pub drop-counterexample-requires-in-Counterexample-6-room-T-Destruct : goal.drop-counterexample-requires-in-Counterexample-6-room-T-Destruct
+drop-counterexample-requires-in-Counterexample-6-room-T-Destruct g c κs within = elim g.met.A.AllocHandle.small [ inl e ↦ rw (e.0, e.1) (lit< tt) | inr e ↦ rw (e.0, e.1) (lit< tt) ]
