@@ -1,0 +1,54 @@
+-- What is to blame in the fields of a prefix, in a set of events and in a renaming.
+use Rattle.std.specs.Prelude.{ℕ, suc, nat_eq, true, false, ◌&&◌, cond, List, [], ◌∷◌, length, filter, Option, Some, None}
+use Rattle.std.specs.Option.{option_or}
+use Rattle.theory_syntax.specs.Value.{Value, has_value}
+use Rattle.theory_syntax.specs.Expression.{expressions_list}
+use Rattle.theory_syntax.specs.Process.{Field, Given, Input, InputFrom, EventExpression, EventSet, Enumeration, Productions, EventUnion, EventIntersection, EventDifference, RenamingPair, Script}
+use Rattle.theory_syntax.specs.Types.{Types}
+use Rattle.theory_semantics.specs.Meaning.Events.{channel_images, field_sets, is_bare}
+use Rattle.theory_semantics.specs.Meaning.Substitution.{Bindings, bind, put_expression}
+use Rattle.theory_faults.specs.Culprit.{Culprit, Misfit, OfChannel, first_found, misfit, over_sets}
+use Rattle.theory_faults.specs.Expressions.{field_culprit, given_culprit, members, members_culprit}
+
+-- In the fields of a prefix from this number on, with the values of the inputs before them. An input takes its values in
+-- order, and the later fields are looked at for each.
+abbrev pub fields_culprit : Types → ℕ → ℕ → Bindings → List Field → List (List Value) → Option Culprit
+fields_culprit types c i bs [] [] = None
+fields_culprit types c i bs (Given e ∷ fs) (set ∷ sets) =
+    option_or (field_culprit types (OfChannel c) i set (put_expression bs e)) (fields_culprit types c (suc i) bs fs sets)
+fields_culprit types c i bs (Input n ∷ fs) (set ∷ sets) = first_found (λ v. fields_culprit types c (suc i) (bind n v bs) fs sets) set
+fields_culprit types c i bs (InputFrom n e ∷ fs) (set ∷ sets) =
+    option_or (members_culprit types (put_expression bs e))
+    (first_found (λ v. fields_culprit types c (suc i) (bind n v bs) fs sets) (filter (λ v. has_value set v) (members types (put_expression bs e))))
+fields_culprit types c i bs fs sets = Some Misfit
+
+-- in a closed prefix
+abbrev pub prefix_culprit : Script → ℕ → List Field → Option Culprit
+prefix_culprit script c fs = over_sets (field_sets script c) (λ sets. fields_culprit script.types c 0 [] fs sets)
+
+-- in a channel with expressions for its first fields
+abbrev pub beginning_culprit : Script → EventExpression → Option Culprit
+beginning_culprit script e = over_sets (field_sets script e.channel) (λ sets. given_culprit script.types (OfChannel e.channel) 0 e.fields sets)
+
+-- an event has an expression for each field
+abbrev pub count_misfit : EventExpression → List (List Value) → Option Culprit
+count_misfit e sets = cond (nat_eq (length (expressions_list e.fields)) (length sets)) None (Some Misfit)
+
+-- in an event
+abbrev pub event_culprit : Script → EventExpression → Option Culprit
+event_culprit script e = option_or (beginning_culprit script e) (over_sets (field_sets script e.channel) (count_misfit e))
+
+-- in a set of events
+abbrev pub event_set_culprit : Script → EventSet → Option Culprit
+event_set_culprit script (Enumeration es) = first_found (event_culprit script) es
+event_set_culprit script (Productions es) = first_found (beginning_culprit script) es
+event_set_culprit script (EventUnion a b) = option_or (event_set_culprit script a) (event_set_culprit script b)
+event_set_culprit script (EventIntersection a b) = option_or (event_set_culprit script a) (event_set_culprit script b)
+event_set_culprit script (EventDifference a b) = option_or (event_set_culprit script a) (event_set_culprit script b)
+
+-- in a pair of channels, or of events
+abbrev pub pair_culprit : Script → RenamingPair → Option Culprit
+pair_culprit script r = elim (is_bare r.from && is_bare r.to) [
+  | true ↦ misfit (channel_images script r.from.channel r.to.channel)
+  | false ↦ option_or (event_culprit script r.from) (event_culprit script r.to)
+]
