@@ -143,7 +143,7 @@ module _ (s : Script) where
       IsToBlame s (outside owner i set (Ok v)) (result_err (in_field_set set v))
   outside_blamed owner i all set v own at = by (has_value set v) refl
     where
-      by : (b : Bool) → has_value set v ≡ b → IsToBlame s (cond b None (Some (Outside owner i v))) (result_err (cond b (Ok v) (Err OutOfRange)))
+      by : (b : Bool) → has_value set v ≡ b → IsToBlame s (cond b None (Some (Outside owner (suc i) v))) (result_err (cond b (Ok v) (Err OutOfRange)))
       by true is = tt
       by false is = (refl, (all, set, own, at, is))
 

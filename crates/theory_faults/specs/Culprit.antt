@@ -10,8 +10,9 @@ pub data Owner : Type 0 where
   OfChannel : (channel : ℕ) → Owner
   OfConstructor : (constructor : ℕ) → Owner
 
--- An expression that has no value, though its operands have one. A value outside of the set of its field, which is counted
--- from 0. An internal choice over an empty set. Or a part of the wrong kind, which a closed term of the right kinds never has.
+-- An expression that has no value, though its operands have one. A value outside of the set of its field, where fields are
+-- counted from 1. An internal choice over an empty set. Or a part of the wrong kind, which a closed term of the right kinds
+-- never has.
 pub data Culprit : Type 0 where
   Valueless : (expression : Expression) (cause : Cause) → Culprit
   Outside : (owner : Owner) (field : ℕ) (value : Value) → Culprit

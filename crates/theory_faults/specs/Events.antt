@@ -10,8 +10,8 @@ use Rattle.theory_semantics.specs.Meaning.Substitution.{Bindings, bind, put_expr
 use Rattle.theory_faults.specs.Culprit.{Culprit, Misfit, OfChannel, first_found, misfit, over_sets}
 use Rattle.theory_faults.specs.Expressions.{field_culprit, given_culprit, members, members_culprit}
 
--- In the fields of a prefix from this number on, with the values of the inputs before them. An input takes its values in
--- order, and the later fields are looked at for each.
+-- In fields of a prefix, before which this many stand, with the values of the inputs among those. An input takes its values
+-- in order, and the later fields are looked at for each.
 abbrev pub fields_culprit : Types → ℕ → ℕ → Bindings → List Field → List (List Value) → Option Culprit
 fields_culprit types c i bs [] [] = None
 fields_culprit types c i bs (Given e ∷ fs) (set ∷ sets) =

@@ -23,9 +23,9 @@ with_values types e = e
 abbrev pub or_itself : Types → Expression → Option Culprit → Option Culprit
 or_itself types e found = elim (value types e) [ Ok v ↦ None | Err c ↦ option_or found (Some (Valueless (with_values types e) c)) ]
 
--- the value of a field, where it lies outside of its set
+-- the value of a field, where it lies outside of its set; before the field stand this many
 abbrev pub outside : Owner → ℕ → List Value → Result Value Cause → Option Culprit
-outside owner i set (Ok v) = cond (has_value set v) None (Some (Outside owner i v))
+outside owner i set (Ok v) = cond (has_value set v) None (Some (Outside owner (suc i) v))
 outside owner i set (Err c) = None
 
 -- what is to blame in an expression: the first of its operands without a value that has no such operand itself
@@ -44,7 +44,7 @@ abbrev mutual
   first_culprit types no_expressions = None
   first_culprit types (expression_and e es) = option_or (culprit types e) (first_culprit types es)
 
-  -- in given fields, each of which has a value in its set; the first one has this number
+  -- in given fields, each of which has a value in its set; before the first one stand this many
   pub given_culprit : Types → Owner → ℕ → Expressions → List (List Value) → Option Culprit
   given_culprit types owner i no_expressions sets = None
   given_culprit types owner i (expression_and e es) [] = Some Misfit

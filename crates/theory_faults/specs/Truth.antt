@@ -1,5 +1,5 @@
 -- What is true of what is to blame.
-use Rattle.std.specs.Prelude.{◌≡◌, ℕ, false, List, [], ◌∷◌, slice_get, Option, Some, None, Ok, Err, ⊤}
+use Rattle.std.specs.Prelude.{◌≡◌, ℕ, zero, suc, false, List, [], ◌∷◌, slice_get, Option, Some, None, Ok, Err, ⊤}
 use Rattle.theory_syntax.specs.Value.{Value, has_value}
 use Rattle.theory_syntax.specs.Expression.{Expression, Apply, Combine, SequenceOf, SetOf, Range, ConstructorOf, expressions_list}
 use Rattle.theory_syntax.specs.Process.{Script}
@@ -14,9 +14,10 @@ abbrev pub sets_of : Script → Owner → Option (List (List Value))
 sets_of script (OfChannel c) = slice_get script.channels c
 sets_of script (OfConstructor k) = slice_get script.types.constructors k
 
--- the field has a set, and the value lies outside of it
+-- the value lies outside of the set of the field with this number, where fields are counted from 1
 abbrev pub IsOutside : Script → Owner → ℕ → Value → Type 0
-IsOutside script owner i v =
+IsOutside script owner zero v = ⊥
+IsOutside script owner (suc i) v =
     (sets : List (List Value)) × (set : List Value) × (sets_of script owner ≡ Some sets) × (slice_get sets i ≡ Some set) × (has_value set v ≡ false)
 
 -- the parts of an expression that have to have values first
