@@ -66,3 +66,7 @@ module _ (s : Script) where
   each_list_blamed f look blamed [] = tt
   each_list_blamed f look blamed (x ∷ xs) =
       blamed_then (f x) _ (look x) (first_found look xs) (blamed x) (λ y is. blamed_map (each_list f xs) _ (first_found look xs) (each_list_blamed f look blamed xs))
+
+  pub blamed_alone : (o : Option Culprit) (x : Option Cause) → IsToBlame s o x → IsToBlame s (option_or o None) x
+  blamed_alone (Some k) x h = h
+  blamed_alone None x h = h

@@ -1,5 +1,5 @@
 -- What is to blame in fields, in sets of events and in renamings explains why they have no value.
-use Rattle.std.proofs.Common.{◌≡◌, ℕ, suc, Bool, true, false, ◌&&◌, cond, nat_eq, List, [], ◌∷◌, slice_get, length, filter, Option, Some, None, Result, Ok, Err, ok_or, refl, sym, ◌∙◌, ap, subst}
+use Rattle.std.proofs.Common.{◌≡◌, ℕ, suc, Bool, true, false, ◌&&◌, cond, nat_eq, List, [], ◌∷◌, slice_get, length, filter, map, Option, Some, None, Result, Ok, Err, ok_or, refl, sym, ◌∙◌, ap, subst}
 use Rattle.std.specs.Option.{option_or}
 use Rattle.std.specs.Result.{result_err}
 use Rattle.theory_syntax.specs.Value.{Event, Set, Truth, Value, has_value}
@@ -13,12 +13,16 @@ use Rattle.theory_faults.specs.Culprit.{Culprit, Misfit, OfChannel, first_found,
 use Rattle.theory_faults.specs.Events.{beginning_culprit, count_misfit, event_culprit, event_set_culprit, fields_culprit, pair_culprit, prefix_culprit}
 use Rattle.theory_faults.specs.Expressions.{condition_culprit, culprit, given_culprit, listed, members, members_culprit, outside}
 use Rattle.theory_faults.specs.Truth.{IsToBlame}
-use Rattle.theory_faults.proofs.Blaming.{blamed_map, blamed_then, each_blamed, each_list_blamed, misfit_blamed}
+use Rattle.theory_faults.proofs.Blaming.{blamed_alone, blamed_map, blamed_then, each_blamed, each_list_blamed, misfit_blamed}
 use Rattle.theory_faults.proofs.Expressions.{AreFrom, all_from, culprit_blamed, field_blamed, first_from, given_blamed, rest_from}
 
 pub or_or : (a b c : Option Culprit) → option_or (option_or a b) c ≡ option_or a (option_or b c)
 or_or (Some k) b c = refl
 or_or None b c = refl
+
+first_mapped : {X Y Z : Type 0} (look : Y → Option Z) (f : X → Y) (xs : List X) → first_found look (map f xs) ≡ first_found (λ x. look (f x)) xs
+first_mapped look f [] = refl
+first_mapped look f (x ∷ xs) = ap (option_or (look (f x))) (first_mapped look f xs)
 
 module _ (s : Script) where
   abbrev types : Types
@@ -82,18 +86,25 @@ module _ (s : Script) where
       let f = put_expression bs e in
       let rest = fields_culprit types c (suc i) bs fs sets in
       let P : Option Culprit → Type 0 = λ o. IsToBlame s o (result_err (communications types bs (Given e ∷ fs) (set ∷ sets))) in
-      subst P (sym (or_or (culprit types f) (outside (OfChannel c) i set (value types f)) rest))
-      (field_blamed s (OfChannel c) i all set (value types f) _ (culprit types f) rest own (first_from s i all set sets from) (culprit_blamed s f)
-      (λ v. blamed_map s (communications types bs fs sets) _ rest (fields_blamed c all own (suc i) bs fs sets (rest_from s i all set sets from))))
+      subst P (sym (or_or (culprit types f) (outside (OfChannel c) i set (value types f)) (option_or rest None)))
+      (field_blamed s (OfChannel c) i all set (value types f) _ (culprit types f) (option_or rest None) own (first_from s i all set sets from) (culprit_blamed s f)
+      (λ v. blamed_alone s rest _ (blamed_map s (communications types bs fs sets) _ rest (fields_blamed c all own (suc i) bs fs sets (rest_from s i all set sets from)))))
   fields_blamed c all own i bs (Input n ∷ fs) (set ∷ sets) from =
-      each_list_blamed s _ (λ v. fields_culprit types c (suc i) (bind n v bs) fs sets)
-      (λ v. blamed_map s (communications types (bind n v bs) fs sets) _ (fields_culprit types c (suc i) (bind n v bs) fs sets)
-      (fields_blamed c all own (suc i) (bind n v bs) fs sets (rest_from s i all set sets from))) set
+      let look = λ (ds : Bindings). fields_culprit types c (suc i) ds fs sets in
+      let P : Option Culprit → Type 0 = λ o. IsToBlame s o (result_err (communications types bs (Input n ∷ fs) (set ∷ sets))) in
+      subst P (sym (first_mapped look (λ v. bind n v bs) set))
+      (each_list_blamed s _ (λ v. look (bind n v bs))
+      (λ v. blamed_map s (communications types (bind n v bs) fs sets) _ (look (bind n v bs))
+      (fields_blamed c all own (suc i) (bind n v bs) fs sets (rest_from s i all set sets from))) set)
   fields_blamed c all own i bs (InputFrom n e ∷ fs) (set ∷ sets) from =
-      over_members (put_expression bs e) _ (λ vs. first_found (λ v. fields_culprit types c (suc i) (bind n v bs) fs sets) (filter (λ v. has_value set v) vs))
-      (λ vs. each_list_blamed s _ (λ v. fields_culprit types c (suc i) (bind n v bs) fs sets)
-      (λ v. blamed_map s (communications types (bind n v bs) fs sets) _ (fields_culprit types c (suc i) (bind n v bs) fs sets)
-      (fields_blamed c all own (suc i) (bind n v bs) fs sets (rest_from s i all set sets from))) (filter (λ v. has_value set v) vs))
+      let look = λ (ds : Bindings). fields_culprit types c (suc i) ds fs sets in
+      let chosen = λ (vs : List Value). filter (λ v. has_value set v) vs in
+      let P : Option Culprit → Type 0 = λ o. IsToBlame s o (result_err (communications types bs (InputFrom n e ∷ fs) (set ∷ sets))) in
+      subst P (ap (option_or (members_culprit types (put_expression bs e))) (sym (first_mapped look (λ v. bind n v bs) (chosen (members types (put_expression bs e))))))
+      (over_members (put_expression bs e) _ (λ vs. first_found (λ v. look (bind n v bs)) (chosen vs))
+      (λ vs. each_list_blamed s _ (λ v. look (bind n v bs))
+      (λ v. blamed_map s (communications types (bind n v bs) fs sets) _ (look (bind n v bs))
+      (fields_blamed c all own (suc i) (bind n v bs) fs sets (rest_from s i all set sets from))) (chosen vs)))
 
   pub prefix_blamed : (c : ℕ) (fs : List Field) → IsToBlame s (prefix_culprit s c fs) (result_err (prefix_communications s c fs))
   prefix_blamed c fs =

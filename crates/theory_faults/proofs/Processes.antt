@@ -17,15 +17,11 @@ use Rattle.theory_faults.specs.Events.{event_set_culprit, pair_culprit, prefix_c
 use Rattle.theory_faults.specs.Expressions.{condition_culprit, first_culprit, listed, members, members_culprit}
 use Rattle.theory_faults.specs.Processes.{arguments_misfit, culprit_in, culprit_within, looked_at, no_choice, only_one, own_culprit, picked}
 use Rattle.theory_faults.specs.Truth.{IsToBlame}
-use Rattle.theory_faults.proofs.Blaming.{blamed_map, blamed_or, blamed_then}
+use Rattle.theory_faults.proofs.Blaming.{blamed_alone, blamed_map, blamed_or, blamed_then}
 use Rattle.theory_faults.proofs.Events.{condition_blamed, event_set_blamed, members_blamed, or_or, pairs_blamed, prefix_blamed}
 use Rattle.theory_faults.proofs.Expressions.{first_blamed}
 
 module _ (s : Script) where
-  blamed_alone : (o : Option Culprit) (x : Option Cause) → IsToBlame s o x → IsToBlame s (option_or o None) x
-  blamed_alone (Some k) x h = h
-  blamed_alone None x h = h
-
   -- ---- calls
 
   values_count : (es : Expressions) (vs : List Value) → values s.types es ≡ Ok vs → length vs ≡ length (expressions_list es)
@@ -69,7 +65,7 @@ module _ (s : Script) where
 
   module _ (look : Process → Option Culprit) (cause : Process → Option Cause) (each : (p : Process) → IsToBlame s (look p) (cause p)) where
     one_blamed : (p : Process) → IsToBlame s (first_found look (p ∷ [])) (cause p)
-    one_blamed p = blamed_alone (look p) (cause p) (each p)
+    one_blamed p = blamed_alone s (look p) (cause p) (each p)
 
     two_blamed : (p q : Process) → IsToBlame s (first_found look (p ∷ q ∷ [])) (option_or (cause p) (cause q))
     two_blamed p q = blamed_or s (look p) (first_found look (q ∷ [])) (cause p) (cause q) (each p) (one_blamed q)
@@ -108,8 +104,8 @@ module _ (s : Script) where
   within_blamed (suc n) Skip = tt
   within_blamed (suc n) Omega = tt
   within_blamed (suc n) (InternalChoice p q) = tt
-  within_blamed (suc n) (Call k es) = blamed_alone (own_culprit s (Call k es)) (result_err (called s k es)) (called_blamed k es)
-  within_blamed (suc n) (Prefix c fs p) = blamed_alone (prefix_culprit s c fs) (result_err (prefix_communications s c fs)) (prefix_blamed s c fs)
+  within_blamed (suc n) (Call k es) = blamed_alone s (own_culprit s (Call k es)) (result_err (called s k es)) (called_blamed k es)
+  within_blamed (suc n) (Prefix c fs p) = blamed_alone s (prefix_culprit s c fs) (result_err (prefix_communications s c fs)) (prefix_blamed s c fs)
   within_blamed (suc n) (Guard e p) =
       branch_blamed (culprit_within n s) (cause_within n s) (within_blamed n) (condition s.types e) (condition_culprit s.types e) (p ∷ []) [] (cause_within n s p) None (condition_blamed s e)
       (one_blamed (culprit_within n s) (cause_within n s) (within_blamed n) p) tt

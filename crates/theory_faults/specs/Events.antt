@@ -1,5 +1,5 @@
 -- What is to blame in the fields of a prefix, in a set of events and in a renaming.
-use Rattle.std.specs.Prelude.{ℕ, suc, nat_eq, true, false, ◌&&◌, cond, List, [], ◌∷◌, length, filter, Option, Some, None}
+use Rattle.std.specs.Prelude.{ℕ, suc, nat_eq, true, false, ◌&&◌, cond, List, [], ◌∷◌, length, filter, map, Option, Some, None}
 use Rattle.std.specs.Option.{option_or}
 use Rattle.theory_syntax.specs.Value.{Value, has_value}
 use Rattle.theory_syntax.specs.Expression.{expressions_list}
@@ -10,16 +10,23 @@ use Rattle.theory_semantics.specs.Meaning.Substitution.{Bindings, bind, put_expr
 use Rattle.theory_faults.specs.Culprit.{Culprit, Misfit, OfChannel, first_found, misfit, over_sets}
 use Rattle.theory_faults.specs.Expressions.{field_culprit, given_culprit, members, members_culprit}
 
--- In fields of a prefix, before which this many stand, with the values of the inputs among those. An input takes its values
--- in order, and the later fields are looked at for each.
+-- in a field itself, before which this many stand
+abbrev pub own_field_culprit : Types → ℕ → ℕ → Bindings → Field → List Value → Option Culprit
+own_field_culprit types c i bs (Given e) set = field_culprit types (OfChannel c) i set (put_expression bs e)
+own_field_culprit types c i bs (Input n) set = None
+own_field_culprit types c i bs (InputFrom n e) set = members_culprit types (put_expression bs e)
+
+-- what names stand for behind a field: an input takes its values in order
+abbrev pub bindings_behind : Types → Bindings → Field → List Value → List Bindings
+bindings_behind types bs (Given e) set = bs ∷ []
+bindings_behind types bs (Input n) set = map (λ v. bind n v bs) set
+bindings_behind types bs (InputFrom n e) set = map (λ v. bind n v bs) (filter (λ v. has_value set v) (members types (put_expression bs e)))
+
+-- In fields of a prefix, before which this many stand: in the first one, or else in those behind it, for each of its values.
 abbrev pub fields_culprit : Types → ℕ → ℕ → Bindings → List Field → List (List Value) → Option Culprit
 fields_culprit types c i bs [] [] = None
-fields_culprit types c i bs (Given e ∷ fs) (set ∷ sets) =
-    option_or (field_culprit types (OfChannel c) i set (put_expression bs e)) (fields_culprit types c (suc i) bs fs sets)
-fields_culprit types c i bs (Input n ∷ fs) (set ∷ sets) = first_found (λ v. fields_culprit types c (suc i) (bind n v bs) fs sets) set
-fields_culprit types c i bs (InputFrom n e ∷ fs) (set ∷ sets) =
-    option_or (members_culprit types (put_expression bs e))
-    (first_found (λ v. fields_culprit types c (suc i) (bind n v bs) fs sets) (filter (λ v. has_value set v) (members types (put_expression bs e))))
+fields_culprit types c i bs (f ∷ fs) (set ∷ sets) =
+    option_or (own_field_culprit types c i bs f set) (first_found (λ ds. fields_culprit types c (suc i) ds fs sets) (bindings_behind types bs f set))
 fields_culprit types c i bs fs sets = Some Misfit
 
 -- in a closed prefix
