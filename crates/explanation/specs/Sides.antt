@@ -1,12 +1,12 @@
 -- The runs of sides that those of the code stand for.
-use Rattle.std.specs.Prelude.{◌≡◌, ℕ, List, Option, Some, None, map}
+use Rattle.std.specs.Prelude.{◌≡◌, ℕ, List, [], Option, Some, None, map}
 use Rattle.theory_syntax.specs.Process.{Process, Script}
 use Rattle.theory_runs.specs.Runs.{HasNoneWithin}
 use Rattle.theory_runs.specs.Stuck.{Hindrance}
 use Rattle.csp_value.specs.Action.{action_of}
 use Rattle.csp_term.specs.Term.{process_of}
 use Rattle.theory_explanation.specs.Faults as pure
-use Rattle.theory_explanation.specs.Paths.{path_text}
+use Rattle.theory_explanation.specs.Steps.{path_text}
 use Rattle.theory_explanation.specs.Styles.{Style}
 use Rattle.counterexample.specs.Counterexample.{origins_listed}
 use Rattle.csp_replay.specs.Running.{IsRunTo}
@@ -21,7 +21,11 @@ side_run_of (variant.Specification told) = pure.OfSpecification (map action_of t
 
 -- the text of the run
 abbrev pub told_text : {A : Type 0} → Style → ToldRun A → List ℕ
-told_text style told = path_text style (map action_of told.run.path.items) (map process_of told.run.states.items) (origins_listed told.origins.items)
+told_text style told = path_text style (map action_of told.run.path.items) (map process_of told.run.states.items) (origins_listed told.origins.items) []
+
+-- what the last state of the run is stuck by
+abbrev pub stuck_text : {A : Type 0} → Style → Script → Hindrance → ToldRun A → List ℕ
+stuck_text style script h told = pure.stuck_line style.names script h (map process_of told.run.states.items)
 
 -- a run of the specification to a state that is stuck so; or where there is a specification, none is found among n states
 abbrev pub IsSpecificationRun : {A : Type 0} → Script → Option Process → Hindrance → ℕ → Option (StuckRun A) → Type 0
