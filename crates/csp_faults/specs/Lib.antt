@@ -1,1 +1,5 @@
+pub mod Asked
 pub mod Culprit
+pub mod Declared
+pub mod Fields
+pub mod Parts

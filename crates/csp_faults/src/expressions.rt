@@ -13,6 +13,7 @@ ghost use Rattle.csp_expression.specs.Expression.{expression_of, expressions_of}
 ghost use Rattle.csp_faults.specs.Culprit.{Finds, found_of, owner_of};
 
 use crate::culprit::{Culprit, Owner};
+use crate::declared::constructor_sets;
 use crate::given::Place;
 use crate::values::{lacking, with_values};
 use csp_expression::{Cause, Expr, TypeTable};
@@ -39,13 +40,13 @@ pub fn expression_culprit<A: Allocator + Copy>(
             or_itself(alloc, types, expression, cause, found)
         }
         Expr::Combine(_, left, right) => {
-            let found = expression_culprit(alloc, types, left)?;
-            let found = or_in(alloc, types, right, found)?;
+            let first = expression_culprit(alloc, types, left)?;
+            let found = or_in(alloc, types, right, first)?;
             or_itself(alloc, types, expression, cause, found)
         }
         Expr::Range(from, to) => {
-            let found = expression_culprit(alloc, types, from)?;
-            let found = or_in(alloc, types, to, found)?;
+            let first = expression_culprit(alloc, types, from)?;
+            let found = or_in(alloc, types, to, first)?;
             or_itself(alloc, types, expression, cause, found)
         }
         Expr::Sequence(items) => {
@@ -60,7 +61,11 @@ pub fn expression_culprit<A: Allocator + Copy>(
             let found = constructor_culprit(alloc, types, *constructor, fields)?;
             or_itself(alloc, types, expression, cause, found)
         }
-        _ => or_itself(alloc, types, expression, cause, None),
+        Expr::Literal(_)
+        | Expr::Name(_)
+        | Expr::Booleans
+        | Expr::Datatype(_)
+        | Expr::Nametype(_) => or_itself(alloc, types, expression, cause, None),
     }
 }
 
@@ -125,11 +130,8 @@ fn constructor_culprit<A: Allocator + Copy>(
 ) -> Result<Option<Culprit<A>>, Memory>
     ensures { Finds result (over_sets (constructor_sets (table_of types.now) constructor.0) (λ sets. given_culprit (table_of types.now) (owner_of (Owner.Constructor constructor)) 0 (to_expressions (expressions_of fields.now)) sets)) }
 {
-    match types.constructors.get(constructor.0 as usize) {
-        Some(declared) => {
-            let owner = Owner::Constructor(constructor);
-            given_culprit(alloc, types, owner, fields, &declared.sets)
-        }
+    match constructor_sets(types, constructor) {
+        Some(sets) => given_culprit(alloc, types, Owner::Constructor(constructor), fields, sets),
         None => Ok(Some(Culprit::Misfit)),
     }
 }
@@ -149,9 +151,9 @@ pub(crate) fn given_culprit<A: Allocator + Copy>(
         let Some(set) = sets.get(before) else {
             return Ok(Some(Culprit::Misfit));
         };
-        let found = expression_culprit(alloc, types, field)?;
+        let inner = expression_culprit(alloc, types, field)?;
         let place = Place { owner, before, set };
-        let found = place.or_outside(alloc, types, field, found)?;
+        let found = place.or_outside(alloc, types, field, inner)?;
         if found.is_some() {
             return Ok(found);
         }

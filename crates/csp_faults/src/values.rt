@@ -8,9 +8,10 @@ ghost use Rattle.theory_faults.specs.Expressions.{as_value, with_values};
 ghost use Rattle.csp_expression.specs.Cause.{cause_of};
 ghost use Rattle.csp_expression.specs.Evaluation.{table_of};
 ghost use Rattle.csp_expression.specs.Expression.{expression_of};
+ghost use Rattle.csp_faults.specs.Asked.{IsFound};
 
 use csp_expression::{Cause, Expr, NoValue, TypeTable};
-use csp_value::Memory;
+use csp_value::{Memory, Value};
 use std::alloc::Allocator;
 
 /// The cause for which the expression has no value, if it has none.
@@ -67,5 +68,20 @@ pub(crate) fn with_values<A: Allocator + Copy>(
             Ok(Expr::Range(Box::new(alloc, from)?, Box::new(alloc, to)?))
         }
         _ => expression.try_copy(alloc),
+    }
+}
+
+/// The value of the expression, if it has one.
+pub(crate) fn found_value<A: Allocator + Copy>(
+    alloc: A,
+    types: &TypeTable<A>,
+    expression: &Expr<A>,
+) -> Result<Option<Value<A>>, Memory>
+    ensures { IfOk result (λ found. IsFound found (value (table_of types.now) (expression_of expression.now))) }
+{
+    match expression.find_value(alloc, types) {
+        Ok(value) => Ok(Some(value)),
+        Err(NoValue::Cause(_)) => Ok(None),
+        Err(NoValue::Memory) => Err(Memory),
     }
 }

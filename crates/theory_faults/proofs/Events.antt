@@ -20,7 +20,7 @@ pub or_or : (a b c : Option Culprit) → option_or (option_or a b) c ≡ option_
 or_or (Some k) b c = refl
 or_or None b c = refl
 
-first_mapped : {X Y Z : Type 0} (look : Y → Option Z) (f : X → Y) (xs : List X) → first_found look (map f xs) ≡ first_found (λ x. look (f x)) xs
+pub first_mapped : {X Y Z : Type 0} (look : Y → Option Z) (f : X → Y) (xs : List X) → first_found look (map f xs) ≡ first_found (λ x. look (f x)) xs
 first_mapped look f [] = refl
 first_mapped look f (x ∷ xs) = ap (option_or (look (f x))) (first_mapped look f xs)
 
