@@ -1,3 +1,3 @@
 pub mod Found
 pub mod Forms
-pub mod Given
+pub mod GivenFields

@@ -1,5 +1,5 @@
 pub mod Asked
 pub mod Culprit
-pub mod Declared
 pub mod Fields
+pub mod Known
 pub mod Parts

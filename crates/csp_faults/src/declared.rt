@@ -4,7 +4,7 @@ ghost use Rattle.theory_semantics.specs.Meaning.Evaluation.{constructor_sets};
 ghost use Rattle.theory_semantics.specs.Meaning.Events.{field_sets};
 ghost use Rattle.csp_expression.specs.Evaluation.{table_of};
 ghost use Rattle.csp_term.specs.Script.{script_of_parts};
-ghost use Rattle.csp_faults.specs.Declared.{AreDeclared};
+ghost use Rattle.csp_faults.specs.Known.{AreDeclared};
 
 use csp_expression::TypeTable;
 use csp_term::{AllocHandle, ChannelId, ScriptParts};

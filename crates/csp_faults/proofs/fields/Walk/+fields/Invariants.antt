@@ -8,14 +8,14 @@ use Rattle.csp_expression.specs.Bindings.{bindings_of}
 use Rattle.csp_expression.specs.Evaluation.{table_of}
 use Rattle.csp_term.specs.Field.{fields_of}
 use Rattle.csp_faults.proofs.Found.{Rests}
-use Rattle.csp_faults.proofs.fields.+fields.Given as goal
+use Rattle.csp_faults.proofs.fields.Walk.+fields.Given as goal
 
-abbrev pub decreases-Walk::fields_culprit : goal.decreases-Walk::fields_culprit
-decreases-Walk::fields_culprit g l = 2 * length l.fields.now
+abbrev pub decreases-fields_culprit : goal.decreases-fields_culprit
+decreases-fields_culprit g l = 2 * length l.fields.now
 
-abbrev pub decreases-Walk::inputs_culprit : goal.decreases-Walk::inputs_culprit
-decreases-Walk::inputs_culprit g l = 1 + 2 * length l.fields.now
+abbrev pub decreases-inputs_culprit : goal.decreases-inputs_culprit
+decreases-inputs_culprit g l = 1 + 2 * length l.fields.now
 
-abbrev pub invariant-Walk::inputs_culprit-loop-value : goal.invariant-Walk::inputs_culprit-loop-value
-invariant-Walk::inputs_culprit-loop-value g l =
+abbrev pub invariant-inputs_culprit-loop-value : goal.invariant-inputs_culprit-loop-value
+invariant-inputs_culprit-loop-value g l =
     Rests (λ v. fields_culprit (table_of l.self.types.now) l.self.channel.0 l.before (bind l.taken.name.0 (value_of v) (bindings_of l.bindings)) (fields_of l.fields) (sets_of l.sets)) l.taken.values.items l.value-index
