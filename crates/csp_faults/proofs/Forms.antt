@@ -18,6 +18,9 @@ use Rattle.csp_expression.specs.declared.cause.Cause as code
 use Rattle.csp_expression.specs.declared.expr.Expr.{Expr}
 use Rattle.csp_expression.specs.declared.expr.Expr.TheVariants as views
 use Rattle.csp_expression.specs.Expression.{expression_of, expressions_of}
+use Rattle.csp_value.specs.declared.memory.Memory.{Memory}
+use Rattle.csp_faults.specs.Culprit.{Finds}
+use Rattle.csp_faults.specs.declared.culprit.Culprit as found
 use Rattle.csp_expression.proofs.ExpressionForms.{of_apply, of_combine, of_constructor, of_range, of_sequence, of_set}
 
 -- the cause that was found is that of the result
@@ -28,6 +31,11 @@ lacks (Err d) o c same is = let e : Some (cause_of c) ≡ Some d = ap (option_ma
 module _ {A : Type 0} (types : Types) (e : Expr A) where
   abbrev Blames : Option Culprit → Type 0
   Blames found = or_itself types (expression_of e) found ≡ culprit types (expression_of e)
+
+  -- what is told where the expression has no value
+  pub in_form : (r : Result (Option (found.Culprit A)) Memory) (why : Option code.Cause) (c : code.Cause) → option_map cause_of why ≡ result_err (value types (expression_of e)) → why ≡ Some c →
+      (inner o : Option Culprit) → (value types (expression_of e) ≡ Err (cause_of c) → Finds r (or_itself types (expression_of e) inner)) → inner ≡ o → Blames o → Finds r (culprit types (expression_of e))
+  in_form r why c same is inner o told alike blames = subst (Finds r) (ap (or_itself types (expression_of e)) alike ∙ blames) (told (lacks (value types (expression_of e)) why c same is))
 
   pub at_apply : (op : UnaryOperator) (x : Box (Expr A) A) → e ≡ views.Apply op x → Blames (culprit types (expression_of x.value))
   at_apply op x is =

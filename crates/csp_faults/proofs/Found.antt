@@ -1,22 +1,17 @@
 -- What is found in a list by looking at its members in turn.
-use Rattle.std.proofs.Common.{◌≡◌, Bool, true, false, ℕ, ◌+◌, ◌<◌, ◌≤◌, List, [], ◌∷◌, length, drop, get_or, map, Option, Some, None, refl, sym, ◌∙◌, ap}
+use Rattle.std.proofs.Common.{◌≡◌, ◌≢◌, Bool, true, false, cond, nat_eq, ℕ, suc, ◌+◌, ◌<◌, ◌≤◌, List, [], ◌∷◌, length, drop, get_or, map, Option, Some, None, refl, sym, ◌∙◌, ap}
+use Rattle.std.proofs.lemmas.Bool.{eqb-true, eqb-false}
 use Rattle.std.proofs.lemmas.List.{drop_all}
 use Rattle.std.specs.Option.{is_some, option_or}
 use Rattle.theory_syntax.proofs.Places.{cut}
-use Rattle.theory_syntax.specs.Expression.{Expression, to_expressions}
+use Rattle.theory_syntax.specs.Expression.{Expression, expressions_list, to_expressions}
 use Rattle.theory_syntax.specs.Types.{Types}
-use Rattle.theory_faults.specs.Culprit.{Culprit, first_found}
+use Rattle.theory_faults.specs.Culprit.{Culprit, Misfit, first_found}
 use Rattle.theory_faults.specs.Expressions.{culprit, first_culprit}
+use Rattle.csp_expression.specs.declared.expr.Expr.{Expr}
+use Rattle.csp_expression.specs.Expression.{expressions_of}
 use Rattle.csp_faults.specs.Culprit.{found_of}
 use Rattle.csp_faults.specs.declared.culprit.Culprit as code
-
--- what is found at first is found
-pub first_stays : (o p all : Option Culprit) (k : Culprit) → option_or o p ≡ all → o ≡ Some k → Some k ≡ all
-first_stays o p all k is found = ap (λ q. option_or q p) (sym found) ∙ is
-
--- where nothing is found at first, what comes behind decides
-pub then_behind : (o p all : Option Culprit) → option_or o p ≡ all → o ≡ None → p ≡ all
-then_behind o p all is none = ap (λ q. option_or q p) (sym none) ∙ is
 
 module _ {X : Type 0} (look : X → Option Culprit) (xs : List X) (i : ℕ) where
   -- what is left decides
@@ -26,14 +21,6 @@ module _ {X : Type 0} (look : X → Option Culprit) (xs : List X) (i : ℕ) wher
   -- this one, and what is left behind it
   pub looked : (x : X) → i < length xs → x ≡ get_or xs i x → Rests → option_or (look x) (first_found look (drop (i + 1) xs)) ≡ first_found look xs
   looked x within read rests = ap (first_found look) (cut xs i x within read) ∙ rests
-
-  -- it is found in this one
-  pub found_here : (x : X) (k : Culprit) → i < length xs → x ≡ get_or xs i x → Rests → look x ≡ Some k → Some k ≡ first_found look xs
-  found_here x k within read rests found = first_stays (look x) (first_found look (drop (i + 1) xs)) (first_found look xs) k (looked x within read rests) found
-
-  -- nothing is found in this one
-  pub found_later : (x : X) → i < length xs → x ≡ get_or xs i x → Rests → look x ≡ None → first_found look (drop (i + 1) xs) ≡ first_found look xs
-  found_later x within read rests none = then_behind (look x) (first_found look (drop (i + 1) xs)) (first_found look xs) (looked x within read rests) none
 
   -- nothing is found in any
   pub found_none : length xs ≤ i → Rests → None ≡ first_found look xs
@@ -66,3 +53,22 @@ module _ {A : Type 0} (found : Option (code.Culprit A)) (b : Bool) (is : b ≡ i
 
   pub or_stays : b ≡ true → (o p : Option Culprit) → found_of found ≡ o → found_of found ≡ option_or o p
   or_stays some o p same = stays some o p (option_or o p) same refl
+
+-- a part is of the wrong kind where two numbers differ
+pub as_many : (m n : ℕ) → m ≡ n → None ≡ cond (nat_eq m n) None (Some Misfit)
+as_many m n same = by (nat_eq m n) refl
+  where
+    by : (b : Bool) → nat_eq m n ≡ b → None ≡ cond b None (Some Misfit)
+    by true is = refl
+    by false is = absurd (eqb-false m n is same)
+
+pub not_as_many : (m n : ℕ) → m ≢ n → Some Misfit ≡ cond (nat_eq m n) None (Some Misfit)
+not_as_many m n differ = by (nat_eq m n) refl
+  where
+    by : (b : Bool) → nat_eq m n ≡ b → Some Misfit ≡ cond b None (Some Misfit)
+    by true is = absurd (differ (eqb-true m n is))
+    by false is = refl
+
+pub expressions_count : {A : Type 0} (es : List (Expr A)) → length (expressions_list (to_expressions (expressions_of es))) ≡ length es
+expressions_count [] = refl
+expressions_count (e ∷ es) = ap suc (expressions_count es)

@@ -13,7 +13,6 @@ use Rattle.csp_value.specs.declared.field_set.FieldSet.{FieldSet}
 use Rattle.csp_value.specs.Fields.{field_values, sets_of}
 use Rattle.csp_expression.specs.declared.expr.Expr.{Expr}
 use Rattle.csp_expression.specs.Expression.{expression_of, expressions_of}
-use Rattle.csp_faults.proofs.Found.{first_stays, then_behind}
 
 -- behind the end of a list nothing is left
 nothing_left : {X : Type 0} (xs : List X) (i : ℕ) → slice_get xs i ≡ None → drop i xs ≡ []
@@ -35,7 +34,7 @@ module _ {A : Type 0} (types : Types) (owner : Owner) (fields : List (Expr A)) (
   one i f set = option_or (culprit types (expression_of f)) (outside owner i (field_values set) (value types (expression_of f)))
 
   module _ (i : ℕ) (f : Expr A) (within : i < length fields) (read : f ≡ get_or fields i f) (rests : from i ≡ all) where
-    this : (set : FieldSet A) → slice_get sets i ≡ Some set → option_or (one i f set) (from (i + 1)) ≡ all
+    pub this : (set : FieldSet A) → slice_get sets i ≡ Some set → option_or (one i f set) (from (i + 1)) ≡ all
     this set at =
         let next : i + 1 ≡ suc i = omega arith in
         let behind = given_culprit types owner (suc i) (to_expressions (expressions_of (drop (i + 1) fields))) (sets_of (drop (suc i) sets)) in
@@ -43,12 +42,6 @@ module _ {A : Type 0} (types : Types) (owner : Owner) (fields : List (Expr A)) (
         ap (option_or (one i f set)) same
         ∙ or_or (culprit types (expression_of f)) (outside owner i (field_values set) (value types (expression_of f))) behind
         ∙ ap₂ (λ fs ss. given_culprit types owner i (to_expressions (expressions_of fs)) (sets_of ss)) (cut fields i f within read) (sym (drop_at sets i set at)) ∙ rests
-
-    pub given_here : (set : FieldSet A) (k : Culprit) → slice_get sets i ≡ Some set → one i f set ≡ Some k → Some k ≡ all
-    given_here set k at found = first_stays (one i f set) (from (i + 1)) all k (this set at) found
-
-    pub given_later : (set : FieldSet A) → slice_get sets i ≡ Some set → one i f set ≡ None → from (i + 1) ≡ all
-    given_later set at none = then_behind (one i f set) (from (i + 1)) all (this set at) none
 
     -- there is no set for it
     pub given_too_many : slice_get sets i ≡ None → Some Misfit ≡ all

@@ -1,3 +1,4 @@
 pub mod Found
 pub mod Forms
 pub mod GivenFields
+pub mod TermParts

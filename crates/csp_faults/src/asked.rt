@@ -37,11 +37,11 @@ pub(crate) fn condition_culprit<A: Allocator + Copy>(
 fn no_truth<A: Allocator + Copy>(
     alloc: A,
     types: &TypeTable<A>,
-    condition: &Expr<A>,
+    test: &Expr<A>,
 ) -> Result<Option<Culprit<A>>, Memory>
-    ensures { Finds result (misfit (condition (table_of types.now) (expression_of condition.now))) }
+    ensures { Finds result (misfit (condition (table_of types.now) (expression_of test.now))) }
 {
-    match truth(alloc, types, condition)? {
+    match truth(alloc, types, test)? {
         Some(_) => Ok(None),
         None => Ok(Some(Culprit::Misfit)),
     }

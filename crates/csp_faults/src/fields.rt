@@ -56,10 +56,10 @@ pub(crate) fn prefix_culprit<A: AllocHandle>(
 impl<'w, A: AllocHandle> Walk<'w, A> {
     /// What is to blame in the fields, before which so many stand, with the values of the inputs among those.
     #[cycle(fields)]
-    fn fields_culprit(
+    fn fields_culprit<'v>(
         &self,
         before: usize,
-        bindings: &[Binding<'_, A>],
+        bindings: &[Binding<'v, A>],
         fields: &[Field<A>],
         sets: &[FieldSet<A>],
     ) -> Result<Option<Culprit<A>>, Memory>
@@ -84,11 +84,11 @@ impl<'w, A: AllocHandle> Walk<'w, A> {
 
     /// What is to blame in the fields behind an input, for one of its values.
     #[cycle(fields)]
-    fn inputs_culprit(
+    fn inputs_culprit<'v>(
         &self,
         before: usize,
-        bindings: &[Binding<'_, A>],
-        taken: &Taken<A>,
+        bindings: &[Binding<'v, A>],
+        taken: &'v Taken<A>,
         fields: &[Field<A>],
         sets: &[FieldSet<A>],
     ) -> Result<Option<Culprit<A>>, Memory>

@@ -165,7 +165,8 @@ fn instances<A: AllocHandle>(
 {
     let mut parts = Vec::new(alloc);
     for value in values {
-        parts.push(body.put_in(alloc, &[Binding { name, value }])?)?;
+        let bindings = [Binding { name, value }];
+        parts.push(body.put_in(alloc, &bindings)?)?;
     }
     Ok(parts)
 }

@@ -1,8 +1,8 @@
 //! What is to blame in a renaming.
 
-ghost use Rattle.std.specs.Prelude.{◌≡◌, ◌&&◌};
+ghost use Rattle.std.specs.Prelude.{◌≡◌};
 ghost use Rattle.std.specs.Option.{option_or};
-ghost use Rattle.theory_semantics.specs.Meaning.Events.{channel_images, is_bare};
+ghost use Rattle.theory_semantics.specs.Meaning.Events.{channel_images};
 ghost use Rattle.theory_faults.specs.Culprit.{first_found, misfit};
 ghost use Rattle.theory_faults.specs.Events.{event_culprit, pair_culprit};
 ghost use Rattle.csp_events.specs.Events.{event_expression_of, renaming_pair_of, renaming_pairs_of};
@@ -12,7 +12,7 @@ ghost use Rattle.csp_faults.specs.Culprit.{Finds, found_of};
 use crate::culprit::Culprit;
 use crate::declared::channel_sets;
 use crate::events::event_culprit;
-use csp_events::{RenamingPair, same_sets};
+use csp_events::{RenamingPair, are_channels, same_sets};
 use csp_term::{AllocHandle, ChannelId, Memory, ScriptParts};
 
 /// What is to blame in the first of the pairs in which something is.
@@ -40,7 +40,7 @@ fn pair_culprit<A: AllocHandle>(
 ) -> Result<Option<Culprit<A>>, Memory>
     ensures { Finds result (pair_culprit (script_of_parts script.now) (renaming_pair_of pair.now)) }
 {
-    if are_bare(pair) {
+    if are_channels(pair) {
         return Ok(channels_misfit(script, pair.from.channel, pair.to.channel));
     }
     let found = event_culprit(alloc, script, &pair.from)?;
@@ -69,11 +69,4 @@ fn channels_misfit<A: AllocHandle>(
     } else {
         Some(Culprit::Misfit)
     }
-}
-
-/// Whether both stand for channels, since they have no fields.
-fn are_bare<A: AllocHandle>(pair: &RenamingPair<A>) -> bool
-    ensures { result ≡ is_bare (event_expression_of pair.now.from) && is_bare (event_expression_of pair.now.to) }
-{
-    pair.from.fields.is_empty() && pair.to.fields.is_empty()
 }
