@@ -1,4 +1,5 @@
 pub mod Found
 pub mod Forms
 pub mod GivenFields
+pub mod Instances
 pub mod TermParts
