@@ -9,15 +9,11 @@ use Rattle.theory_faults.specs.Events.{fields_culprit}
 use Rattle.csp_value.specs.Value.{values_of}
 use Rattle.csp_faults.specs.declared.fields.Taken.{Taken}
 
--- the name with each of its values in turn
-abbrev pub taken_of : {A : Type 0} → Bindings → Taken A → List Bindings
-taken_of bs t = map (λ v. bind t.name.0 v bs) (values_of t.values.items)
-
--- so behind an input; else nothing is bound
+-- what the names stand for behind a field: an input gives its name each of its values; else nothing is bound
 abbrev pub behind_of : {A : Type 0} → Bindings → Option (Taken A) → List Bindings
-behind_of bs (Some t) = taken_of bs t
+behind_of bs (Some t) = map (λ v. bind t.name.0 v bs) (values_of t.values.items)
 behind_of bs None = bs ∷ []
 
--- what is to blame in the fields behind an input
-abbrev pub culprit_behind : {A : Type 0} → Types → ℕ → ℕ → Bindings → Taken A → List Field → List (List Value) → Option Culprit
-culprit_behind types c i bs t fs sets = first_found (λ ds. fields_culprit types c i ds fs sets) (taken_of bs t)
+-- what is to blame in fields, for one of these bindings
+abbrev pub culprit_behind : Types → ℕ → ℕ → List Bindings → List Field → List (List Value) → Option Culprit
+culprit_behind types c i dss fs sets = first_found (λ ds. fields_culprit types c i ds fs sets) dss

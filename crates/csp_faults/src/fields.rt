@@ -1,8 +1,10 @@
 //! What is to blame in the fields of a prefix.
 
-ghost use Rattle.std.specs.Prelude.{◌≡◌, ◌+◌, ◌≤◌, ◌<◌, ◌^◌, IfOk, length};
+ghost use Rattle.std.specs.Prelude.{◌≡◌, ◌+◌, ◌<◌, ◌^◌, IfOk, filter, length};
+ghost use Rattle.theory_syntax.specs.Value.{has_value};
 ghost use Rattle.theory_faults.specs.Events.{bindings_behind, fields_culprit, own_field_culprit, prefix_culprit};
 ghost use Rattle.csp_value.specs.Fields.{field_values, sets_of};
+ghost use Rattle.csp_value.specs.Value.{values_of};
 ghost use Rattle.csp_expression.specs.Bindings.{bindings_of};
 ghost use Rattle.csp_expression.specs.Evaluation.{table_of};
 ghost use Rattle.csp_term.specs.Field.{field_of, fields_of};
@@ -73,30 +75,32 @@ impl<'w, A: AllocHandle> Walk<'w, A> {
                 if found.is_some() {
                     return Ok(found);
                 }
-                match self.taken(bindings, field, set)? {
-                    None => self.fields_culprit(before + 1, bindings, fields, sets),
-                    Some(taken) => self.inputs_culprit(before + 1, bindings, &taken, fields, sets),
-                }
+                self.culprit_behind(before + 1, bindings, field, set, fields, sets)
             }
             _ => Ok(Some(Culprit::Misfit)),
         }
     }
 
-    /// What is to blame in the fields behind an input, for one of its values.
+    /// What is to blame in the fields behind the field, for one of its values.
     #[cycle(fields)]
-    fn inputs_culprit<'v>(
+    fn culprit_behind<'v>(
         &self,
         before: usize,
         bindings: &[Binding<'v, A>],
-        taken: &'v Taken<A>,
+        field: &Field<A>,
+        set: &FieldSet<A>,
         fields: &[Field<A>],
         sets: &[FieldSet<A>],
     ) -> Result<Option<Culprit<A>>, Memory>
         requires { before + length sets.now < 2 ^ 64 }
-        ensures { Finds result (culprit_behind (table_of self.now.types.now) self.now.channel.0 before (bindings_of bindings.now) taken.now (fields_of fields.now) (sets_of sets.now)) }
+        ensures { Finds result (culprit_behind (table_of self.now.types.now) self.now.channel.0 before (bindings_behind (table_of self.now.types.now) (bindings_of bindings.now) (field_of field.now) (field_values set.now)) (fields_of fields.now) (sets_of sets.now)) }
     {
+        let taken = self.taken(bindings, field, set)?;
+        let Some(taken) = taken else {
+            return self.fields_culprit(before, bindings, fields, sets);
+        };
         for value in &taken.values {
-            let bound = bind(self.alloc, taken.name, value, bindings)?;
+            let bound = bind(self.alloc, taken.name, value, &*bindings)?;
             let found = self.fields_culprit(before, &bound, fields, sets)?;
             if found.is_some() {
                 return Ok(found);
@@ -149,10 +153,27 @@ impl<'w, A: AllocHandle> Walk<'w, A> {
             }
             Field::InputFrom(name, from) => {
                 let from = from.put_in(self.alloc, bindings)?;
-                let mut values = members(self.alloc, self.types, &from)?;
-                values.retain(|value| set.contains(value));
+                let values = members(self.alloc, self.types, &from)?;
+                let values = within(self.alloc, set, &values)?;
                 Ok(Some(Taken { name: *name, values }))
             }
         }
     }
+}
+
+/// Copies of the values that lie in the field's set.
+fn within<A: AllocHandle>(
+    alloc: A,
+    set: &FieldSet<A>,
+    values: &[Value<A>],
+) -> Result<Vec<Value<A>, A>, Memory>
+    ensures { IfOk result (λ within. values_of within.items ≡ filter (λ v. has_value (field_values set.now) v) (values_of values.now)) }
+{
+    let mut within = Vec::new(alloc);
+    for value in values {
+        if set.contains(value) {
+            within.push(value.try_copy(alloc)?)?;
+        }
+    }
+    Ok(within)
 }
