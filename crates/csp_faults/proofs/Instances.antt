@@ -1,10 +1,11 @@
 -- Instances that are made one by one.
-use Rattle.std.proofs.Common.{◌≡◌, ℕ, ◌+◌, ◌<◌, ◌≤◌, List, [], ◌∷◌, ◌++◌, length, drop, get_or, map, sym, ◌∙◌, ap, append-nil, append_assoc}
+use Rattle.std.proofs.Common.{◌≡◌, ℕ, ◌+◌, ◌<◌, ◌≤◌, List, [], ◌∷◌, ◌++◌, length, drop, get_or, map, refl, sym, ◌∙◌, ap, append-nil, append_assoc}
 use Rattle.std.proofs.lemmas.List.{drop_all, map-append}
 use Rattle.theory_syntax.proofs.Places.{cut}
 use Rattle.theory_syntax.specs.Process.{Process}
 use Rattle.theory_semantics.specs.Meaning.Events.{instances}
 use Rattle.theory_semantics.specs.Meaning.Substitution.{put}
+use Rattle.theory_faults.specs.Processes.{only_one}
 use Rattle.csp_value.specs.declared.value.Value.{Value}
 use Rattle.csp_value.specs.Value.{value_of, values_of}
 use Rattle.csp_term.specs.declared.term.Term.{Term}
@@ -24,3 +25,14 @@ module _ {A : Type 0} (x : ℕ) (p : Process) (values : List (Value A)) (i : ℕ
 
   pub all_made : length values ≤ i → AreSoFar → map process_of made ≡ instances x p (values_of values)
   all_made past so_far = sym (append-nil (map process_of made)) ∙ ap (λ vs. map process_of made ++ instances x p (values_of vs)) (sym (drop_all i values past)) ∙ so_far
+
+-- one value has an instance alone, and others have none alone
+pub alone : {A : Type 0} (x : ℕ) (p : Process) (values : List (Value A)) → length values ≡ 1 → only_one (instances x p (values_of values)) ≡ instances x p (values_of values)
+alone x p [] one = refl
+alone x p (v ∷ []) one = refl
+alone x p (v ∷ w ∷ vs) one = absurd (cc one)
+
+pub not_alone : {A : Type 0} (x : ℕ) (p : Process) (values : List (Value A)) → (length values ≡ 1 → ⊥) → only_one (instances x p (values_of values)) ≡ []
+not_alone x p [] many = refl
+not_alone x p (v ∷ []) many = absurd (many refl)
+not_alone x p (v ∷ w ∷ vs) many = refl

@@ -4,6 +4,7 @@ use Rattle.theory_faults.proofs.Events.{first_mapped}
 use Rattle.theory_faults.specs.Culprit.{first_found}
 use Rattle.theory_faults.specs.Events.{event_culprit}
 use Rattle.csp_events.specs.Events.{event_expression_of}
+use Rattle.csp_events.specs.declared.event_expression.EventExpression.{EventExpression}
 use Rattle.csp_term.specs.Script.{script_of_parts}
 use Rattle.csp_faults.proofs.Found.{found_none, goes_behind, looked, stays}
 use Rattle.csp_faults.proofs.events.enumeration_culprit.Goals as goal
@@ -11,7 +12,7 @@ use Rattle.csp_faults.proofs.events.enumeration_culprit.Goals as goal
 pub returns-then-is_some : goal.returns-then-is_some
 returns-then-is_some g c =
     let s = script_of_parts c.args.script.now in
-    let look = λ x. event_culprit s (event_expression_of x) in
+    let look = λ (x : EventExpression g.row.A.Denot). event_culprit s (event_expression_of x) in
     let xs = c.args.events.now in
     let i = c.loop-event.event-index in
     let x = c.event-item.result in
@@ -22,7 +23,7 @@ returns-then-is_some g c =
 pub loop-event-preserved : goal.loop-event-preserved
 loop-event-preserved g c =
     let s = script_of_parts c.args.script.now in
-    let look = λ x. event_culprit s (event_expression_of x) in
+    let look = λ (x : EventExpression g.row.A.Denot). event_culprit s (event_expression_of x) in
     let xs = c.args.events.now in
     let i = c.loop-event.event-index in
     let x = c.event-item.result in
@@ -33,4 +34,4 @@ pub returns : goal.returns
 returns g c =
     let s = script_of_parts c.args.script.now in
     let xs = c.args.events.now in
-    found_none (λ x. event_culprit s (event_expression_of x)) xs c.loop-event.event-index (omega arith) c.loop-event.invariant ∙ sym (first_mapped (event_culprit s) event_expression_of xs)
+    found_none (λ (x : EventExpression g.row.A.Denot). event_culprit s (event_expression_of x)) xs c.loop-event.event-index (omega arith) c.loop-event.invariant ∙ sym (first_mapped (event_culprit s) event_expression_of xs)

@@ -9,5 +9,5 @@ use Rattle.csp_faults.proofs.terms.+terms.Given as goal
 abbrev pub decreases-culprit_in : goal.decreases-culprit_in
 decreases-culprit_in g l = height (process_of l.term.now)
 
-abbrev pub invariant-culprit_in-loop-part : goal.invariant-culprit_in-loop-part
-invariant-culprit_in-loop-part g l = Rests (λ t. culprit_in (script_of_parts l.script) (process_of t)) l.parts.items l.part-index
+abbrev pub invariant-loop-part : goal.invariant-loop-part
+invariant-loop-part g l = Rests (λ t. culprit_in (script_of_parts l.script) (process_of t)) l.part-items l.part-index

@@ -1,5 +1,5 @@
 -- What is to blame in fields by what is to blame in the first one, and behind it.
-use Rattle.std.proofs.Common.{◌≡◌, ◌+◌, suc, List, length, drop, map, refl, sym, ◌∙◌, ap, ap₂, subst, arith}
+use Rattle.std.proofs.Common.{◌≡◌, ℕ, ◌+◌, suc, List, length, drop, map, refl, sym, ◌∙◌, ap, ap₂, subst, arith}
 use Rattle.std.proofs.lemmas.List.{length-map}
 use Rattle.theory_semantics.specs.Meaning.Substitution.{Bindings, bind}
 use Rattle.theory_faults.specs.Culprit as pure
@@ -7,6 +7,7 @@ use Rattle.theory_faults.specs.Culprit.{first_found}
 use Rattle.theory_faults.specs.Events.{bindings_behind, fields_culprit, own_field_culprit}
 use Rattle.theory_syntax.specs.Value as value
 use Rattle.csp_value.specs.Fields.{field_values, sets_of}
+use Rattle.csp_value.specs.declared.value.Value.{Value}
 use Rattle.csp_value.specs.Value.{value_of, values_of}
 use Rattle.csp_expression.specs.Bindings.{bindings_of}
 use Rattle.csp_expression.specs.Evaluation.{table_of}
@@ -29,15 +30,15 @@ culprit_behind-returns-then-is_some g t c =
     let all = bindings_behind types bs (field_of c.args.field.now) (field_values c.args.set.now) in
     let bound = λ (v : value.Value). bind c.in-Some.taken.name.0 v bs in
     let xs = c.deref-value-items.result.now in
-    let are : map (λ x. bound (value_of x)) xs ≡ all =
+    let are : map (λ (x : Value g.row.A.Denot). bound (value_of x)) xs ≡ all =
     sym (maps_join bound value_of xs) ∙ ap (λ vs. map bound (values_of vs)) c.deref-value-items.ensures.value ∙ ap (behind_of bs) (sym c.in-Some.is) ∙ c.in_ok-taken.ensures in
     let i = c.loop-value.value-index in
     let x = c.value-item.result in
-    let each = λ y. look (bound (value_of y)) in
+    let each = λ (y : Value g.row.A.Denot). look (bound (value_of y)) in
     let same = c.in_ok-found.ensures ∙ ap (λ ds. look (bindings_of ds)) c.deref.ensures.value ∙ ap look c.in_ok-bound.ensures in
     stays c.in_ok-found.found c.is_some.result c.is_some.ensures c.if-is_some.true (each x) (first_found each (drop (i + 1) xs)) (first_found each xs) same
-    (looked each xs i x c.loop-value-test.true c.value-item.is (rests_by look (λ y. bound (value_of y)) xs all are i c.loop-value.invariant))
-    ∙ sym (found_by look (λ y. bound (value_of y)) xs all are)
+    (looked each xs i x c.loop-value-test.true c.value-item.is (rests_by look (λ (y : Value g.row.A.Denot). bound (value_of y)) xs all are i c.loop-value.invariant))
+    ∙ sym (found_by look (λ (y : Value g.row.A.Denot). bound (value_of y)) xs all are)
 
 pub culprit_behind-loop-value-preserved : goal.culprit_behind-loop-value-preserved
 culprit_behind-loop-value-preserved g t c =
@@ -47,16 +48,16 @@ culprit_behind-loop-value-preserved g t c =
     let all = bindings_behind types bs (field_of c.args.field.now) (field_values c.args.set.now) in
     let bound = λ (v : value.Value). bind c.in-Some.taken.name.0 v bs in
     let xs = c.deref-value-items.result.now in
-    let are : map (λ x. bound (value_of x)) xs ≡ all =
+    let are : map (λ (x : Value g.row.A.Denot). bound (value_of x)) xs ≡ all =
     sym (maps_join bound value_of xs) ∙ ap (λ vs. map bound (values_of vs)) c.deref-value-items.ensures.value ∙ ap (behind_of bs) (sym c.in-Some.is) ∙ c.in_ok-taken.ensures in
     let i = c.loop-value.value-index in
     let x = c.value-item.result in
-    let each = λ y. look (bound (value_of y)) in
+    let each = λ (y : Value g.row.A.Denot). look (bound (value_of y)) in
     let same = c.in_ok-found.ensures ∙ ap (λ ds. look (bindings_of ds)) c.deref.ensures.value ∙ ap look c.in_ok-bound.ensures in
-    left_by look (λ y. bound (value_of y)) xs all are (i + 1)
+    left_by look (λ (y : Value g.row.A.Denot). bound (value_of y)) xs all are (i + 1)
     ∙ goes_behind c.in_ok-found.found c.is_some.result c.is_some.ensures c.if-is_some.false (each x) (first_found each (drop (i + 1) xs)) (first_found each xs) same
-    (looked each xs i x c.loop-value-test.true c.value-item.is (rests_by look (λ y. bound (value_of y)) xs all are i c.loop-value.invariant))
-    ∙ sym (found_by look (λ y. bound (value_of y)) xs all are)
+    (looked each xs i x c.loop-value-test.true c.value-item.is (rests_by look (λ (y : Value g.row.A.Denot). bound (value_of y)) xs all are i c.loop-value.invariant))
+    ∙ sym (found_by look (λ (y : Value g.row.A.Denot). bound (value_of y)) xs all are)
 
 pub culprit_behind-returns : goal.culprit_behind-returns
 culprit_behind-returns g t c =
@@ -66,10 +67,10 @@ culprit_behind-returns g t c =
     let all = bindings_behind types bs (field_of c.args.field.now) (field_values c.args.set.now) in
     let bound = λ (v : value.Value). bind c.in-Some.taken.name.0 v bs in
     let xs = c.deref-value-items.result.now in
-    let are : map (λ x. bound (value_of x)) xs ≡ all =
+    let are : map (λ (x : Value g.row.A.Denot). bound (value_of x)) xs ≡ all =
     sym (maps_join bound value_of xs) ∙ ap (λ vs. map bound (values_of vs)) c.deref-value-items.ensures.value ∙ ap (behind_of bs) (sym c.in-Some.is) ∙ c.in_ok-taken.ensures in
     let i = c.loop-value.value-index in
-    found_none (λ y. look (bound (value_of y))) xs i (omega arith) (rests_by look (λ y. bound (value_of y)) xs all are i c.loop-value.invariant) ∙ sym (found_by look (λ y. bound (value_of y)) xs all are)
+    found_none (λ (y : Value g.row.A.Denot). look (bound (value_of y))) xs i (omega arith) (rests_by look (λ (y : Value g.row.A.Denot). bound (value_of y)) xs all are i c.loop-value.invariant) ∙ sym (found_by look (λ (y : Value g.row.A.Denot). bound (value_of y)) xs all are)
 
 pub fields_culprit-returns-then-is_some : goal.fields_culprit-returns-then-is_some
 fields_culprit-returns-then-is_some g t c =
@@ -91,7 +92,7 @@ fields_culprit-returns-else-is_some g t c =
     let bs = bindings_of c.args.bindings.now in
     let w = c.in-Some-Some in
     let own = own_field_culprit types k i bs (field_of w.field.now) (field_values w.set.now) in
-    let from = λ n. culprit_behind types k n (bindings_behind types bs (field_of w.field.now) (field_values w.set.now)) (fields_of w.fields.now) (sets_of w.sets.now) in
+    let from = λ (n : ℕ). culprit_behind types k n (bindings_behind types bs (field_of w.field.now) (field_values w.set.now)) (fields_of w.fields.now) (sets_of w.sets.now) in
     let next : i + 1 ≡ suc i = omega arith in
     subst (Finds c.culprit_behind.result)
     (ap from next ∙ or_behind c.in_ok-found-in-Some-Some.found c.is_some.result c.is_some.ensures c.if-is_some.false own (from (suc i)) c.in_ok-found-in-Some-Some.ensures
