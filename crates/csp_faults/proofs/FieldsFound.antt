@@ -1,5 +1,5 @@
 -- What is to blame in fields, by the first one and what is bound behind it.
-use Rattle.std.proofs.Common.{◌≡◌, ℕ, zero, suc, ◌+◌, List, [], ◌∷◌, length, drop, map, Option, Some, refl, sym, ◌∙◌, ap, arith}
+use Rattle.std.proofs.Common.{◌≡◌, ℕ, zero, suc, List, [], ◌∷◌, length, drop, map, Option, Some, refl, sym, ◌∙◌, ap}
 use Rattle.theory_syntax.specs.Value.{Value}
 use Rattle.theory_syntax.specs.Process.{Field}
 use Rattle.theory_syntax.specs.Types.{Types}

@@ -4,7 +4,7 @@ use Rattle.std.specs.Option.{option_map, option_or}
 use Rattle.std.specs.Result.{result_err}
 use Rattle.std.specs.declared.boxed.Box.{Box}
 use Rattle.std.specs.declared.vec.Vec.{Vec}
-use Rattle.theory_syntax.specs.Expression.{Expression, ConstructorOf, to_expressions}
+use Rattle.theory_syntax.specs.Expression.{Expression, to_expressions}
 use Rattle.theory_syntax.specs.Types.{Types}
 use Rattle.theory_syntax.specs.Value as pure
 use Rattle.theory_syntax.specs.declared.operator.UnaryOperator.{UnaryOperator}

@@ -61,11 +61,8 @@ pub fn expression_culprit<A: Allocator + Copy>(
             let found = constructor_culprit(alloc, types, *constructor, fields)?;
             or_itself(alloc, types, expression, cause, found)
         }
-        Expr::Literal(_)
-        | Expr::Name(_)
-        | Expr::Booleans
-        | Expr::Datatype(_)
-        | Expr::Nametype(_) => or_itself(alloc, types, expression, cause, None),
+        Expr::Literal(_) | Expr::Name(_) | Expr::Booleans | Expr::Datatype(_) | Expr::Nametype(_) =>
+            or_itself(alloc, types, expression, cause, None),
     }
 }
 

@@ -48,7 +48,11 @@ pub(crate) fn prefix_culprit<A: AllocHandle>(
     match channel_sets(script, channel) {
         Some(sets) => {
             let types = &script.types;
-            let walk = Walk { alloc, types, channel };
+            let walk = Walk {
+                alloc,
+                types,
+                channel,
+            };
             walk.fields_culprit(0, &[], fields, sets)
         }
         None => Ok(Some(Culprit::Misfit)),
@@ -149,13 +153,19 @@ impl<'w, A: AllocHandle> Walk<'w, A> {
             Field::Given(_) => Ok(None),
             Field::Input(name) => {
                 let values = copy_values(self.alloc, set.members())?;
-                Ok(Some(Taken { name: *name, values }))
+                Ok(Some(Taken {
+                    name: *name,
+                    values,
+                }))
             }
             Field::InputFrom(name, from) => {
                 let from = from.put_in(self.alloc, bindings)?;
                 let values = members(self.alloc, self.types, &from)?;
                 let values = within(self.alloc, set, &values)?;
-                Ok(Some(Taken { name: *name, values }))
+                Ok(Some(Taken {
+                    name: *name,
+                    values,
+                }))
             }
         }
     }

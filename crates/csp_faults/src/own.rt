@@ -19,7 +19,9 @@ use crate::fields::prefix_culprit;
 use crate::renamings::renaming_culprit;
 use csp_events::EventSet;
 use csp_expression::Expr;
-use csp_term::{AllocHandle, EquationId, Memory, Name, ReplicatedOperator, ScriptParts, Term, TermForm};
+use csp_term::{
+    AllocHandle, EquationId, Memory, Name, ReplicatedOperator, ScriptParts, Term, TermForm,
+};
 
 /// What is to blame in the term's own arguments, fields, sets, pairs and conditions, from left to right.
 pub(crate) fn own_culprit<A: AllocHandle>(

@@ -14,7 +14,9 @@ ghost use Rattle.csp_faults.specs.Parts.{AreParts};
 
 use crate::asked::{members, truth};
 use csp_expression::{Binding, Expr};
-use csp_term::{AllocHandle, Memory, Name, ProcessOperator, ReplicatedOperator, ScriptParts, Term, TermForm};
+use csp_term::{
+    AllocHandle, Memory, Name, ProcessOperator, ReplicatedOperator, ScriptParts, Term, TermForm,
+};
 use csp_value::Value;
 
 /// Copies of the processes that a rule for the term looks at, the left one first.

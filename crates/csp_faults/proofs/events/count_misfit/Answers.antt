@@ -1,8 +1,6 @@
 -- An event has a value for each field where the numbers are the same.
-use Rattle.std.proofs.Common.{◌≡◌, length, Option, Some, None, Ok, Result, List, sym, ◌∙◌, ap, subst, arith}
+use Rattle.std.proofs.Common.{◌≡◌, length, Ok, sym, ◌∙◌, ap, subst, arith}
 use Rattle.std.proofs.lemmas.List.{length-map}
-use Rattle.theory_syntax.specs.Value as pure
-use Rattle.theory_semantics.specs.Meaning.Evaluation.{Cause}
 use Rattle.theory_semantics.specs.Meaning.Events.{field_sets}
 use Rattle.theory_faults.specs.Culprit.{over_sets}
 use Rattle.theory_faults.specs.Events.{count_misfit}

@@ -1,5 +1,5 @@
 -- What is to blame in each form, and in lists of expressions.
-use Rattle.std.proofs.Common.{◌≡◌, ◌+◌, length, drop, None, refl, ◌∙◌, ap, ap₂, arith, rules}
+use Rattle.std.proofs.Common.{◌+◌, length, drop, refl, ◌∙◌, ap, ap₂, arith, rules}
 use Rattle.std.proofs.lemmas.Option.{slice_get_read}
 use Rattle.std.specs.Option.{option_or}
 use Rattle.theory_syntax.proofs.Places.{cut}

@@ -1,8 +1,7 @@
 -- The values are kept one by one.
-use Rattle.std.proofs.Common.{sym, ◌∙◌, subst, List, arith}
-use Rattle.csp_value.specs.declared.value.Value.{Value}
+use Rattle.std.proofs.Common.{sym, ◌∙◌}
 use Rattle.csp_value.specs.Fields.{field_values}
-use Rattle.csp_faults.proofs.Kept.{AreSoFar, all_kept, left_out, one_more}
+use Rattle.csp_faults.proofs.Kept.{left_out, one_more}
 use Rattle.csp_faults.proofs.fields.within.Goals.{then-contains+in_ok-try_copy+in_ok-push, else-contains}
 use Rattle.csp_faults.proofs.fields.within.Goals as goal
 

@@ -1,14 +1,13 @@
 -- What is to blame in an argument, or that there are others than parameters.
-use Rattle.std.proofs.Common.{◌≡◌, slice_get, sym, ◌∙◌, ap}
+use Rattle.std.proofs.Common.{slice_get, sym, ◌∙◌, ap}
 use Rattle.std.specs.Option.{option_or}
 use Rattle.theory_syntax.specs.Expression.{to_expressions}
 use Rattle.theory_faults.specs.Expressions.{first_culprit}
 use Rattle.theory_faults.specs.Processes.{arguments_misfit}
-use Rattle.csp_expression.specs.Evaluation.{table_of}
 use Rattle.csp_expression.specs.Expression.{expressions_of}
 use Rattle.csp_term.specs.Script.{script_of_parts}
 use Rattle.csp_faults.specs.Culprit.{found_of}
-use Rattle.csp_faults.proofs.Found.{expressions_count, or_behind, or_stays}
+use Rattle.csp_faults.proofs.Found.{expressions_count, or_behind}
 use Rattle.csp_faults.proofs.own.call_culprit.Goals as goal
 
 pub returns : goal.returns

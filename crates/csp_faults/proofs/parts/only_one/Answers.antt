@@ -1,6 +1,5 @@
 -- One value has an instance alone.
-use Rattle.std.proofs.Common.{List, length, map, sym, ◌∙◌, ap, subst, arith}
-use Rattle.theory_syntax.specs.Process.{Process}
+use Rattle.std.proofs.Common.{map, sym, ◌∙◌, ap, subst, arith}
 use Rattle.csp_term.specs.Term.{process_of}
 use Rattle.csp_faults.specs.Parts.{AreParts}
 use Rattle.csp_faults.proofs.Instances.{alone, not_alone}

@@ -1,8 +1,7 @@
 -- What is to blame in fields by what is to blame in the first one, and behind it.
-use Rattle.std.proofs.Common.{◌≡◌, ℕ, ◌+◌, suc, List, length, drop, map, refl, sym, ◌∙◌, ap, ap₂, subst, arith}
+use Rattle.std.proofs.Common.{◌≡◌, ℕ, ◌+◌, suc, drop, map, refl, sym, ◌∙◌, ap, ap₂, subst, arith}
 use Rattle.std.proofs.lemmas.List.{length-map}
 use Rattle.theory_semantics.specs.Meaning.Substitution.{Bindings, bind}
-use Rattle.theory_faults.specs.Culprit as pure
 use Rattle.theory_faults.specs.Culprit.{first_found}
 use Rattle.theory_faults.specs.Events.{bindings_behind, fields_culprit, own_field_culprit}
 use Rattle.theory_syntax.specs.Value as value
