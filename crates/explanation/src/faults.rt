@@ -126,7 +126,14 @@ fn push_run<A: AllocHandle>(
         origins: &told.origins,
     };
     push_path(alloc, style, &told.run.path, &run, text)?;
-    push_stuck(alloc, style.names, script, hindrance, &told.run.states, text)
+    push_stuck(
+        alloc,
+        style.names,
+        script,
+        hindrance,
+        &told.run.states,
+        text,
+    )
 }
 
 // What the last state of the run is stuck by.

@@ -33,4 +33,3 @@ returns-clause-constructor c = refl
 pub returns-clause-choice : goal.returns-clause-choice
 unfolding digits
 returns-clause-choice c = refl
-
