@@ -23,6 +23,10 @@ side_run_of (variant.Specification told) = pure.OfSpecification (map action_of t
 abbrev pub told_text : {A : Type 0} → Style → ToldRun A → List ℕ
 told_text style told = path_text style (map action_of told.run.path.items) (map process_of told.run.states.items) (origins_listed told.origins.items) []
 
+-- what the last state of the run is stuck by
+abbrev pub stuck_text : {A : Type 0} → Style → Script → Hindrance → ToldRun A → List ℕ
+stuck_text style script h told = pure.stuck_line style.names script h (map process_of told.run.states.items)
+
 -- a run of the specification to a state that is stuck so; or where there is a specification, none is found among n states
 abbrev pub IsSpecificationRun : {A : Type 0} → Script → Option Process → Hindrance → ℕ → Option (StuckRun A) → Type 0
 IsSpecificationRun script spec h n (Some run) = (p : Process) × (spec ≡ Some p) × IsRunTo script p h run

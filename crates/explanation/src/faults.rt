@@ -1,27 +1,30 @@
 //! Why an assertion has no answer, with a run to the state for which it has none.
 
-ghost use Rattle.std.specs.Prelude.{◌≡◌, ◌++◌, OnOk, Some};
+ghost use Rattle.std.specs.Prelude.{◌≡◌, ◌++◌, OnOk, Some, map};
 ghost use Rattle.std.specs.Option.{option_map};
 ghost use Rattle.std.specs.String.{string_bytes};
 ghost use Rattle.theory_search.specs.Terms.{IsAssertionOf};
 ghost use Rattle.csp_term.specs.Script.{assertion_of, script_of};
+ghost use Rattle.csp_term.specs.Term.{process_of};
 ghost use Rattle.theory_explanation.specs.Faults as faults;
 ghost use Rattle.theory_explanation.specs.Telling.{TellsFound, TellsUnknown};
+ghost use Rattle.csp_print.specs.Names.{names_of};
 ghost use Rattle.csp_print.specs.Writing.{Writes};
 ghost use Rattle.counterexample.specs.Styles.{style_of};
 ghost use Rattle.csp_replay.specs.Hindrance.{hindrance_of};
 ghost use Rattle.verdict.specs.Outcome.{why_of};
 ghost use Rattle.theory_search.specs.Outcome.{Unknown};
 ghost use Rattle.explanation.specs.Running.{HasStop, IsStop, stop_in};
-ghost use Rattle.explanation.specs.Sides.{side_run_of, told_text};
+ghost use Rattle.explanation.specs.Sides.{side_run_of, stuck_text, told_text};
 
+use crate::blame::push_blame;
 use crate::reasons::reason;
 use crate::sides::{SideRun, side_run};
 use crate::told_run::ToldRun;
 use counterexample::{Run, Style, push_mark, push_path};
+use csp_print::Names;
 use csp_replay::Hindrance;
-use csp_term::{Action, AllocHandle, Assertion, Memory, Script};
-use std::alloc::AllocError;
+use csp_term::{Action, AllocHandle, Assertion, Memory, Script, Term};
 use verdict::Why;
 
 /// Why there is no answer, and a run to a state that is faulty or large, where that is why.
@@ -81,28 +84,28 @@ fn push_found<A: AllocHandle>(
         )?;
         return Ok(());
     };
-    push_side_run(alloc, style, hindrance, &run, text)?;
-    Ok(())
+    push_side_run(alloc, style, script, hindrance, &run, text)
 }
 
 // The side, its run state by state, and what is wrong at the end.
 fn push_side_run<A: AllocHandle>(
     alloc: A,
     style: &Style<'_, '_, A>,
+    script: &Script<A>,
     hindrance: Hindrance,
     run: &SideRun<A>,
     text: &mut String<A>,
-) -> Result<(), AllocError>
-    ensures { Writes result text.old text.new (faults.fault_run_text (style_of style.now) (hindrance_of hindrance) (side_run_of run.now)) }
+) -> Result<(), Memory>
+    ensures { Writes result text.old text.new (faults.fault_run_text (style_of style.now) (script_of script.now) (hindrance_of hindrance) (side_run_of run.now)) }
 {
     match run {
         SideRun::Implementation(told) => {
             push_mark("  the implementation comes there by\n", text)?;
-            push_run(alloc, style, hindrance, told, text)
+            push_run(alloc, style, script, hindrance, told, text)
         }
         SideRun::Specification(told) => {
             push_mark("  the specification comes there by\n", text)?;
-            push_run(alloc, style, hindrance, told, text)
+            push_run(alloc, style, script, hindrance, told, text)
         }
     }
 }
@@ -111,26 +114,44 @@ fn push_side_run<A: AllocHandle>(
 fn push_run<A: AllocHandle>(
     alloc: A,
     style: &Style<'_, '_, A>,
+    script: &Script<A>,
     hindrance: Hindrance,
     told: &ToldRun<A>,
     text: &mut String<A>,
-) -> Result<(), AllocError>
-    ensures { Writes result text.old text.new (told_text (style_of style.now) told.now ++ faults.stuck_line (hindrance_of hindrance)) }
+) -> Result<(), Memory>
+    ensures { Writes result text.old text.new (told_text (style_of style.now) told.now ++ stuck_text (style_of style.now) (script_of script.now) (hindrance_of hindrance) told.now) }
 {
     let run = Run {
         states: &told.run.states,
         origins: &told.origins,
     };
     push_path(alloc, style, &told.run.path, &run, text)?;
-    push_mark(stuck_line(hindrance), text)
+    push_stuck(
+        alloc,
+        style.names,
+        script,
+        hindrance,
+        &told.run.states,
+        text,
+    )
 }
 
 // What the last state of the run is stuck by.
-fn stuck_line(hindrance: Hindrance) -> &'static str
-    ensures { result.now ≡ faults.stuck_line (hindrance_of hindrance) }
+fn push_stuck<A: AllocHandle>(
+    alloc: A,
+    names: &Names<'_, A>,
+    script: &Script<A>,
+    hindrance: Hindrance,
+    states: &[Term<A>],
+    text: &mut String<A>,
+) -> Result<(), Memory>
+    ensures { Writes result text.old text.new (faults.stuck_line (names_of names.now) (script_of script.now) (hindrance_of hindrance) (map process_of states.now)) }
 {
     match hindrance {
-        Hindrance::Fault(_) => "  there a rule lacks a value\n",
-        Hindrance::Size => "  there it is too large, or what a step leads to\n",
+        Hindrance::Fault(_) => push_blame(alloc, names, script, states, text),
+        Hindrance::Size => {
+            push_mark("  there it is too large, or what a step leads to\n", text)?;
+            Ok(())
+        }
     }
 }

@@ -4,9 +4,11 @@
 //! the assertion; behind them, where it fails, a run by the path of the violation, state by state, with where its steps
 //! come from, beside what the specification has along it, what is wrong at its end, and what the specification has
 //! there; and where it has no answer, the reason, and where a state that is faulty or large is why, a run of a side to
-//! such a state, told in the same way. The text is made whole or not at all.
+//! such a state, told in the same way, with what is to blame in a faulty one. The text is made whole or not at all.
 #![tactic(auto)]
 
+mod blame;
+mod culprits;
 mod faults;
 mod headline;
 mod reasons;

@@ -2,7 +2,7 @@
 
 use crate::rows::Row;
 
-static UNKNOWNS: [Row; 19] = [
+static UNKNOWNS: [Row; 24] = [
     Row {
         words: &["--max-pairs", "1", "script"],
         status: 2,
@@ -49,7 +49,7 @@ static UNKNOWNS: [Row; 19] = [
   the implementation comes there by
   0 start
       c!2 -> STOP
-  there a rule lacks a value
+  there field 1 of `c` is given `2`, which lies outside of its set
 ",
     },
     Row {
@@ -64,7 +64,7 @@ static UNKNOWNS: [Row; 19] = [
       P(2147483647)
   1 tau: unfolds P
       P(2147483647 + 1)
-  there a rule lacks a value
+  there `2147483647 + 1` has no value: it lies outside of 32 bits
 ",
     },
     Row {
@@ -79,7 +79,7 @@ static UNKNOWNS: [Row; 19] = [
       P(2147483647)
   1 tau: unfolds P
       P(2147483647 + 1)
-  there a rule lacks a value
+  there `2147483647 + 1` has no value: it lies outside of 32 bits
 ",
     },
     Row {
@@ -94,7 +94,7 @@ static UNKNOWNS: [Row; 19] = [
       P(<>)
   1 tau: unfolds P
       c!head(<>) -> STOP
-  there a rule lacks a value
+  there `head(<>)` has no value: it is the head of an empty sequence
 ",
     },
     Row {
@@ -107,7 +107,7 @@ static UNKNOWNS: [Row; 19] = [
   the implementation comes there by
   0 start
       c!(1 % 0) -> STOP
-  there a rule lacks a value
+  there `1 % 0` has no value: the right side of `%` is not positive
 ",
     },
     Row {
@@ -124,7 +124,7 @@ static UNKNOWNS: [Row; 19] = [
       a -> c!(1 % 0) -> STOP
   2 a
       c!(1 % 0) -> STOP
-  there a rule lacks a value
+  there `1 % 0` has no value: the right side of `%` is not positive
 ",
     },
     Row {
@@ -137,7 +137,7 @@ static UNKNOWNS: [Row; 19] = [
   the implementation comes there by
   0 start
       |~| x:{} @ STOP
-  there a rule lacks a value
+  there `|~| x:{}` has nothing to choose from
 ",
     },
     Row {
@@ -150,7 +150,7 @@ static UNKNOWNS: [Row; 19] = [
   the specification comes there by
   0 start
       c!2 -> STOP
-  there a rule lacks a value
+  there field 1 of `c` is given `2`, which lies outside of its set
 ",
     },
     // The specification comes there, by what the implementation never does.
@@ -166,7 +166,7 @@ static UNKNOWNS: [Row; 19] = [
       a -> c!2 -> STOP
   1 a
       c!2 -> STOP
-  there a rule lacks a value
+  there field 1 of `c` is given `2`, which lies outside of its set
 ",
     },
     // It has two states, and one is looked at.
@@ -191,7 +191,7 @@ static UNKNOWNS: [Row; 19] = [
   the specification comes there by
   0 start
       c!2 -> STOP
-  there a rule lacks a value
+  there field 1 of `c` is given `2`, which lies outside of its set
 ",
     },
     // The nearest of two states that stop the search.
@@ -207,7 +207,7 @@ static UNKNOWNS: [Row; 19] = [
       b -> a -> c!2 -> STOP [] a -> c!2 -> STOP
   1 a
       c!2 -> STOP
-  there a rule lacks a value
+  there field 1 of `c` is given `2`, which lies outside of its set
 ",
     },
     // Of two that are as near the one whose path comes first.
@@ -223,7 +223,7 @@ static UNKNOWNS: [Row; 19] = [
       b -> c!2 -> STOP [] a -> c!2 -> c!1 -> STOP
   1 a
       c!2 -> c!1 -> STOP
-  there a rule lacks a value
+  there field 1 of `c` is given `2`, which lies outside of its set
 ",
     },
     // By hidden steps.
@@ -239,7 +239,7 @@ static UNKNOWNS: [Row; 19] = [
       (a -> c!2 -> STOP [| {a} |] a -> STOP) \\ {a}
   1 tau: hidden a by left, right
       (c!2 -> STOP [| {a} |] STOP) \\ {a}
-  there a rule lacks a value
+  there field 1 of `c` is given `2`, which lies outside of its set
 ",
     },
     // Without a specification.
@@ -255,7 +255,7 @@ static UNKNOWNS: [Row; 19] = [
       a -> c!2 -> STOP
   1 a
       c!2 -> STOP
-  there a rule lacks a value
+  there field 1 of `c` is given `2`, which lies outside of its set
 ",
     },
     // Its contrary has no answer either.
@@ -269,7 +269,77 @@ static UNKNOWNS: [Row; 19] = [
   the implementation comes there by
   0 start
       c!2 -> STOP
-  there a rule lacks a value
+  there field 1 of `c` is given `2`, which lies outside of its set
+",
+    },
+    // The second field of a channel.
+    Row {
+        words: &["script"],
+        status: 2,
+        text: "channel c : {0..1}.{0..1}\nassert STOP [T= c!1!7 -> STOP\n",
+        told: "\
+1 unknown  assert STOP [T= c!1!7 -> STOP
+  a side comes to a value that lies outside of the set of its field
+  the implementation comes there by
+  0 start
+      c!1!7 -> STOP
+  there field 2 of `c` is given `7`, which lies outside of its set
+",
+    },
+    // An operator stands with the values of its operands.
+    Row {
+        words: &["script"],
+        status: 2,
+        text: "channel c : {0..1}\nassert STOP [T= c!head(tail(<1>)) -> STOP\n",
+        told: "\
+1 unknown  assert STOP [T= c!head(tail(<1>)) -> STOP
+  a side comes to the head or tail of an empty sequence
+  the implementation comes there by
+  0 start
+      c!head(tail(<1>)) -> STOP
+  there `head(<>)` has no value: it is the head of an empty sequence
+",
+    },
+    // A field of a constructor.
+    Row {
+        words: &["script"],
+        status: 2,
+        text: "datatype D = A.{0..1}\nchannel d : D\nassert STOP [T= d!(A.2) -> STOP\n",
+        told: "\
+1 unknown  assert STOP [T= d!(A.2) -> STOP
+  a side comes to a value that lies outside of the set of its field
+  the implementation comes there by
+  0 start
+      d!(A.2) -> STOP
+  there field 1 of `A` is given `2`, which lies outside of its set
+",
+    },
+    // A set with too many members.
+    Row {
+        words: &["script"],
+        status: 2,
+        text: "channel a\nassert STOP [T= [] x:{0..2000} @ a -> STOP\n",
+        told: "\
+1 unknown  assert STOP [T= [] x:{0..2000} @ a -> STOP
+  a side comes to a number outside of 32 bits, or to a set or sequence that is too long
+  the implementation comes there by
+  0 start
+      [] x:{0..2000} @ a -> STOP
+  there `{0..2000}` has no value: it has more than 1,024 members
+",
+    },
+    // Of two sides that lack a value the left one.
+    Row {
+        words: &["script"],
+        status: 2,
+        text: "channel c : {0..1}\nassert STOP [T= c!2 -> STOP [] c!(1 % 0) -> STOP\n",
+        told: "\
+1 unknown  assert STOP [T= c!2 -> STOP [] c!(1 % 0) -> STOP
+  a side comes to a value that lies outside of the set of its field
+  the implementation comes there by
+  0 start
+      c!2 -> STOP [] c!(1 % 0) -> STOP
+  there field 1 of `c` is given `2`, which lies outside of its set
 ",
     },
 ];

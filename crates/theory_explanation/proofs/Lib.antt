@@ -1,3 +1,4 @@
+pub mod Blamed
 pub mod Comparings
 pub mod Folding
 pub mod Lacking

@@ -8,7 +8,9 @@ use Rattle.theory_origins.specs.Origin.{Origin}
 use Rattle.theory_runs.specs.Stuck.{Hindrance, ByCause, BySize}
 use Rattle.theory_runs.specs.Runs.{IsReached, IsStuckRun}
 use Rattle.theory_runs.specs.Stops.{StopsSearch}
+use Rattle.theory_notation.specs.Names.{Names}
 use Rattle.theory_explanation.specs.Counterexamples.{AreOriginsAlong}
+use Rattle.theory_explanation.specs.Culprits.{blame_line, last_culprit}
 use Rattle.theory_explanation.specs.Steps.{path_text}
 use Rattle.theory_explanation.specs.Styles.{Style}
 
@@ -44,17 +46,19 @@ IsFound script a h n None = (spec : Process) × (specification_of a.property ≡
 
 -- ---- the text
 
--- what the last state of the run is stuck by
-abbrev pub stuck_line : Hindrance → List ℕ
-stuck_line (ByCause c) = codes "  there a rule lacks a value\n"
-stuck_line BySize = codes "  there it is too large, or what a step leads to\n"
+-- what the last state of the run is stuck by: what is to blame there, or its size
+abbrev pub stuck_line : Names → Script → Hindrance → List Process → List ℕ
+stuck_line names script (ByCause c) states = blame_line names (last_culprit script states)
+stuck_line names script BySize states = codes "  there it is too large, or what a step leads to\n"
 
 -- the side, its run state by state, and what is wrong at the end
-abbrev pub fault_run_text : Style → Hindrance → SideRun → List ℕ
-fault_run_text style h (OfImplementation path states origins) = codes "  the implementation comes there by\n" ++ (path_text style path states origins [] ++ stuck_line h)
-fault_run_text style h (OfSpecification path states origins) = codes "  the specification comes there by\n" ++ (path_text style path states origins [] ++ stuck_line h)
+abbrev pub fault_run_text : Style → Script → Hindrance → SideRun → List ℕ
+fault_run_text style script h (OfImplementation path states origins) =
+    codes "  the implementation comes there by\n" ++ (path_text style path states origins [] ++ stuck_line style.names script h states)
+fault_run_text style script h (OfSpecification path states origins) =
+    codes "  the specification comes there by\n" ++ (path_text style path states origins [] ++ stuck_line style.names script h states)
 
 -- where there is no run, that the specification has too many states for one to be looked for
-abbrev pub found_text : Style → Hindrance → Option SideRun → List ℕ
-found_text style h (Some run) = fault_run_text style h run
-found_text style h None = codes "  the specification comes there, and has too many states to tell how\n"
+abbrev pub found_text : Style → Script → Hindrance → Option SideRun → List ℕ
+found_text style script h (Some run) = fault_run_text style script h run
+found_text style script h None = codes "  the specification comes there, and has too many states to tell how\n"

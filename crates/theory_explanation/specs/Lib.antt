@@ -4,6 +4,7 @@ pub mod Comparing
 pub mod Counterexamples
 pub mod Counterparts
 pub mod Counting
+pub mod Culprits
 pub mod Cutting
 pub mod Ends
 pub mod Faults

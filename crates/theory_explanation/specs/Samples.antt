@@ -2,7 +2,7 @@
 use Rattle.std.specs.Prelude.{ℕ, true, List, [], ◌∷◌, pos, Option, Some}
 use Rattle.theory_syntax.specs.Value.{Action, Ev, Event, Integer, Truth}
 use Rattle.theory_syntax.specs.Expression.{Apply, Literal, Not}
-use Rattle.theory_syntax.specs.Process.{Guard, Process, Stop}
+use Rattle.theory_syntax.specs.Process.{Given, Guard, Prefix, Process, Stop}
 use Rattle.theory_origins.specs.Origin.{Below, Does, Left, OnSide, Origin, Right, Side, Unfolds}
 use Rattle.theory_notation.specs.Samples.{names}
 use Rattle.theory_explanation.specs.Cutting.{UpTo, Whole}
@@ -14,6 +14,10 @@ event n = record { channel = 0; fields = Integer (pos n) ∷ [] }
 
 abbrev pub c : ℕ → Action
 c n = Ev (event n)
+
+-- `c!2 -> STOP`
+abbrev pub c_two : Process
+c_two = Prefix 0 (Given (Literal (Integer (pos 2))) ∷ []) Stop
 
 -- `not true & STOP`
 abbrev pub not_true : Process

@@ -24,7 +24,7 @@ TellsViolation style script a v old new = TellsCounterexample style script a v o
 -- behind the old text stands what is told of a run of the side that has no answer, if a state that is stuck so is why
 abbrev pub TellsFound : Style → Script → Assertion → Option Hindrance → List ℕ → List ℕ → Type 0
 TellsFound style script a None old new = new ≡ old
-TellsFound style script a (Some h) old new = (found : Option SideRun) × IsFound script a h style.reach found × (new ≡ old ++ found_text style h found)
+TellsFound style script a (Some h) old new = (found : Option SideRun) × IsFound script a h style.reach found × (new ≡ old ++ found_text style script h found)
 
 -- behind the old text stands why there is no answer, and a run to a state for which there is none
 abbrev pub TellsUnknown : Style → Script → Assertion → Why → List ℕ → List ℕ → Type 0

@@ -5,14 +5,18 @@
 //! the path of a violation, with its text, and how large a search was.
 #![tactic(auto)]
 
-ghost use Rattle.std.specs.Prelude.{◌≡◌, ◌∷◌, [], codes, false, true, slice_get, Contains, List, None, Option, Some, ℕ};
+ghost use Rattle.std.specs.Prelude.{◌≡◌, ◌∷◌, [], codes, false, true, pos, slice_get, Contains, List, None, Option, Some, ℕ};
 ghost use Rattle.theory_syntax.specs.Process.{Assertion, DeadlockFree, DivergenceFree, ExternalChoice, Interleaving, Omega, Process, RefinementOf, Script, Skip, Stop, Traces};
-ghost use Rattle.theory_syntax.specs.Value.{Action, Tau, Tick};
-ghost use Rattle.theory_semantics.specs.Meaning.Evaluation.{OutOfRange};
+ghost use Rattle.theory_syntax.specs.Expression.{Add, Apply, Combine, Head, Modulus, Range, SequenceOf, SetOf, Tail, no_expressions};
+ghost use Rattle.theory_syntax.specs.Value.{Action, Integer, Tau, Tick};
+ghost use Rattle.theory_faults.specs.Culprit.{NoChoice, OfChannel, OfConstructor, Outside, Valueless};
+ghost use Rattle.theory_faults.specs.Truth.{IsToBlame};
+ghost use Rattle.theory_semantics.specs.Laws.Terms.{digits};
+ghost use Rattle.theory_semantics.specs.Meaning.Evaluation.{BadModulus, Cause, EmptySequence, OutOfRange, Overflow};
 ghost use Rattle.theory_semantics.specs.Meaning.Violations.{ByDeadlock, ByDivergence, ByEvent, ByOffers, IsViolation, Violation};
 ghost use Rattle.theory_search.specs.Search.{EndedFails, IsLawful, Search};
 ghost use Rattle.theory_origins.specs.Origin.{Below, Chooses, Does, Ends, Hides, InBody, InChain, Left, OnBranch, OnSide, Origin, Renames, Right, SideEnds, Slides, Together, UnderGuard, Unfolds};
-ghost use Rattle.theory_notation.specs.Samples.{names, p};
+ghost use Rattle.theory_notation.specs.Samples.{minus_one, names, number, p};
 ghost use Rattle.theory_runs.specs.States.{AreReached, IsReplay};
 ghost use Rattle.theory_runs.specs.Stops.{IsKnownAlong};
 ghost use Rattle.theory_runs.specs.Stuck.{ByCause, BySize, Hindrance};
@@ -20,13 +24,14 @@ ghost use Rattle.theory_explanation.specs.Comparing.{counterexample_text};
 ghost use Rattle.theory_explanation.specs.Counterexamples.{Along, Counterexample, Counterpart, HasOriginAt, HasWideEnd, IsCounterexample, Loop, ShowsLack, TellsDivergence, Waiting, WaitsThere};
 ghost use Rattle.theory_explanation.specs.Counterparts.{lack_text, specification_text};
 ghost use Rattle.theory_explanation.specs.Counting.{count_text};
+ghost use Rattle.theory_explanation.specs.Culprits.{culprit_text, last_culprit};
 ghost use Rattle.theory_explanation.specs.Cutting.{Whole};
 ghost use Rattle.theory_explanation.specs.Faults.{IsFound, IsToldRun, OfImplementation, OfSpecification, found_text};
 ghost use Rattle.theory_explanation.specs.Folding.{ByEvents, EachStep, Folded};
 ghost use Rattle.theory_explanation.specs.Headline.{assertion_text};
 ghost use Rattle.theory_explanation.specs.Loops.{loop_text};
 ghost use Rattle.theory_explanation.specs.Origins.{source_text};
-ghost use Rattle.theory_explanation.specs.Samples.{below, c, event, not_true, telling, told, unfolded_run};
+ghost use Rattle.theory_explanation.specs.Samples.{below, c, c_two, event, not_true, telling, told, unfolded_run};
 ghost use Rattle.theory_explanation.specs.Steps.{path_text, step_line};
 ghost use Rattle.theory_explanation.specs.Waiting.{parts_text};
 
@@ -82,9 +87,28 @@ pub fn told_stops_are_known()
 
 /// A run to a state for which there is no answer, with the side that it is of, or that none is looked for.
 pub fn texts_of_stops()
-    ensures implementation { found_text told (ByCause OutOfRange) (Some (OfImplementation (c 1 ∷ []) (Stop ∷ p ∷ []) (Some (Does (event 1)) ∷ []))) ≡ codes "  the implementation comes there by\n  0 start\n      STOP\n  1 c.1\n      P\n  there a rule lacks a value\n" }
-    ensures specification { found_text told BySize (Some (OfSpecification [] (p ∷ []) [])) ≡ codes "  the specification comes there by\n  0 start\n      P\n  there it is too large, or what a step leads to\n" }
-    ensures none { found_text told BySize None ≡ codes "  the specification comes there, and has too many states to tell how\n" }
+    ensures implementation { found_text told digits (ByCause OutOfRange) (Some (OfImplementation (c 1 ∷ []) (Stop ∷ c_two ∷ []) (Some (Does (event 1)) ∷ []))) ≡ codes "  the implementation comes there by\n  0 start\n      STOP\n  1 c.1\n      c!2 -> STOP\n  there field 1 of `c` is given `2`, which lies outside of its set\n" }
+    ensures specification { found_text told digits BySize (Some (OfSpecification [] (p ∷ []) [])) ≡ codes "  the specification comes there by\n  0 start\n      P\n  there it is too large, or what a step leads to\n" }
+    ensures none { found_text told digits BySize None ≡ codes "  the specification comes there, and has too many states to tell how\n" }
+{}
+
+/// A run that is told to a term for which a rule lacks a value ends with what is to blame there, which explains that
+/// cause.
+pub fn told_faults_are_explained()
+    ensures { (script : Script) (t : Process) (why : Cause) (path : List Action) (states : List Process) (origins : List (Option Origin)) →
+        IsToldRun script t (ByCause why) path states origins → IsToBlame script (last_culprit script states) (Some why) }
+{}
+
+/// What is to blame: an operator over values, a value outside of the set of its field, or a choice over an empty set.
+pub fn texts_of_culprits()
+    ensures number { culprit_text names (Valueless (Combine Add (number 2147483647) (number 1)) Overflow) ≡ codes "`2147483647 + 1` has no value: it lies outside of 32 bits" }
+    ensures set { culprit_text names (Valueless (Range (number 1) (number 2000)) Overflow) ≡ codes "`{1..2000}` has no value: it has more than 1,024 members" }
+    ensures head { culprit_text names (Valueless (Apply Head (SequenceOf no_expressions)) EmptySequence) ≡ codes "`head(<>)` has no value: it is the head of an empty sequence" }
+    ensures tail { culprit_text names (Valueless (Apply Tail (SequenceOf no_expressions)) EmptySequence) ≡ codes "`tail(<>)` has no value: it is the tail of an empty sequence" }
+    ensures remainder { culprit_text names (Valueless (Combine Modulus (number 5) (number 0)) BadModulus) ≡ codes "`5 % 0` has no value: the right side of `%` is not positive" }
+    ensures channel { culprit_text names (Outside (OfChannel 0) 1 (Integer (pos 7))) ≡ codes "field 1 of `c` is given `7`, which lies outside of its set" }
+    ensures constructor { culprit_text names (Outside (OfConstructor 1) 2 minus_one) ≡ codes "field 2 of `B` is given `-1`, which lies outside of its set" }
+    ensures choice { culprit_text names (NoChoice 0 (SetOf no_expressions)) ≡ codes "`|~| x:{}` has nothing to choose from" }
 {}
 
 /// `not` negates behind `assert` alone, so a first side that begins with it stands in brackets: in a refinement, and in an

@@ -1,0 +1,4 @@
+pub mod Blaming
+pub mod Expressions
+pub mod Events
+pub mod Processes

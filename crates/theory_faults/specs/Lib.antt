@@ -1,0 +1,5 @@
+pub mod Culprit
+pub mod Expressions
+pub mod Events
+pub mod Processes
+pub mod Truth
