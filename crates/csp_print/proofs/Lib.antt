@@ -1,6 +1,5 @@
 pub mod EventSetTexts
 pub mod ExpressionTexts
 pub mod ProcessTexts
-pub mod ToldTexts
 pub mod ValueTexts
 pub mod Writing

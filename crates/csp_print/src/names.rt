@@ -33,11 +33,12 @@ pub struct Names<'t, A: Allocator> {
 
 impl<'t, A: Allocator> Names<'t, A> {
     /// The names, with types by which values are told.
-    pub fn with_types(mut self, types: TypeTable<A>) -> Names<'t, A>
-        ensures { names_of result ≡ with_types (table_of types) (names_of self) }
+    pub fn with_types(self, types: TypeTable<A>) -> Names<'t, A>
+        ensures { names_of result ≡ with_types (table_of types) (names_of self.entry) }
     {
-        self.types = Some(types);
-        self
+        let mut names = self;
+        names.types = Some(types);
+        names
     }
 }
 

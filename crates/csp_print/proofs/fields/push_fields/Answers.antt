@@ -19,9 +19,9 @@ loop-field-preserved g c =
     let texts = λ (behind : Bool) (xs : List (Field g.row.A.Denot)). fields_text names behind (fields_of xs) in
     let first : drop i fields ≡ c.field-item.result ∷ drop (i + 1) fields =
     rw add-one (drop-cons fields i c.field-item.result c.loop-field-test.true ∙ ap (λ x. x ∷ drop (suc i) fields) (sym c.field-item.is)) in
-    let rest = ap (λ behind. field_text names before field ++ texts behind (drop (i + 1) fields)) (sym c.has_input.ensures) in
+    let rest = ap (λ behind. field_text names before field ++ texts behind (drop (i + 1) fields)) (sym c.has_input-behind_input.ensures) in
     goes_on_bare (string_bytes c.loop-field.text) (string_bytes c.push_field.new.text) (field_text names before field)
-    (texts before (drop i fields)) (texts c.has_input.result (drop (i + 1) fields)) (string_bytes c.args.text.now ++ texts false fields) c.loop-field.invariant (ap (texts before) first ∙ rest) c.in_ok-push_field.ensures
+    (texts before (drop i fields)) (texts c.has_input-behind_input.result (drop (i + 1) fields)) (string_bytes c.args.text.now ++ texts false fields) c.loop-field.invariant (ap (texts before) first ∙ rest) c.in_ok-push_field.ensures
 
 pub returns : goal.returns
 returns g c =
