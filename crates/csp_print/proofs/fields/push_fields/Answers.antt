@@ -1,10 +1,10 @@
 use Rattle.std.proofs.Common.{List, ◌++◌, drop, ap, ◌∙◌, sym, ◌≡◌, ◌+◌, ◌∷◌, suc, add-one, drop-cons}
 use Rattle.std.proofs.lemmas.List.{drop_all}
-use Rattle.std.specs.Prelude.{Bool, ◌||◌, false}
+use Rattle.std.specs.Prelude.{Bool, false}
 use Rattle.std.specs.String.{string_bytes}
 use Rattle.csp_term.specs.declared.field.Field.{Field}
 use Rattle.csp_term.specs.Field.{field_of, fields_of}
-use Rattle.theory_notation.specs.Processes.{field_text, fields_text, is_input}
+use Rattle.theory_notation.specs.Processes.{field_text, fields_text}
 use Rattle.csp_print.specs.Names.{names_of}
 use Rattle.csp_print.proofs.Writing.{comes_to_end, goes_on_bare}
 use Rattle.csp_print.proofs.fields.push_fields.Goals as goal
