@@ -1,6 +1,7 @@
 -- The names that those of the code stand for.
-use Rattle.std.specs.Prelude.{ℕ, List, map}
+use Rattle.std.specs.Prelude.{ℕ, List, map, option_map}
 use Rattle.std.specs.Borrow.{Bor}
+use Rattle.csp_expression.specs.Evaluation.{table_of}
 use Rattle.theory_notation.specs.Names as pure
 use Rattle.csp_print.specs.declared.names.Names.{Names}
 
@@ -15,4 +16,5 @@ names_of n = record {
   nametypes = spellings_of n.nametypes.items;
   equations = spellings_of n.equations.items;
   bound = spellings_of n.bound.items;
+  types = option_map table_of n.types;
 }

@@ -8,16 +8,16 @@ ghost use Rattle.csp_print.specs.EventSets.{operator_text};
 ghost use Rattle.csp_print.specs.Names.{names_of};
 ghost use Rattle.csp_print.specs.Writing.{Writes};
 
-use crate::expressions::push_expressions_behind;
 use crate::marks::push_mark;
 use crate::names::Names;
 use crate::ranks::ATOM;
+use crate::told::push_told_behind;
 use csp_events::{EventExpression, EventSet, EventSetOperator, RenamingPair};
 use std::alloc::{AllocError, Allocator};
 
 /// Puts the text of the set of events behind the string. It is an error where memory is refused.
 #[cycle(event_set)]
-pub fn push_event_set<A: Allocator>(
+pub fn push_event_set<A: Allocator + Copy>(
     names: &Names<'_, A>,
     set: &EventSet<A>,
     text: &mut String<A>,
@@ -42,7 +42,7 @@ pub fn push_event_set<A: Allocator>(
 }
 
 #[cycle(event_set)]
-fn push_combined<A: Allocator>(
+fn push_combined<A: Allocator + Copy>(
     names: &Names<'_, A>,
     operator: EventSetOperator,
     left: &EventSet<A>,
@@ -70,7 +70,7 @@ fn text_before(operator: EventSetOperator) -> &'static str
 }
 
 // The channel, with `.` before each field, which is an atom.
-fn push_event<A: Allocator>(
+fn push_event<A: Allocator + Copy>(
     names: &Names<'_, A>,
     event: &EventExpression<A>,
     text: &mut String<A>,
@@ -78,11 +78,11 @@ fn push_event<A: Allocator>(
     ensures { Writes result text.old text.new (event_text (names_of names.now) (event_expression_of event.now)) }
 {
     names.push_channel(event.channel, text)?;
-    push_expressions_behind(names, ".", ATOM, event.fields.as_slice(), text)
+    push_told_behind(names, ".", ATOM, event.fields.as_slice(), text)
 }
 
 // The events with `,` between.
-fn push_events<A: Allocator>(
+fn push_events<A: Allocator + Copy>(
     names: &Names<'_, A>,
     events: &[EventExpression<A>],
     text: &mut String<A>,
@@ -99,7 +99,7 @@ fn push_events<A: Allocator>(
 }
 
 // The events with `,` before each.
-fn push_events_behind<A: Allocator>(
+fn push_events_behind<A: Allocator + Copy>(
     names: &Names<'_, A>,
     events: &[EventExpression<A>],
     text: &mut String<A>,
@@ -114,7 +114,7 @@ fn push_events_behind<A: Allocator>(
 }
 
 /// The pairs with `,` between.
-pub(crate) fn push_pairs<A: Allocator>(
+pub(crate) fn push_pairs<A: Allocator + Copy>(
     names: &Names<'_, A>,
     pairs: &[RenamingPair<A>],
     text: &mut String<A>,
@@ -131,7 +131,7 @@ pub(crate) fn push_pairs<A: Allocator>(
 }
 
 // The pairs with `,` before each.
-fn push_pairs_behind<A: Allocator>(
+fn push_pairs_behind<A: Allocator + Copy>(
     names: &Names<'_, A>,
     pairs: &[RenamingPair<A>],
     text: &mut String<A>,
@@ -145,7 +145,7 @@ fn push_pairs_behind<A: Allocator>(
     Ok(())
 }
 
-fn push_pair<A: Allocator>(
+fn push_pair<A: Allocator + Copy>(
     names: &Names<'_, A>,
     pair: &RenamingPair<A>,
     text: &mut String<A>,

@@ -179,9 +179,9 @@ fn push_items<A: Allocator>(
     }
 }
 
-/// The expressions, of at least this rank, with the mark before each.
+// The expressions, of at least this rank, with the mark before each.
 #[cycle(expression)]
-pub(crate) fn push_expressions_behind<A: Allocator>(
+fn push_expressions_behind<A: Allocator>(
     names: &Names<'_, A>,
     mark: &str,
     least: u32,

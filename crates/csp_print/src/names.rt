@@ -1,15 +1,18 @@
-//! The spellings of a script's names.
+//! The spellings of a script's names, and the types by which values are told.
 
+ghost use Rattle.std.specs.Prelude.{◌≡◌};
 ghost use Rattle.theory_search.specs.Printing.{name_at};
+ghost use Rattle.csp_expression.specs.Evaluation.{table_of};
+ghost use Rattle.theory_notation.specs.Names.{with_types};
 ghost use Rattle.csp_print.specs.Names.{names_of, spellings_of};
 ghost use Rattle.csp_print.specs.Writing.{Writes};
 
-use csp_expression::{DatatypeId, Name, NametypeId};
+use csp_expression::{DatatypeId, Name, NametypeId, TypeTable};
 use csp_term::EquationId;
 use csp_value::{ChannelId, ConId};
 use std::alloc::{AllocError, Allocator};
 
-/// The spellings of a script's names, each class in the order of its numbers.
+/// The spellings of a script's names, each class in the order of its numbers, and perhaps its types.
 #[derive(Drop)]
 pub struct Names<'t, A: Allocator> {
     /// The channels.
@@ -24,6 +27,19 @@ pub struct Names<'t, A: Allocator> {
     pub equations: Vec<&'t str, A>,
     /// The bound names: parameters, inputs and replicated names.
     pub bound: Vec<&'t str, A>,
+    /// The types by which a closed expression is told by its value. Without them all is told as it is written.
+    pub types: Option<TypeTable<A>>,
+}
+
+impl<'t, A: Allocator> Names<'t, A> {
+    /// The names, with types by which values are told.
+    pub fn with_types(self, types: TypeTable<A>) -> Names<'t, A>
+        ensures { names_of result ≡ with_types (table_of types) (names_of self.entry) }
+    {
+        let mut names = self;
+        names.types = Some(types);
+        names
+    }
 }
 
 impl<A: Allocator> Names<'_, A> {

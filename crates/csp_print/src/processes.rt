@@ -8,6 +8,7 @@ ghost use Rattle.csp_expression.specs.Expression.{expression_of, expressions_of}
 ghost use Rattle.csp_events.specs.Events.{event_set_of, renaming_pairs_of};
 ghost use Rattle.csp_term.specs.Field.{fields_of};
 ghost use Rattle.csp_term.specs.Term.{process_of};
+ghost use Rattle.theory_notation.specs.Told.{all_told};
 ghost use Rattle.theory_notation.specs.Processes as notation;
 ghost use Rattle.theory_notation.specs.Processes.{call_text, chain_text, process_text, text_at};
 ghost use Rattle.csp_print.specs.Names.{names_of};
@@ -15,12 +16,13 @@ ghost use Rattle.csp_print.specs.Shapes.{infix_of, position_of, replicator_text}
 ghost use Rattle.csp_print.specs.Writing.{Writes};
 
 use crate::event_sets::{push_event_set, push_pairs};
-use crate::expressions::{push_expression, push_expressions_behind, push_operand};
+use crate::expressions::push_operand;
 use crate::fields::push_fields;
 use crate::marks::push_mark;
 use crate::names::Names;
 use crate::ranks::{ATOM, DISJUNCTION};
 use crate::shapes::{Infix, Position, head_shape, infix_text, stands_bare};
+use crate::told::{push_told_behind, push_told_whole};
 use csp_events::{EventSet, RenamingPair};
 use csp_expression::{Expr, Name};
 use csp_term::{ChannelId, EquationId, Field, ReplicatedOperator, Term, TermForm};
@@ -28,7 +30,7 @@ use std::alloc::{AllocError, Allocator};
 
 /// Puts the text of the term behind the string. It is an error where memory is refused.
 #[cycle(term)]
-pub fn push_term<A: Allocator>(
+pub fn push_term<A: Allocator + Copy>(
     names: &Names<'_, A>,
     term: &Term<A>,
     text: &mut String<A>,
@@ -69,7 +71,7 @@ pub fn push_term<A: Allocator>(
 
 // The term, in brackets where it does not stand there bare.
 #[cycle(term)]
-fn push_at<A: Allocator>(
+fn push_at<A: Allocator + Copy>(
     names: &Names<'_, A>,
     position: Position,
     term: &Term<A>,
@@ -85,20 +87,20 @@ fn push_at<A: Allocator>(
     push_mark(")", text)
 }
 
-fn push_call<A: Allocator>(
+fn push_call<A: Allocator + Copy>(
     names: &Names<'_, A>,
     equation: EquationId,
     arguments: &[Expr<A>],
     text: &mut String<A>,
 ) -> Result<(), AllocError>
-    ensures { Writes result text.old text.new (call_text (names_of names.now) equation.0 (to_expressions (expressions_of arguments.now))) }
+    ensures { Writes result text.old text.new (call_text (names_of names.now) equation.0 (all_told (names_of names.now) (to_expressions (expressions_of arguments.now)))) }
 {
     match arguments.split_first() {
         Some((first, others)) => {
             names.push_equation(equation, text)?;
             push_mark("(", text)?;
-            push_expression(names, first, text)?;
-            push_expressions_behind(names, ",", DISJUNCTION, others, text)?;
+            push_told_whole(names, first, text)?;
+            push_told_behind(names, ",", DISJUNCTION, others, text)?;
             push_mark(")", text)
         }
         None => names.push_equation(equation, text),
@@ -106,7 +108,7 @@ fn push_call<A: Allocator>(
 }
 
 #[cycle(term)]
-fn push_prefix<A: Allocator>(
+fn push_prefix<A: Allocator + Copy>(
     names: &Names<'_, A>,
     channel: ChannelId,
     fields: &[Field<A>],
@@ -122,7 +124,7 @@ fn push_prefix<A: Allocator>(
 }
 
 #[cycle(term)]
-fn push_guard<A: Allocator>(
+fn push_guard<A: Allocator + Copy>(
     names: &Names<'_, A>,
     condition: &Expr<A>,
     body: &Term<A>,
@@ -130,13 +132,13 @@ fn push_guard<A: Allocator>(
 ) -> Result<(), AllocError>
     ensures { Writes result text.old text.new (process_text (names_of names.now) (Guard (expression_of condition.now) (process_of body.now))) }
 {
-    push_expression(names, condition, text)?;
+    push_told_whole(names, condition, text)?;
     push_mark(" & ", text)?;
     push_at(names, Position::Operand, body, text)
 }
 
 #[cycle(term)]
-fn push_if<A: Allocator>(
+fn push_if<A: Allocator + Copy>(
     names: &Names<'_, A>,
     condition: &Expr<A>,
     first: &Term<A>,
@@ -146,7 +148,7 @@ fn push_if<A: Allocator>(
     ensures { Writes result text.old text.new (process_text (names_of names.now) (If (expression_of condition.now) (process_of first.now) (process_of second.now))) }
 {
     push_mark("if ", text)?;
-    push_expression(names, condition, text)?;
+    push_told_whole(names, condition, text)?;
     push_mark(" then ", text)?;
     push_term(names, first, text)?;
     push_mark(" else ", text)?;
@@ -155,7 +157,7 @@ fn push_if<A: Allocator>(
 
 // A chain goes on to the left with its own operator.
 #[cycle(term)]
-fn push_chain<A: Allocator>(
+fn push_chain<A: Allocator + Copy>(
     names: &Names<'_, A>,
     operator: Infix,
     left: &Term<A>,
@@ -170,7 +172,7 @@ fn push_chain<A: Allocator>(
 }
 
 #[cycle(term)]
-fn push_generalised<A: Allocator>(
+fn push_generalised<A: Allocator + Copy>(
     names: &Names<'_, A>,
     left: &Term<A>,
     shared: &EventSet<A>,
@@ -187,7 +189,7 @@ fn push_generalised<A: Allocator>(
 }
 
 #[cycle(term)]
-fn push_alphabetised<A: Allocator>(
+fn push_alphabetised<A: Allocator + Copy>(
     names: &Names<'_, A>,
     left: &Term<A>,
     own: &EventSet<A>,
@@ -207,7 +209,7 @@ fn push_alphabetised<A: Allocator>(
 }
 
 #[cycle(term)]
-fn push_hiding<A: Allocator>(
+fn push_hiding<A: Allocator + Copy>(
     names: &Names<'_, A>,
     body: &Term<A>,
     hidden: &EventSet<A>,
@@ -221,7 +223,7 @@ fn push_hiding<A: Allocator>(
 }
 
 #[cycle(term)]
-fn push_renaming<A: Allocator>(
+fn push_renaming<A: Allocator + Copy>(
     names: &Names<'_, A>,
     body: &Term<A>,
     pairs: &[RenamingPair<A>],
@@ -236,7 +238,7 @@ fn push_renaming<A: Allocator>(
 }
 
 #[cycle(term)]
-fn push_replicated<A: Allocator>(
+fn push_replicated<A: Allocator + Copy>(
     names: &Names<'_, A>,
     operator: ReplicatedOperator,
     name: Name,

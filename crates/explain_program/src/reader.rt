@@ -1,16 +1,20 @@
 //! From a text to its script and names.
 
-ghost use Rattle.std.specs.Prelude.{IfOk, IfErr};
+ghost use Rattle.std.specs.Prelude.{◌≡◌, IfOk, IfErr};
+ghost use Rattle.theory_notation.specs.Names.{names_in, with_types};
+ghost use Rattle.csp_expression.specs.Evaluation.{table_of};
+ghost use Rattle.csp_parse.specs.Declarations as raw;
 ghost use Rattle.csp_term.specs.Script.{script_of};
 ghost use Rattle.csp_print.specs.Names.{names_of};
 ghost use Rattle.program.specs.Reading.{IsRefusalOf};
 ghost use Rattle.explain_program.specs.Naming.{IsNamedText};
 
+use csp_expression::TypeTable;
 use csp_kinds::check;
 use csp_lex::tokens;
-use csp_parse::parse;
+use csp_parse::{Raw, parse};
 use csp_print::Names;
-use csp_term::Script;
+use csp_term::{Memory, Script, TryCopy};
 use printed_names::names_of;
 use program::Refusal;
 use std::alloc::Allocator;
@@ -20,7 +24,7 @@ use std::alloc::Allocator;
 pub struct NamedScript<'t, A: Allocator> {
     /// The script.
     pub script: Script<A>,
-    /// The spellings of its names.
+    /// The spellings of its names, and its types, by which values are told.
     pub names: Names<'t, A>,
 }
 
@@ -38,8 +42,20 @@ pub fn read<'t, A: Allocator + Copy>(
     let list = tokens(alloc, text)?;
     let tree = parse(alloc, &list)?;
     let script = check(alloc, &tree)?;
-    let Ok(names) = names_of(alloc, &tree) else {
+    let Ok(names) = telling_names(alloc, &tree, script.types()) else {
         return Err(Refusal::Memory);
     };
     Ok(NamedScript { script, names })
+}
+
+// The names of the tree, by which values are told with these types.
+fn telling_names<'t, A: Allocator + Copy>(
+    alloc: A,
+    tree: &Raw<'t, A>,
+    types: &TypeTable<A>,
+) -> Result<Names<'t, A>, Memory>
+    ensures { IfOk result (λ names. names_of names ≡ with_types (table_of types.now) (names_in (raw.script_of tree.now))) }
+{
+    let names = names_of(alloc, tree)?;
+    Ok(names.with_types(types.try_copy(alloc)?))
 }

@@ -1,15 +1,17 @@
 -- Names that are listed declaration by declaration.
-use Rattle.std.specs.Prelude.{flat_map, take}
+use Rattle.std.specs.Prelude.{flat_map, take, option_map}
 use Rattle.std.specs.Borrow.{Bor}
 use Rattle.std.proofs.lemmas.Grind.{flat_map-append}
 use Rattle.std.proofs.lemmas.List.{map-append}
-use Rattle.std.proofs.Common.{◌≡◌, ◌∙◌, ◌≤◌, ◌+◌, ℕ, List, [], ◌∷◌, ◌++◌, length, map, Vec, ap, subst, sym, append-nil, append_assoc}
+use Rattle.std.proofs.Common.{◌≡◌, ◌∙◌, ◌≤◌, ◌+◌, ℕ, List, [], ◌∷◌, ◌++◌, length, map, Option, None, Vec, ap, subst, sym, append-nil, append_assoc}
+use Rattle.theory_syntax.specs.Types.{Types}
 use Rattle.theory_text.specs.Raw.{RawName, RawDeclaration, RawScript}
 use Rattle.theory_checking.specs.Names as checking
 use Rattle.theory_checking.specs.Names.{Class, DatatypeName, ConstructorName, NametypeName, ChannelName, EquationName, bound_in_declaration, bound_spellings, clause_names, declared_as, spellings, with_spellings}
 use Rattle.theory_checking.proofs.Spellings.{with_more}
 use Rattle.theory_notation.specs.Names as notation
 use Rattle.theory_notation.specs.Names.{in_bytes, names_in}
+use Rattle.csp_expression.specs.Evaluation.{table_of}
 use Rattle.csp_parse.specs.declared.declarations.Clause.{Clause}
 use Rattle.csp_parse.specs.declared.declarations.Declaration.{Declaration}
 use Rattle.csp_parse.specs.declared.names.Name.{Name}
@@ -54,14 +56,15 @@ bound_in_parts ds es =
     ∙ map-append (λ n. n.spelling) (flat_map bound_in_declaration (map declaration_of ds)) (flat_map bound_in_declaration (map declaration_of es))
 
 -- all classes together
-abbrev gathered : (channels constructors datatypes nametypes equations bound : List (List ℕ)) → notation.Names
-gathered channels constructors datatypes nametypes equations bound = record {
+abbrev gathered : (channels constructors datatypes nametypes equations bound : List (List ℕ)) → Option Types → notation.Names
+gathered channels constructors datatypes nametypes equations bound types = record {
   channels = channels;
   constructors = constructors;
   datatypes = datatypes;
   nametypes = nametypes;
   equations = equations;
   bound = bound;
+  types = types;
 }
 
 module _ {A : Type 0} (names : Names A) where
@@ -82,10 +85,11 @@ module _ {A : Type 0} (names : Names A) where
     nametypes = names.nametypes;
     equations = names.equations;
     bound = list;
+    types = names.types;
   }
 
-  pub all_classes : (list : Vec (Bor (List ℕ)) A) (raw : RawScript) → AreDeclaredIn raw names → spellings_of list.items ≡ in_bytes (bound_spellings raw) → names_of (with_bound list) ≡ names_in raw
-  all_classes list raw declared bound =
+  pub all_classes : (list : Vec (Bor (List ℕ)) A) (raw : RawScript) → names.types ≡ None → AreDeclaredIn raw names → spellings_of list.items ≡ in_bytes (bound_spellings raw) → names_of (with_bound list) ≡ names_in raw
+  all_classes list raw none declared bound =
       let of : Class → List (List ℕ) = λ class. in_bytes (checking.names_of class raw) in
       let channels = spellings_of names.channels.items in
       let constructors = spellings_of names.constructors.items in
@@ -93,12 +97,13 @@ module _ {A : Type 0} (names : Names A) where
       let nametypes = spellings_of names.nametypes.items in
       let equations = spellings_of names.equations.items in
       let all = in_bytes (bound_spellings raw) in
-      ap (gathered channels constructors datatypes nametypes equations) bound
-      ∙ ap (λ x. gathered channels constructors datatypes nametypes x all) (declared EquationName)
-      ∙ ap (λ x. gathered channels constructors datatypes x (of EquationName) all) (declared NametypeName)
-      ∙ ap (λ x. gathered channels constructors x (of NametypeName) (of EquationName) all) (declared DatatypeName)
-      ∙ ap (λ x. gathered channels x (of DatatypeName) (of NametypeName) (of EquationName) all) (declared ConstructorName)
-      ∙ ap (λ x. gathered x (of ConstructorName) (of DatatypeName) (of NametypeName) (of EquationName) all) (declared ChannelName)
+      ap (λ x. gathered channels constructors datatypes nametypes equations (spellings_of list.items) (option_map table_of x)) none
+      ∙ ap (λ x. gathered channels constructors datatypes nametypes equations x None) bound
+      ∙ ap (λ x. gathered channels constructors datatypes nametypes x all None) (declared EquationName)
+      ∙ ap (λ x. gathered channels constructors datatypes x (of EquationName) all None) (declared NametypeName)
+      ∙ ap (λ x. gathered channels constructors x (of NametypeName) (of EquationName) all None) (declared DatatypeName)
+      ∙ ap (λ x. gathered channels x (of DatatypeName) (of NametypeName) (of EquationName) all None) (declared ConstructorName)
+      ∙ ap (λ x. gathered x (of ConstructorName) (of DatatypeName) (of NametypeName) (of EquationName) all None) (declared ChannelName)
 
 -- ---- the declarations of a list, one behind the other
 
@@ -120,11 +125,11 @@ module _ {A B : Type 0} (items : List (Declaration B)) (i : ℕ) where
       one_more with_spellings with_more bound_by bound_in_parts items i [] (met now) (met new) d cut so_far (one ∙ ap (with_spellings (met now)) (binds_one (declaration_of d)))
 
   -- behind the last one, the names are those of the tree
-  pub all_named : (names : Names A) (bound : BoundNames A) (list : Vec (Bor (List ℕ)) A) (all : List (Declaration B)) → length items ≤ i → items ≡ all →
+  pub all_named : (names : Names A) (bound : BoundNames A) (list : Vec (Bor (List ℕ)) A) (all : List (Declaration B)) → length items ≤ i → items ≡ all → names.types ≡ None →
       AreDeclaredIn (map declaration_of (take i items)) names → met bound ≡ bound_spellings (map declaration_of (take i items)) → spellings_of list.items ≡ in_bytes (met bound) →
       names_of (with_bound names list) ≡ names_in (map declaration_of all)
-  all_named names bound list all over same declared met_all written =
+  all_named names bound list all over same none declared met_all written =
       let P : List (Declaration B) → Type 0 = λ ds. names_of (with_bound names list) ≡ names_in (map declaration_of ds) in
-      subst P same (all_classes names list (map declaration_of items)
+      subst P same (all_classes names list (map declaration_of items) none
       (λ class. all_added (λ ss ts. ss ++ ts) texts_in_turn (texts_of_declarations class) (declarations_in_parts class) items i [] (listed class names) over (declared class))
       (written ∙ ap in_bytes (all_added with_spellings with_more bound_by bound_in_parts items i [] (met bound) over met_all)))

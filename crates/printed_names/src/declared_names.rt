@@ -1,6 +1,6 @@
 //! The names that declarations declare, behind those of their classes.
 
-ghost use Rattle.std.specs.Prelude.{◌∷◌, [], map, OnOk};
+ghost use Rattle.std.specs.Prelude.{◌≡◌, ◌∷◌, [], map, OnOk};
 ghost use Rattle.std.specs.Str.{chars};
 ghost use Rattle.theory_checking.specs.Names.{clause_names, spellings};
 ghost use Rattle.csp_parse.specs.Declarations.{clause_of, declaration_of};
@@ -17,7 +17,8 @@ pub(crate) fn push_declared<'t, A: Allocator + Copy>(
     names: &mut Names<'t, A>,
     declaration: &Declaration<'t, A>,
 ) -> Result<(), Memory>
-    ensures { OnOk result (Declares names.old names.new (declaration_of declaration.now)) }
+    ensures declared { OnOk result (Declares names.old names.new (declaration_of declaration.now)) }
+    ensures types { OnOk result (names.new.types ≡ names.old.types) }
 {
     match declaration {
         Declaration::Datatype { name, clauses } => {

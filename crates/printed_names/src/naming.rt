@@ -13,7 +13,7 @@ use csp_value::Memory;
 use std::alloc::Allocator;
 
 /// The names of the tree: the declared ones of each class in the order of the text, and the bound ones, each where it
-/// first stands. It is `Memory` where there is no room for them, which says nothing of the tree.
+/// first stands; without types. It is `Memory` where there is no room for them, which says nothing of the tree.
 pub fn names_of<'t, A: Allocator + Copy>(alloc: A, raw: &Raw<'t, A>) -> Result<Names<'t, A>, Memory>
     ensures { IfOk result (λ names. printed.names_of names ≡ names_in (script_of raw.now)) }
 {
@@ -24,6 +24,7 @@ pub fn names_of<'t, A: Allocator + Copy>(alloc: A, raw: &Raw<'t, A>) -> Result<N
         nametypes: Vec::new(alloc),
         equations: Vec::new(alloc),
         bound: Vec::new(alloc),
+        types: None,
     };
     let mut bound = BoundNames::new(alloc);
     for declaration in &raw.declarations {

@@ -52,37 +52,37 @@ assert ONE(0) [T= MENDED
   0 start
       FAULTY
       specification: ONE(0)
-      specification: ([] i:Cpu @ read!i!0 -> ONE(0)) [] ([] i:Cpu @ write!i?w -> ONE(w))
+      specification: ([] i:Cpu @ read.i.0 -> ONE(0)) [] ([] i:Cpu @ write.i?w -> ONE(w))
   1 tau: unfolds FAULTY
       ((LAZY(0) [| {|forget|} |] LAZY(1)) [| {|read, write, fetch, store, done|} |] MEMORY(0)) \ {|fetch, store, forget, done|}
   2 tau: right: unfolds MEMORY
-      .. store, done|} |] (([] i:Cpu @ fetch!i!0 -> MEMORY(0)) [] ([] i:Cpu @ read!i?w -> MEMORY(0)) [] ([] i:Cpu @ write!i?w -> store!i!w -> done!i -> MEMORY(w)))) \ {|fetch, store, ..
+      .. store, done|} |] (([] i:Cpu @ fetch.i.0 -> MEMORY(0)) [] ([] i:Cpu @ read.i?w -> MEMORY(0)) [] ([] i:Cpu @ write.i?w -> store.i.w -> done.i -> MEMORY(w)))) \ {|fetch, store, ..
   3 tau: left.right: unfolds LAZY
-      .. [| {|forget|} |] (fetch!1?v -> KEEPING(1,v) [] write!1?v -> KEPT(1,v) [] forget!1 -> LAZY(1))) [| {|read, write, ..
+      .. [| {|forget|} |] (fetch.1?v -> KEEPING(1,v) [] write.1?v -> KEPT(1,v) [] forget.1 -> LAZY(1))) [| {|read, write, ..
   4 tau: hidden fetch.1.0 by left.right, right
       .. [| {|forget|} |] KEEPING(1,0)) [| {|read, write, fetch, store, done|} |] MEMORY(0)) \ {|fetch, store, ..
   5 tau: right: unfolds MEMORY
-      .. store, done|} |] (([] i:Cpu @ fetch!i!0 -> MEMORY(0)) [] ([] i:Cpu @ read!i?w -> MEMORY(0)) [] ([] i:Cpu @ write!i?w -> store!i!w -> done!i -> MEMORY(w)))) \ {|fetch, store, ..
+      .. store, done|} |] (([] i:Cpu @ fetch.i.0 -> MEMORY(0)) [] ([] i:Cpu @ read.i?w -> MEMORY(0)) [] ([] i:Cpu @ write.i?w -> store.i.w -> done.i -> MEMORY(w)))) \ {|fetch, store, ..
   6 tau: left.right: unfolds KEEPING
-      .. [| {|forget|} |] (read!1!0 -> KEEPING(1,0) [] write!1?w -> KEPT(1,w) [] forget!1 -> KEEPING(1,0))) [| {|read, write, ..
+      .. [| {|forget|} |] (read.1.0 -> KEEPING(1,0) [] write.1?w -> KEPT(1,w) [] forget.1 -> KEEPING(1,0))) [| {|read, write, ..
   7 tau: left.left: unfolds LAZY
-      (((fetch!0?v -> KEEPING(0,v) [] write!0?v -> KEPT(0,v) [] forget!0 -> LAZY(0)) [| {|forget|} |] ..
+      (((fetch.0?v -> KEEPING(0,v) [] write.0?v -> KEPT(0,v) [] forget.0 -> LAZY(0)) [| {|forget|} |] ..
   8 write.0.1 by left.left, right
-      ((KEPT(0,1) [| {|forget|} |] (read!1!0 -> KEEPING(1,0) [] write!1?w -> KEPT(1,w) [] forget!1 -> KEEPING(1,0))) [| {|read, write, fetch, store, done|} |] store!0!1 -> done!0 -> MEMORY(1)) \ {|fetch, st .. 7 more characters
+      ((KEPT(0,1) [| {|forget|} |] (read.1.0 -> KEEPING(1,0) [] write.1?w -> KEPT(1,w) [] forget.1 -> KEEPING(1,0))) [| {|read, write, fetch, store, done|} |] store.0.1 -> done.0 -> MEMORY(1)) \ {|fetch, st .. 7 more characters
       specification: ONE(1)
-      specification: ([] i:Cpu @ read!i!1 -> ONE(1)) [] ([] i:Cpu @ write!i?w -> ONE(w))
+      specification: ([] i:Cpu @ read.i.1 -> ONE(1)) [] ([] i:Cpu @ write.i?w -> ONE(w))
   9 tau: left.left: unfolds KEPT
-      ((store!0!1 -> forget!(1 - 0) -> done!0 -> KEEPING(0,1) [| {|forget|} |] ..
+      ((store.0.1 -> forget.1 -> done.0 -> KEEPING(0,1) [| {|forget|} |] ..
   10 tau: hidden store.0.1 by left.left, right
-      ((forget!(1 - 0) -> done!0 -> KEEPING(0,1) [| {|forget|} |] (read!1!0 -> KEEPING(1,0) [] write!1?w -> KEPT(1,w) [] forget!1 -> KEEPING(1,0))) [| {|read, write, fetch, store, done|} |] done!0 -> MEMORY .. 7 more characters
+      ((forget.1 -> done.0 -> KEEPING(0,1) [| {|forget|} |] (read.1.0 -> KEEPING(1,0) [] write.1?w -> KEPT(1,w) [] forget.1 -> KEEPING(1,0))) [| {|read, write, fetch, store, done|} |] done.0 -> MEMORY(1)) . .. 1 more characters
   11 tau: hidden forget.1 by left.left, left.right
-      ((done!0 -> KEEPING(0,1) [| {|forget|} |] KEEPING(1,0)) [| {|read, write, ..
+      ((done.0 -> KEEPING(0,1) [| {|forget|} |] KEEPING(1,0)) [| {|read, write, ..
   12 tau: hidden done.0 by left.left, right
       ((KEEPING(0,1) [| {|forget|} |] KEEPING(1,0)) [| {|read, write, fetch, store, done|} |] MEMORY(1)) \ {|fetch, ..
   13 tau: right: unfolds MEMORY
-      .. store, done|} |] (([] i:Cpu @ fetch!i!1 -> MEMORY(1)) [] ([] i:Cpu @ read!i?w -> MEMORY(1)) [] ([] i:Cpu @ write!i?w -> store!i!w -> done!i -> MEMORY(w)))) \ {|fetch, store, ..
+      .. store, done|} |] (([] i:Cpu @ fetch.i.1 -> MEMORY(1)) [] ([] i:Cpu @ read.i?w -> MEMORY(1)) [] ([] i:Cpu @ write.i?w -> store.i.w -> done.i -> MEMORY(w)))) \ {|fetch, store, ..
   14 tau: left.right: unfolds KEEPING
-      ((KEEPING(0,1) [| {|forget|} |] (read!1!0 -> KEEPING(1,0) [] write!1?w -> KEPT(1,w) [] forget!1 -> KEEPING(1,0))) [| {|read, write, fetch, store, done|} |] (([] i:Cpu @ fetch!i!1 -> MEMORY(1)) [] ([] i:Cpu @ read!i?w -> MEMORY(1)) [] ([] i:Cpu @ write!i?w -> store!i!w -> done!i -> MEMORY(w)))) \ {|fetch, store, forget, done|}
+      ((KEEPING(0,1) [| {|forget|} |] (read.1.0 -> KEEPING(1,0) [] write.1?w -> KEPT(1,w) [] forget.1 -> KEEPING(1,0))) [| {|read, write, fetch, store, done|} |] (([] i:Cpu @ fetch.i.1 -> MEMORY(1)) [] ([] i:Cpu @ read.i?w -> MEMORY(1)) [] ([] i:Cpu @ write.i?w -> store.i.w -> done.i -> MEMORY(w)))) \ {|fetch, store, forget, done|}
   then it does read.1.0, and the specification cannot
   there the specification can do no more than {read.0.1,read.1.1,write.0.0,write.0.1,write.1.0,write.1.1}
 ",

@@ -44,17 +44,17 @@ assert MENDED :[divergence free]
   1 tau: unfolds FAULTY
       (STATIONS [| {|send, through, crash|} |] LINE) \ {|send, through, crash|}
   2 tau: right: unfolds LINE
-      .. through, crash|} |] (send!0 -> (through!0 -> LINE [] send!1 -> crash -> LINE) [] send!1 -> (through!1 -> LINE [] send!0 -> crash -> LINE))) \ {|send, through, ..
+      .. through, crash|} |] (send.0 -> (through.0 -> LINE [] send.1 -> crash -> LINE) [] send.1 -> (through.1 -> LINE [] send.0 -> crash -> LINE))) \ {|send, through, ..
   3 tau: left: unfolds STATIONS
       ((STATION(0) [| {crash} |] STATION(1)) [| {|send, through, ..
   4 tau: left.right: unfolds STATION
-      .. [| {crash} |] send!1 -> (through!1 -> got!1 -> STATION(1) [] crash -> STATION(1))) [| {|send, through, ..
+      .. [| {crash} |] send.1 -> (through.1 -> got.1 -> STATION(1) [] crash -> STATION(1))) [| {|send, through, ..
   5 tau: hidden send.1 by left.right, right
-      .. [| {crash} |] (through!1 -> got!1 -> STATION(1) [] crash -> STATION(1))) [| {|send, through, crash|} |] (through!1 -> LINE [] send!0 -> crash -> LINE)) \ {|send, through, ..
+      .. [| {crash} |] (through.1 -> got.1 -> STATION(1) [] crash -> STATION(1))) [| {|send, through, crash|} |] (through.1 -> LINE [] send.0 -> crash -> LINE)) \ {|send, through, ..
   6 tau: left.left: unfolds STATION
-      ((send!0 -> (through!0 -> got!0 -> STATION(0) [] crash -> STATION(0)) [| {crash} |] ..
+      ((send.0 -> (through.0 -> got.0 -> STATION(0) [] crash -> STATION(0)) [| {crash} |] ..
   7 tau: hidden send.0 by left.left, right
-      (((through!0 -> got!0 -> STATION(0) [] crash -> STATION(0)) [| {crash} |] (through!1 -> got!1 -> STATION(1) [] crash -> STATION(1))) [| {|send, through, crash|} |] crash -> LINE) \ {|send, through, ..
+      (((through.0 -> got.0 -> STATION(0) [] crash -> STATION(0)) [| {crash} |] (through.1 -> got.1 -> STATION(1) [] crash -> STATION(1))) [| {|send, through, crash|} |] crash -> LINE) \ {|send, through, ..
   8 tau: hidden crash by left.left, left.right, right
       ((STATION(0) [| {crash} |] STATION(1)) [| {|send, through, crash|} |] LINE) \ {|send, ..
   9 tau: right: unfolds LINE

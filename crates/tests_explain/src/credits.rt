@@ -40,41 +40,41 @@ assert BUFFER(0) [F= MENDED
   0 start
       FAULTY
       specification: BUFFER(0)
-      specification: 0 < 2 & put -> BUFFER(0 + 1) [] 0 > 0 & get -> BUFFER(0 - 1)
+      specification: true & put -> BUFFER(1) [] false & get -> BUFFER(-1)
   1 tau: unfolds FAULTY
       (SENDER(2) [| {put, credit} |] FORGETFUL(0)) \ {credit}
   2 tau: right: unfolds FORGETFUL
-      .. {put, credit} |] (0 < 2 & put -> FORGETFUL(0 + 1) [] 0 == 1 & get -> credit -> FORGETFUL(0) [] 0 == 2 & get -> FORGETFUL(1))) \ {credit}
+      .. {put, credit} |] (true & put -> FORGETFUL(1) [] false & get -> credit -> FORGETFUL(0) [] false & get -> FORGETFUL(1))) \ {credit}
   3 tau: left: unfolds SENDER
-      ((2 > 0 & put -> SENDER(2 - 1) [] credit -> SENDER(2 + 1)) [| {put, credit} ..
+      ((true & put -> SENDER(1) [] credit -> SENDER(3)) [| {put, credit} ..
   4 put by left, right
-      (SENDER(2 - 1) [| {put, credit} |] FORGETFUL(0 + 1)) \ {credit}
-      specification: BUFFER(0 + 1)
-      specification: 1 < 2 & put -> BUFFER(1 + 1) [] 1 > 0 & get -> BUFFER(1 - 1)
+      (SENDER(1) [| {put, credit} |] FORGETFUL(1)) \ {credit}
+      specification: BUFFER(1)
+      specification: true & put -> BUFFER(2) [] true & get -> BUFFER(0)
   5 tau: right: unfolds FORGETFUL
-      .. {put, credit} |] (1 < 2 & put -> FORGETFUL(1 + 1) [] 1 == 1 & get -> credit -> FORGETFUL(0) [] 1 == 2 & get -> FORGETFUL(1))) \ {credit}
+      .. {put, credit} |] (true & put -> FORGETFUL(2) [] true & get -> credit -> FORGETFUL(0) [] false & get -> FORGETFUL(1))) \ {credit}
   6 tau: left: unfolds SENDER
-      ((1 > 0 & put -> SENDER(1 - 1) [] credit -> SENDER(1 + 1)) [| {put, credit} ..
+      ((true & put -> SENDER(0) [] credit -> SENDER(2)) [| {put, credit} ..
   7 put by left, right
-      (SENDER(1 - 1) [| {put, credit} |] FORGETFUL(1 + 1)) \ {credit}
-      specification: BUFFER(1 + 1)
-      specification: 2 < 2 & put -> BUFFER(2 + 1) [] 2 > 0 & get -> BUFFER(2 - 1)
+      (SENDER(0) [| {put, credit} |] FORGETFUL(2)) \ {credit}
+      specification: BUFFER(2)
+      specification: false & put -> BUFFER(3) [] true & get -> BUFFER(1)
   8 tau: right: unfolds FORGETFUL
-      .. {put, credit} |] (2 < 2 & put -> FORGETFUL(2 + 1) [] 2 == 1 & get -> credit -> FORGETFUL(0) [] 2 == 2 & get -> FORGETFUL(1))) \ {credit}
+      .. {put, credit} |] (false & put -> FORGETFUL(3) [] false & get -> credit -> FORGETFUL(0) [] true & get -> FORGETFUL(1))) \ {credit}
   9 tau: left: unfolds SENDER
-      ((0 > 0 & put -> SENDER(0 - 1) [] credit -> SENDER(0 + 1)) [| {put, credit} ..
+      ((false & put -> SENDER(-1) [] credit -> SENDER(1)) [| {put, credit} ..
   10 get by right
       .. {put, credit} |] FORGETFUL(1)) \ {credit}
-      specification: BUFFER(2 - 1)
-      specification: 1 < 2 & put -> BUFFER(1 + 1) [] 1 > 0 & get -> BUFFER(1 - 1)
+      specification: BUFFER(1)
+      specification: true & put -> BUFFER(2) [] true & get -> BUFFER(0)
   11 tau: right: unfolds FORGETFUL
-      ((0 > 0 & put -> SENDER(0 - 1) [] credit -> SENDER(0 + 1)) [| {put, credit} |] (1 < 2 & put -> FORGETFUL(1 + 1) [] 1 == 1 & get -> credit -> FORGETFUL(0) [] 1 == 2 & get -> FORGETFUL(1))) \ {credit}
+      ((false & put -> SENDER(-1) [] credit -> SENDER(1)) [| {put, credit} |] (true & put -> FORGETFUL(2) [] true & get -> credit -> FORGETFUL(0) [] false & get -> FORGETFUL(1))) \ {credit}
   then it may refuse all but {get}, and the specification may not
   there the specification may offer {put,get}, of which {put} is lacking
   by itself left can do {credit}
-      0 > 0 & put -> SENDER(0 - 1) [] credit -> SENDER(0 + 1)
+      false & put -> SENDER(-1) [] credit -> SENDER(1)
   by itself right can do {put,get}
-      1 < 2 & put -> FORGETFUL(1 + 1) [] 1 == 1 & get -> credit -> FORGETFUL(0) [] 1 == 2 & get -> FORGETFUL(1)
+      true & put -> FORGETFUL(2) [] true & get -> credit -> FORGETFUL(0) [] false & get -> FORGETFUL(1)
 3 holds  assert BUFFER(0) [F= MENDED
 ",
 };

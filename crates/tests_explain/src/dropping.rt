@@ -39,23 +39,23 @@ assert BUFFER(<>) [F= MENDED
   0 start
       FAULTY
       specification: BUFFER(<>)
-      specification: #<> < 2 & put?x -> BUFFER(<> ^ <x>) [] #<> > 0 & get!head(<>) -> BUFFER(tail(<>))
+      specification: true & put?x -> BUFFER(<> ^ <x>) [] false & get.head(<>) -> BUFFER(tail(<>))
   1 tau: unfolds FAULTY
       (DROPPING(<>) [| {|pass|} |] CELL) \ {|pass|}
   2 tau: left: unfolds DROPPING
-      ((#<> < 1 & put?x -> DROPPING(<> ^ <x>) [] #<> > 0 & pass!head(<>) -> DROPPING(tail(<>)) [] #<> == 1 & put?x -> DROPPING(tail(<>) ^ <x>)) [| {|pass|} |] ..
+      ((true & put?x -> DROPPING(<> ^ <x>) [] false & pass.head(<>) -> DROPPING(tail(<>)) [] false & put?x -> DROPPING(tail(<>) ^ <x>)) [| {|pass|} |] ..
   3 put.0 by left
-      (DROPPING(<> ^ <0>) [| {|pass|} |] ..
-      specification: BUFFER(<> ^ <0>)
-      specification: #<0> < 2 & put?x -> BUFFER(<0> ^ <x>) [] #<0> > 0 & get!head(<0>) -> BUFFER(tail(<0>))
+      (DROPPING(<0>) [| {|pass|} |] ..
+      specification: BUFFER(<0>)
+      specification: true & put?x -> BUFFER(<0> ^ <x>) [] true & get.0 -> BUFFER(<>)
   4 tau: left: unfolds DROPPING
-      ((#<0> < 1 & put?x -> DROPPING(<0> ^ <x>) [] #<0> > 0 & pass!head(<0>) -> DROPPING(tail(<0>)) [] #<0> == 1 & put?x -> DROPPING(tail(<0>) ^ <x>)) [| {|pass|} |] ..
+      ((false & put?x -> DROPPING(<0> ^ <x>) [] true & pass.0 -> DROPPING(<>) [] true & put?x -> DROPPING(tail(<0>) ^ <x>)) [| {|pass|} |] ..
   5 put.0 by left
-      (DROPPING(tail(<0>) ^ <0>) [| {|pass|} |] ..
-      specification: BUFFER(<0> ^ <0>)
-      specification: #<0,0> < 2 & put?x -> BUFFER(<0,0> ^ <x>) [] #<0,0> > 0 & get!head(<0,0>) -> BUFFER(tail(<0,0>))
+      (DROPPING(<0>) [| {|pass|} |] ..
+      specification: BUFFER(<0,0>)
+      specification: false & put?x -> BUFFER(<0,0> ^ <x>) [] true & get.0 -> BUFFER(<0>)
   6 tau: left: unfolds DROPPING
-      ((#<0> < 1 & put?x -> DROPPING(<0> ^ <x>) [] #<0> > 0 & pass!head(<0>) -> DROPPING(tail(<0>)) [] #<0> == 1 & put?x -> DROPPING(tail(<0>) ^ <x>)) [| {|pass|} |] CELL) \ {|pass|}
+      ((false & put?x -> DROPPING(<0> ^ <x>) [] true & pass.0 -> DROPPING(<>) [] true & put?x -> DROPPING(tail(<0>) ^ <x>)) [| {|pass|} |] CELL) \ {|pass|}
   then it does put.0, and the specification cannot
   there the specification can do no more than {get.0}
 ",

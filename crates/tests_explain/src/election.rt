@@ -40,27 +40,27 @@ assert ONCE [T= RING(1,3,2)
   0 start
       RING(1,3,3)
       specification: ONCE
-      specification: [] i:Place @ leader!i -> STOP
+      specification: [] i:Place @ leader.i -> STOP
   1 tau: unfolds RING
       ((MEMBER(0,1) [| {|link.0|} |] MEMBER(1,3)) [| {|link.1, link.2|} |] MEMBER(2,3)) \ {|link|}
   2 tau: right: unfolds MEMBER
-      .. {|link.1, link.2|} |] (link!2!3 -> LISTENING(2,3) [] link!((2 + 2) % 3)?m -> (if m > 3 then link!2!m -> FOLLOWER(2) else MEMBER(2,3)))) \ {|link|}
+      .. {|link.1, link.2|} |] (link.2.3 -> LISTENING(2,3) [] link.1?m -> (if m > 3 then link.2.m -> FOLLOWER(2) else MEMBER(2,3)))) \ {|link|}
   3 tau: left.right: unfolds MEMBER
-      .. [| {|link.0|} |] (link!1!3 -> LISTENING(1,3) [] link!((1 + 2) % 3)?m -> (if m > 3 then link!1!m -> FOLLOWER(1) else MEMBER(1,3)))) [| {|link.1, link.2|} ..
+      .. [| {|link.0|} |] (link.1.3 -> LISTENING(1,3) [] link.0?m -> (if m > 3 then link.1.m -> FOLLOWER(1) else MEMBER(1,3)))) [| {|link.1, link.2|} ..
   4 tau: left.left: unfolds MEMBER
-      (((link!0!1 -> LISTENING(0,1) [] link!((0 + 2) % 3)?m -> (if m > 1 then link!0!m -> FOLLOWER(0) else MEMBER(0,1))) [| {|link.0|} |] ..
+      (((link.0.1 -> LISTENING(0,1) [] link.2?m -> (if m > 1 then link.0.m -> FOLLOWER(0) else MEMBER(0,1))) [| {|link.0|} |] ..
   5 tau: hidden link.2.3 by left.left, right
-      (((if 3 > 1 then link!0!3 -> FOLLOWER(0) else MEMBER(0,1)) [| {|link.0|} |] (link!1!3 -> LISTENING(1,3) [] link!((1 + 2) % 3)?m -> (if m > 3 then link!1!m -> FOLLOWER(1) else MEMBER(1,3)))) [| {|link. .. 41 more characters
+      (((if true then link.0.3 -> FOLLOWER(0) else MEMBER(0,1)) [| {|link.0|} |] (link.1.3 -> LISTENING(1,3) [] link.0?m -> (if m > 3 then link.1.m -> FOLLOWER(1) else MEMBER(1,3)))) [| {|link.1, link.2|} | .. 28 more characters
   6 tau: right: unfolds LISTENING
-      .. {|link.1, link.2|} |] link!((2 + 2) % 3)?m -> (if m == 3 then leader!2 -> FOLLOWER(2) else if m > 3 then link!2!m -> FOLLOWER(2) else LISTENING(2,3))) \ {|link|}
+      .. {|link.1, link.2|} |] link.1?m -> (if m == 3 then leader.2 -> FOLLOWER(2) else if m > 3 then link.2.m -> FOLLOWER(2) else LISTENING(2,3))) \ {|link|}
   7 tau: hidden link.1.3 by left.right, right
-      .. [| {|link.0|} |] LISTENING(1,3)) [| {|link.1, link.2|} |] (if 3 == 3 then leader!2 -> FOLLOWER(2) else if 3 > 3 then link!2!3 -> FOLLOWER(2) else ..
+      .. [| {|link.0|} |] LISTENING(1,3)) [| {|link.1, link.2|} |] (if true then leader.2 -> FOLLOWER(2) else if false then link.2.3 -> FOLLOWER(2) else ..
   8 tau: left.right: unfolds LISTENING
-      .. [| {|link.0|} |] link!((1 + 2) % 3)?m -> (if m == 3 then leader!1 -> FOLLOWER(1) else if m > 3 then link!1!m -> FOLLOWER(1) else LISTENING(1,3))) [| {|link.1, link.2|} ..
+      .. [| {|link.0|} |] link.0?m -> (if m == 3 then leader.1 -> FOLLOWER(1) else if m > 3 then link.1.m -> FOLLOWER(1) else LISTENING(1,3))) [| {|link.1, link.2|} ..
   9 tau: hidden link.0.3 by left.left, left.right
-      ((FOLLOWER(0) [| {|link.0|} |] (if 3 == 3 then leader!1 -> FOLLOWER(1) else if 3 > 3 then link!1!3 -> FOLLOWER(1) else ..
+      ((FOLLOWER(0) [| {|link.0|} |] (if true then leader.1 -> FOLLOWER(1) else if false then link.1.3 -> FOLLOWER(1) else ..
   10 leader.1 by left.right
-      ((FOLLOWER(0) [| {|link.0|} |] FOLLOWER(1)) [| {|link.1, link.2|} |] (if 3 == 3 then leader!2 -> FOLLOWER(2) else if 3 > 3 then link!2!3 -> FOLLOWER(2) else LISTENING(2,3))) \ {|link|}
+      ((FOLLOWER(0) [| {|link.0|} |] FOLLOWER(1)) [| {|link.1, link.2|} |] (if true then leader.2 -> FOLLOWER(2) else if false then link.2.3 -> FOLLOWER(2) else LISTENING(2,3))) \ {|link|}
       specification: STOP
   then it does leader.2, and the specification cannot
   there the specification can do no more than {}

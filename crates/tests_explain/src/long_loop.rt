@@ -13,105 +13,105 @@ pub(crate) const LONG_LOOP: Row = Row {
       P(0)
   then it goes on with tau for ever:
   1 tau: unfolds P
-      P((0 + 1) % 60)
+      P(1)
   2 tau: unfolds P
-      P((1 + 1) % ..
+      P(2)
   3 tau: unfolds P
-      P((2 + 1) % ..
+      P(3)
   4 tau: unfolds P
-      P((3 + 1) % ..
+      P(4)
   5 tau: unfolds P
-      P((4 + 1) % ..
+      P(5)
   6 tau: unfolds P
-      P((5 + 1) % ..
+      P(6)
   7 tau: unfolds P
-      P((6 + 1) % ..
+      P(7)
   8 tau: unfolds P
-      P((7 + 1) % ..
+      P(8)
   9 tau: unfolds P
-      P((8 + 1) % ..
+      P(9)
   10 tau: unfolds P
-      P((9 + 1) % ..
+      P(10)
   11 tau: unfolds P
-      P((10 + 1) % ..
+      P(11)
   12 tau: unfolds P
-      P((11 + 1) % ..
+      P(12)
   13 tau: unfolds P
-      P((12 + 1) % ..
+      P(13)
   14 tau: unfolds P
-      P((13 + 1) % ..
+      P(14)
   15 tau: unfolds P
-      P((14 + 1) % ..
+      P(15)
   16 tau: unfolds P
-      P((15 + 1) % ..
+      P(16)
   17 tau: unfolds P
-      P((16 + 1) % ..
+      P(17)
   18 tau: unfolds P
-      P((17 + 1) % ..
+      P(18)
   19 tau: unfolds P
-      P((18 + 1) % ..
+      P(19)
   20 tau: unfolds P
-      P((19 + 1) % ..
+      P(20)
   21 tau: unfolds P
-      P((20 + 1) % ..
+      P(21)
   22 tau: unfolds P
-      P((21 + 1) % ..
+      P(22)
   23 tau: unfolds P
-      P((22 + 1) % ..
+      P(23)
   24 tau: unfolds P
-      P((23 + 1) % ..
+      P(24)
   25 tau: unfolds P
-      P((24 + 1) % ..
+      P(25)
   26 tau: unfolds P
-      P((25 + 1) % ..
+      P(26)
   27 tau: unfolds P
-      P((26 + 1) % ..
+      P(27)
   28 tau: unfolds P
-      P((27 + 1) % ..
+      P(28)
   29 tau: unfolds P
-      P((28 + 1) % ..
+      P(29)
   30 tau: unfolds P
-      P((29 + 1) % ..
+      P(30)
   31 tau: unfolds P
-      P((30 + 1) % ..
+      P(31)
   32 tau: unfolds P
-      P((31 + 1) % ..
+      P(32)
   33 tau: unfolds P
-      P((32 + 1) % ..
+      P(33)
   34 tau: unfolds P
-      P((33 + 1) % ..
+      P(34)
   35 tau: unfolds P
-      P((34 + 1) % ..
+      P(35)
   36 tau: unfolds P
-      P((35 + 1) % ..
+      P(36)
   37 tau: unfolds P
-      P((36 + 1) % ..
+      P(37)
   38 tau: unfolds P
-      P((37 + 1) % ..
+      P(38)
   39 tau: unfolds P
-      P((38 + 1) % ..
+      P(39)
   40 tau: unfolds P
-      P((39 + 1) % ..
+      P(40)
   41 tau: unfolds P
-      P((40 + 1) % ..
+      P(41)
   42 tau: unfolds P
-      P((41 + 1) % ..
+      P(42)
   43 tau: unfolds P
-      P((42 + 1) % ..
+      P(43)
   44 tau: unfolds P
-      P((43 + 1) % ..
+      P(44)
   45 tau: unfolds P
-      P((44 + 1) % ..
+      P(45)
   46 tau: unfolds P
-      P((45 + 1) % ..
+      P(46)
   47 tau: unfolds P
-      P((46 + 1) % ..
+      P(47)
   48 tau: unfolds P
-      P((47 + 1) % ..
+      P(48)
   49 tau: unfolds P
-      P((48 + 1) % ..
+      P(49)
   50 tau: unfolds P
-      P((49 + 1) % ..
+      P(50)
   .. 11 more taus, back to state 1
 ",
 };

@@ -49,62 +49,62 @@ assert BUFFER [T= MENDED
   0 start
       FAULTY
       specification: BUFFER
-      specification: put?x -> get!x -> BUFFER
+      specification: put?x -> get.x -> BUFFER
   1 tau: unfolds FAULTY
       ((SENDER(0) ||| FORGETFUL(0)) [| {|send, receive, reply, confirm, lost|} |] LINES) \ {|send, receive, reply, confirm, lost|}
   2 tau: right: unfolds LINES
       .. confirm, lost|} |] (LINE ||| BACK)) \ {|send, receive, ..
   3 tau: right.right: unfolds BACK
-      .. |] (LINE ||| reply?n -> (confirm!n -> BACK [] lost -> BACK))) \ {|send, receive, ..
+      .. |] (LINE ||| reply?n -> (confirm.n -> BACK [] lost -> BACK))) \ {|send, receive, ..
   4 tau: right.left: unfolds LINE
-      .. confirm, lost|} |] (send?n?x -> (receive!n!x -> LINE [] lost -> LINE) ||| reply?n -> ..
+      .. confirm, lost|} |] (send?n?x -> (receive.n.x -> LINE [] lost -> LINE) ||| reply?n -> ..
   5 tau: left.right: unfolds FORGETFUL
-      ((SENDER(0) ||| receive?m?x -> (if m == 0 then get!x -> reply!m -> FORGETFUL(1 - 0) else reply!m -> FORGETFUL(1 - 0))) [| {|send, receive, ..
+      ((SENDER(0) ||| receive?m?x -> (if m == 0 then get.x -> reply.m -> FORGETFUL(1) else reply.m -> FORGETFUL(1))) [| {|send, receive, ..
   6 tau: left.left: unfolds SENDER
       ((put?x -> SENDING(0,x) ||| receive?m?x -> ..
   7 put.0 by left.left
       ((SENDING(0,0) ||| receive?m?x -> ..
-      specification: get!0 -> BUFFER
+      specification: get.0 -> BUFFER
   8 tau: left.left: unfolds SENDING
-      ((send!0!0 -> (confirm?m -> (if m == 0 then SENDER(1 - 0) else SENDING(0,0)) [] lost -> SENDING(0,0)) ||| receive?m?x -> ..
+      ((send.0.0 -> (confirm?m -> (if m == 0 then SENDER(1) else SENDING(0,0)) [] lost -> SENDING(0,0)) ||| receive?m?x -> ..
   9 tau: hidden send.0.0 by left.left, right.left
-      (((confirm?m -> (if m == 0 then SENDER(1 - 0) else SENDING(0,0)) [] lost -> SENDING(0,0)) ||| receive?m?x -> (if m == 0 then get!x -> reply!m -> FORGETFUL(1 - 0) else reply!m -> FORGETFUL(1 - 0))) [|  .. 70 more characters
+      (((confirm?m -> (if m == 0 then SENDER(1) else SENDING(0,0)) [] lost -> SENDING(0,0)) ||| receive?m?x -> (if m == 0 then get.x -> reply.m -> FORGETFUL(1) else reply.m -> FORGETFUL(1))) [| {|send, rece .. 58 more characters
   10 tau: hidden receive.0.0 by left.right, right.left
-      .. -> SENDING(0,0)) ||| (if 0 == 0 then get!0 -> reply!0 -> FORGETFUL(1 - 0) else reply!0 -> FORGETFUL(1 - 0))) [| {|send, receive, reply, confirm, lost|} |] (LINE ||| reply?n -> ..
+      .. -> SENDING(0,0)) ||| (if true then get.0 -> reply.0 -> FORGETFUL(1) else reply.0 -> FORGETFUL(1))) [| {|send, receive, reply, confirm, lost|} |] (LINE ||| reply?n -> ..
   11 tau: right.left: unfolds LINE
-      .. confirm, lost|} |] (send?n?x -> (receive!n!x -> LINE [] lost -> LINE) ||| reply?n -> ..
+      .. confirm, lost|} |] (send?n?x -> (receive.n.x -> LINE [] lost -> LINE) ||| reply?n -> ..
   12 get.0 by left.right
-      .. -> SENDING(0,0)) ||| reply!0 -> FORGETFUL(1 - 0)) [| {|send, receive, ..
+      .. -> SENDING(0,0)) ||| reply.0 -> FORGETFUL(1)) [| {|send, receive, ..
       specification: BUFFER
-      specification: put?x -> get!x -> BUFFER
+      specification: put?x -> get.x -> BUFFER
   13 tau: hidden reply.0 by left.right, right.right
-      .. -> SENDING(0,0)) ||| FORGETFUL(1 - 0)) [| {|send, receive, reply, confirm, lost|} |] (send?n?x -> (receive!n!x -> LINE [] lost -> LINE) ||| (confirm!0 -> BACK [] ..
+      .. -> SENDING(0,0)) ||| FORGETFUL(1)) [| {|send, receive, reply, confirm, lost|} |] (send?n?x -> (receive.n.x -> LINE [] lost -> LINE) ||| (confirm.0 -> BACK [] ..
   14 tau: hidden lost by left.left, right.right
-      ((SENDING(0,0) ||| FORGETFUL(1 - 0)) [| {|send, receive, reply, confirm, lost|} |] (send?n?x -> (receive!n!x -> LINE [] lost -> LINE) ||| BACK)) \ {|send, receive, ..
+      ((SENDING(0,0) ||| FORGETFUL(1)) [| {|send, receive, reply, confirm, lost|} |] (send?n?x -> (receive.n.x -> LINE [] lost -> LINE) ||| BACK)) \ {|send, receive, ..
   15 tau: right.right: unfolds BACK
-      .. -> LINE) ||| reply?n -> (confirm!n -> BACK [] lost -> BACK))) \ {|send, receive, ..
+      .. -> LINE) ||| reply?n -> (confirm.n -> BACK [] lost -> BACK))) \ {|send, receive, ..
   16 tau: left.right: unfolds FORGETFUL
-      ((SENDING(0,0) ||| receive?m?x -> (if m == 1 then get!x -> reply!m -> FORGETFUL(1 - 1) else reply!m -> FORGETFUL(1 - 1))) [| {|send, receive, ..
+      ((SENDING(0,0) ||| receive?m?x -> (if m == 1 then get.x -> reply.m -> FORGETFUL(0) else reply.m -> FORGETFUL(0))) [| {|send, receive, ..
   17 tau: left.left: unfolds SENDING
-      ((send!0!0 -> (confirm?m -> (if m == 0 then SENDER(1 - 0) else SENDING(0,0)) [] lost -> SENDING(0,0)) ||| receive?m?x -> ..
+      ((send.0.0 -> (confirm?m -> (if m == 0 then SENDER(1) else SENDING(0,0)) [] lost -> SENDING(0,0)) ||| receive?m?x -> ..
   18 tau: hidden send.0.0 by left.left, right.left
-      (((confirm?m -> (if m == 0 then SENDER(1 - 0) else SENDING(0,0)) [] lost -> SENDING(0,0)) ||| receive?m?x -> (if m == 1 then get!x -> reply!m -> FORGETFUL(1 - 1) else reply!m -> FORGETFUL(1 - 1))) [|  .. 70 more characters
+      (((confirm?m -> (if m == 0 then SENDER(1) else SENDING(0,0)) [] lost -> SENDING(0,0)) ||| receive?m?x -> (if m == 1 then get.x -> reply.m -> FORGETFUL(0) else reply.m -> FORGETFUL(0))) [| {|send, rece .. 58 more characters
   19 tau: hidden receive.0.0 by left.right, right.left
-      .. -> SENDING(0,0)) ||| (if 0 == 1 then get!0 -> reply!0 -> FORGETFUL(1 - 1) else reply!0 -> FORGETFUL(1 - 1))) [| {|send, receive, reply, confirm, lost|} |] (LINE ||| reply?n -> ..
+      .. -> SENDING(0,0)) ||| (if false then get.0 -> reply.0 -> FORGETFUL(0) else reply.0 -> FORGETFUL(0))) [| {|send, receive, reply, confirm, lost|} |] (LINE ||| reply?n -> ..
   20 tau: hidden reply.0 by left.right, right.right
-      .. -> SENDING(0,0)) ||| FORGETFUL(1 - 1)) [| {|send, receive, reply, confirm, lost|} |] (LINE ||| (confirm!0 -> BACK [] ..
+      .. -> SENDING(0,0)) ||| FORGETFUL(0)) [| {|send, receive, reply, confirm, lost|} |] (LINE ||| (confirm.0 -> BACK [] ..
   21 tau: hidden lost by left.left, right.right
-      ((SENDING(0,0) ||| FORGETFUL(1 - 1)) [| {|send, receive, reply, confirm, lost|} |] (LINE ||| BACK)) \ {|send, receive, ..
+      ((SENDING(0,0) ||| FORGETFUL(0)) [| {|send, receive, reply, confirm, lost|} |] (LINE ||| BACK)) \ {|send, receive, ..
   22 tau: right.left: unfolds LINE
-      .. confirm, lost|} |] (send?n?x -> (receive!n!x -> LINE [] lost -> LINE) ||| BACK)) \ ..
+      .. confirm, lost|} |] (send?n?x -> (receive.n.x -> LINE [] lost -> LINE) ||| BACK)) \ ..
   23 tau: left.right: unfolds FORGETFUL
-      ((SENDING(0,0) ||| receive?m?x -> (if m == 0 then get!x -> reply!m -> FORGETFUL(1 - 0) else reply!m -> FORGETFUL(1 - 0))) [| {|send, receive, ..
+      ((SENDING(0,0) ||| receive?m?x -> (if m == 0 then get.x -> reply.m -> FORGETFUL(1) else reply.m -> FORGETFUL(1))) [| {|send, receive, ..
   24 tau: left.left: unfolds SENDING
-      ((send!0!0 -> (confirm?m -> (if m == 0 then SENDER(1 - 0) else SENDING(0,0)) [] lost -> SENDING(0,0)) ||| receive?m?x -> ..
+      ((send.0.0 -> (confirm?m -> (if m == 0 then SENDER(1) else SENDING(0,0)) [] lost -> SENDING(0,0)) ||| receive?m?x -> ..
   25 tau: hidden send.0.0 by left.left, right.left
-      (((confirm?m -> (if m == 0 then SENDER(1 - 0) else SENDING(0,0)) [] lost -> SENDING(0,0)) ||| receive?m?x -> (if m == 0 then get!x -> reply!m -> FORGETFUL(1 - 0) else reply!m -> FORGETFUL(1 - 0))) [|  .. 70 more characters
+      (((confirm?m -> (if m == 0 then SENDER(1) else SENDING(0,0)) [] lost -> SENDING(0,0)) ||| receive?m?x -> (if m == 0 then get.x -> reply.m -> FORGETFUL(1) else reply.m -> FORGETFUL(1))) [| {|send, rece .. 58 more characters
   26 tau: hidden receive.0.0 by left.right, right.left
-      (((confirm?m -> (if m == 0 then SENDER(1 - 0) else SENDING(0,0)) [] lost -> SENDING(0,0)) ||| (if 0 == 0 then get!0 -> reply!0 -> FORGETFUL(1 - 0) else reply!0 -> FORGETFUL(1 - 0))) [| {|send, receive, reply, confirm, lost|} |] (LINE ||| BACK)) \ {|send, receive, reply, confirm, lost|}
+      (((confirm?m -> (if m == 0 then SENDER(1) else SENDING(0,0)) [] lost -> SENDING(0,0)) ||| (if true then get.0 -> reply.0 -> FORGETFUL(1) else reply.0 -> FORGETFUL(1))) [| {|send, receive, reply, confirm, lost|} |] (LINE ||| BACK)) \ {|send, receive, reply, confirm, lost|}
   then it does get.0, and the specification cannot
   there the specification can do no more than {put.0,put.1}
 ",

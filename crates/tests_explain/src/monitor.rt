@@ -61,73 +61,73 @@ assert MENDED :[deadlock free]
   3 tau: right.right.right: unfolds BEDS
       .. ||| (PLACE(0) ||| (BED(0) ||| BED(1))))) \ {|lock, unlock, ..
   4 tau: right.right.right.right: unfolds BED
-      .. ||| (BED(0) ||| (sleep!1 -> bell!1 -> awake!1 -> BED(1) [] bell!1 -> BED(1)))))) \ {|lock, unlock, ..
+      .. ||| (BED(0) ||| (sleep.1 -> bell.1 -> awake.1 -> BED(1) [] bell.1 -> BED(1)))))) \ {|lock, unlock, ..
   5 tau: right.right.right.left: unfolds BED
-      .. ||| (PLACE(0) ||| ((sleep!0 -> bell!0 -> awake!0 -> BED(0) [] bell!0 -> BED(0)) ||| (sleep!1 -> ..
+      .. ||| (PLACE(0) ||| ((sleep.0 -> bell.0 -> awake.0 -> BED(0) [] bell.0 -> BED(0)) ||| (sleep.1 -> ..
   6 tau: right.right.left: unfolds PLACE
-      .. |] (LOCK ||| ((full!(0 == 1) -> PLACE(0) [] empty!(0 == 0) -> PLACE(0) [] 0 == 0 & put -> PLACE(1) [] 0 == 1 & get -> PLACE(0)) ||| ((sleep!0 -> ..
+      .. |] (LOCK ||| ((full.false -> PLACE(0) [] empty.true -> PLACE(0) [] true & put -> PLACE(1) [] false & get -> PLACE(0)) ||| ((sleep.0 -> ..
   7 tau: right.left: unfolds LOCK
-      .. bell, awake|} |] (([] i:Who @ lock!i -> unlock!i -> LOCK) ||| ((full!(0 == ..
+      .. bell, awake|} |] (([] i:Who @ lock.i -> unlock.i -> LOCK) ||| ((full.false -> ..
   8 tau: left.right: unfolds CONSUMER
-      ((PRODUCER ||| lock!1 -> empty?e -> (if e then unlock!1 -> sleep!1 -> awake!1 -> CONSUMER else get -> bell!0 -> unlock!1 -> CONSUMER)) [| {|lock, unlock, ..
+      ((PRODUCER ||| lock.1 -> empty?e -> (if e then unlock.1 -> sleep.1 -> awake.1 -> CONSUMER else get -> bell.0 -> unlock.1 -> CONSUMER)) [| {|lock, unlock, ..
   9 tau: hidden lock.1 by left.right, right.left
-      ((PRODUCER ||| empty?e -> (if e then unlock!1 -> sleep!1 -> awake!1 -> CONSUMER else get -> bell!0 -> unlock!1 -> CONSUMER)) [| {|lock, unlock, full, empty, put, get, sleep, bell, awake|} |] (unlock!1 .. 28 more characters
+      ((PRODUCER ||| empty?e -> (if e then unlock.1 -> sleep.1 -> awake.1 -> CONSUMER else get -> bell.0 -> unlock.1 -> CONSUMER)) [| {|lock, unlock, full, empty, put, get, sleep, bell, awake|} |] (unlock.1 .. 31 more characters
   10 tau: hidden empty.true by left.right, right.right.left
-      ((PRODUCER ||| (if true then unlock!1 -> sleep!1 -> awake!1 -> CONSUMER else get -> bell!0 -> unlock!1 -> CONSUMER)) [| {|lock, unlock, full, empty, put, get, sleep, bell, awake|} |] (unlock!1 -> LOCK .. 34 more characters
+      ((PRODUCER ||| (if true then unlock.1 -> sleep.1 -> awake.1 -> CONSUMER else get -> bell.0 -> unlock.1 -> CONSUMER)) [| {|lock, unlock, full, empty, put, get, sleep, bell, awake|} |] (unlock.1 -> LOCK .. 34 more characters
   11 tau: hidden unlock.1 by left.right, right.left
-      ((PRODUCER ||| sleep!1 -> awake!1 -> CONSUMER) [| {|lock, unlock, full, empty, put, get, sleep, bell, awake|} |] (LOCK ||| (PLACE(0) ||| ..
+      ((PRODUCER ||| sleep.1 -> awake.1 -> CONSUMER) [| {|lock, unlock, full, empty, put, get, sleep, bell, awake|} |] (LOCK ||| (PLACE(0) ||| ..
   12 tau: right.right.left: unfolds PLACE
-      .. |] (LOCK ||| ((full!(0 == 1) -> PLACE(0) [] empty!(0 == 0) -> PLACE(0) [] 0 == 0 & put -> PLACE(1) [] 0 == 1 & get -> PLACE(0)) ||| ((sleep!0 -> ..
+      .. |] (LOCK ||| ((full.false -> PLACE(0) [] empty.true -> PLACE(0) [] true & put -> PLACE(1) [] false & get -> PLACE(0)) ||| ((sleep.0 -> ..
   13 tau: right.left: unfolds LOCK
-      .. bell, awake|} |] (([] i:Who @ lock!i -> unlock!i -> LOCK) ||| ((full!(0 == ..
+      .. bell, awake|} |] (([] i:Who @ lock.i -> unlock.i -> LOCK) ||| ((full.false -> ..
   14 tau: left.left: unfolds PRODUCER
-      ((lock!0 -> full?f -> (if f then unlock!0 -> sleep!0 -> awake!0 -> PRODUCER else put -> bell!1 -> unlock!0 -> PRODUCER) ||| sleep!1 -> ..
+      ((lock.0 -> full?f -> (if f then unlock.0 -> sleep.0 -> awake.0 -> PRODUCER else put -> bell.1 -> unlock.0 -> PRODUCER) ||| sleep.1 -> ..
   15 tau: hidden lock.0 by left.left, right.left
-      ((full?f -> (if f then unlock!0 -> sleep!0 -> awake!0 -> PRODUCER else put -> bell!1 -> unlock!0 -> PRODUCER) ||| sleep!1 -> awake!1 -> CONSUMER) [| {|lock, unlock, full, empty, put, get, sleep, bell, .. 49 more characters
+      ((full?f -> (if f then unlock.0 -> sleep.0 -> awake.0 -> PRODUCER else put -> bell.1 -> unlock.0 -> PRODUCER) ||| sleep.1 -> awake.1 -> CONSUMER) [| {|lock, unlock, full, empty, put, get, sleep, bell, .. 52 more characters
   16 tau: hidden full.false by left.left, right.right.left
-      (((if false then unlock!0 -> sleep!0 -> awake!0 -> PRODUCER else put -> bell!1 -> unlock!0 -> PRODUCER) ||| sleep!1 -> awake!1 -> CONSUMER) [| {|lock, unlock, full, empty, put, get, sleep, bell, awake .. 57 more characters
+      (((if false then unlock.0 -> sleep.0 -> awake.0 -> PRODUCER else put -> bell.1 -> unlock.0 -> PRODUCER) ||| sleep.1 -> awake.1 -> CONSUMER) [| {|lock, unlock, full, empty, put, get, sleep, bell, awake .. 57 more characters
   17 tau: right.right.left: unfolds PLACE
-      .. -> LOCK ||| ((full!(0 == 1) -> PLACE(0) [] empty!(0 == 0) -> PLACE(0) [] 0 == 0 & put -> PLACE(1) [] 0 == 1 & get -> PLACE(0)) ||| ((sleep!0 -> ..
+      .. -> LOCK ||| ((full.false -> PLACE(0) [] empty.true -> PLACE(0) [] true & put -> PLACE(1) [] false & get -> PLACE(0)) ||| ((sleep.0 -> ..
   18 put by left.left, right.right.left
-      ((bell!1 -> unlock!0 -> PRODUCER ||| sleep!1 -> awake!1 -> CONSUMER) [| {|lock, unlock, full, empty, put, get, sleep, bell, awake|} |] (unlock!0 -> LOCK ||| (PLACE(1) ||| ((sleep!0 -> ..
+      ((bell.1 -> unlock.0 -> PRODUCER ||| sleep.1 -> awake.1 -> CONSUMER) [| {|lock, unlock, full, empty, put, get, sleep, bell, awake|} |] (unlock.0 -> LOCK ||| (PLACE(1) ||| ((sleep.0 -> ..
   19 tau: hidden bell.1 by left.left, right.right.right.right
-      ((unlock!0 -> PRODUCER ||| sleep!1 -> awake!1 -> CONSUMER) [| {|lock, unlock, full, empty, put, get, sleep, bell, awake|} |] (unlock!0 -> LOCK ||| (PLACE(1) ||| ((sleep!0 -> bell!0 -> awake!0 -> BED(0 .. 58 more characters
+      ((unlock.0 -> PRODUCER ||| sleep.1 -> awake.1 -> CONSUMER) [| {|lock, unlock, full, empty, put, get, sleep, bell, awake|} |] (unlock.0 -> LOCK ||| (PLACE(1) ||| ((sleep.0 -> bell.0 -> awake.0 -> BED(0 .. 58 more characters
   20 tau: hidden unlock.0 by left.left, right.left
-      ((PRODUCER ||| sleep!1 -> awake!1 -> CONSUMER) [| {|lock, unlock, full, empty, put, get, sleep, bell, awake|} |] (LOCK ||| (PLACE(1) ||| ..
+      ((PRODUCER ||| sleep.1 -> awake.1 -> CONSUMER) [| {|lock, unlock, full, empty, put, get, sleep, bell, awake|} |] (LOCK ||| (PLACE(1) ||| ..
   21 tau: right.right.right.right: unfolds BED
-      .. -> BED(0)) ||| (sleep!1 -> bell!1 -> awake!1 -> BED(1) [] bell!1 -> BED(1)))))) \ {|lock, unlock, ..
+      .. -> BED(0)) ||| (sleep.1 -> bell.1 -> awake.1 -> BED(1) [] bell.1 -> BED(1)))))) \ {|lock, unlock, ..
   22 tau: right.right.left: unfolds PLACE
-      .. |] (LOCK ||| ((full!(1 == 1) -> PLACE(1) [] empty!(1 == 0) -> PLACE(1) [] 1 == 0 & put -> PLACE(1) [] 1 == 1 & get -> PLACE(0)) ||| ((sleep!0 -> ..
+      .. |] (LOCK ||| ((full.true -> PLACE(1) [] empty.false -> PLACE(1) [] false & put -> PLACE(1) [] true & get -> PLACE(0)) ||| ((sleep.0 -> ..
   23 tau: right.left: unfolds LOCK
-      .. bell, awake|} |] (([] i:Who @ lock!i -> unlock!i -> LOCK) ||| ((full!(1 == ..
+      .. bell, awake|} |] (([] i:Who @ lock.i -> unlock.i -> LOCK) ||| ((full.true -> ..
   24 tau: hidden sleep.1 by left.right, right.right.right.right
-      ((PRODUCER ||| awake!1 -> CONSUMER) [| {|lock, unlock, full, empty, put, get, sleep, bell, awake|} |] (([] i:Who @ lock!i -> unlock!i -> LOCK) ||| ((full!(1 == 1) -> PLACE(1) [] empty!(1 == 0) -> PLAC .. 184 more characters
+      ((PRODUCER ||| awake.1 -> CONSUMER) [| {|lock, unlock, full, empty, put, get, sleep, bell, awake|} |] (([] i:Who @ lock.i -> unlock.i -> LOCK) ||| ((full.true -> PLACE(1) [] empty.false -> PLACE(1) [] .. 174 more characters
   25 tau: left.left: unfolds PRODUCER
-      ((lock!0 -> full?f -> (if f then unlock!0 -> sleep!0 -> awake!0 -> PRODUCER else put -> bell!1 -> unlock!0 -> PRODUCER) ||| awake!1 -> ..
+      ((lock.0 -> full?f -> (if f then unlock.0 -> sleep.0 -> awake.0 -> PRODUCER else put -> bell.1 -> unlock.0 -> PRODUCER) ||| awake.1 -> ..
   26 tau: hidden lock.0 by left.left, right.left
-      ((full?f -> (if f then unlock!0 -> sleep!0 -> awake!0 -> PRODUCER else put -> bell!1 -> unlock!0 -> PRODUCER) ||| awake!1 -> CONSUMER) [| {|lock, unlock, full, empty, put, get, sleep, bell, awake|} |] .. 38 more characters
+      ((full?f -> (if f then unlock.0 -> sleep.0 -> awake.0 -> PRODUCER else put -> bell.1 -> unlock.0 -> PRODUCER) ||| awake.1 -> CONSUMER) [| {|lock, unlock, full, empty, put, get, sleep, bell, awake|} |] .. 40 more characters
   27 tau: hidden full.true by left.left, right.right.left
-      (((if true then unlock!0 -> sleep!0 -> awake!0 -> PRODUCER else put -> bell!1 -> unlock!0 -> PRODUCER) ||| awake!1 -> CONSUMER) [| {|lock, unlock, full, empty, put, get, sleep, bell, awake|} |] (unloc .. 45 more characters
+      (((if true then unlock.0 -> sleep.0 -> awake.0 -> PRODUCER else put -> bell.1 -> unlock.0 -> PRODUCER) ||| awake.1 -> CONSUMER) [| {|lock, unlock, full, empty, put, get, sleep, bell, awake|} |] (unloc .. 45 more characters
   28 tau: hidden unlock.0 by left.left, right.left
-      ((sleep!0 -> awake!0 -> PRODUCER ||| awake!1 -> CONSUMER) [| {|lock, unlock, full, empty, put, get, sleep, bell, awake|} |] (LOCK ||| (PLACE(1) ||| ..
+      ((sleep.0 -> awake.0 -> PRODUCER ||| awake.1 -> CONSUMER) [| {|lock, unlock, full, empty, put, get, sleep, bell, awake|} |] (LOCK ||| (PLACE(1) ||| ..
   29 tau: right.right.left: unfolds PLACE
-      .. |] (LOCK ||| ((full!(1 == 1) -> PLACE(1) [] empty!(1 == 0) -> PLACE(1) [] 1 == 0 & put -> PLACE(1) [] 1 == 1 & get -> PLACE(0)) ||| ((sleep!0 -> ..
+      .. |] (LOCK ||| ((full.true -> PLACE(1) [] empty.false -> PLACE(1) [] false & put -> PLACE(1) [] true & get -> PLACE(0)) ||| ((sleep.0 -> ..
   30 tau: right.left: unfolds LOCK
-      .. bell, awake|} |] (([] i:Who @ lock!i -> unlock!i -> LOCK) ||| ((full!(1 == ..
+      .. bell, awake|} |] (([] i:Who @ lock.i -> unlock.i -> LOCK) ||| ((full.true -> ..
   31 tau: hidden sleep.0 by left.left, right.right.right.left
-      ((awake!0 -> PRODUCER ||| awake!1 -> CONSUMER) [| {|lock, unlock, full, empty, put, get, sleep, bell, awake|} |] (([] i:Who @ lock!i -> unlock!i -> LOCK) ||| ((full!(1 == 1) -> PLACE(1) [] empty!(1 == 0) -> PLACE(1) [] 1 == 0 & put -> PLACE(1) [] 1 == 1 & get -> PLACE(0)) ||| (bell!0 -> awake!0 -> BED(0) ||| bell!1 -> awake!1 -> BED(1))))) \ {|lock, unlock, full, empty, sleep, bell, awake|}
+      ((awake.0 -> PRODUCER ||| awake.1 -> CONSUMER) [| {|lock, unlock, full, empty, put, get, sleep, bell, awake|} |] (([] i:Who @ lock.i -> unlock.i -> LOCK) ||| ((full.true -> PLACE(1) [] empty.false -> PLACE(1) [] false & put -> PLACE(1) [] true & get -> PLACE(0)) ||| (bell.0 -> awake.0 -> BED(0) ||| bell.1 -> awake.1 -> BED(1))))) \ {|lock, unlock, full, empty, sleep, bell, awake|}
   then it can do nothing
   by itself left.left can do {awake.0}
-      awake!0 -> PRODUCER
+      awake.0 -> PRODUCER
   by itself left.right can do {awake.1}
-      awake!1 -> CONSUMER
+      awake.1 -> CONSUMER
   by itself right.left can do {lock.0,lock.1}
-      [] i:Who @ lock!i -> unlock!i -> LOCK
+      [] i:Who @ lock.i -> unlock.i -> LOCK
   by itself right.right.left can do {full.true,empty.false,get}
-      full!(1 == 1) -> PLACE(1) [] empty!(1 == 0) -> PLACE(1) [] 1 == 0 & put -> PLACE(1) [] 1 == 1 & get -> PLACE(0)
+      full.true -> PLACE(1) [] empty.false -> PLACE(1) [] false & put -> PLACE(1) [] true & get -> PLACE(0)
   by itself right.right.right.left can do {bell.0}
-      bell!0 -> awake!0 -> BED(0)
+      bell.0 -> awake.0 -> BED(0)
   by itself right.right.right.right can do {bell.1}
-      bell!1 -> awake!1 -> BED(1)
+      bell.1 -> awake.1 -> BED(1)
 ",
 };

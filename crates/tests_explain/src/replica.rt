@@ -39,21 +39,21 @@ assert STORE(0) [T= MENDED
   0 start
       FAULTY
       specification: STORE(0)
-      specification: read!0 -> STORE(0) [] write?w -> CHANGING(0,w)
+      specification: read.0 -> STORE(0) [] write?w -> CHANGING(0,w)
   1 tau: unfolds FAULTY
       (HASTY [| {|copy, confirm|} |] SECOND(0)) \ {|copy, confirm|}
   2 tau: right: unfolds SECOND
-      .. {|copy, confirm|} |] (copy?w -> confirm -> SECOND(w) [] read!0 -> SECOND(0))) \ {|copy, confirm|}
+      .. {|copy, confirm|} |] (copy?w -> confirm -> SECOND(w) [] read.0 -> SECOND(0))) \ {|copy, confirm|}
   3 tau: left: unfolds HASTY
-      (write?v -> written -> copy!v -> confirm -> HASTY [| {|copy, confirm|} ..
+      (write?v -> written -> copy.v -> confirm -> HASTY [| {|copy, confirm|} ..
   4 write.1 by left
-      (written -> copy!1 -> confirm -> ..
+      (written -> copy.1 -> confirm -> ..
       specification: CHANGING(0,1)
       specification: read?x:{0,1} -> CHANGING(0,1) [] written -> STORE(1)
   5 written by left
-      (copy!1 -> confirm -> HASTY [| {|copy, confirm|} |] (copy?w -> confirm -> SECOND(w) [] read!0 -> SECOND(0))) \ {|copy, confirm|}
+      (copy.1 -> confirm -> HASTY [| {|copy, confirm|} |] (copy?w -> confirm -> SECOND(w) [] read.0 -> SECOND(0))) \ {|copy, confirm|}
       specification: STORE(1)
-      specification: read!1 -> STORE(1) [] write?w -> CHANGING(1,w)
+      specification: read.1 -> STORE(1) [] write?w -> CHANGING(1,w)
   then it does read.0, and the specification cannot
   there the specification can do no more than {write.0,write.1,read.1}
 ",

@@ -133,14 +133,14 @@ static SMALL: [Row; 19] = [
         status: 1,
         text: "channel c : {0..1}\nassert ||| x:{0..1} @ if x == 0 then STOP else STOP |~| c!x -> STOP :[deadlock free]\n",
         told: "\
-1 fails  assert ||| x:{0..1} @ if x == 0 then STOP else STOP |~| c!x -> STOP :[deadlock free]
+1 fails  assert ||| x:{0..1} @ if x == 0 then STOP else STOP |~| c.x -> STOP :[deadlock free]
   0 start
-      ||| x:{0..1} @ if x == 0 then STOP else STOP |~| c!x -> STOP
+      ||| x:{0..1} @ if x == 0 then STOP else STOP |~| c.x -> STOP
   1 tau: right.right: chooses its left side
-      (if 0 == 0 then STOP else STOP |~| c!0 -> STOP) ||| STOP
+      (if true then STOP else STOP |~| c.0 -> STOP) ||| STOP
   then it can do nothing
   by itself left can do {}
-      if 0 == 0 then STOP else STOP |~| c!0 -> STOP
+      if true then STOP else STOP |~| c.0 -> STOP
   by itself right can do {}
       STOP
 ",
@@ -195,10 +195,10 @@ static SMALL: [Row; 19] = [
         status: 1,
         text: "datatype D = A | B.{0..1}\nchannel c : D.Bool\nassert c!A!true -> STOP [T= c!A?x -> c!(B.1)!x -> STOP\n",
         told: "\
-1 fails  assert c!A!true -> STOP [T= c!A?x -> c!(B.1)!x -> STOP
+1 fails  assert c.A.true -> STOP [T= c.A?x -> c.(B.1).x -> STOP
   0 start
-      c!A?x -> c!(B.1)!x -> STOP
-      specification: c!A!true -> STOP
+      c.A?x -> c.(B.1).x -> STOP
+      specification: c.A.true -> STOP
   then it does c.A.false, and the specification cannot
   there the specification can do no more than {c.A.true}
 ",
@@ -208,12 +208,12 @@ static SMALL: [Row; 19] = [
         status: 1,
         text: "channel c : {0..1}\nassert c?x -> STOP [T= c?y -> c!y -> STOP\n",
         told: "\
-1 fails  assert c?x -> STOP [T= c?y -> c!y -> STOP
+1 fails  assert c?x -> STOP [T= c?y -> c.y -> STOP
   0 start
-      c?y -> c!y -> STOP
+      c?y -> c.y -> STOP
       specification: c?x -> STOP
   1 c.0
-      c!0 -> STOP
+      c.0 -> STOP
       specification: STOP
   then it does c.0, and the specification cannot
   there the specification can do no more than {}

@@ -23,25 +23,25 @@ assert SYSTEM :[deadlock free]
   1 tau: unfolds SYSTEM
       ((LEFT ||| RIGHT) [| {|take, drop|} |] (KEY(0) ||| KEY(1))) \ {|take, drop|}
   2 tau: right.right: unfolds KEY
-      .. |] (KEY(0) ||| take!1 -> drop!1 -> KEY(1))) \ {|take, ..
+      .. |] (KEY(0) ||| take.1 -> drop.1 -> KEY(1))) \ {|take, ..
   3 tau: right.left: unfolds KEY
-      .. {|take, drop|} |] (take!0 -> drop!0 -> KEY(0) ||| take!1 -> ..
+      .. {|take, drop|} |] (take.0 -> drop.0 -> KEY(0) ||| take.1 -> ..
   4 tau: left.right: unfolds RIGHT
-      ((LEFT ||| take!1 -> take!0 -> work -> drop!0 -> drop!1 -> RIGHT) [| {|take, ..
+      ((LEFT ||| take.1 -> take.0 -> work -> drop.0 -> drop.1 -> RIGHT) [| {|take, ..
   5 tau: hidden take.1 by left.right, right.right
-      ((LEFT ||| take!0 -> work -> drop!0 -> drop!1 -> RIGHT) [| {|take, drop|} |] (take!0 -> drop!0 -> KEY(0) ||| drop!1 -> KEY(1))) ..
+      ((LEFT ||| take.0 -> work -> drop.0 -> drop.1 -> RIGHT) [| {|take, drop|} |] (take.0 -> drop.0 -> KEY(0) ||| drop.1 -> KEY(1))) ..
   6 tau: left.left: unfolds LEFT
-      ((take!0 -> take!1 -> work -> drop!1 -> drop!0 -> LEFT ||| take!0 -> ..
+      ((take.0 -> take.1 -> work -> drop.1 -> drop.0 -> LEFT ||| take.0 -> ..
   7 tau: hidden take.0 by left.left, right.left
-      ((take!1 -> work -> drop!1 -> drop!0 -> LEFT ||| take!0 -> work -> drop!0 -> drop!1 -> RIGHT) [| {|take, drop|} |] (drop!0 -> KEY(0) ||| drop!1 -> KEY(1))) \ {|take, drop|}
+      ((take.1 -> work -> drop.1 -> drop.0 -> LEFT ||| take.0 -> work -> drop.0 -> drop.1 -> RIGHT) [| {|take, drop|} |] (drop.0 -> KEY(0) ||| drop.1 -> KEY(1))) \ {|take, drop|}
   then it can do nothing
   by itself left.left can do {take.1}
-      take!1 -> work -> drop!1 -> drop!0 -> LEFT
+      take.1 -> work -> drop.1 -> drop.0 -> LEFT
   by itself left.right can do {take.0}
-      take!0 -> work -> drop!0 -> drop!1 -> RIGHT
+      take.0 -> work -> drop.0 -> drop.1 -> RIGHT
   by itself right.left can do {drop.0}
-      drop!0 -> KEY(0)
+      drop.0 -> KEY(0)
   by itself right.right can do {drop.1}
-      drop!1 -> KEY(1)
+      drop.1 -> KEY(1)
 ",
 };

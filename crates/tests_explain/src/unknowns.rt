@@ -33,9 +33,9 @@ static UNKNOWNS: [Row; 24] = [
   0 start
       P
   1 tau: unfolds P
-      a -> (||| x:{0..63} @ c!x -> c!x -> c!x -> c!x -> c!x -> c!x -> c!x -> c!x -> c!x -> c!x -> STOP)
+      a -> (||| x:{0..63} @ c.x -> c.x -> c.x -> c.x -> c.x -> c.x -> c.x -> c.x -> c.x -> c.x -> STOP)
   2 a
-      ||| x:{0..63} @ c!x -> c!x -> c!x -> c!x -> c!x -> c!x -> c!x -> c!x -> c!x -> c!x -> STOP
+      ||| x:{0..63} @ c.x -> c.x -> c.x -> c.x -> c.x -> c.x -> c.x -> c.x -> c.x -> c.x -> STOP
   there it is too large, or what a step leads to
 ",
     },
@@ -44,11 +44,11 @@ static UNKNOWNS: [Row; 24] = [
         status: 2,
         text: "channel c : {0..1}\nassert STOP [T= c!2 -> STOP\n",
         told: "\
-1 unknown  assert STOP [T= c!2 -> STOP
+1 unknown  assert STOP [T= c.2 -> STOP
   a side comes to a value that lies outside of the set of its field
   the implementation comes there by
   0 start
-      c!2 -> STOP
+      c.2 -> STOP
   there field 1 of `c` is given `2`, which lies outside of its set
 ",
     },
@@ -93,7 +93,7 @@ static UNKNOWNS: [Row; 24] = [
   0 start
       P(<>)
   1 tau: unfolds P
-      c!head(<>) -> STOP
+      c.head(<>) -> STOP
   there `head(<>)` has no value: it is the head of an empty sequence
 ",
     },
@@ -102,11 +102,11 @@ static UNKNOWNS: [Row; 24] = [
         status: 2,
         text: "channel c : {0..1}\nassert STOP [T= c!(1 % 0) -> STOP\n",
         told: "\
-1 unknown  assert STOP [T= c!(1 % 0) -> STOP
+1 unknown  assert STOP [T= c.(1 % 0) -> STOP
   a side comes to a remainder by a number that is not positive
   the implementation comes there by
   0 start
-      c!(1 % 0) -> STOP
+      c.(1 % 0) -> STOP
   there `1 % 0` has no value: the right side of `%` is not positive
 ",
     },
@@ -121,9 +121,9 @@ static UNKNOWNS: [Row; 24] = [
   0 start
       Q(0)
   1 tau: unfolds Q
-      a -> c!(1 % 0) -> STOP
+      a -> c.(1 % 0) -> STOP
   2 a
-      c!(1 % 0) -> STOP
+      c.(1 % 0) -> STOP
   there `1 % 0` has no value: the right side of `%` is not positive
 ",
     },
@@ -145,11 +145,11 @@ static UNKNOWNS: [Row; 24] = [
         status: 2,
         text: "channel c : {0..1}\nassert c!2 -> STOP [T= STOP\n",
         told: "\
-1 unknown  assert c!2 -> STOP [T= STOP
+1 unknown  assert c.2 -> STOP [T= STOP
   a side comes to a value that lies outside of the set of its field
   the specification comes there by
   0 start
-      c!2 -> STOP
+      c.2 -> STOP
   there field 1 of `c` is given `2`, which lies outside of its set
 ",
     },
@@ -159,13 +159,13 @@ static UNKNOWNS: [Row; 24] = [
         status: 2,
         text: "channel a, b\nchannel c : {0..1}\nassert a -> c!2 -> STOP [T= STOP\n",
         told: "\
-1 unknown  assert a -> c!2 -> STOP [T= STOP
+1 unknown  assert a -> c.2 -> STOP [T= STOP
   a side comes to a value that lies outside of the set of its field
   the specification comes there by
   0 start
-      a -> c!2 -> STOP
+      a -> c.2 -> STOP
   1 a
-      c!2 -> STOP
+      c.2 -> STOP
   there field 1 of `c` is given `2`, which lies outside of its set
 ",
     },
@@ -175,7 +175,7 @@ static UNKNOWNS: [Row; 24] = [
         status: 2,
         text: "channel a, b\nchannel c : {0..1}\nassert a -> c!2 -> STOP [T= STOP\n",
         told: "\
-1 unknown  assert a -> c!2 -> STOP [T= STOP
+1 unknown  assert a -> c.2 -> STOP [T= STOP
   a side comes to a value that lies outside of the set of its field
   the specification comes there, and has too many states to tell how
 ",
@@ -186,11 +186,11 @@ static UNKNOWNS: [Row; 24] = [
         status: 2,
         text: "channel c : {0..1}\nassert c!2 -> STOP [T= c!(1 % 0) -> STOP\n",
         told: "\
-1 unknown  assert c!2 -> STOP [T= c!(1 % 0) -> STOP
+1 unknown  assert c.2 -> STOP [T= c.(1 % 0) -> STOP
   a side comes to a value that lies outside of the set of its field
   the specification comes there by
   0 start
-      c!2 -> STOP
+      c.2 -> STOP
   there field 1 of `c` is given `2`, which lies outside of its set
 ",
     },
@@ -200,13 +200,13 @@ static UNKNOWNS: [Row; 24] = [
         status: 2,
         text: "channel a, b\nchannel c : {0..1}\nR = a -> R [] b -> R\nassert R [T= b -> a -> c!2 -> STOP [] a -> c!2 -> STOP\n",
         told: "\
-1 unknown  assert R [T= b -> a -> c!2 -> STOP [] a -> c!2 -> STOP
+1 unknown  assert R [T= b -> a -> c.2 -> STOP [] a -> c.2 -> STOP
   a side comes to a value that lies outside of the set of its field
   the implementation comes there by
   0 start
-      b -> a -> c!2 -> STOP [] a -> c!2 -> STOP
+      b -> a -> c.2 -> STOP [] a -> c.2 -> STOP
   1 a
-      c!2 -> STOP
+      c.2 -> STOP
   there field 1 of `c` is given `2`, which lies outside of its set
 ",
     },
@@ -216,13 +216,13 @@ static UNKNOWNS: [Row; 24] = [
         status: 2,
         text: "channel a, b\nchannel c : {0..1}\nR = a -> R [] b -> R\nassert R [T= b -> c!2 -> STOP [] a -> c!2 -> c!1 -> STOP\n",
         told: "\
-1 unknown  assert R [T= b -> c!2 -> STOP [] a -> c!2 -> c!1 -> STOP
+1 unknown  assert R [T= b -> c.2 -> STOP [] a -> c.2 -> c.1 -> STOP
   a side comes to a value that lies outside of the set of its field
   the implementation comes there by
   0 start
-      b -> c!2 -> STOP [] a -> c!2 -> c!1 -> STOP
+      b -> c.2 -> STOP [] a -> c.2 -> c.1 -> STOP
   1 a
-      c!2 -> c!1 -> STOP
+      c.2 -> c.1 -> STOP
   there field 1 of `c` is given `2`, which lies outside of its set
 ",
     },
@@ -232,13 +232,13 @@ static UNKNOWNS: [Row; 24] = [
         status: 2,
         text: "channel a, b\nchannel c : {0..1}\nassert STOP [T= (a -> c!2 -> STOP [| {a} |] a -> STOP) \\ {a}\n",
         told: "\
-1 unknown  assert STOP [T= (a -> c!2 -> STOP [| {a} |] a -> STOP) \\ {a}
+1 unknown  assert STOP [T= (a -> c.2 -> STOP [| {a} |] a -> STOP) \\ {a}
   a side comes to a value that lies outside of the set of its field
   the implementation comes there by
   0 start
-      (a -> c!2 -> STOP [| {a} |] a -> STOP) \\ {a}
+      (a -> c.2 -> STOP [| {a} |] a -> STOP) \\ {a}
   1 tau: hidden a by left, right
-      (c!2 -> STOP [| {a} |] STOP) \\ {a}
+      (c.2 -> STOP [| {a} |] STOP) \\ {a}
   there field 1 of `c` is given `2`, which lies outside of its set
 ",
     },
@@ -248,13 +248,13 @@ static UNKNOWNS: [Row; 24] = [
         status: 2,
         text: "channel a, b\nchannel c : {0..1}\nassert a -> c!2 -> STOP :[deadlock free]\n",
         told: "\
-1 unknown  assert a -> c!2 -> STOP :[deadlock free]
+1 unknown  assert a -> c.2 -> STOP :[deadlock free]
   a side comes to a value that lies outside of the set of its field
   the implementation comes there by
   0 start
-      a -> c!2 -> STOP
+      a -> c.2 -> STOP
   1 a
-      c!2 -> STOP
+      c.2 -> STOP
   there field 1 of `c` is given `2`, which lies outside of its set
 ",
     },
@@ -264,11 +264,11 @@ static UNKNOWNS: [Row; 24] = [
         status: 2,
         text: "channel c : {0..1}\nassert not STOP [T= c!2 -> STOP\n",
         told: "\
-1 unknown  assert not STOP [T= c!2 -> STOP
+1 unknown  assert not STOP [T= c.2 -> STOP
   a side comes to a value that lies outside of the set of its field
   the implementation comes there by
   0 start
-      c!2 -> STOP
+      c.2 -> STOP
   there field 1 of `c` is given `2`, which lies outside of its set
 ",
     },
@@ -276,13 +276,13 @@ static UNKNOWNS: [Row; 24] = [
     Row {
         words: &["script"],
         status: 2,
-        text: "channel c : {0..1}.{0..1}\nassert STOP [T= c!1!7 -> STOP\n",
+        text: "channel c : {0..1}.{0..1}\nassert STOP [T= c.1.7 -> STOP\n",
         told: "\
-1 unknown  assert STOP [T= c!1!7 -> STOP
+1 unknown  assert STOP [T= c.1.7 -> STOP
   a side comes to a value that lies outside of the set of its field
   the implementation comes there by
   0 start
-      c!1!7 -> STOP
+      c.1.7 -> STOP
   there field 2 of `c` is given `7`, which lies outside of its set
 ",
     },
@@ -290,13 +290,13 @@ static UNKNOWNS: [Row; 24] = [
     Row {
         words: &["script"],
         status: 2,
-        text: "channel c : {0..1}\nassert STOP [T= c!head(tail(<1>)) -> STOP\n",
+        text: "channel c : {0..1}\nassert STOP [T= c.head(tail(<1>)) -> STOP\n",
         told: "\
-1 unknown  assert STOP [T= c!head(tail(<1>)) -> STOP
+1 unknown  assert STOP [T= c.head(tail(<1>)) -> STOP
   a side comes to the head or tail of an empty sequence
   the implementation comes there by
   0 start
-      c!head(tail(<1>)) -> STOP
+      c.head(tail(<1>)) -> STOP
   there `head(<>)` has no value: it is the head of an empty sequence
 ",
     },
@@ -304,13 +304,13 @@ static UNKNOWNS: [Row; 24] = [
     Row {
         words: &["script"],
         status: 2,
-        text: "datatype D = A.{0..1}\nchannel d : D\nassert STOP [T= d!(A.2) -> STOP\n",
+        text: "datatype D = A.{0..1}\nchannel d : D\nassert STOP [T= d.(A.2) -> STOP\n",
         told: "\
-1 unknown  assert STOP [T= d!(A.2) -> STOP
+1 unknown  assert STOP [T= d.(A.2) -> STOP
   a side comes to a value that lies outside of the set of its field
   the implementation comes there by
   0 start
-      d!(A.2) -> STOP
+      d.(A.2) -> STOP
   there field 1 of `A` is given `2`, which lies outside of its set
 ",
     },
@@ -332,13 +332,13 @@ static UNKNOWNS: [Row; 24] = [
     Row {
         words: &["script"],
         status: 2,
-        text: "channel c : {0..1}\nassert STOP [T= c!2 -> STOP [] c!(1 % 0) -> STOP\n",
+        text: "channel c : {0..1}\nassert STOP [T= c.2 -> STOP [] c.(1 % 0) -> STOP\n",
         told: "\
-1 unknown  assert STOP [T= c!2 -> STOP [] c!(1 % 0) -> STOP
+1 unknown  assert STOP [T= c.2 -> STOP [] c.(1 % 0) -> STOP
   a side comes to a value that lies outside of the set of its field
   the implementation comes there by
   0 start
-      c!2 -> STOP [] c!(1 % 0) -> STOP
+      c.2 -> STOP [] c.(1 % 0) -> STOP
   there field 1 of `c` is given `2`, which lies outside of its set
 ",
     },

@@ -1,4 +1,4 @@
-//! What is seen of texts of terms: rows of each form with its text, values, the names of scripts by their numbers, states
+//! What is seen of texts of terms: rows of each form with its text, rows of terms that are told by their values, values, the names of scripts by their numbers, states
 //! that are read back from their texts, and refused memory.
 //!
 //! The texts are written by hand from the grammar, in tables that have a row for each case. The tests stand in a crate
@@ -27,6 +27,10 @@ mod searches;
 mod states;
 #[cfg(test)]
 mod tables;
+#[cfg(test)]
+mod telling;
+#[cfg(test)]
+mod told;
 #[cfg(test)]
 mod values;
 #[cfg(test)]

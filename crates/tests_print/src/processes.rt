@@ -40,29 +40,29 @@ P = SAME
 T = a -> ([] x:{0} @ R(x))
 P = SAME
 
--- Fields: a dot is printed as `!`, and each field is an atom.
+-- Fields: a given one stands behind a dot, but behind an input no dot may stand. Each is an atom.
 T = c.1 -> STOP
-P = c!1 -> STOP
+P = SAME
 T = e.2!1 -> STOP
-P = e!2!1 -> STOP
+P = e.2.1 -> STOP
 T = c!(0 + 1) -> STOP
-P = SAME
+P = c.(0 + 1) -> STOP
 T = c!(1) -> STOP
-P = c!1 -> STOP
+P = c.1 -> STOP
 T = f!-1 -> STOP
-P = SAME
+P = f.-1 -> STOP
 T = f!(-1) -> STOP
-P = f!-1 -> STOP
+P = f.-1 -> STOP
 T = f!(- -1) -> STOP
-P = f!- -1 -> STOP
+P = f.- -1 -> STOP
 T = c!#<> -> STOP
-P = SAME
+P = c.#<> -> STOP
 T = c!head(<0>) -> STOP
-P = SAME
+P = c.head(<0>) -> STOP
 T = g!F0!(1 == 1) -> STOP
-P = SAME
+P = g.F0.(1 == 1) -> STOP
 T = g!(F1.0.A1)!true -> STOP
-P = SAME
+P = g.(F1.0.A1).true -> STOP
 T = c?x -> R(x)
 P = SAME
 T = c?x:{0, 1} -> R(x)
@@ -78,7 +78,7 @@ P = e?y?x -> TWO(x,y)
 T = e?x:{0, 2}!1 -> ANY(x)
 P = e?x:{0,2}!1 -> ANY(x)
 T = e!2?y:union({0}, {1}) -> ANY(y)
-P = e!2?y:union({0},{1}) -> ANY(y)
+P = e.2?y:union({0},{1}) -> ANY(y)
 T = e?x!(x % 2) -> STOP
 P = SAME
 

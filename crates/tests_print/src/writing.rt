@@ -5,7 +5,7 @@ use csp_term::Term;
 use std::alloc::{AllocError, Allocator};
 
 /// The text of the term.
-pub(crate) fn text_of<A: Allocator>(
+pub(crate) fn text_of<A: Allocator + Copy>(
     alloc: A,
     names: &Names<'_, A>,
     term: &Term<A>,

@@ -87,7 +87,7 @@ pub fn told_stops_are_known()
 
 /// A run to a state for which there is no answer, with the side that it is of, or that none is looked for.
 pub fn texts_of_stops()
-    ensures implementation { found_text told digits (ByCause OutOfRange) (Some (OfImplementation (c 1 ∷ []) (Stop ∷ c_two ∷ []) (Some (Does (event 1)) ∷ []))) ≡ codes "  the implementation comes there by\n  0 start\n      STOP\n  1 c.1\n      c!2 -> STOP\n  there field 1 of `c` is given `2`, which lies outside of its set\n" }
+    ensures implementation { found_text told digits (ByCause OutOfRange) (Some (OfImplementation (c 1 ∷ []) (Stop ∷ c_two ∷ []) (Some (Does (event 1)) ∷ []))) ≡ codes "  the implementation comes there by\n  0 start\n      STOP\n  1 c.1\n      c.2 -> STOP\n  there field 1 of `c` is given `2`, which lies outside of its set\n" }
     ensures specification { found_text told digits BySize (Some (OfSpecification [] (p ∷ []) [])) ≡ codes "  the specification comes there by\n  0 start\n      P\n  there it is too large, or what a step leads to\n" }
     ensures none { found_text told digits BySize None ≡ codes "  the specification comes there, and has too many states to tell how\n" }
 {}

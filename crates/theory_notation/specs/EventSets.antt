@@ -3,11 +3,12 @@ use Rattle.std.specs.Prelude.{ℕ, List, [], ◌∷◌, ◌++◌, codes}
 use Rattle.theory_syntax.specs.Process.{EventExpression, EventSet, Enumeration, Productions, EventUnion, EventIntersection, EventDifference, RenamingPair}
 use Rattle.theory_search.specs.Printing.{name_at}
 use Rattle.theory_notation.specs.Names.{Names}
+use Rattle.theory_notation.specs.Told.{all_told}
 use Rattle.theory_notation.specs.Expressions.{expressions_behind}
 
 -- the channel, with `.` before each field, which is an atom
 abbrev pub event_text : Names → EventExpression → List ℕ
-event_text names e = name_at names.channels e.channel ++ expressions_behind names (codes ".") 6 e.fields
+event_text names e = name_at names.channels e.channel ++ expressions_behind names (codes ".") 6 (all_told names e.fields)
 
 -- events, each behind a `,`, and with `,` between
 abbrev pub events_behind : Names → List EventExpression → List ℕ

@@ -1,5 +1,6 @@
 pub mod Names
 pub mod Marks
+pub mod Told
 pub mod Values
 pub mod Expressions
 pub mod EventSets

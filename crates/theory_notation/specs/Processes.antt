@@ -1,10 +1,11 @@
 -- The text of a process.
-use Rattle.std.specs.Prelude.{ℕ, Bool, true, false, List, [], ◌∷◌, ◌++◌, codes}
+use Rattle.std.specs.Prelude.{ℕ, Bool, true, false, ◌||◌, List, [], ◌∷◌, ◌++◌, codes}
 use Rattle.theory_syntax.specs.Expression.{Expressions, no_expressions, expression_and}
 use Rattle.theory_syntax.specs.Process.{Field, Given, Input, InputFrom, Process, Stop, Skip, Omega, Call, Prefix, Guard, If, ExternalChoice, InternalChoice, Sequential, Interleaving, Interrupt, GeneralisedParallel, AlphabetisedParallel, Hiding, Renaming, ReplicatedExternalChoice, ReplicatedInternalChoice, ReplicatedInterleaving, SlidingChoice}
 use Rattle.theory_text.specs.Raw.{Infix, ExternalInfix, InternalInfix, SequentialInfix, InterleavingInfix, InterruptInfix, SlidingInfix}
 use Rattle.theory_search.specs.Printing.{name_at}
 use Rattle.theory_notation.specs.Names.{Names}
+use Rattle.theory_notation.specs.Told.{all_told, told}
 use Rattle.theory_notation.specs.Marks.{bare_or_bracketed}
 use Rattle.theory_notation.specs.Expressions.{expression_text, expressions_behind, operand_text}
 use Rattle.theory_notation.specs.EventSets.{event_set_text, pairs_text}
@@ -72,15 +73,24 @@ stands_bare x s = false
 
 -- ---- processes
 
--- A field takes an atom. A given one has `!`, since a dot may not stand behind an input.
-abbrev pub field_text : Names → Field → List ℕ
-field_text names (Given e) = codes "!" ++ operand_text names 6 e
-field_text names (Input n) = codes "?" ++ name_at names.bound n
-field_text names (InputFrom n e) = codes "?" ++ (name_at names.bound n ++ (codes ":" ++ operand_text names 6 e))
+abbrev pub is_input : Field → Bool
+is_input (Given e) = false
+is_input f = true
 
-abbrev pub fields_text : Names → List Field → List ℕ
-fields_text names [] = []
-fields_text names (f ∷ fs) = field_text names f ++ fields_text names fs
+-- what stands before a given field: a dot, which may not stand behind an input
+abbrev pub given_mark : (behind_input : Bool) → List ℕ
+given_mark false = codes "."
+given_mark true = codes "!"
+
+-- A field takes an atom. The set of an input stays as it is written.
+abbrev pub field_text : Names → (behind_input : Bool) → Field → List ℕ
+field_text names behind_input (Given e) = given_mark behind_input ++ operand_text names 6 (told names e)
+field_text names behind_input (Input n) = codes "?" ++ name_at names.bound n
+field_text names behind_input (InputFrom n e) = codes "?" ++ (name_at names.bound n ++ (codes ":" ++ operand_text names 6 e))
+
+abbrev pub fields_text : Names → (behind_input : Bool) → List Field → List ℕ
+fields_text names behind_input [] = []
+fields_text names behind_input (f ∷ fs) = field_text names behind_input f ++ fields_text names (behind_input || is_input f) fs
 
 abbrev pub call_text : Names → ℕ → Expressions → List ℕ
 call_text names n no_expressions = name_at names.equations n
@@ -98,17 +108,18 @@ infix_text SlidingInfix = codes " [> "
 abbrev pub chain_text : Infix → (left : Shape) → List ℕ → (right : Shape) → List ℕ → List ℕ
 chain_text o s p t q = bare_or_bracketed (stands_bare (LeftOf o) s) p ++ (infix_text o ++ bare_or_bracketed (stands_bare Operand t) q)
 
--- Omega, which no script can write, has a word that begins with `_`, as no token does.
+-- What gives a value is told by it, with types; the sets of replicated processes stay as they are written. Omega, which no
+-- script can write, has a word that begins with `_`, as no token does.
 abbrev pub process_text : Names → Process → List ℕ
 process_text names Stop = codes "STOP"
 process_text names Skip = codes "SKIP"
 process_text names Omega = codes "_OMEGA"
-process_text names (Call n es) = call_text names n es
+process_text names (Call n es) = call_text names n (all_told names es)
 process_text names (Prefix c fs p) =
-    name_at names.channels c ++ (fields_text names fs ++ (codes " -> " ++ bare_or_bracketed (stands_bare Operand (shape p)) (process_text names p)))
-process_text names (Guard e p) = expression_text names e ++ (codes " & " ++ bare_or_bracketed (stands_bare Operand (shape p)) (process_text names p))
+    name_at names.channels c ++ (fields_text names false fs ++ (codes " -> " ++ bare_or_bracketed (stands_bare Operand (shape p)) (process_text names p)))
+process_text names (Guard e p) = expression_text names (told names e) ++ (codes " & " ++ bare_or_bracketed (stands_bare Operand (shape p)) (process_text names p))
 process_text names (If e p q) =
-    codes "if " ++ (expression_text names e ++ (codes " then " ++ (process_text names p ++ (codes " else " ++ process_text names q))))
+    codes "if " ++ (expression_text names (told names e) ++ (codes " then " ++ (process_text names p ++ (codes " else " ++ process_text names q))))
 process_text names (ExternalChoice p q) = chain_text ExternalInfix (shape p) (process_text names p) (shape q) (process_text names q)
 process_text names (InternalChoice p q) = chain_text InternalInfix (shape p) (process_text names p) (shape q) (process_text names q)
 process_text names (Sequential p q) = chain_text SequentialInfix (shape p) (process_text names p) (shape q) (process_text names q)

@@ -1,9 +1,9 @@
 -- Names for the samples of texts: the channel `c`, the constructors `N` and `B`, the equation `P`, and the bound name `x`.
-use Rattle.std.specs.Prelude.{ℕ, ◌∷◌, [], codes, pos, negsuc}
+use Rattle.std.specs.Prelude.{ℕ, ◌∷◌, [], codes, pos, negsuc, None}
 use Rattle.theory_syntax.specs.Value.{Integer, Value}
 use Rattle.theory_syntax.specs.Expression.{Expression, Expressions, no_expressions, expression_and, Literal, Name}
 use Rattle.theory_syntax.specs.Process.{Process, Call, Prefix, Field}
-use Rattle.theory_notation.specs.Names.{Names}
+use Rattle.theory_notation.specs.Names.{Names, with_types}
 
 abbrev pub names : Names
 names = record {
@@ -13,7 +13,12 @@ names = record {
   nametypes = [];
   equations = codes "P" ∷ [];
   bound = codes "x" ∷ [];
+  types = None;
 }
+
+-- the same, by which values are told
+abbrev pub telling : Names
+telling = with_types (record { datatypes = []; nametypes = []; constructors = [] ∷ [] }) names
 
 abbrev pub number : ℕ → Expression
 number n = Literal (Integer (pos n))

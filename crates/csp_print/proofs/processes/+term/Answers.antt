@@ -1,6 +1,6 @@
 -- Each part is put one after the other.
 use Rattle.std.proofs.Common.{List, ◌++◌, ap, ◌∙◌, sym}
-use Rattle.std.specs.Prelude.{codes}
+use Rattle.std.specs.Prelude.{codes, false}
 use Rattle.std.specs.String.{string_bytes}
 use Rattle.theory_search.specs.Printing.{name_at}
 use Rattle.theory_syntax.specs.Expression.{to_expressions}
@@ -69,7 +69,7 @@ push_prefix-returns g t c =
     let start = string_bytes c.args.text.now in
     let all = string_bytes c.push_at.new.text in
     let channel = name_at names.channels c.args.channel.0 in
-    let fields = fields_text names (fields_of c.args.fields.now) in
+    let fields = fields_text names false (fields_of c.args.fields.now) in
     let body = text_at Operand names (process_of c.args.body.now) in
     behind r start (string_bytes c.push_channel.new.text) all channel (fields ++ (codes " -> " ++ body)) c.in_ok-push_channel.ensures
     (behind r (string_bytes c.push_channel.new.text) (string_bytes c.push_fields.new.text) all fields (codes " -> " ++ body) c.in_ok-push_fields.ensures

@@ -1,5 +1,6 @@
-use Rattle.std.proofs.Common.{map}
+use Rattle.std.proofs.Common.{◌∙◌, ap, map}
 use Rattle.theory_text.specs.Reading.{IsRead, read}
+use Rattle.theory_notation.specs.Names.{names_in, with_types}
 use Rattle.csp_lex.specs.Places.{place_of}
 use Rattle.csp_lex.specs.Tokens.{placed_token}
 use Rattle.csp_parse.specs.Declarations as raw
@@ -12,7 +13,7 @@ returns-clause-named g c =
     let list = c.in_ok-list.list in
     let tree = raw.script_of c.in_ok-tree.tree in
     let is_read : IsRead c.args.text.now tree = read {tokens = map placed_token list.tokens.items} {end = place_of list.end} c.in_ok-list.ensures.tokens (c.in_ok-tree.ensures.tree, c.in_ok-tree.ensures.low) in
-    record { tree = tree; read = is_read; checked = c.in_ok-script.ensures.script; named = c.in-Ok.ensures }
+    record { tree = tree; read = is_read; checked = c.in_ok-script.ensures.script; named = c.in-Ok.ensures ∙ ap (λ types. with_types types (names_in tree)) c.types.ensures }
 
 pub returns-in_err-script-clause-refused : goal.returns-in_err-script-clause-refused
 returns-in_err-script-clause-refused g c =
