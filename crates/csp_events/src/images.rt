@@ -22,9 +22,9 @@ use csp_value::{AllocHandle, ChannelId, Event, FieldSet, Memory};
 #[derive(Drop)]
 pub struct Images<A: AllocHandle> {
     /// Each event of the first channel becomes the one of the second with its fields.
-    channels: Vec<(ChannelId, ChannelId), A>,
+    pub(crate) channels: Vec<(ChannelId, ChannelId), A>,
     /// The first event becomes the second.
-    events: Vec<(Event<A>, Event<A>), A>,
+    pub(crate) events: Vec<(Event<A>, Event<A>), A>,
 }
 
 fn is_bare<A: AllocHandle>(written: &EventExpression<A>) -> bool
@@ -55,7 +55,7 @@ fn names_channel<A: AllocHandle>(pair: &(ChannelId, ChannelId), event: &Event<A>
 }
 
 /// The event with its fields on the other channel.
-fn on_channel<A: AllocHandle>(
+pub(crate) fn on_channel<A: AllocHandle>(
     alloc: A,
     pair: &(ChannelId, ChannelId),
     event: &Event<A>,
@@ -160,7 +160,7 @@ impl<A: AllocHandle> Images<A> {
         Ok(images)
     }
 
-    fn add_by_channels(
+    pub(crate) fn add_by_channels(
         &self,
         alloc: A,
         event: &Event<A>,
@@ -183,7 +183,7 @@ impl<A: AllocHandle> Images<A> {
         Ok(())
     }
 
-    fn add_by_events(
+    pub(crate) fn add_by_events(
         &self,
         alloc: A,
         event: &Event<A>,

@@ -16,6 +16,7 @@ mod images;
 pub mod laws;
 mod limits;
 mod renaming_pair;
+mod sources;
 mod substitution;
 
 pub use channel::Channel;

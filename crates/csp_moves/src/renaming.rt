@@ -6,11 +6,13 @@ ghost use Rattle.theory_syntax.specs.Value.{Ev, Tau, Tick};
 ghost use Rattle.theory_semantics.specs.Meaning.Events.{renaming};
 ghost use Rattle.csp_value.specs.Action.{event_of};
 ghost use Rattle.csp_events.specs.Events.{renaming_pairs_of};
+ghost use Rattle.csp_events.specs.Imaging.{PairsRise};
 ghost use Rattle.csp_term.specs.Script.{script_of_parts};
 ghost use Rattle.csp_term.specs.Term.{process_of};
 ghost use Rattle.theory_origins.specs.Origin.{Renames};
-ghost use Rattle.theory_origins.specs.Ways.{Through, part};
+ghost use Rattle.theory_origins.specs.Ways.{AreEventsTo, Through, part};
 ghost use Rattle.csp_moves.specs.Bodies.{AreImagesIfAny, AreRenamedEvents};
+ghost use Rattle.csp_moves.specs.Passing.{HasImage};
 ghost use Rattle.csp_moves.specs.Way.{AreFound, AreFoundIn, lent_action, ways_of};
 
 use crate::frame::{Frame, body_of, to_body};
@@ -80,8 +82,29 @@ fn renamed_to<A: AllocHandle>(
     let Some(images) = found else {
         return Ok(Vec::new(alloc));
     };
-    let passing = Passing::Renamed(images, event);
-    let events = events_to(alloc, script, &passing, process.body, body_target);
+    renamed_from(alloc, script, images, event, process.body, body_target)
+}
+
+// The events of which this one is an image, of those by which the body leads to the target. Where there is one at most, the
+// steps of the body, which may be large, are not looked at.
+fn renamed_from<A: AllocHandle>(
+    alloc: A,
+    script: &ScriptParts<A>,
+    images: Images<A>,
+    image: &Event<A>,
+    body: &Term<A>,
+    target: &Term<A>,
+) -> Result<Vec<Event<A>, A>, Memory>
+    requires { PairsRise images }
+    ensures { IfOk result (λ events. AreEventsTo (script_of_parts script.now) (process_of body.now) (process_of target.now) (HasImage images (event_of image.now)) (map event_of events.items)) }
+{
+    let sources = images.sources(alloc, image)?;
+    if sources.len() <= 1 {
+        return Ok(sources);
+    }
+    drop(sources);
+    let passing = Passing::Renamed(images, image);
+    let events = events_to(alloc, script, &passing, body, target);
     drop(passing);
     events
 }

@@ -8,7 +8,8 @@ use Rattle.csp_moves.proofs.Bodies as body
 use Rattle.csp_moves.proofs.Found.{if_so}
 use Rattle.csp_events.specs.declared.renaming_pair.RenamingPair.{RenamingPair}
 use Rattle.csp_events.specs.Imaging.{AreMade, found_images}
-use Rattle.theory_semantics.specs.Meaning.Events.{images, or_itself, renaming}
+use Rattle.theory_semantics.specs.Meaning.Events.{images, renaming}
+use Rattle.csp_moves.specs.Passing.{HasImage}
 use Rattle.csp_moves.proofs.Events.{image_of_found, passing_as}
 use Rattle.csp_moves.proofs.renaming.renamed_to.Goals as goal
 
@@ -43,6 +44,6 @@ returns g c =
     let P : List (RenamingPair g.row.A.Denot) → Type 0 = λ zs. AreMade images_found (renaming s (renaming_pairs_of zs)) in
     let made = subst P c.as_slice-listed.ensures.value found.0 in
     let same = image_of_found f s rs made.0 (found_images images_found) made.1 made.2 in
-    if_so c.events_to-events.result c.events_to-events.ensures
+    if_so c.renamed_from.result c.renamed_from.ensures
     (λ events are. body.renamed_events_are s p t u (map event_of events.items) rs f c.in-Some.ensures
-    (passing_as s p u (λ e. Contains (or_itself e (found_images images_found e)) f) (λ e. Contains (images s rs e) f) (map event_of events.items) (λ e. (same e).0) (λ e. (same e).1) are))
+    (passing_as s p u (HasImage images_found f) (λ e. Contains (images s rs e) f) (map event_of events.items) (λ e. (same e).0) (λ e. (same e).1) are))
