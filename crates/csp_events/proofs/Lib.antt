@@ -15,4 +15,4 @@ pub mod Ranging
 pub mod Naming
 pub mod Comparing
 pub mod Channels
-pub mod Sources
+pub mod SourcesOf
