@@ -20,7 +20,7 @@ use crate::resending::RESENDING;
 use crate::rows::Row;
 use crate::runs::run_on;
 use crate::small::small_scripts;
-use crate::tour::TOUR;
+use crate::tour::{TOUR, TOUR_EVENTS, TOUR_STEPS};
 use crate::turns::TURNS;
 use crate::unknowns::unknowns;
 use std::alloc::Global;
@@ -96,6 +96,8 @@ fn examples_are_told_so(rt: HostRuntime) -> Result<(), Fail> {
         INTERLOCKING,
         REPLICA,
         TOUR,
+        TOUR_EVENTS,
+        TOUR_STEPS,
         TURNS,
     ] {
         is_told(&rt, rt.alloc(), row)?;

@@ -36,16 +36,10 @@ assert STORE(0) [T= FAULTY
 assert STORE(0) [T= MENDED
 ",
     told: r"1 fails  assert STORE(0) [T= FAULTY
-  0 start
-      FAULTY
+  0 start, then unfolds FAULTY, SECOND, HASTY
+      (write?v -> written -> copy.v -> confirm -> HASTY [| {|copy, confirm|} |] (copy?w -> confirm -> SECOND(w) [] read.0 -> SECOND(0))) \ {|copy, confirm|}
       specification: STORE(0)
       specification: read.0 -> STORE(0) [] write?w -> CHANGING(0,w)
-  1 tau: unfolds FAULTY
-      (HASTY [| {|copy, confirm|} |] SECOND(0)) \ {|copy, confirm|}
-  2 tau: right: unfolds SECOND
-      .. {|copy, confirm|} |] (copy?w -> confirm -> SECOND(w) [] read.0 -> SECOND(0))) \ {|copy, confirm|}
-  3 tau: left: unfolds HASTY
-      (write?v -> written -> copy.v -> confirm -> HASTY [| {|copy, confirm|} ..
   4 write.1 by left
       (written -> copy.1 -> confirm -> ..
       specification: CHANGING(0,1)

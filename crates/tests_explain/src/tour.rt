@@ -2,11 +2,8 @@
 
 use crate::rows::Row;
 
-/// Each of two holds the key that the other one waits for.
-pub(crate) const TOUR: Row = Row {
-    words: &["script"],
-    status: 1,
-    text: r"nametype Key = {0..1}
+// Each of two holds the key that the other one waits for.
+const SCRIPT: &str = r"nametype Key = {0..1}
 channel take, drop : Key
 channel work
 
@@ -16,7 +13,37 @@ KEY(k) = take.k -> drop.k -> KEY(k)
 
 SYSTEM = ((LEFT ||| RIGHT) [| {| take, drop |} |] (KEY(0) ||| KEY(1))) \ {| take, drop |}
 assert SYSTEM :[deadlock free]
+";
+
+/// With the names that are unfolded told beside the step before.
+pub(crate) const TOUR: Row = Row {
+    words: &["script"],
+    status: 1,
+    text: SCRIPT,
+    told: r"1 fails  assert SYSTEM :[deadlock free]
+  0 start, then unfolds SYSTEM, KEY, KEY, RIGHT
+      ((LEFT ||| take.1 -> take.0 -> work -> drop.0 -> drop.1 -> RIGHT) [| {|take, drop|} |] (take.0 -> drop.0 -> KEY(0) ||| take.1 -> drop.1 -> KEY(1))) \ {|take, drop|}
+  5 tau: hidden take.1 by left.right, right.right, then unfolds LEFT
+      ((take.0 -> take.1 -> work -> drop.1 -> drop.0 -> LEFT ||| take.0 -> work -> drop.0 -> drop.1 -> RIGHT) [| {|take, drop|} |] (take.0 -> drop.0 -> KEY(0) ||| drop.1 -> KEY(1))) ..
+  7 tau: hidden take.0 by left.left, right.left
+      ((take.1 -> work -> drop.1 -> drop.0 -> LEFT ||| take.0 -> work -> drop.0 -> drop.1 -> RIGHT) [| {|take, drop|} |] (drop.0 -> KEY(0) ||| drop.1 -> KEY(1))) \ {|take, drop|}
+  then it can do nothing
+  by itself left.left can do {take.1}
+      take.1 -> work -> drop.1 -> drop.0 -> LEFT
+  by itself left.right can do {take.0}
+      take.0 -> work -> drop.0 -> drop.1 -> RIGHT
+  by itself right.left can do {drop.0}
+      drop.0 -> KEY(0)
+  by itself right.right can do {drop.1}
+      drop.1 -> KEY(1)
 ",
+};
+
+/// Each step alone.
+pub(crate) const TOUR_STEPS: Row = Row {
+    words: &["--steps", "script"],
+    status: 1,
+    text: SCRIPT,
     told: r"1 fails  assert SYSTEM :[deadlock free]
   0 start
       SYSTEM
@@ -32,6 +59,27 @@ assert SYSTEM :[deadlock free]
       ((LEFT ||| take.0 -> work -> drop.0 -> drop.1 -> RIGHT) [| {|take, drop|} |] (take.0 -> drop.0 -> KEY(0) ||| drop.1 -> KEY(1))) ..
   6 tau: left.left: unfolds LEFT
       ((take.0 -> take.1 -> work -> drop.1 -> drop.0 -> LEFT ||| take.0 -> ..
+  7 tau: hidden take.0 by left.left, right.left
+      ((take.1 -> work -> drop.1 -> drop.0 -> LEFT ||| take.0 -> work -> drop.0 -> drop.1 -> RIGHT) [| {|take, drop|} |] (drop.0 -> KEY(0) ||| drop.1 -> KEY(1))) \ {|take, drop|}
+  then it can do nothing
+  by itself left.left can do {take.1}
+      take.1 -> work -> drop.1 -> drop.0 -> LEFT
+  by itself left.right can do {take.0}
+      take.0 -> work -> drop.0 -> drop.1 -> RIGHT
+  by itself right.left can do {drop.0}
+      drop.0 -> KEY(0)
+  by itself right.right can do {drop.1}
+      drop.1 -> KEY(1)
+",
+};
+
+/// The events alone, and the last state.
+pub(crate) const TOUR_EVENTS: Row = Row {
+    words: &["--events", "script"],
+    status: 1,
+    text: SCRIPT,
+    told: r"1 fails  assert SYSTEM :[deadlock free]
+  5 tau: hidden take.1 by left.right, right.right
   7 tau: hidden take.0 by left.left, right.left
       ((take.1 -> work -> drop.1 -> drop.0 -> LEFT ||| take.0 -> work -> drop.0 -> drop.1 -> RIGHT) [| {|take, drop|} |] (drop.0 -> KEY(0) ||| drop.1 -> KEY(1))) \ {|take, drop|}
   then it can do nothing
