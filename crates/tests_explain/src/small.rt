@@ -2,7 +2,7 @@
 
 use crate::rows::Row;
 
-static SMALL: [Row; 19] = [
+static SMALL: [Row; 20] = [
     Row {
         words: &["script"],
         status: 0,
