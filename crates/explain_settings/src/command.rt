@@ -13,10 +13,14 @@ use std::alloc::{AllocError, Global};
 /// The most characters of a state that may be asked for, and the greatest number of an assertion. A text has no more.
 pub(crate) const MOST: usize = 1_000_000;
 
-// What is told of the options without a value.
+// What is told of the option `--count`.
 const COUNT: &str = "Tell how many pairs and nodes the search of each assertion had";
+
+// What is told of the option `--events`.
 const EVENTS: &str = "Tell of each path its events alone, seen and hidden, and its last state";
-const STEPS: &str = "Tell steps that unfold a name one by one; with --events no matter";
+
+// What is told of the option `--steps`.
+const STEPS: &str = "Tell steps that unfold a name one by one; with --events that changes nothing";
 
 /// The command line of the program, without the program's name.
 pub(crate) fn command_line<'a>(alloc: Global) -> Result<Command<'a>, AllocError>
