@@ -20,6 +20,11 @@ use Rattle.counterexample.specs.Loops.{next_text}
 abbrev pub taus_left : Style → ℕ → ℕ → ℕ → List Process → List (Option Origin) → ℕ → List PartName → List ℕ
 taus_left style few n back states origins i parts = few_taus style (few - i) (n + i) back parts (drop i states) (drop i origins)
 
+pub taus_whole : (style : Style) (few n back : ℕ) (parts : List PartName) (states : List Process) (origins : List (Option Origin)) → taus_left style few n back states origins 0 parts ≡ few_taus style few n back parts states origins
+taus_whole style few n back parts states origins =
+    ap (λ k. few_taus style k (n + 0) back parts states origins) (let e : few - 0 ≡ few = omega arith in e)
+    ∙ ap (λ k. few_taus style few k back parts states origins) (let e : n + 0 ≡ n = omega arith in e)
+
 drop_past : {X : Type 0} (xs : List X) (i : ℕ) → slice_get xs i ≡ None → drop i xs ≡ []
 drop_past [] zero none = refl
 drop_past [] (suc i) none = refl

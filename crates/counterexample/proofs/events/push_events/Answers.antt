@@ -19,6 +19,12 @@ use Rattle.counterexample.specs.declared.part_names.PartName.{PartName}
 use Rattle.counterexample.proofs.events.push_events.Goals as goal
 use Rattle.counterexample.proofs.events.push_events.Goals.{then-is_event+in_ok-push_step, else-is_event}
 
+pub loop-place-init : goal.loop-place-init
+loop-place-init g c =
+    let start = string_bytes c.args.text.now in
+    let left = events_left (names_of c.args.names.now) (map action_of c.args.path.now) (origins_listed c.args.origins.now) 0 in
+    ap (λ (ps : List (PartName g.row.A.Denot)). start ++ left (part_names_listed ps)) c.new-parts.ensures.items
+
 pub returns-in_default : goal.returns-in_default
 returns-in_default g c =
     let script = names_of c.args.names.now in

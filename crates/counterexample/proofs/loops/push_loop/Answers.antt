@@ -1,5 +1,5 @@
 -- One more tau is told, or how many are left out.
-use Rattle.std.proofs.Common.{◌≡◌, List, [], ◌+◌, ◌-◌, ◌<◌, ◌++◌, length, map, option_map, Option, Some, slice_get, refl, sym, ◌∙◌, ap, inl, inr, lit≤, lit<, arith}
+use Rattle.std.proofs.Common.{◌≡◌, ℕ, List, [], ◌+◌, ◌-◌, ◌<◌, ◌++◌, length, map, option_map, Option, Some, slice_get, refl, sym, ◌∙◌, ap, inl, inr, lit≤, lit<, arith}
 use Rattle.std.proofs.lemmas.List.{length-map}
 use Rattle.std.proofs.lemmas.Option.{slice_get-get_or, slice_get-map, slice_get_past, slice_get_read}
 use Rattle.std.specs.String.{string_bytes}
@@ -20,7 +20,7 @@ use Rattle.counterexample.specs.Styles.{style_of}
 use Rattle.counterexample.specs.PartNames.{part_names_listed}
 use Rattle.counterexample.specs.declared.part_names.PartName.{PartName}
 use Rattle.counterexample.specs.Loops.{next_text}
-use Rattle.counterexample.proofs.LoopTexts.{lent_at, loop_whole, no_loop_left, no_tau_left, taus_cut_within, taus_left, taus_next}
+use Rattle.counterexample.proofs.LoopTexts.{lent_at, loop_whole, no_loop_left, no_tau_left, taus_cut_within, taus_left, taus_next, taus_whole}
 use Rattle.counterexample.proofs.Putting.{put_last}
 use Rattle.counterexample.proofs.loops.push_loop.Goals as goal
 
@@ -32,6 +32,21 @@ array_drop-tau-requires-in_err-push_next g c = elim g.met.A.AllocHandle.small [ 
 
 pub array_drop-tau-requires-in_err-put_unfolded : goal.array_drop-tau-requires-in_err-put_unfolded
 array_drop-tau-requires-in_err-put_unfolded g c = elim g.met.A.AllocHandle.small [ inl e ↦ rw (e.0, e.1) (lit< tt) | inr e ↦ rw (e.0, e.1) (lit< tt) ]
+
+pub loop-place-init : goal.loop-place-init
+loop-place-init g c =
+    let style = style_of c.args.style.now in
+    let n = c.args.number in
+    let loop = loop_of c.args.looping.now in
+    let few = c.taus_told-told.result in
+    let start = string_bytes c.args.text.now in
+    let first = names_along [] (origins_listed c.args.before.now) in
+    record {
+      few = omega arith;
+      text =
+          ap (λ (ps : List names.PartName). start ++ taus_left style few (n + 1) (n + loop.back) loop.states loop.origins 0 ps) c.in_ok-parts.ensures
+          ∙ ap (λ (ts : List ℕ). start ++ ts) (taus_whole style few (n + 1) (n + loop.back) first loop.states loop.origins);
+    }
 
 pub returns-in_default : goal.returns-in_default
 returns-in_default g c =

@@ -10,6 +10,9 @@ use Rattle.counterexample.specs.PartNames.{part_names_listed}
 use Rattle.counterexample.specs.declared.part_names.PartName.{PartName}
 use Rattle.counterexample.proofs.part_names.names_along.Goals as goal
 
+pub loop-origin-init : goal.loop-origin-init
+loop-origin-init g c = ap (λ (ps : List (PartName g.row.A.Denot)). names_along (part_names_listed ps) (origins_listed c.args.origins.now)) c.new-parts.ensures.items
+
 pub loop-origin-preserved : goal.loop-origin-preserved
 loop-origin-preserved g c =
     let origins = c.args.origins.now in

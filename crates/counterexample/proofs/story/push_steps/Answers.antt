@@ -29,6 +29,13 @@ use Rattle.counterexample.proofs.Putting.{goes_on_by_three}
 use Rattle.counterexample.proofs.story.push_steps.Goals as goal
 use Rattle.counterexample.proofs.story.push_steps.Goals.{then-not-is_folded+in_ok-equations+in_ok-push_step+in_ok-push_behind+in_ok-push_beside, else-not-is_folded}
 
+pub loop-place-init : goal.loop-place-init
+loop-place-init g c =
+    let story = c.args.story.now in
+    let start = string_bytes c.args.text.now in
+    let left = steps_left (style_of c.args.style.now) (map action_of story.path.now) (map process_of story.states.now) (origins_listed story.origins.now) (states_listed story.along.now) 0 (process_of c.args.state.now) in
+    ap (λ (ps : List (PartName g.row.A.Denot)). start ++ left (part_names_listed ps)) c.new-parts.ensures.items
+
 pub returns-in_default : goal.returns-in_default
 returns-in_default g c =
     let style = style_of c.args.style.now in
