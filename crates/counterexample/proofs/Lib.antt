@@ -12,3 +12,4 @@ pub mod WaitingBehind
 pub mod Besides
 pub mod LoopsOf
 pub mod Belows
+pub mod Naming

@@ -1,7 +1,8 @@
 //! The names of parts.
 
-ghost use Rattle.std.specs.Prelude.{◌≡◌, [], IfOk, OnOk, Some, map, option_map};
-ghost use Rattle.theory_explanation.specs.PartNames.{name_of, names_along, names_behind, with_name};
+ghost use Rattle.std.specs.Prelude.{◌≡◌, [], IfOk, OnOk, Some, map, not, option_map};
+ghost use Rattle.std.specs.List.{filter};
+ghost use Rattle.theory_explanation.specs.PartNames.{is_at, name_of, names_along, names_behind, unfolded, with_name};
 ghost use Rattle.csp_moves.specs.Origin.{origin_of};
 ghost use Rattle.csp_moves.specs.Passage.{side_of};
 ghost use Rattle.counterexample.specs.Counterexample.{origins_listed};
@@ -56,14 +57,25 @@ pub(crate) fn put_unfolded<A: AllocHandle>(
 ) -> Result<(), AllocError>
     ensures { OnOk result (part_names_listed parts.new.items ≡ names_behind (part_names_listed parts.old.items) (option_map origin_of origin.now)) }
 {
-    let Some(origin) = origin else {
-        return Ok(());
-    };
+    match origin {
+        Some(origin) => put_from(alloc, origin, parts),
+        None => Ok(()),
+    }
+}
+
+// The same of an origin that is told.
+fn put_from<A: AllocHandle>(
+    alloc: A,
+    origin: &Origin<A>,
+    parts: &mut Vec<PartName<A>, A>,
+) -> Result<(), AllocError>
+    ensures { OnOk result (part_names_listed parts.new.items ≡ with_name (part_names_listed parts.old.items) (unfolded (origin_of origin.now))) }
+{
     let found = unfolded_in(alloc, origin)?;
-    let Some(name) = found else {
-        return Ok(());
-    };
-    put_name(name, parts)
+    match found {
+        Some(name) => put_name(name, parts),
+        None => Ok(()),
+    }
 }
 
 // Puts the name in place of the one that was told at its way.
@@ -73,6 +85,18 @@ fn put_name<A: AllocHandle>(
 ) -> Result<(), AllocError>
     ensures { OnOk result (part_names_listed parts.new.items ≡ with_name (part_names_listed parts.old.items) (Some (part_name_of name))) }
 {
-    parts.retain(|part| !same_way(&part.way, &name.way));
-    parts.push(name)
+    take_out(&name.way, parts);
+    parts.push(name)?;
+    Ok(())
+}
+
+// Takes out the name that was told at the way.
+fn take_out<A: AllocHandle>(way: &[Side], parts: &mut Vec<PartName<A>, A>)
+    ensures { part_names_listed parts.new.items ≡ filter (λ d. not (is_at (map side_of way.now) d)) (part_names_listed parts.old.items) }
+{
+    parts.retain(
+        |part: &PartName<A>| -> bool
+            ensures { result ≡ not (is_at (map side_of way.entry.now) (part_name_of part.now)) }
+        { !same_way(&part.way, way) },
+    );
 }
