@@ -29,11 +29,11 @@ returns g c =
     let four = string_bytes c.push_set.new.text in
     let five = string_bytes c.push_mark-3.new.text in
     let all = string_bytes c.push_state.new.text in
-    let legend = legend style.names (part_names_listed c.args.parts.now) in
-    let way = part_text legend (map side_of w.way.items) in
+    let at = legend style.names (part_names_listed c.args.parts.now) in
+    let way = part_text at (map side_of w.way.items) in
     let set = set_text style.names (map action_of w.initials.items) in
     let line = state_line (cut style.width (process_text style.names (process_of w.process))) in
-    let W : List Side → Type 0 = λ xs. two ≡ one ++ part_text legend (map side_of xs) in
+    let W : List Side → Type 0 = λ xs. two ≡ one ++ part_text at (map side_of xs) in
     let S : List (Action g.row.A.Denot) → Type 0 = λ xs. four ≡ three ++ set_text style.names (map action_of xs) in
     behind r start one all (codes "  by itself ") (way ++ (codes " can do " ++ (set ++ (codes "\n" ++ line)))) c.in_ok-push_mark.ensures
     (behind r one two all way (codes " can do " ++ (set ++ (codes "\n" ++ line))) (subst W c.deref.ensures.value c.in_ok-push_part.ensures)
