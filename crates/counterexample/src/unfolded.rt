@@ -46,11 +46,13 @@ fn name_above<A: AllocHandle>(
 {
     match passage {
         Passage::OnSide(side) => name_further(alloc, *side, below),
-        Passage::InBody | Passage::UnderGuard | Passage::InChain => Ok(below),
-        Passage::OnBranch(_)
-        | Passage::SideEnds(_)
-        | Passage::Hides(_)
-        | Passage::Renames(_, _) => Ok(None),
+        Passage::InBody => Ok(below),
+        Passage::OnBranch(_) => Ok(None),
+        Passage::UnderGuard => Ok(below),
+        Passage::InChain => Ok(below),
+        Passage::SideEnds(_) => Ok(None),
+        Passage::Hides(_) => Ok(None),
+        Passage::Renames(_, _) => Ok(None),
     }
 }
 
