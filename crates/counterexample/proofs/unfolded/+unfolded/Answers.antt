@@ -36,11 +36,11 @@ returns-in-Chooses g t c = sym (ap unfolded (ap origin_of c.in-Chooses.is ∙ of
 pub returns-in-Slides : goal.returns-in-Slides
 returns-in-Slides g t c = sym (ap unfolded (ap origin_of c.in-Slides.is ∙ of_slides g.row.A.Denot))
 
-pub returns-in-Below : goal.returns-in-Below
-returns-in-Below g t c =
+pub returns-in_ok-below-in-Below : goal.returns-in_ok-below-in-Below
+returns-in_ok-below-in-Below g t c =
     let passage = c.in-Below.passage in
     let part = ap (λ (o : Origin g.row.A.Denot). name_above (passage_of passage) (unfolded (origin_of o))) c.deref.ensures in
-    let same = ap (name_above (passage_of passage)) c.in_ok-below.ensures ∙ part ∙ sym (ap unfolded (ap origin_of c.in-Below.is ∙ of_below g.row.A.Denot passage c.in-Below.part)) in
+    let same = ap (name_above (passage_of passage)) c.in_ok-below-in-Below.ensures ∙ part ∙ sym (ap unfolded (ap origin_of c.in-Below.is ∙ of_below g.row.A.Denot passage c.in-Below.part)) in
     let F : Option names.PartName → Type 0 = λ z. IfOk c.name_above.result (λ d. option_map part_name_of d ≡ z) in
     subst F same c.name_above.ensures
 
