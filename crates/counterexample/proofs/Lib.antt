@@ -13,3 +13,4 @@ pub mod Besides
 pub mod LoopsOf
 pub mod Belows
 pub mod Naming
+pub mod WaitingTexts

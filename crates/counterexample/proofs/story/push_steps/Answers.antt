@@ -113,7 +113,7 @@ loop-place-preserved g c =
           let one = string_bytes w.push_step.new.text in
           let two = string_bytes w.push_behind.new.text in
           let three = string_bytes w.push_beside.new.text in
-          let listed = ap (λ (ps : List (PartName g.row.A.Denot)). part_names_listed ps) w.deref-2.ensures.value in
+          let listed = ap (λ (ps : List (PartName g.row.A.Denot)). part_names_listed ps) w.deref-then-not-is_folded.ensures.value in
           let first : one ≡ now ++ line =
           w.in_ok-push_step.ensures ∙ ap₂ (λ (ps : List names.PartName) (es : List ℕ). now ++ step_line (legend style.names ps) (i + 1) (action_of x) o es) listed (ap equations_listed w.deref.ensures.value ∙ called) in
           let second : two ≡ one ++ changed = w.in_ok-push_behind.ensures ∙ ap₂ (λ (wd : Width) (u : Process). one ++ behind_line style.names wd told u) wide behind in
