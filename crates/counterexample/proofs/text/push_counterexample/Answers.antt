@@ -1,5 +1,5 @@
 -- The sides, the loop and the parts are put one behind the other.
-use Rattle.std.proofs.Common.{◌≡◌, ◌++◌, ℕ, List, [], Option, length, map, option_map, sym, ◌∙◌, ap, ap₂, inl, inr, lit≤}
+use Rattle.std.proofs.Common.{◌≡◌, ◌++◌, ℕ, List, [], Option, length, map, option_map, sym, ◌∙◌, ap, ap₂, inl, inr, lit≤, rules}
 use Rattle.std.proofs.lemmas.List.{length-map}
 use Rattle.std.specs.String.{string_bytes}
 use Rattle.csp_value.specs.Action.{action_of}
@@ -36,7 +36,7 @@ returns g c =
     (put_behind one two all (loop_text style names (length v.path) loop) (parts told.waiting.items) second third)
 
 pub push_looping-requires : goal.push_looping-requires
-push_looping-requires g c = elim g.met.A.AllocHandle.small [ inl e ↦ rw (e.0, e.1) (search (lit≤)) | inr e ↦ rw (e.0, e.1) (search (lit≤)) ]
+push_looping-requires g c = elim g.met.A.AllocHandle.small [ inl e ↦ rw (e.0, e.1) (search (lit≤), search rules) | inr e ↦ rw (e.0, e.1) (search (lit≤), search rules) ]
 
 pub push_parts-requires : goal.push_parts-requires
 push_parts-requires g c = elim g.met.A.AllocHandle.small [ inl e ↦ rw (e.0, e.1) (search (lit≤)) | inr e ↦ rw (e.0, e.1) (search (lit≤)) ]
