@@ -1,5 +1,5 @@
 -- The text of a loop from one of its states on.
-use Rattle.std.proofs.Common.{◌≡◌, ℕ, zero, suc, ◌+◌, ◌-◌, ◌<◌, ◌≤◌, List, [], ◌∷◌, ◌++◌, Option, Some, None, option_map, length, map, drop, get_or, slice_get, refl, sym, ◌∙◌, ap, subst, append-nil, arith, drop-cons}
+use Rattle.std.proofs.Common.{◌≡◌, ℕ, zero, suc, ◌+◌, ◌-◌, ◌<◌, ◌≤◌, List, [], ◌∷◌, ◌++◌, Option, Some, None, option_map, length, map, drop, get_or, slice_get, refl, sym, ◌∙◌, ap, append-nil, arith}
 use Rattle.theory_syntax.specs.Value.{Tau}
 use Rattle.std.proofs.lemmas.Option.{slice_get-get_or, slice_get-map, slice_get_past, slice_get_read}
 use Rattle.std.specs.Borrow.{Bor}

@@ -8,7 +8,6 @@ use Rattle.csp_moves.specs.declared.passage.Side.{Side}
 use Rattle.theory_explanation.specs.Legend.{part_text}
 use Rattle.theory_explanation.specs.Origins.{below_text}
 use Rattle.csp_print.proofs.Writing.{alike, behind}
-use Rattle.counterexample.specs.Doers.{doer_of}
 use Rattle.counterexample.specs.PartNames.{legend_of}
 use Rattle.counterexample.proofs.Belows.{told_at, told_bare}
 use Rattle.counterexample.proofs.doers.push_doer.Goals as goal

@@ -1,9 +1,7 @@
 -- Nothing at the whole, else the name of the part.
-use Rattle.std.proofs.Common.{◌≡◌, List, ◌++◌, map, sym, ◌∙◌, ap, append-nil, refl}
-use Rattle.std.specs.Prelude.{◌==◌}
+use Rattle.std.proofs.Common.{◌++◌, sym, ◌∙◌, ap, append-nil, refl}
 use Rattle.std.specs.String.{string_bytes}
-use Rattle.csp_moves.specs.Passage.{side_of}
-use Rattle.theory_explanation.specs.Legend.{called, name_here}
+use Rattle.theory_explanation.specs.Legend.{called}
 use Rattle.csp_print.proofs.Writing.{alike}
 use Rattle.counterexample.specs.PartNames.{legend_of}
 use Rattle.counterexample.proofs.Belows.{here_at, here_whole}

@@ -1,5 +1,5 @@
 -- The way, and behind it the name.
-use Rattle.std.proofs.Common.{◌≡◌, List, ◌++◌, map, ◌∙◌, ap, ap₂}
+use Rattle.std.proofs.Common.{List, ◌++◌, map, ◌∙◌, ap}
 use Rattle.std.specs.String.{string_bytes}
 use Rattle.csp_moves.specs.Passage.{side_of}
 use Rattle.csp_moves.specs.declared.passage.Side.{Side}

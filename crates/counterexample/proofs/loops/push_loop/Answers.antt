@@ -1,5 +1,5 @@
 -- One more tau is told, or how many are left out.
-use Rattle.std.proofs.Common.{◌≡◌, ℕ, List, [], ◌+◌, ◌-◌, ◌<◌, ◌++◌, length, map, option_map, Option, Some, slice_get, refl, sym, ◌∙◌, ap, inl, inr, lit≤, lit<, arith}
+use Rattle.std.proofs.Common.{◌≡◌, ℕ, List, [], ◌+◌, ◌-◌, ◌<◌, ◌++◌, length, map, option_map, Option, Some, slice_get, refl, sym, ◌∙◌, ap, inl, inr, lit<, arith}
 use Rattle.std.proofs.lemmas.List.{length-map}
 use Rattle.std.proofs.lemmas.Option.{slice_get-get_or, slice_get-map, slice_get_past, slice_get_read}
 use Rattle.std.specs.String.{string_bytes}
@@ -9,7 +9,7 @@ use Rattle.csp_term.specs.declared.term.Term.{Term}
 use Rattle.csp_moves.specs.Origin.{origin_of}
 use Rattle.csp_moves.specs.declared.origin.Origin.{Origin}
 use Rattle.theory_syntax.specs.Value.{Tau}
-use Rattle.theory_explanation.specs.Loops.{few_taus, left_out_line, loop_text, taus_told}
+use Rattle.theory_explanation.specs.Loops.{few_taus, left_out_line, taus_told}
 use Rattle.theory_explanation.specs.Legend.{legend}
 use Rattle.theory_explanation.specs.PartNames as names
 use Rattle.theory_explanation.specs.PartNames.{names_along, names_behind}

@@ -1,5 +1,5 @@
 -- Behind a tick nothing is told.
-use Rattle.std.proofs.Common.{◌≡◌, ◌++◌, option_map, sym, ◌∙◌, ap, append-nil}
+use Rattle.std.proofs.Common.{◌++◌, option_map, sym, ◌∙◌, ap, append-nil}
 use Rattle.std.specs.String.{string_bytes}
 use Rattle.csp_value.specs.Action.{action_of}
 use Rattle.csp_value.specs.declared.action.Action.{Action}

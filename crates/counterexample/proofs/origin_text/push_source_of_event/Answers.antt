@@ -1,5 +1,5 @@
 -- Of an event whose origin is not known no part is told.
-use Rattle.std.proofs.Common.{◌≡◌, Option, ◌++◌, option_map, sym, ◌∙◌, ap, append-nil}
+use Rattle.std.proofs.Common.{Option, ◌++◌, option_map, sym, ◌∙◌, ap, append-nil}
 use Rattle.std.specs.String.{string_bytes}
 use Rattle.theory_syntax.specs.Value.{Ev}
 use Rattle.csp_value.specs.Action.{event_of}

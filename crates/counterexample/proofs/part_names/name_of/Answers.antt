@@ -1,5 +1,5 @@
 -- One name after the other.
-use Rattle.std.proofs.Common.{◌≡◌, ◌∷◌, ◌+◌, suc, ℕ, Bool, true, false, List, [], Option, Some, drop, map, option_map, if◌then◌else◌, sym, ◌∙◌, ap, add-one, drop-cons}
+use Rattle.std.proofs.Common.{◌≡◌, ◌∷◌, ◌+◌, suc, Bool, true, false, List, Some, drop, map, if◌then◌else◌, sym, ◌∙◌, ap, add-one, drop-cons}
 use Rattle.std.proofs.lemmas.List.{drop_all}
 use Rattle.theory_explanation.specs.PartNames.{is_at, name_of, same_way}
 use Rattle.csp_moves.specs.Passage.{side_of}

@@ -1,5 +1,5 @@
 -- The name comes behind those that are kept.
-use Rattle.std.proofs.Common.{◌≡◌, List, [], ◌∷◌, ◌++◌, filter, map, not, ◌∙◌, ap}
+use Rattle.std.proofs.Common.{List, [], ◌∷◌, ◌++◌, filter, map, not, ◌∙◌, ap}
 use Rattle.std.proofs.lemmas.List.{map-append}
 use Rattle.theory_explanation.specs.PartNames as pure
 use Rattle.theory_explanation.specs.PartNames.{is_at}

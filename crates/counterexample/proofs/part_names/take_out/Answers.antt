@@ -1,5 +1,5 @@
 -- What is kept is what stands at another way.
-use Rattle.std.proofs.Common.{◌≡◌, Bool, not, map, ◌∙◌, ap}
+use Rattle.std.proofs.Common.{Bool, not, map, ◌∙◌, ap}
 use Rattle.std.proofs.lemmas.Fn.{filter_same}
 use Rattle.theory_explanation.specs.PartNames as pure
 use Rattle.theory_explanation.specs.PartNames.{is_at}

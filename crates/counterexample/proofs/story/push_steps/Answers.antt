@@ -1,5 +1,5 @@
 -- A step is put with the state behind the names that are unfolded then, or was told with the one before.
-use Rattle.std.proofs.Common.{◌≡◌, ℕ, ◌+◌, List, ◌++◌, length, drop, map, option_map, Some, None, refl, sym, ◌∙◌, ap, ap₂, append_assoc, inl, inr, lit≤}
+use Rattle.std.proofs.Common.{◌≡◌, ℕ, ◌+◌, List, ◌++◌, length, drop, map, option_map, Some, refl, sym, ◌∙◌, ap, ap₂, append_assoc, inl, inr, lit≤}
 use Rattle.std.proofs.lemmas.List.{drop-map, length-map, take_rest}
 use Rattle.std.proofs.lemmas.Option.{slice_get-get_or, slice_get-map, slice_get_past, slice_get_read}
 use Rattle.std.specs.String.{string_bytes}

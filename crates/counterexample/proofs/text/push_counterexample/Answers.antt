@@ -1,5 +1,5 @@
 -- The sides, the loop and the parts are put one behind the other.
-use Rattle.std.proofs.Common.{◌≡◌, ◌++◌, ℕ, List, [], Option, length, map, option_map, sym, ◌∙◌, ap, ap₂, inl, inr, lit≤, rules}
+use Rattle.std.proofs.Common.{◌++◌, ℕ, List, [], Option, length, map, option_map, sym, ◌∙◌, ap₂, inl, inr, lit≤, rules}
 use Rattle.std.proofs.lemmas.List.{length-map}
 use Rattle.std.specs.String.{string_bytes}
 use Rattle.csp_value.specs.Action.{action_of}
@@ -29,7 +29,7 @@ returns g c =
     let along = λ (os : List (Option (Origin g.row.A.Denot))). names_along [] (origins_listed os) in
     let long = c.len.ensures ∙ c.args.shown.now.path.ok.0 ∙ sym (length-map c.args.shown.now.path.items action_of) in
     let second = c.in_ok-push_looping.ensures ∙ ap₂ (λ (os : List (Option (Origin g.row.A.Denot))) (n : ℕ). one ++ loop_text style (along os) n loop) c.deref.ensures.value long in
-    let third = 
+    let third =
     c.in_ok-push_parts.ensures
     ∙ ap₂ (λ (os : List (Option (Origin g.row.A.Denot))) (ws : List (Waiting g.row.A.Denot)). two ++ parts_text style (along os) (map waiting_of ws)) c.deref-2.ensures.value c.deref-3.ensures.value in
     put_behind start one all (sides_text style v (counterexample_of told)) (loop_text style names (length v.path) loop ++ parts told.waiting.items) c.in_ok-push_sides.ensures

@@ -1,5 +1,5 @@
 -- Where there is no loop, none is told.
-use Rattle.std.proofs.Common.{◌≡◌, [], Option, ◌++◌, option_map, sym, ◌∙◌, ap, append-nil}
+use Rattle.std.proofs.Common.{[], Option, ◌++◌, option_map, sym, ◌∙◌, ap, append-nil}
 use Rattle.std.specs.String.{string_bytes}
 use Rattle.theory_explanation.specs.Loops.{loop_text}
 use Rattle.theory_explanation.specs.PartNames.{names_along}

@@ -1,5 +1,5 @@
 -- What each form of an origin unfolds. The part is smaller than what it is a part of.
-use Rattle.std.proofs.Common.{◌≡◌, ◌+◌, ◌<◌, List, [], IfOk, Option, Some, map, option_map, sym, subst, ◌∙◌, ap, inl, inr, lit≤, arith}
+use Rattle.std.proofs.Common.{◌≡◌, ◌<◌, List, IfOk, Option, Some, map, option_map, sym, subst, ◌∙◌, ap, inl, inr, lit≤, arith}
 use Rattle.theory_explanation.specs.PartNames as names
 use Rattle.theory_explanation.specs.PartNames.{name_above, unfolded}
 use Rattle.csp_moves.specs.Origin.{origin_of}

@@ -1,5 +1,5 @@
 -- What is not told above a passage.
-use Rattle.std.proofs.Common.{◌≡◌, option_map, sym, ap}
+use Rattle.std.proofs.Common.{option_map, sym, ap}
 use Rattle.theory_explanation.specs.PartNames.{name_above}
 use Rattle.csp_moves.specs.Passage.{passage_of}
 use Rattle.csp_moves.specs.declared.passage.Passage.{Passage}

@@ -1,5 +1,5 @@
 -- Where there are several parts, each is told.
-use Rattle.std.proofs.Common.{◌≡◌, ◌<◌, ◌≤◌, List, [], ◌++◌, length, map, sym, ◌∙◌, ap, append-nil, arith}
+use Rattle.std.proofs.Common.{◌≤◌, List, [], ◌++◌, length, map, sym, ◌∙◌, ap, append-nil, arith}
 use Rattle.std.specs.String.{string_bytes}
 use Rattle.theory_explanation.specs.PartNames as pure
 use Rattle.theory_explanation.specs.PartNames.{names_along}

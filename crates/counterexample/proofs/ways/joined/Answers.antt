@@ -1,5 +1,5 @@
 -- One way behind the other.
-use Rattle.std.proofs.Common.{◌≡◌, List, ◌++◌, map, ◌∙◌, ap}
+use Rattle.std.proofs.Common.{List, ◌++◌, map, ◌∙◌, ap}
 use Rattle.std.proofs.lemmas.List.{map-append}
 use Rattle.csp_moves.specs.Passage.{side_of}
 use Rattle.csp_moves.specs.declared.passage.Side.{Side}
