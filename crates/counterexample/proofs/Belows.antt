@@ -6,7 +6,9 @@ use Rattle.theory_syntax.specs.Value.{Event, event_eq}
 use Rattle.theory_syntax.proofs.Equalities.{event_refl, event_same}
 use Rattle.theory_notation.specs.Names.{Names}
 use Rattle.theory_explanation.specs.Actions.{event_text}
-use Rattle.theory_explanation.specs.Origins.{below_text, doer_text, is_nil, way_text}
+use Rattle.theory_explanation.specs.Legend.{Legend, called, is_nil, name_here, part_text}
+use Rattle.theory_explanation.specs.PartNames.{name_of}
+use Rattle.theory_explanation.specs.Origins.{below_text, doer_text}
 use Rattle.csp_moves.specs.Passage.{side_of}
 use Rattle.csp_moves.specs.declared.passage.Side as code
 
@@ -29,14 +31,21 @@ some_sides [] some = absurd (cc some)
 some_sides (s ∷ ws) some = refl
 
 -- a part with a way is told behind the mark
-pub told_at : (names : Names) (seen : Event) (mark : List ℕ) (ws : List code.Side) (e : Event) → (length ws == 0) ≡ false →
-    mark ++ (way_text (map side_of ws) ++ below_text names seen e) ≡ doer_text names seen mark (record { way = map side_of ws; event = e })
-told_at names seen mark ws e some = sym (ap (λ b. if b then below_text names seen e else mark ++ (way_text (map side_of ws) ++ below_text names seen e)) (some_sides ws some))
+pub told_at : (l : Legend) (seen : Event) (mark : List ℕ) (ws : List code.Side) (e : Event) → (length ws == 0) ≡ false →
+    mark ++ (part_text l (map side_of ws) ++ below_text l.names seen e) ≡ doer_text l seen mark (record { way = map side_of ws; event = e })
+told_at l seen mark ws e some = sym (ap (λ b. if b then below_text l.names seen e else mark ++ (part_text l (map side_of ws) ++ below_text l.names seen e)) (some_sides ws some))
 
 no_sides : (ws : List code.Side) → (length ws == 0) ≡ true → is_nil (map side_of ws) ≡ true
 no_sides [] none = refl
 no_sides (s ∷ ws) none = absurd (let some : length (s ∷ ws) ≡ 0 = eqb-true (length (s ∷ ws)) 0 none in omega (arith, some))
 
 -- one without a way is not
-pub told_bare : (names : Names) (seen : Event) (mark : List ℕ) (ws : List code.Side) (e : Event) → (length ws == 0) ≡ true → below_text names seen e ≡ doer_text names seen mark (record { way = map side_of ws; event = e })
-told_bare names seen mark ws e none = sym (ap (λ b. if b then below_text names seen e else mark ++ (way_text (map side_of ws) ++ below_text names seen e)) (no_sides ws none))
+pub told_bare : (l : Legend) (seen : Event) (mark : List ℕ) (ws : List code.Side) (e : Event) → (length ws == 0) ≡ true → below_text l.names seen e ≡ doer_text l seen mark (record { way = map side_of ws; event = e })
+told_bare l seen mark ws e none = sym (ap (λ b. if b then below_text l.names seen e else mark ++ (part_text l (map side_of ws) ++ below_text l.names seen e)) (no_sides ws none))
+
+-- what is told where a legend stands, by whether it is at the whole
+pub here_at : (l : Legend) (ws : List code.Side) → l.way ≡ map side_of ws → (length ws == 0) ≡ false → called l.names (name_of l.parts l.way) ≡ name_here l
+here_at l ws is some = sym (ap (λ b. if b then [] else called l.names (name_of l.parts l.way)) (ap is_nil is ∙ some_sides ws some))
+
+pub here_whole : (l : Legend) (ws : List code.Side) → l.way ≡ map side_of ws → (length ws == 0) ≡ true → [] ≡ name_here l
+here_whole l ws is none = sym (ap (λ b. if b then [] else called l.names (name_of l.parts l.way)) (ap is_nil is ∙ no_sides ws none))

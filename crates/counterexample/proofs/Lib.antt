@@ -12,3 +12,5 @@ pub mod WaitingBehind
 pub mod Besides
 pub mod LoopsOf
 pub mod Belows
+pub mod Naming
+pub mod WaitingTexts

@@ -2,6 +2,7 @@ pub mod Counterexample
 pub mod Doers
 pub mod Waiting
 pub mod Loops
+pub mod PartNames
 pub mod Styles
 pub mod Texts
 pub mod Widths

@@ -1,5 +1,5 @@
 -- What is told of a story.
-use Rattle.std.specs.Prelude.{ℕ, List, drop, map}
+use Rattle.std.specs.Prelude.{ℕ, List, [], drop, map}
 use Rattle.theory_syntax.specs.Process.{Process}
 use Rattle.theory_explanation.specs.Steps.{steps_text, states_text, told_run}
 use Rattle.theory_explanation.specs.Styles.{Style}
@@ -18,4 +18,4 @@ states_of style s = states_text style (map action_of s.path.now) (process_of s.s
 
 -- its steps, behind the state that was told last
 abbrev pub steps_of : {A : Type 0} → Style → Story A → Process → List ℕ
-steps_of style s told = steps_text style 1 told (map action_of s.path.now) (map process_of s.states.now) (origins_listed s.origins.now) (drop 1 (states_listed s.along.now))
+steps_of style s told = steps_text style 1 told [] (map action_of s.path.now) (map process_of s.states.now) (origins_listed s.origins.now) (drop 1 (states_listed s.along.now))

@@ -1,6 +1,6 @@
 //! Which parts do an event.
 
-ghost use Rattle.std.specs.Prelude.{◌≡◌, ◌∷◌, ◌++◌, [], IfOk, map};
+ghost use Rattle.std.specs.Prelude.{◌≡◌, IfOk, map};
 ghost use Rattle.theory_syntax.specs.Value as value;
 ghost use Rattle.theory_origins.specs.Action as action;
 ghost use Rattle.theory_origins.specs.Doers as pure;
@@ -8,14 +8,16 @@ ghost use Rattle.theory_origins.specs.Origin.{Below};
 ghost use Rattle.csp_value.specs.Action.{event_of};
 ghost use Rattle.csp_moves.specs.Origin.{origin_of};
 ghost use Rattle.csp_moves.specs.Passage.{passage_of, side_of};
-ghost use Rattle.theory_explanation.specs.Origins.{below_text, doer_text, doers_behind, doers_text, way_behind, way_text};
+ghost use Rattle.theory_explanation.specs.Origins.{below_text, doer_text, doers_behind, doers_text};
 ghost use Rattle.csp_print.specs.Names.{names_of};
 ghost use Rattle.csp_print.specs.Writing.{Writes};
 ghost use Rattle.counterexample.specs.Doers.{all_behind, doer_of, doers_listed, lent_event, seen_event};
+ghost use Rattle.counterexample.specs.PartNames.{legend_of};
 
 use crate::actions::push_event;
+use crate::legend::{Legend, push_part};
 use crate::marks::push_mark;
-use crate::origin_text::push_side;
+use crate::ways::longer;
 use csp_moves::{Origin, Passage, Side};
 use csp_print::Names;
 use csp_term::{AllocHandle, Event};
@@ -34,65 +36,68 @@ struct Doer<'o, A: AllocHandle> {
 /// The parts that do the event in a step from the origin, behind the string.
 pub(crate) fn push_doers<A: AllocHandle>(
     alloc: A,
-    names: &Names<'_, A>,
+    legend: &Legend<'_, '_, A>,
     seen: &Event<A>,
     origin: &Origin<A>,
     text: &mut String<A>,
 ) -> Result<(), AllocError>
-    ensures { Writes result text.old text.new (doers_text (names_of names.now) (event_of seen.now) (pure.doers (origin_of origin.now))) }
+    ensures { Writes result text.old text.new (doers_text (legend_of legend.now) (event_of seen.now) (pure.doers (origin_of origin.now))) }
 {
     let all = doers_in(alloc, &[], origin)?;
-    push_all(names, seen, &all, text)
+    push_all(alloc, legend, seen, &all, text)
 }
 
 // The parts, with what each does.
 fn push_all<A: AllocHandle>(
-    names: &Names<'_, A>,
+    alloc: A,
+    legend: &Legend<'_, '_, A>,
     seen: &Event<A>,
     doers: &[Doer<'_, A>],
     text: &mut String<A>,
 ) -> Result<(), AllocError>
-    ensures { Writes result text.old text.new (doers_text (names_of names.now) (event_of seen.now) (doers_listed doers.now)) }
+    ensures { Writes result text.old text.new (doers_text (legend_of legend.now) (event_of seen.now) (doers_listed doers.now)) }
 {
     match doers.split_first() {
         Some((first, others)) => {
-            push_doer(names, seen, " by ", first, text)?;
-            push_doers_behind(names, seen, others, text)
+            push_doer(alloc, legend, seen, " by ", first, text)?;
+            push_doers_behind(alloc, legend, seen, others, text)
         }
         None => Ok(()),
     }
 }
 
 fn push_doers_behind<A: AllocHandle>(
-    names: &Names<'_, A>,
+    alloc: A,
+    legend: &Legend<'_, '_, A>,
     seen: &Event<A>,
     doers: &[Doer<'_, A>],
     text: &mut String<A>,
 ) -> Result<(), AllocError>
-    ensures { Writes result text.old text.new (doers_behind (names_of names.now) (event_of seen.now) (doers_listed doers.now)) }
+    ensures { Writes result text.old text.new (doers_behind (legend_of legend.now) (event_of seen.now) (doers_listed doers.now)) }
 {
     for doer in doers {
-        push_doer(names, seen, ", ", doer, text)?;
+        push_doer(alloc, legend, seen, ", ", doer, text)?;
     }
     Ok(())
 }
 
 // A part, behind the mark; one without a way is the process itself.
 fn push_doer<A: AllocHandle>(
-    names: &Names<'_, A>,
+    alloc: A,
+    legend: &Legend<'_, '_, A>,
     seen: &Event<A>,
     mark: &str,
     doer: &Doer<'_, A>,
     text: &mut String<A>,
 ) -> Result<(), AllocError>
-    ensures { Writes result text.old text.new (doer_text (names_of names.now) (event_of seen.now) mark.now (doer_of doer.now)) }
+    ensures { Writes result text.old text.new (doer_text (legend_of legend.now) (event_of seen.now) mark.now (doer_of doer.now)) }
 {
     if doer.way.is_empty() {
-        return push_below(names, seen, doer.event, text);
+        return push_below(legend.names, seen, doer.event, text);
     }
     push_mark(mark, text)?;
-    push_way(&doer.way, text)?;
-    push_below(names, seen, doer.event, text)
+    push_part(alloc, legend, &doer.way, text)?;
+    push_below(legend.names, seen, doer.event, text)
 }
 
 // The event of a part, where it is another one.
@@ -109,30 +114,6 @@ fn push_below<A: AllocHandle>(
     }
     push_mark(" as ", text)?;
     push_event(names, below, text)
-}
-
-/// The sides of a way, with `.` between.
-pub(crate) fn push_way<A: AllocHandle>(way: &[Side], text: &mut String<A>) -> Result<(), AllocError>
-    ensures { Writes result text.old text.new (way_text (map side_of way.now)) }
-{
-    match way.split_first() {
-        Some((first, others)) => {
-            push_side(*first, text)?;
-            push_sides_behind(others, text)
-        }
-        None => Ok(()),
-    }
-}
-
-// The sides, with `.` before each.
-fn push_sides_behind<A: AllocHandle>(way: &[Side], text: &mut String<A>) -> Result<(), AllocError>
-    ensures { Writes result text.old text.new (way_behind (map side_of way.now)) }
-{
-    for side in way {
-        push_mark(".", text)?;
-        push_side(*side, text)?;
-    }
-    Ok(())
 }
 
 // The parts that do an event in a step from the origin, below the way.
@@ -194,19 +175,6 @@ fn doers_on<'o, A: AllocHandle>(
 {
     let further = longer(alloc, way, side)?;
     doers_in(alloc, &further, part)
-}
-
-/// The way, and behind it one more side.
-pub(crate) fn longer<A: AllocHandle>(
-    alloc: A,
-    way: &[Side],
-    side: Side,
-) -> Result<Vec<Side, A>, AllocError>
-    ensures { IfOk result (λ further. map side_of further.items ≡ map side_of way.now ++ side_of side ∷ []) }
-{
-    let mut further = Vec::from_slice(alloc, way)?;
-    further.push(side)?;
-    Ok(further)
 }
 
 // The process at the end of the way, if it does an event.

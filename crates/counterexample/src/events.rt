@@ -1,6 +1,6 @@
 //! Runs by their events.
 
-ghost use Rattle.std.specs.Prelude.{◌≡◌, map, option_map};
+ghost use Rattle.std.specs.Prelude.{◌≡◌, [], map, option_map};
 ghost use Rattle.csp_value.specs.Action.{action_of};
 ghost use Rattle.csp_term.specs.Term.{process_of};
 ghost use Rattle.csp_moves.specs.Origin.{origin_of};
@@ -13,6 +13,7 @@ ghost use Rattle.counterexample.specs.Folding.{kind_of};
 
 use crate::folding::state_behind;
 use crate::kind::{Kind, kind_told};
+use crate::part_names::put_unfolded;
 use crate::states::push_state;
 use crate::step::{Step, push_step};
 use crate::width::Width;
@@ -29,8 +30,9 @@ pub(crate) fn push_events<A: AllocHandle>(
     origins: &[Option<Origin<A>>],
     text: &mut String<A>,
 ) -> Result<(), AllocError>
-    ensures { Writes result text.old text.new (events_text (names_of names.now) 1 (map action_of path.now) (origins_listed origins.now)) }
+    ensures { Writes result text.old text.new (events_text (names_of names.now) 1 [] (map action_of path.now) (origins_listed origins.now)) }
 {
+    let mut parts = Vec::new(alloc);
     for (place, action) in path.iter().enumerate() {
         let told = origins.get(place);
         let Some(origin) = told else {
@@ -43,8 +45,9 @@ pub(crate) fn push_events<A: AllocHandle>(
                 origin,
                 equations: &[],
             };
-            push_step(alloc, names, &step, text)?;
+            push_step(alloc, names, &parts, &step, text)?;
         }
+        put_unfolded(alloc, origin, &mut parts)?;
     }
     Ok(())
 }

@@ -1,39 +1,44 @@
 //! The loop of a divergence.
 
-ghost use Rattle.std.specs.Prelude.{◌≡◌, ◌<◌, ◌^◌, length, map, option_map, Some};
+ghost use Rattle.std.specs.Prelude.{◌≡◌, ◌<◌, ◌^◌, [], length, map, option_map, Some};
 ghost use Rattle.theory_explanation.specs.Loops.{back_text, left_out_line, loop_text, taus_told};
+ghost use Rattle.theory_explanation.specs.PartNames.{names_along};
 ghost use Rattle.theory_explanation.specs.Steps.{state_line};
 ghost use Rattle.csp_term.specs.Term.{process_of};
 ghost use Rattle.csp_print.specs.Writing.{Writes};
-ghost use Rattle.counterexample.specs.Counterexample.{loop_of};
+ghost use Rattle.counterexample.specs.Counterexample.{loop_of, origins_listed};
 ghost use Rattle.counterexample.specs.Loops.{next_text};
 ghost use Rattle.counterexample.specs.Styles.{style_of};
 ghost use Rattle.counterexample.specs.Widths.{width_of};
 
 use crate::looping::Looping;
 use crate::marks::{push_amount, push_mark, push_number};
+use crate::part_names::{names_along, put_unfolded};
 use crate::states::push_behind;
 use crate::step::{Step, push_step};
 use crate::style::Style;
 use crate::width::Width;
+use csp_moves::Origin;
 use csp_term::{Action, AllocHandle, Term};
 use std::alloc::AllocError;
 
-/// The taus of the loop that begins at the state with the number, behind the string.
+/// The taus of the loop that begins at the state with the number, behind steps with these origins.
 pub(crate) fn push_loop<A: AllocHandle>(
     alloc: A,
     style: &Style<'_, '_, A>,
+    before: &[Option<Origin<A>>],
     number: usize,
     looping: &Looping<A>,
     text: &mut String<A>,
 ) -> Result<(), AllocError>
     requires room { number < 2 ^ 63 }
     requires back { looping.now.back < length looping.now.states.items }
-    ensures { Writes result text.old text.new (loop_text (style_of style.now) number (Some (loop_of looping.now))) }
+    ensures { Writes result text.old text.new (loop_text (style_of style.now) (names_along [] (origins_listed before.now)) number (Some (loop_of looping.now))) }
 {
     let count = looping.states.len();
     let told = taus_told(style.taus, &looping.states);
     let back = number + looping.back;
+    let mut parts = names_along(alloc, before)?;
     for place in 0..count {
         let found = looping.origins.get(place);
         let Some(origin) = found else {
@@ -49,9 +54,10 @@ pub(crate) fn push_loop<A: AllocHandle>(
             origin,
             equations: &[],
         };
-        push_step(alloc, style.names, &step, text)?;
+        push_step(alloc, style.names, &parts, &step, text)?;
         let next = looping.states.get(place + 1);
         push_next(alloc, style, &looping.states[place], next, back, text)?;
+        put_unfolded(alloc, origin, &mut parts)?;
     }
     Ok(())
 }

@@ -14,6 +14,7 @@ ghost use Rattle.counterexample.specs.Widths.{width_of};
 use crate::events::{push_events, push_last};
 use crate::folding::{folded, is_folded, push_then, state_behind};
 use crate::marks::push_mark;
+use crate::part_names::put_unfolded;
 use crate::specification::push_specification;
 use crate::states::{push_behind, push_state};
 use crate::step::{Step, push_step};
@@ -103,6 +104,7 @@ fn push_steps<A: AllocHandle>(
     ensures { Writes result text.old text.new (steps_of (style_of style.now) story.now (process_of state.now)) }
 {
     let mut told = state;
+    let mut parts = Vec::new(alloc);
     for (place, action) in story.path.iter().enumerate() {
         let next = story.states.get(place);
         let Some(state) = next else {
@@ -122,11 +124,12 @@ fn push_steps<A: AllocHandle>(
                 origin,
                 equations: &equations,
             };
-            push_step(alloc, style.names, &step, text)?;
+            push_step(alloc, style.names, &parts, &step, text)?;
             push_behind(alloc, style.names, width, told, behind, text)?;
             push_beside(alloc, style, action, story.along, place + 1, text)?;
             told = behind;
         }
+        put_unfolded(alloc, origin, &mut parts)?;
     }
     Ok(())
 }

@@ -1,10 +1,11 @@
 //! Counterexamples.
 
-ghost use Rattle.std.specs.Prelude.{◌<◌, ◌^◌, map, option_map, Some};
+ghost use Rattle.std.specs.Prelude.{◌<◌, ◌^◌, [], map, option_map, Some};
 ghost use Rattle.csp_term.specs.Term.{process_of};
 ghost use Rattle.verdict.specs.Outcome.{violation_of};
 ghost use Rattle.theory_explanation.specs.Comparing.{counterexample_text, text_beside};
 ghost use Rattle.theory_explanation.specs.Loops.{loop_text};
+ghost use Rattle.theory_explanation.specs.PartNames.{names_along};
 ghost use Rattle.csp_print.specs.Writing.{Writes};
 ghost use Rattle.counterexample.specs.Counterexample.{GoesRound, counterexample_of, counterpart_of, loop_of, origins_listed};
 ghost use Rattle.counterexample.specs.Styles.{sides_text, style_of};
@@ -19,6 +20,7 @@ use crate::run::Run;
 use crate::runs::{push_run, push_run_alone};
 use crate::style::Style;
 use crate::waiting_text::push_parts;
+use csp_moves::Origin;
 use csp_term::{AllocHandle, Memory};
 use std::alloc::AllocError;
 use verdict::Shown;
@@ -37,31 +39,34 @@ pub fn push_counterexample<A: AllocHandle>(
     ensures { Writes result text.old text.new (counterexample_text (style_of style.now) (violation_of shown.now) (counterexample_of counterexample.now)) }
 {
     push_sides(alloc, style, shown, counterexample, text)?;
+    let origins = &counterexample.origins;
     push_looping(
         alloc,
         style,
+        origins,
         shown.path.len(),
         &counterexample.looping,
         text,
     )?;
-    push_parts(alloc, style, &counterexample.waiting, text)?;
+    push_parts(alloc, style, origins, &counterexample.waiting, text)?;
     Ok(())
 }
 
-// The loop that begins at the state with the number, if there is one.
+// The loop that begins at the state with the number, behind steps with these origins, if there is one.
 fn push_looping<A: AllocHandle>(
     alloc: A,
     style: &Style<'_, '_, A>,
+    origins: &[Option<Origin<A>>],
     number: usize,
     looping: &Option<Looping<A>>,
     text: &mut String<A>,
 ) -> Result<(), AllocError>
     requires room { number < 2 ^ 63 }
     requires round { GoesRound looping.now }
-    ensures { Writes result text.old text.new (loop_text (style_of style.now) number (option_map loop_of looping.now)) }
+    ensures { Writes result text.old text.new (loop_text (style_of style.now) (names_along [] (origins_listed origins.now)) number (option_map loop_of looping.now)) }
 {
     match looping {
-        Some(looping) => push_loop(alloc, style, number, looping, text),
+        Some(looping) => push_loop(alloc, style, origins, number, looping, text),
         None => Ok(()),
     }
 }

@@ -12,8 +12,8 @@ ghost use Rattle.verdict.specs.Outcome.{evidence_of};
 ghost use Rattle.counterexample.specs.Counterexample.{waiting_of};
 ghost use Rattle.counterexample.specs.Waiting.{IsOnePart, all_placed_behind};
 
-use crate::doers::longer;
 use crate::standing::{Standing, standing_in};
+use crate::ways::longer;
 use csp_moves::Side;
 use csp_replay::initials_of;
 use csp_term::{Action, AllocHandle, Memory, Script, Term};

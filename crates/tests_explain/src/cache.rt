@@ -59,7 +59,7 @@ assert ONE(0) [T= MENDED
       .. store, done|} |] (([] i:Cpu @ fetch.i.0 -> MEMORY(0)) [] ([] i:Cpu @ read.i?w -> MEMORY(0)) [] ([] i:Cpu @ write.i?w -> store.i.w -> done.i -> MEMORY(w)))) \ {|fetch, store, ..
   3 tau: left.right: unfolds LAZY
       .. [| {|forget|} |] (fetch.1?v -> KEEPING(1,v) [] write.1?v -> KEPT(1,v) [] forget.1 -> LAZY(1))) [| {|read, write, ..
-  4 tau: hidden fetch.1.0 by left.right, right
+  4 tau: hidden fetch.1.0 by left.right (LAZY), right (MEMORY)
       .. [| {|forget|} |] KEEPING(1,0)) [| {|read, write, fetch, store, done|} |] MEMORY(0)) \ {|fetch, store, ..
   5 tau: right: unfolds MEMORY
       .. store, done|} |] (([] i:Cpu @ fetch.i.0 -> MEMORY(0)) [] ([] i:Cpu @ read.i?w -> MEMORY(0)) [] ([] i:Cpu @ write.i?w -> store.i.w -> done.i -> MEMORY(w)))) \ {|fetch, store, ..
@@ -67,17 +67,17 @@ assert ONE(0) [T= MENDED
       .. [| {|forget|} |] (read.1.0 -> KEEPING(1,0) [] write.1?w -> KEPT(1,w) [] forget.1 -> KEEPING(1,0))) [| {|read, write, ..
   7 tau: left.left: unfolds LAZY
       (((fetch.0?v -> KEEPING(0,v) [] write.0?v -> KEPT(0,v) [] forget.0 -> LAZY(0)) [| {|forget|} |] ..
-  8 write.0.1 by left.left, right
+  8 write.0.1 by left.left (LAZY), right (MEMORY)
       ((KEPT(0,1) [| {|forget|} |] (read.1.0 -> KEEPING(1,0) [] write.1?w -> KEPT(1,w) [] forget.1 -> KEEPING(1,0))) [| {|read, write, fetch, store, done|} |] store.0.1 -> done.0 -> MEMORY(1)) \ {|fetch, st .. 7 more characters
       specification: ONE(1)
       specification: ([] i:Cpu @ read.i.1 -> ONE(1)) [] ([] i:Cpu @ write.i?w -> ONE(w))
   9 tau: left.left: unfolds KEPT
       ((store.0.1 -> forget.1 -> done.0 -> KEEPING(0,1) [| {|forget|} |] ..
-  10 tau: hidden store.0.1 by left.left, right
+  10 tau: hidden store.0.1 by left.left (KEPT), right (MEMORY)
       ((forget.1 -> done.0 -> KEEPING(0,1) [| {|forget|} |] (read.1.0 -> KEEPING(1,0) [] write.1?w -> KEPT(1,w) [] forget.1 -> KEEPING(1,0))) [| {|read, write, fetch, store, done|} |] done.0 -> MEMORY(1)) . .. 1 more characters
-  11 tau: hidden forget.1 by left.left, left.right
+  11 tau: hidden forget.1 by left.left (KEPT), left.right (KEEPING)
       ((done.0 -> KEEPING(0,1) [| {|forget|} |] KEEPING(1,0)) [| {|read, write, ..
-  12 tau: hidden done.0 by left.left, right
+  12 tau: hidden done.0 by left.left (KEPT), right (MEMORY)
       ((KEEPING(0,1) [| {|forget|} |] KEEPING(1,0)) [| {|read, write, fetch, store, done|} |] MEMORY(1)) \ {|fetch, ..
   13 tau: right: unfolds MEMORY
       .. store, done|} |] (([] i:Cpu @ fetch.i.1 -> MEMORY(1)) [] ([] i:Cpu @ read.i?w -> MEMORY(1)) [] ([] i:Cpu @ write.i?w -> store.i.w -> done.i -> MEMORY(w)))) \ {|fetch, store, ..

@@ -49,13 +49,13 @@ assert MENDED :[divergence free]
       ((STATION(0) [| {crash} |] STATION(1)) [| {|send, through, ..
   4 tau: left.right: unfolds STATION
       .. [| {crash} |] send.1 -> (through.1 -> got.1 -> STATION(1) [] crash -> STATION(1))) [| {|send, through, ..
-  5 tau: hidden send.1 by left.right, right
+  5 tau: hidden send.1 by left.right (STATION), right (LINE)
       .. [| {crash} |] (through.1 -> got.1 -> STATION(1) [] crash -> STATION(1))) [| {|send, through, crash|} |] (through.1 -> LINE [] send.0 -> crash -> LINE)) \ {|send, through, ..
   6 tau: left.left: unfolds STATION
       ((send.0 -> (through.0 -> got.0 -> STATION(0) [] crash -> STATION(0)) [| {crash} |] ..
-  7 tau: hidden send.0 by left.left, right
+  7 tau: hidden send.0 by left.left (STATION), right (LINE)
       (((through.0 -> got.0 -> STATION(0) [] crash -> STATION(0)) [| {crash} |] (through.1 -> got.1 -> STATION(1) [] crash -> STATION(1))) [| {|send, through, crash|} |] crash -> LINE) \ {|send, through, ..
-  8 tau: hidden crash by left.left, left.right, right
+  8 tau: hidden crash by left.left (STATION), left.right (STATION), right (LINE)
       ((STATION(0) [| {crash} |] STATION(1)) [| {|send, through, crash|} |] LINE) \ {|send, ..
   9 tau: right: unfolds LINE
       back to state 3

@@ -47,7 +47,7 @@ assert BUFFER(0) [F= MENDED
       .. {put, credit} |] (true & put -> FORGETFUL(1) [] false & get -> credit -> FORGETFUL(0) [] false & get -> FORGETFUL(1))) \ {credit}
   3 tau: left: unfolds SENDER
       ((true & put -> SENDER(1) [] credit -> SENDER(3)) [| {put, credit} ..
-  4 put by left, right
+  4 put by left (SENDER), right (FORGETFUL)
       (SENDER(1) [| {put, credit} |] FORGETFUL(1)) \ {credit}
       specification: BUFFER(1)
       specification: true & put -> BUFFER(2) [] true & get -> BUFFER(0)
@@ -55,7 +55,7 @@ assert BUFFER(0) [F= MENDED
       .. {put, credit} |] (true & put -> FORGETFUL(2) [] true & get -> credit -> FORGETFUL(0) [] false & get -> FORGETFUL(1))) \ {credit}
   6 tau: left: unfolds SENDER
       ((true & put -> SENDER(0) [] credit -> SENDER(2)) [| {put, credit} ..
-  7 put by left, right
+  7 put by left (SENDER), right (FORGETFUL)
       (SENDER(0) [| {put, credit} |] FORGETFUL(2)) \ {credit}
       specification: BUFFER(2)
       specification: false & put -> BUFFER(3) [] true & get -> BUFFER(1)
@@ -63,7 +63,7 @@ assert BUFFER(0) [F= MENDED
       .. {put, credit} |] (false & put -> FORGETFUL(3) [] false & get -> credit -> FORGETFUL(0) [] true & get -> FORGETFUL(1))) \ {credit}
   9 tau: left: unfolds SENDER
       ((false & put -> SENDER(-1) [] credit -> SENDER(1)) [| {put, credit} ..
-  10 get by right
+  10 get by right (FORGETFUL)
       .. {put, credit} |] FORGETFUL(1)) \ {credit}
       specification: BUFFER(1)
       specification: true & put -> BUFFER(2) [] true & get -> BUFFER(0)
@@ -71,9 +71,9 @@ assert BUFFER(0) [F= MENDED
       ((false & put -> SENDER(-1) [] credit -> SENDER(1)) [| {put, credit} |] (true & put -> FORGETFUL(2) [] true & get -> credit -> FORGETFUL(0) [] false & get -> FORGETFUL(1))) \ {credit}
   then it may refuse all but {get}, and the specification may not
   there the specification may offer {put,get}, of which {put} is lacking
-  by itself left can do {credit}
+  by itself left (SENDER) can do {credit}
       false & put -> SENDER(-1) [] credit -> SENDER(1)
-  by itself right can do {put,get}
+  by itself right (FORGETFUL) can do {put,get}
       true & put -> FORGETFUL(2) [] true & get -> credit -> FORGETFUL(0) [] false & get -> FORGETFUL(1)
 3 holds  assert BUFFER(0) [F= MENDED
 ",

@@ -44,13 +44,13 @@ assert BUFFER(<>) [F= MENDED
       (DROPPING(<>) [| {|pass|} |] CELL) \ {|pass|}
   2 tau: left: unfolds DROPPING
       ((true & put?x -> DROPPING(<> ^ <x>) [] false & pass.head(<>) -> DROPPING(tail(<>)) [] false & put?x -> DROPPING(tail(<>) ^ <x>)) [| {|pass|} |] ..
-  3 put.0 by left
+  3 put.0 by left (DROPPING)
       (DROPPING(<0>) [| {|pass|} |] ..
       specification: BUFFER(<0>)
       specification: true & put?x -> BUFFER(<0> ^ <x>) [] true & get.0 -> BUFFER(<>)
   4 tau: left: unfolds DROPPING
       ((false & put?x -> DROPPING(<0> ^ <x>) [] true & pass.0 -> DROPPING(<>) [] true & put?x -> DROPPING(tail(<0>) ^ <x>)) [| {|pass|} |] ..
-  5 put.0 by left
+  5 put.0 by left (DROPPING)
       (DROPPING(<0>) [| {|pass|} |] ..
       specification: BUFFER(<0,0>)
       specification: false & put?x -> BUFFER(<0,0> ^ <x>) [] true & get.0 -> BUFFER(<0>)

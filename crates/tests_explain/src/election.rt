@@ -49,17 +49,17 @@ assert ONCE [T= RING(1,3,2)
       .. [| {|link.0|} |] (link.1.3 -> LISTENING(1,3) [] link.0?m -> (if m > 3 then link.1.m -> FOLLOWER(1) else MEMBER(1,3)))) [| {|link.1, link.2|} ..
   4 tau: left.left: unfolds MEMBER
       (((link.0.1 -> LISTENING(0,1) [] link.2?m -> (if m > 1 then link.0.m -> FOLLOWER(0) else MEMBER(0,1))) [| {|link.0|} |] ..
-  5 tau: hidden link.2.3 by left.left, right
+  5 tau: hidden link.2.3 by left.left (MEMBER), right (MEMBER)
       (((if true then link.0.3 -> FOLLOWER(0) else MEMBER(0,1)) [| {|link.0|} |] (link.1.3 -> LISTENING(1,3) [] link.0?m -> (if m > 3 then link.1.m -> FOLLOWER(1) else MEMBER(1,3)))) [| {|link.1, link.2|} | .. 28 more characters
   6 tau: right: unfolds LISTENING
       .. {|link.1, link.2|} |] link.1?m -> (if m == 3 then leader.2 -> FOLLOWER(2) else if m > 3 then link.2.m -> FOLLOWER(2) else LISTENING(2,3))) \ {|link|}
-  7 tau: hidden link.1.3 by left.right, right
+  7 tau: hidden link.1.3 by left.right (MEMBER), right (LISTENING)
       .. [| {|link.0|} |] LISTENING(1,3)) [| {|link.1, link.2|} |] (if true then leader.2 -> FOLLOWER(2) else if false then link.2.3 -> FOLLOWER(2) else ..
   8 tau: left.right: unfolds LISTENING
       .. [| {|link.0|} |] link.0?m -> (if m == 3 then leader.1 -> FOLLOWER(1) else if m > 3 then link.1.m -> FOLLOWER(1) else LISTENING(1,3))) [| {|link.1, link.2|} ..
-  9 tau: hidden link.0.3 by left.left, left.right
+  9 tau: hidden link.0.3 by left.left (MEMBER), left.right (LISTENING)
       ((FOLLOWER(0) [| {|link.0|} |] (if true then leader.1 -> FOLLOWER(1) else if false then link.1.3 -> FOLLOWER(1) else ..
-  10 leader.1 by left.right
+  10 leader.1 by left.right (LISTENING)
       ((FOLLOWER(0) [| {|link.0|} |] FOLLOWER(1)) [| {|link.1, link.2|} |] (if true then leader.2 -> FOLLOWER(2) else if false then link.2.3 -> FOLLOWER(2) else LISTENING(2,3))) \ {|link|}
       specification: STOP
   then it does leader.2, and the specification cannot

@@ -63,23 +63,23 @@ assert STOP [T= MENDED
       (((TRAIN(0) ||| TRAIN(1)) [| {|green, red, ..
   5 tau: left.left.right: unfolds TRAIN
       (((TRAIN(0) ||| green.1 -> pass.1 -> red.1 -> clear.1 -> TRAIN(1)) [| {|green, ..
-  6 tau: hidden green.1 by left.left.right, left.right
+  6 tau: hidden green.1 by left.left.right (TRAIN), left.right (CARELESS)
       (((TRAIN(0) ||| pass.1 -> red.1 -> clear.1 -> TRAIN(1)) [| {|green, red, pass, clear|} |] CARELESS(false,true,0)) [| {|pass, clear|} ..
   7 tau: left.right: unfolds CARELESS
       .. pass, clear|} |] (true & green.0 -> CARELESS(true,true,0) [] true & green.1 -> CARELESS(false,true,0) [] red.0 -> CARELESS(false,true,0) [] red.1 -> CARELESS(false,false,0) [] ([] i:Side @ pass.i - .. 109 more characters
   8 tau: left.left.left: unfolds TRAIN
       (((green.0 -> pass.0 -> red.0 -> clear.0 -> TRAIN(0) ||| pass.1 -> ..
-  9 tau: hidden green.0 by left.left.left, left.right
+  9 tau: hidden green.0 by left.left.left (TRAIN), left.right (CARELESS)
       (((pass.0 -> red.0 -> clear.0 -> TRAIN(0) ||| pass.1 -> red.1 -> clear.1 -> TRAIN(1)) [| {|green, red, pass, clear|} |] CARELESS(true,true,0)) [| {|pass, clear|} ..
   10 tau: left.right: unfolds CARELESS
       .. pass, clear|} |] (true & green.0 -> CARELESS(true,true,0) [] true & green.1 -> CARELESS(true,true,0) [] red.0 -> CARELESS(false,true,0) [] red.1 -> CARELESS(true,false,0) [] ([] i:Side @ pass.i ->  .. 105 more characters
-  11 tau: hidden pass.0 by left.left.left, left.right, right
+  11 tau: hidden pass.0 by left.left.left (TRAIN), left.right (CARELESS), right (TRACK)
       (((red.0 -> clear.0 -> TRAIN(0) ||| pass.1 -> red.1 -> clear.1 -> TRAIN(1)) [| {|green, red, pass, clear|} |] CARELESS(true,true,1)) [| {|pass, clear|} |] TAKEN) \ {|green, red, ..
   12 tau: right: unfolds TAKEN
       .. {|pass, clear|} |] (([] i:Side @ clear.i -> TRACK) [] ([] i:Side @ pass.i -> crash -> STOP))) \ {|green, red, ..
   13 tau: left.right: unfolds CARELESS
       .. pass, clear|} |] (false & green.0 -> CARELESS(true,true,1) [] false & green.1 -> CARELESS(true,true,1) [] red.0 -> CARELESS(false,true,1) [] red.1 -> CARELESS(true,false,1) [] ([] i:Side @ pass.i - .. 105 more characters
-  14 tau: hidden pass.1 by left.left.right, left.right, right
+  14 tau: hidden pass.1 by left.left.right (TRAIN), left.right (CARELESS), right (TAKEN)
       (((red.0 -> clear.0 -> TRAIN(0) ||| red.1 -> clear.1 -> TRAIN(1)) [| {|green, red, pass, clear|} |] CARELESS(true,true,2)) [| {|pass, clear|} |] crash -> STOP) \ {|green, red, pass, clear|}
   then it does crash, and the specification cannot
   there the specification can do no more than {}

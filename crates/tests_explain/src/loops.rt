@@ -69,7 +69,7 @@ static LOOPS: [Row; 8] = [
       .. [| {a} |] a -> P) \\ {a}
   2 tau: left: unfolds P
       (a -> P [| {a} |] ..
-  3 tau: hidden a by left, right
+  3 tau: hidden a by left (P), right (P)
       back to state 0
 ",
     },
@@ -85,7 +85,7 @@ static LOOPS: [Row; 8] = [
   then it goes on with tau for ever:
   1 tau: left: unfolds P
       (((a -> P)[[a <- b]]) ||| ..
-  2 tau: hidden b by left as a
+  2 tau: hidden b by left (P) as a
       back to state 0
 ",
     },
@@ -121,7 +121,7 @@ static LOOPS: [Row; 8] = [
       (P [| {a} |] a -> P) \\ {a}
   2 tau: left: unfolds P
       (a -> P [| {a} |] a -> P) \\ {a}
-  3 tau: hidden a by left, right
+  3 tau: hidden a by left (P), right (P)
       back to state 0
 ",
     },
@@ -139,7 +139,7 @@ static LOOPS: [Row; 8] = [
       .. [| .. 21 more characters
   2 tau: left: unfolds P
       (a -> .. 15 more characters
-  3 tau: hidden a by left, right
+  3 tau: hidden a by left (P), right (P)
       back to state 0
 ",
     },

@@ -62,24 +62,24 @@ assert BUFFER [T= MENDED
       ((SENDER(0) ||| receive?m?x -> (if m == 0 then get.x -> reply.m -> FORGETFUL(1) else reply.m -> FORGETFUL(1))) [| {|send, receive, ..
   6 tau: left.left: unfolds SENDER
       ((put?x -> SENDING(0,x) ||| receive?m?x -> ..
-  7 put.0 by left.left
+  7 put.0 by left.left (SENDER)
       ((SENDING(0,0) ||| receive?m?x -> ..
       specification: get.0 -> BUFFER
   8 tau: left.left: unfolds SENDING
       ((send.0.0 -> (confirm?m -> (if m == 0 then SENDER(1) else SENDING(0,0)) [] lost -> SENDING(0,0)) ||| receive?m?x -> ..
-  9 tau: hidden send.0.0 by left.left, right.left
+  9 tau: hidden send.0.0 by left.left (SENDING), right.left (LINE)
       (((confirm?m -> (if m == 0 then SENDER(1) else SENDING(0,0)) [] lost -> SENDING(0,0)) ||| receive?m?x -> (if m == 0 then get.x -> reply.m -> FORGETFUL(1) else reply.m -> FORGETFUL(1))) [| {|send, rece .. 58 more characters
-  10 tau: hidden receive.0.0 by left.right, right.left
+  10 tau: hidden receive.0.0 by left.right (FORGETFUL), right.left (LINE)
       .. -> SENDING(0,0)) ||| (if true then get.0 -> reply.0 -> FORGETFUL(1) else reply.0 -> FORGETFUL(1))) [| {|send, receive, reply, confirm, lost|} |] (LINE ||| reply?n -> ..
   11 tau: right.left: unfolds LINE
       .. confirm, lost|} |] (send?n?x -> (receive.n.x -> LINE [] lost -> LINE) ||| reply?n -> ..
-  12 get.0 by left.right
+  12 get.0 by left.right (FORGETFUL)
       .. -> SENDING(0,0)) ||| reply.0 -> FORGETFUL(1)) [| {|send, receive, ..
       specification: BUFFER
       specification: put?x -> get.x -> BUFFER
-  13 tau: hidden reply.0 by left.right, right.right
+  13 tau: hidden reply.0 by left.right (FORGETFUL), right.right (BACK)
       .. -> SENDING(0,0)) ||| FORGETFUL(1)) [| {|send, receive, reply, confirm, lost|} |] (send?n?x -> (receive.n.x -> LINE [] lost -> LINE) ||| (confirm.0 -> BACK [] ..
-  14 tau: hidden lost by left.left, right.right
+  14 tau: hidden lost by left.left (SENDING), right.right (BACK)
       ((SENDING(0,0) ||| FORGETFUL(1)) [| {|send, receive, reply, confirm, lost|} |] (send?n?x -> (receive.n.x -> LINE [] lost -> LINE) ||| BACK)) \ {|send, receive, ..
   15 tau: right.right: unfolds BACK
       .. -> LINE) ||| reply?n -> (confirm.n -> BACK [] lost -> BACK))) \ {|send, receive, ..
@@ -87,13 +87,13 @@ assert BUFFER [T= MENDED
       ((SENDING(0,0) ||| receive?m?x -> (if m == 1 then get.x -> reply.m -> FORGETFUL(0) else reply.m -> FORGETFUL(0))) [| {|send, receive, ..
   17 tau: left.left: unfolds SENDING
       ((send.0.0 -> (confirm?m -> (if m == 0 then SENDER(1) else SENDING(0,0)) [] lost -> SENDING(0,0)) ||| receive?m?x -> ..
-  18 tau: hidden send.0.0 by left.left, right.left
+  18 tau: hidden send.0.0 by left.left (SENDING), right.left (LINE)
       (((confirm?m -> (if m == 0 then SENDER(1) else SENDING(0,0)) [] lost -> SENDING(0,0)) ||| receive?m?x -> (if m == 1 then get.x -> reply.m -> FORGETFUL(0) else reply.m -> FORGETFUL(0))) [| {|send, rece .. 58 more characters
-  19 tau: hidden receive.0.0 by left.right, right.left
+  19 tau: hidden receive.0.0 by left.right (FORGETFUL), right.left (LINE)
       .. -> SENDING(0,0)) ||| (if false then get.0 -> reply.0 -> FORGETFUL(0) else reply.0 -> FORGETFUL(0))) [| {|send, receive, reply, confirm, lost|} |] (LINE ||| reply?n -> ..
-  20 tau: hidden reply.0 by left.right, right.right
+  20 tau: hidden reply.0 by left.right (FORGETFUL), right.right (BACK)
       .. -> SENDING(0,0)) ||| FORGETFUL(0)) [| {|send, receive, reply, confirm, lost|} |] (LINE ||| (confirm.0 -> BACK [] ..
-  21 tau: hidden lost by left.left, right.right
+  21 tau: hidden lost by left.left (SENDING), right.right (BACK)
       ((SENDING(0,0) ||| FORGETFUL(0)) [| {|send, receive, reply, confirm, lost|} |] (LINE ||| BACK)) \ {|send, receive, ..
   22 tau: right.left: unfolds LINE
       .. confirm, lost|} |] (send?n?x -> (receive.n.x -> LINE [] lost -> LINE) ||| BACK)) \ ..
@@ -101,9 +101,9 @@ assert BUFFER [T= MENDED
       ((SENDING(0,0) ||| receive?m?x -> (if m == 0 then get.x -> reply.m -> FORGETFUL(1) else reply.m -> FORGETFUL(1))) [| {|send, receive, ..
   24 tau: left.left: unfolds SENDING
       ((send.0.0 -> (confirm?m -> (if m == 0 then SENDER(1) else SENDING(0,0)) [] lost -> SENDING(0,0)) ||| receive?m?x -> ..
-  25 tau: hidden send.0.0 by left.left, right.left
+  25 tau: hidden send.0.0 by left.left (SENDING), right.left (LINE)
       (((confirm?m -> (if m == 0 then SENDER(1) else SENDING(0,0)) [] lost -> SENDING(0,0)) ||| receive?m?x -> (if m == 0 then get.x -> reply.m -> FORGETFUL(1) else reply.m -> FORGETFUL(1))) [| {|send, rece .. 58 more characters
-  26 tau: hidden receive.0.0 by left.right, right.left
+  26 tau: hidden receive.0.0 by left.right (FORGETFUL), right.left (LINE)
       (((confirm?m -> (if m == 0 then SENDER(1) else SENDING(0,0)) [] lost -> SENDING(0,0)) ||| (if true then get.0 -> reply.0 -> FORGETFUL(1) else reply.0 -> FORGETFUL(1))) [| {|send, receive, reply, confirm, lost|} |] (LINE ||| BACK)) \ {|send, receive, reply, confirm, lost|}
   then it does get.0, and the specification cannot
   there the specification can do no more than {put.0,put.1}

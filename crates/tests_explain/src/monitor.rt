@@ -70,11 +70,11 @@ assert MENDED :[deadlock free]
       .. bell, awake|} |] (([] i:Who @ lock.i -> unlock.i -> LOCK) ||| ((full.false -> ..
   8 tau: left.right: unfolds CONSUMER
       ((PRODUCER ||| lock.1 -> empty?e -> (if e then unlock.1 -> sleep.1 -> awake.1 -> CONSUMER else get -> bell.0 -> unlock.1 -> CONSUMER)) [| {|lock, unlock, ..
-  9 tau: hidden lock.1 by left.right, right.left
+  9 tau: hidden lock.1 by left.right (CONSUMER), right.left (LOCK)
       ((PRODUCER ||| empty?e -> (if e then unlock.1 -> sleep.1 -> awake.1 -> CONSUMER else get -> bell.0 -> unlock.1 -> CONSUMER)) [| {|lock, unlock, full, empty, put, get, sleep, bell, awake|} |] (unlock.1 .. 31 more characters
-  10 tau: hidden empty.true by left.right, right.right.left
+  10 tau: hidden empty.true by left.right (CONSUMER), right.right.left (PLACE)
       ((PRODUCER ||| (if true then unlock.1 -> sleep.1 -> awake.1 -> CONSUMER else get -> bell.0 -> unlock.1 -> CONSUMER)) [| {|lock, unlock, full, empty, put, get, sleep, bell, awake|} |] (unlock.1 -> LOCK .. 34 more characters
-  11 tau: hidden unlock.1 by left.right, right.left
+  11 tau: hidden unlock.1 by left.right (CONSUMER), right.left (LOCK)
       ((PRODUCER ||| sleep.1 -> awake.1 -> CONSUMER) [| {|lock, unlock, full, empty, put, get, sleep, bell, awake|} |] (LOCK ||| (PLACE(0) ||| ..
   12 tau: right.right.left: unfolds PLACE
       .. |] (LOCK ||| ((full.false -> PLACE(0) [] empty.true -> PLACE(0) [] true & put -> PLACE(1) [] false & get -> PLACE(0)) ||| ((sleep.0 -> ..
@@ -82,17 +82,17 @@ assert MENDED :[deadlock free]
       .. bell, awake|} |] (([] i:Who @ lock.i -> unlock.i -> LOCK) ||| ((full.false -> ..
   14 tau: left.left: unfolds PRODUCER
       ((lock.0 -> full?f -> (if f then unlock.0 -> sleep.0 -> awake.0 -> PRODUCER else put -> bell.1 -> unlock.0 -> PRODUCER) ||| sleep.1 -> ..
-  15 tau: hidden lock.0 by left.left, right.left
+  15 tau: hidden lock.0 by left.left (PRODUCER), right.left (LOCK)
       ((full?f -> (if f then unlock.0 -> sleep.0 -> awake.0 -> PRODUCER else put -> bell.1 -> unlock.0 -> PRODUCER) ||| sleep.1 -> awake.1 -> CONSUMER) [| {|lock, unlock, full, empty, put, get, sleep, bell, .. 52 more characters
-  16 tau: hidden full.false by left.left, right.right.left
+  16 tau: hidden full.false by left.left (PRODUCER), right.right.left (PLACE)
       (((if false then unlock.0 -> sleep.0 -> awake.0 -> PRODUCER else put -> bell.1 -> unlock.0 -> PRODUCER) ||| sleep.1 -> awake.1 -> CONSUMER) [| {|lock, unlock, full, empty, put, get, sleep, bell, awake .. 57 more characters
   17 tau: right.right.left: unfolds PLACE
       .. -> LOCK ||| ((full.false -> PLACE(0) [] empty.true -> PLACE(0) [] true & put -> PLACE(1) [] false & get -> PLACE(0)) ||| ((sleep.0 -> ..
-  18 put by left.left, right.right.left
+  18 put by left.left (PRODUCER), right.right.left (PLACE)
       ((bell.1 -> unlock.0 -> PRODUCER ||| sleep.1 -> awake.1 -> CONSUMER) [| {|lock, unlock, full, empty, put, get, sleep, bell, awake|} |] (unlock.0 -> LOCK ||| (PLACE(1) ||| ((sleep.0 -> ..
-  19 tau: hidden bell.1 by left.left, right.right.right.right
+  19 tau: hidden bell.1 by left.left (PRODUCER), right.right.right.right (BED)
       ((unlock.0 -> PRODUCER ||| sleep.1 -> awake.1 -> CONSUMER) [| {|lock, unlock, full, empty, put, get, sleep, bell, awake|} |] (unlock.0 -> LOCK ||| (PLACE(1) ||| ((sleep.0 -> bell.0 -> awake.0 -> BED(0 .. 58 more characters
-  20 tau: hidden unlock.0 by left.left, right.left
+  20 tau: hidden unlock.0 by left.left (PRODUCER), right.left (LOCK)
       ((PRODUCER ||| sleep.1 -> awake.1 -> CONSUMER) [| {|lock, unlock, full, empty, put, get, sleep, bell, awake|} |] (LOCK ||| (PLACE(1) ||| ..
   21 tau: right.right.right.right: unfolds BED
       .. -> BED(0)) ||| (sleep.1 -> bell.1 -> awake.1 -> BED(1) [] bell.1 -> BED(1)))))) \ {|lock, unlock, ..
@@ -100,34 +100,34 @@ assert MENDED :[deadlock free]
       .. |] (LOCK ||| ((full.true -> PLACE(1) [] empty.false -> PLACE(1) [] false & put -> PLACE(1) [] true & get -> PLACE(0)) ||| ((sleep.0 -> ..
   23 tau: right.left: unfolds LOCK
       .. bell, awake|} |] (([] i:Who @ lock.i -> unlock.i -> LOCK) ||| ((full.true -> ..
-  24 tau: hidden sleep.1 by left.right, right.right.right.right
+  24 tau: hidden sleep.1 by left.right (CONSUMER), right.right.right.right (BED)
       ((PRODUCER ||| awake.1 -> CONSUMER) [| {|lock, unlock, full, empty, put, get, sleep, bell, awake|} |] (([] i:Who @ lock.i -> unlock.i -> LOCK) ||| ((full.true -> PLACE(1) [] empty.false -> PLACE(1) [] .. 174 more characters
   25 tau: left.left: unfolds PRODUCER
       ((lock.0 -> full?f -> (if f then unlock.0 -> sleep.0 -> awake.0 -> PRODUCER else put -> bell.1 -> unlock.0 -> PRODUCER) ||| awake.1 -> ..
-  26 tau: hidden lock.0 by left.left, right.left
+  26 tau: hidden lock.0 by left.left (PRODUCER), right.left (LOCK)
       ((full?f -> (if f then unlock.0 -> sleep.0 -> awake.0 -> PRODUCER else put -> bell.1 -> unlock.0 -> PRODUCER) ||| awake.1 -> CONSUMER) [| {|lock, unlock, full, empty, put, get, sleep, bell, awake|} |] .. 40 more characters
-  27 tau: hidden full.true by left.left, right.right.left
+  27 tau: hidden full.true by left.left (PRODUCER), right.right.left (PLACE)
       (((if true then unlock.0 -> sleep.0 -> awake.0 -> PRODUCER else put -> bell.1 -> unlock.0 -> PRODUCER) ||| awake.1 -> CONSUMER) [| {|lock, unlock, full, empty, put, get, sleep, bell, awake|} |] (unloc .. 45 more characters
-  28 tau: hidden unlock.0 by left.left, right.left
+  28 tau: hidden unlock.0 by left.left (PRODUCER), right.left (LOCK)
       ((sleep.0 -> awake.0 -> PRODUCER ||| awake.1 -> CONSUMER) [| {|lock, unlock, full, empty, put, get, sleep, bell, awake|} |] (LOCK ||| (PLACE(1) ||| ..
   29 tau: right.right.left: unfolds PLACE
       .. |] (LOCK ||| ((full.true -> PLACE(1) [] empty.false -> PLACE(1) [] false & put -> PLACE(1) [] true & get -> PLACE(0)) ||| ((sleep.0 -> ..
   30 tau: right.left: unfolds LOCK
       .. bell, awake|} |] (([] i:Who @ lock.i -> unlock.i -> LOCK) ||| ((full.true -> ..
-  31 tau: hidden sleep.0 by left.left, right.right.right.left
+  31 tau: hidden sleep.0 by left.left (PRODUCER), right.right.right.left (BED)
       ((awake.0 -> PRODUCER ||| awake.1 -> CONSUMER) [| {|lock, unlock, full, empty, put, get, sleep, bell, awake|} |] (([] i:Who @ lock.i -> unlock.i -> LOCK) ||| ((full.true -> PLACE(1) [] empty.false -> PLACE(1) [] false & put -> PLACE(1) [] true & get -> PLACE(0)) ||| (bell.0 -> awake.0 -> BED(0) ||| bell.1 -> awake.1 -> BED(1))))) \ {|lock, unlock, full, empty, sleep, bell, awake|}
   then it can do nothing
-  by itself left.left can do {awake.0}
+  by itself left.left (PRODUCER) can do {awake.0}
       awake.0 -> PRODUCER
-  by itself left.right can do {awake.1}
+  by itself left.right (CONSUMER) can do {awake.1}
       awake.1 -> CONSUMER
-  by itself right.left can do {lock.0,lock.1}
+  by itself right.left (LOCK) can do {lock.0,lock.1}
       [] i:Who @ lock.i -> unlock.i -> LOCK
-  by itself right.right.left can do {full.true,empty.false,get}
+  by itself right.right.left (PLACE) can do {full.true,empty.false,get}
       full.true -> PLACE(1) [] empty.false -> PLACE(1) [] false & put -> PLACE(1) [] true & get -> PLACE(0)
-  by itself right.right.right.left can do {bell.0}
+  by itself right.right.right.left (BED) can do {bell.0}
       bell.0 -> awake.0 -> BED(0)
-  by itself right.right.right.right can do {bell.1}
+  by itself right.right.right.right (BED) can do {bell.1}
       bell.1 -> awake.1 -> BED(1)
 ",
 };

@@ -2,7 +2,7 @@
 
 use crate::rows::Row;
 
-static PARTS: [Row; 9] = [
+static PARTS: [Row; 14] = [
     // Both sides do it, and each does another event than is seen.
     Row {
         words: &["script"],
@@ -157,6 +157,97 @@ static PARTS: [Row; 9] = [
       specification: a -> STOP
   then it does b, and the specification cannot
   there the specification can do no more than {a}
+",
+    },
+    // A part is called by the equation that was unfolded last at its way: who chooses, and who ends.
+    Row {
+        words: &["script"],
+        status: 1,
+        text: "channel a\nP = STOP |~| a -> STOP\nassert P ||| STOP :[deadlock free]\n",
+        told: "\
+1 fails  assert P ||| STOP :[deadlock free]
+  0 start, then unfolds P
+      (STOP |~| a -> STOP) ||| STOP
+  2 tau: left (P): chooses its left side
+      STOP ||| STOP
+  then it can do nothing
+  by itself left (P) can do {}
+      STOP
+  by itself right can do {}
+      STOP
+",
+    },
+    Row {
+        words: &["script"],
+        status: 1,
+        text: "channel a\nP = SKIP\nassert P [| {a} |] a -> STOP :[deadlock free]\n",
+        told: "\
+1 fails  assert P [| {a} |] a -> STOP :[deadlock free]
+  0 start, then unfolds P
+      SKIP [| {a} |] a -> STOP
+  2 tau: left (P): ends
+      _OMEGA [| {a} |] a -> STOP
+  then it can do nothing
+  by itself left (P) can do {}
+      _OMEGA
+  by itself right can do {a}
+      a -> STOP
+",
+    },
+    // Below a hiding that stands at a side, and that side by its own name.
+    Row {
+        words: &["script"],
+        status: 1,
+        text: "channel a, b\nP = a -> P\nPAIR = (P [| {a} |] P) \\ {a}\nassert PAIR [| {b} |] STOP :[divergence free]\n",
+        told: "\
+1 fails  assert PAIR [| {b} |] STOP :[divergence free]
+  0 start
+      PAIR [| {b} |] STOP
+  then it goes on with tau for ever:
+  1 tau: left: unfolds PAIR
+      ((P [| {a} |] P) \\ {a}) [| {b} |] ..
+  2 tau: left.right: unfolds P
+      .. [| {a} |] a -> P) \\ {a}) ..
+  3 tau: left.left: unfolds P
+      ((a -> P [| {a} |] ..
+  4 tau: left (PAIR): hidden a by left (P), right (P)
+      back to state 1
+",
+    },
+    // A name that unfolds within a choice is none of a part.
+    Row {
+        words: &["script"],
+        status: 1,
+        text: "channel a\nA = a -> STOP\nP = A [] STOP\nassert P ||| STOP :[deadlock free]\n",
+        told: "\
+1 fails  assert P ||| STOP :[deadlock free]
+  0 start, then unfolds P, A
+      (a -> STOP [] STOP) ||| STOP
+  3 a by left (P)
+      STOP ||| STOP
+  then it can do nothing
+  by itself left (P) can do {}
+      STOP
+  by itself right can do {}
+      STOP
+",
+    },
+    // Nor has a part of a body a name that was not called there.
+    Row {
+        words: &["script"],
+        status: 1,
+        text: "channel a\nP = a -> STOP ||| STOP\nassert P :[deadlock free]\n",
+        told: "\
+1 fails  assert P :[deadlock free]
+  0 start, then unfolds P
+      a -> STOP ||| STOP
+  2 a by left
+      STOP ||| STOP
+  then it can do nothing
+  by itself left can do {}
+      STOP
+  by itself right can do {}
+      STOP
 ",
     },
 ];

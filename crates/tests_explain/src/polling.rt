@@ -42,9 +42,9 @@ assert MENDED :[divergence free]
       .. none, some} |] (look -> none -> EMPTY [] post -> FULL)) \ {look, none, ..
   3 tau: left: unfolds RESTLESS
       (look -> (none -> RESTLESS [] some -> read -> RESTLESS) [| {look, none, ..
-  4 tau: hidden look by left, right
+  4 tau: hidden look by left (RESTLESS), right (EMPTY)
       ((none -> RESTLESS [] some -> read -> RESTLESS) [| {look, none, some} |] none -> EMPTY) \ {look, none, ..
-  5 tau: hidden none by left, right
+  5 tau: hidden none by left (RESTLESS), right (EMPTY)
       back to state 1
 2 holds  assert MENDED :[divergence free]
 ",

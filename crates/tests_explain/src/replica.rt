@@ -40,11 +40,11 @@ assert STORE(0) [T= MENDED
       (write?v -> written -> copy.v -> confirm -> HASTY [| {|copy, confirm|} |] (copy?w -> confirm -> SECOND(w) [] read.0 -> SECOND(0))) \ {|copy, confirm|}
       specification: STORE(0)
       specification: read.0 -> STORE(0) [] write?w -> CHANGING(0,w)
-  4 write.1 by left
+  4 write.1 by left (HASTY)
       (written -> copy.1 -> confirm -> ..
       specification: CHANGING(0,1)
       specification: read?x:{0,1} -> CHANGING(0,1) [] written -> STORE(1)
-  5 written by left
+  5 written by left (HASTY)
       (copy.1 -> confirm -> HASTY [| {|copy, confirm|} |] (copy?w -> confirm -> SECOND(w) [] read.0 -> SECOND(0))) \ {|copy, confirm|}
       specification: STORE(1)
       specification: read.1 -> STORE(1) [] write?w -> CHANGING(1,w)

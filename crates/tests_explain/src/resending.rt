@@ -45,7 +45,7 @@ assert TRIAL [F= MENDED
       ((STUBBORN [| {confirm} |] RECEIVER) [| {send, arrive, lost} |] LINE) \ {send, arrive, lost, confirm}
   2 tau: left.left: unfolds STUBBORN
       ((put -> SENDING [| {confirm} |] ..
-  3 put by left.left
+  3 put by left.left (STUBBORN)
       ((SENDING [| {confirm} |] RECEIVER) [| {send, arrive, lost} |] LINE) \ {send, arrive, lost, confirm}
   then it goes on with tau for ever:
   4 tau: right: unfolds LINE
@@ -54,9 +54,9 @@ assert TRIAL [F= MENDED
       .. [| {confirm} |] arrive -> get -> confirm -> RECEIVER) [| {send, ..
   6 tau: left.left: unfolds SENDING
       ((send -> (confirm -> STUBBORN [] lost -> SENDING) [| {confirm} |] ..
-  7 tau: hidden send by left.left, right
+  7 tau: hidden send by left.left (SENDING), right (LINE)
       (((confirm -> STUBBORN [] lost -> SENDING) [| {confirm} |] arrive -> get -> confirm -> RECEIVER) [| {send, arrive, lost} |] (arrive -> LINE ..
-  8 tau: hidden lost by left.left, right
+  8 tau: hidden lost by left.left (SENDING), right (LINE)
       ((SENDING [| {confirm} |] arrive -> get -> confirm -> RECEIVER) [| {send, arrive, lost} |] LINE) \ {send, arrive, ..
   9 tau: right: unfolds LINE
       back to state 5

@@ -23,18 +23,18 @@ pub(crate) const TOUR: Row = Row {
     told: r"1 fails  assert SYSTEM :[deadlock free]
   0 start, then unfolds SYSTEM, KEY, KEY, RIGHT
       ((LEFT ||| take.1 -> take.0 -> work -> drop.0 -> drop.1 -> RIGHT) [| {|take, drop|} |] (take.0 -> drop.0 -> KEY(0) ||| take.1 -> drop.1 -> KEY(1))) \ {|take, drop|}
-  5 tau: hidden take.1 by left.right, right.right, then unfolds LEFT
+  5 tau: hidden take.1 by left.right (RIGHT), right.right (KEY), then unfolds LEFT
       ((take.0 -> take.1 -> work -> drop.1 -> drop.0 -> LEFT ||| take.0 -> work -> drop.0 -> drop.1 -> RIGHT) [| {|take, drop|} |] (take.0 -> drop.0 -> KEY(0) ||| drop.1 -> KEY(1))) ..
-  7 tau: hidden take.0 by left.left, right.left
+  7 tau: hidden take.0 by left.left (LEFT), right.left (KEY)
       ((take.1 -> work -> drop.1 -> drop.0 -> LEFT ||| take.0 -> work -> drop.0 -> drop.1 -> RIGHT) [| {|take, drop|} |] (drop.0 -> KEY(0) ||| drop.1 -> KEY(1))) \ {|take, drop|}
   then it can do nothing
-  by itself left.left can do {take.1}
+  by itself left.left (LEFT) can do {take.1}
       take.1 -> work -> drop.1 -> drop.0 -> LEFT
-  by itself left.right can do {take.0}
+  by itself left.right (RIGHT) can do {take.0}
       take.0 -> work -> drop.0 -> drop.1 -> RIGHT
-  by itself right.left can do {drop.0}
+  by itself right.left (KEY) can do {drop.0}
       drop.0 -> KEY(0)
-  by itself right.right can do {drop.1}
+  by itself right.right (KEY) can do {drop.1}
       drop.1 -> KEY(1)
 ",
 };
@@ -55,20 +55,20 @@ pub(crate) const TOUR_STEPS: Row = Row {
       .. {|take, drop|} |] (take.0 -> drop.0 -> KEY(0) ||| take.1 -> ..
   4 tau: left.right: unfolds RIGHT
       ((LEFT ||| take.1 -> take.0 -> work -> drop.0 -> drop.1 -> RIGHT) [| {|take, ..
-  5 tau: hidden take.1 by left.right, right.right
+  5 tau: hidden take.1 by left.right (RIGHT), right.right (KEY)
       ((LEFT ||| take.0 -> work -> drop.0 -> drop.1 -> RIGHT) [| {|take, drop|} |] (take.0 -> drop.0 -> KEY(0) ||| drop.1 -> KEY(1))) ..
   6 tau: left.left: unfolds LEFT
       ((take.0 -> take.1 -> work -> drop.1 -> drop.0 -> LEFT ||| take.0 -> ..
-  7 tau: hidden take.0 by left.left, right.left
+  7 tau: hidden take.0 by left.left (LEFT), right.left (KEY)
       ((take.1 -> work -> drop.1 -> drop.0 -> LEFT ||| take.0 -> work -> drop.0 -> drop.1 -> RIGHT) [| {|take, drop|} |] (drop.0 -> KEY(0) ||| drop.1 -> KEY(1))) \ {|take, drop|}
   then it can do nothing
-  by itself left.left can do {take.1}
+  by itself left.left (LEFT) can do {take.1}
       take.1 -> work -> drop.1 -> drop.0 -> LEFT
-  by itself left.right can do {take.0}
+  by itself left.right (RIGHT) can do {take.0}
       take.0 -> work -> drop.0 -> drop.1 -> RIGHT
-  by itself right.left can do {drop.0}
+  by itself right.left (KEY) can do {drop.0}
       drop.0 -> KEY(0)
-  by itself right.right can do {drop.1}
+  by itself right.right (KEY) can do {drop.1}
       drop.1 -> KEY(1)
 ",
 };
@@ -79,17 +79,17 @@ pub(crate) const TOUR_EVENTS: Row = Row {
     status: 1,
     text: SCRIPT,
     told: r"1 fails  assert SYSTEM :[deadlock free]
-  5 tau: hidden take.1 by left.right, right.right
-  7 tau: hidden take.0 by left.left, right.left
+  5 tau: hidden take.1 by left.right (RIGHT), right.right (KEY)
+  7 tau: hidden take.0 by left.left (LEFT), right.left (KEY)
       ((take.1 -> work -> drop.1 -> drop.0 -> LEFT ||| take.0 -> work -> drop.0 -> drop.1 -> RIGHT) [| {|take, drop|} |] (drop.0 -> KEY(0) ||| drop.1 -> KEY(1))) \ {|take, drop|}
   then it can do nothing
-  by itself left.left can do {take.1}
+  by itself left.left (LEFT) can do {take.1}
       take.1 -> work -> drop.1 -> drop.0 -> LEFT
-  by itself left.right can do {take.0}
+  by itself left.right (RIGHT) can do {take.0}
       take.0 -> work -> drop.0 -> drop.1 -> RIGHT
-  by itself right.left can do {drop.0}
+  by itself right.left (KEY) can do {drop.0}
       drop.0 -> KEY(0)
-  by itself right.right can do {drop.1}
+  by itself right.right (KEY) can do {drop.1}
       drop.1 -> KEY(1)
 ",
 };

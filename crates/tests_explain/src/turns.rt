@@ -63,7 +63,7 @@ assert MENDED :[deadlock free]
       .. give, turn|} |] ((raise.0 -> FLAG(0,true) [] lower.0 -> FLAG(0,false) [] flag.1.0.false -> FLAG(0,false)) ||| ((raise.1 -> ..
   6 tau: left.right: unfolds POLITE
       ((POLITE(0) ||| raise.1 -> PATIENT(1)) [| {|raise, lower, ..
-  7 tau: hidden raise.1 by left.right, right.right.left
+  7 tau: hidden raise.1 by left.right (POLITE), right.right.left (FLAG)
       ((POLITE(0) ||| PATIENT(1)) [| {|raise, lower, flag, give, turn|} |] ((raise.0 -> FLAG(0,true) [] lower.0 -> FLAG(0,false) [] flag.1.0.false -> FLAG(0,false)) ||| (FLAG(1,true) ||| (([] i:Id ..
   8 tau: right.right.left: unfolds FLAG
       .. -> FLAG(0,false)) ||| ((raise.1 -> FLAG(1,true) [] lower.1 -> FLAG(1,false) [] flag.0.1.true -> FLAG(1,true)) ||| (([] i:Id ..
@@ -71,22 +71,22 @@ assert MENDED :[deadlock free]
       ((POLITE(0) ||| flag.1.0.false -> enter.1 -> leave.1 -> lower.1 -> POLITE(1)) [| {|raise, lower, ..
   10 tau: left.left: unfolds POLITE
       ((raise.0 -> PATIENT(0) ||| flag.1.0.false -> ..
-  11 tau: hidden raise.0 by left.left, right.left
+  11 tau: hidden raise.0 by left.left (POLITE), right.left (FLAG)
       ((PATIENT(0) ||| flag.1.0.false -> enter.1 -> leave.1 -> lower.1 -> POLITE(1)) [| {|raise, lower, flag, give, turn|} |] (FLAG(0,true) ||| ((raise.1 -> ..
   12 tau: right.left: unfolds FLAG
       .. give, turn|} |] ((raise.0 -> FLAG(0,true) [] lower.0 -> FLAG(0,false) [] flag.1.0.true -> FLAG(0,true)) ||| ((raise.1 -> ..
   13 tau: left.left: unfolds PATIENT
       ((flag.0.1.false -> enter.0 -> leave.0 -> lower.0 -> POLITE(0) ||| flag.1.0.false -> enter.1 -> leave.1 -> lower.1 -> POLITE(1)) [| {|raise, lower, flag, give, turn|} |] ((raise.0 -> FLAG(0,true) [] lower.0 -> FLAG(0,false) [] flag.1.0.true -> FLAG(0,true)) ||| ((raise.1 -> FLAG(1,true) [] lower.1 -> FLAG(1,false) [] flag.0.1.true -> FLAG(1,true)) ||| (([] i:Id @ give.i?u -> TURN(u)) [] ([] i:Id @ turn.i.0 -> TURN(0)))))) \ {|raise, lower, flag, give, turn|}
   then it can do nothing
-  by itself left.left can do {flag.0.1.false}
+  by itself left.left (PATIENT) can do {flag.0.1.false}
       flag.0.1.false -> enter.0 -> leave.0 -> lower.0 -> POLITE(0)
-  by itself left.right can do {flag.1.0.false}
+  by itself left.right (PATIENT) can do {flag.1.0.false}
       flag.1.0.false -> enter.1 -> leave.1 -> lower.1 -> POLITE(1)
-  by itself right.left can do {raise.0,lower.0,flag.1.0.true}
+  by itself right.left (FLAG) can do {raise.0,lower.0,flag.1.0.true}
       raise.0 -> FLAG(0,true) [] lower.0 -> FLAG(0,false) [] flag.1.0.true -> FLAG(0,true)
-  by itself right.right.left can do {raise.1,lower.1,flag.0.1.true}
+  by itself right.right.left (FLAG) can do {raise.1,lower.1,flag.0.1.true}
       raise.1 -> FLAG(1,true) [] lower.1 -> FLAG(1,false) [] flag.0.1.true -> FLAG(1,true)
-  by itself right.right.right can do {give.0.0,give.0.1,give.1.0,give.1.1,turn.0.0,turn.1.0}
+  by itself right.right.right (TURN) can do {give.0.0,give.0.1,give.1.0,give.1.1,turn.0.0,turn.1.0}
       ([] i:Id @ give.i?u -> TURN(u)) [] ([] i:Id @ turn.i.0 -> TURN(0))
 ",
 };

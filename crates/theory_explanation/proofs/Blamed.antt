@@ -3,7 +3,6 @@ use Rattle.std.proofs.Common.{◌≡◌, List, [], ◌∷◌, ◌∙◌, sym, su
 use Rattle.theory_syntax.specs.Value.{Action}
 use Rattle.theory_syntax.specs.Process.{Process, Script}
 use Rattle.theory_semantics.specs.Meaning.Evaluation.{Cause}
-use Rattle.theory_semantics.specs.Meaning.Faults.{cause_in}
 use Rattle.theory_origins.specs.Origin.{Origin}
 use Rattle.theory_faults.specs.Culprit.{Culprit}
 use Rattle.theory_faults.specs.Processes.{culprit_in}

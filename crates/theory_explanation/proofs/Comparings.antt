@@ -7,6 +7,7 @@ use Rattle.theory_syntax.proofs.Places.{drop_at}
 use Rattle.theory_origins.specs.Origin.{Origin}
 use Rattle.theory_explanation.specs.Counterparts.{specification_text}
 use Rattle.theory_explanation.specs.Folding.{folded, is_folded, state_behind}
+use Rattle.theory_explanation.specs.PartNames.{PartName, names_behind}
 use Rattle.theory_explanation.specs.Steps.{beside_text, first_text, path_text, step_text, steps_text, told_run}
 use Rattle.theory_explanation.specs.Styles.{Style}
 
@@ -44,20 +45,20 @@ module _ (style : Style) where
 
   -- ---- steps
 
-  without_states : (n : ℕ) (told : Process) (path : List Action) (origins : List (Option Origin)) (along : List (List Process)) → steps_text style n told path [] origins along ≡ []
-  without_states n told [] origins along = refl
-  without_states n told (x ∷ path) origins along = refl
+  without_states : (n : ℕ) (told : Process) (parts : List PartName) (path : List Action) (origins : List (Option Origin)) (along : List (List Process)) → steps_text style n told parts path [] origins along ≡ []
+  without_states n told parts [] origins along = refl
+  without_states n told parts (x ∷ path) origins along = refl
 
-  without_origins : (n : ℕ) (told : Process) (path : List Action) (states : List Process) (along : List (List Process)) → steps_text style n told path states [] along ≡ []
-  without_origins n told [] states along = refl
-  without_origins n told (x ∷ path) [] along = refl
-  without_origins n told (x ∷ path) (t ∷ states) along = refl
+  without_origins : (n : ℕ) (told : Process) (parts : List PartName) (path : List Action) (states : List Process) (along : List (List Process)) → steps_text style n told parts path states [] along ≡ []
+  without_origins n told parts [] states along = refl
+  without_origins n told parts (x ∷ path) [] along = refl
+  without_origins n told parts (x ∷ path) (t ∷ states) along = refl
 
-  -- the steps from this place on, behind the state that was told last
-  abbrev pub steps_left : List Action → List Process → List (Option Origin) → List (List Process) → ℕ → Process → List ℕ
-  steps_left path states origins along i told = steps_text style (suc i) told (drop i path) (drop i states) (drop i origins) (drop (suc i) along)
+  -- the steps from this place on, behind the state that was told last, where parts have such names
+  abbrev pub steps_left : List Action → List Process → List (Option Origin) → List (List Process) → ℕ → Process → List PartName → List ℕ
+  steps_left path states origins along i told parts = steps_text style (suc i) told parts (drop i path) (drop i states) (drop i origins) (drop (suc i) along)
 
-  module _ (path : List Action) (states : List Process) (origins : List (Option Origin)) (along : List (List Process)) (i : ℕ) (told : Process) where
+  module _ (path : List Action) (states : List Process) (origins : List (Option Origin)) (along : List (List Process)) (i : ℕ) (told : Process) (parts : List PartName) where
     -- the names that are told with the step, and the state behind them
     abbrev pub names_with : List ℕ
     names_with = folded style.telling (drop (i + 1) origins)
@@ -67,19 +68,20 @@ module _ (style : Style) where
 
     module _ (x : Action) (t : Process) (o : Option Origin) (p : slice_get path i ≡ Some x) (at : slice_get states i ≡ Some t) (from : slice_get origins i ≡ Some o) where
       pub step_left : is_folded style.telling o ≡ false →
-          steps_left path states origins along i told
-          ≡ step_text style (i + 1) told x o names_with (drop (length names_with) (drop (i + 1) path)) (state_with t)
-          ++ (beside_text style x (drop (i + 1) along) ++ steps_left path states origins along (i + 1) (state_with t))
+          steps_left path states origins along i told parts
+          ≡ step_text style (i + 1) told parts x o names_with (drop (length names_with) (drop (i + 1) path)) (state_with t)
+          ++ (beside_text style x (drop (i + 1) along) ++ steps_left path states origins along (i + 1) (state_with t) (names_behind parts o))
       step_left alone = rw (add-one, drop_at path i x p, drop_at states i t at, drop_at origins i o from, alone, ← drop_one (suc i) along) refl
 
-      pub step_folded : is_folded style.telling o ≡ true → steps_left path states origins along i told ≡ steps_left path states origins along (i + 1) told
+      pub step_folded : is_folded style.telling o ≡ true →
+          steps_left path states origins along i told parts ≡ steps_left path states origins along (i + 1) told (names_behind parts o)
       step_folded with_it = rw (add-one, drop_at path i x p, drop_at states i t at, drop_at origins i o from, with_it, ← drop_one (suc i) along) refl
 
-    pub no_state_left : slice_get states i ≡ None → steps_left path states origins along i told ≡ []
-    no_state_left none = rw (drop_past states i none) (without_states (suc i) told (drop i path) (drop i origins) (drop (suc i) along))
+    pub no_state_left : slice_get states i ≡ None → steps_left path states origins along i told parts ≡ []
+    no_state_left none = rw (drop_past states i none) (without_states (suc i) told parts (drop i path) (drop i origins) (drop (suc i) along))
 
-    pub no_origin_left : slice_get origins i ≡ None → steps_left path states origins along i told ≡ []
-    no_origin_left none = rw (drop_past origins i none) (without_origins (suc i) told (drop i path) (drop i states) (drop (suc i) along))
+    pub no_origin_left : slice_get origins i ≡ None → steps_left path states origins along i told parts ≡ []
+    no_origin_left none = rw (drop_past origins i none) (without_origins (suc i) told parts (drop i path) (drop i states) (drop (suc i) along))
 
-    pub no_step_left : length path ≤ i → steps_left path states origins along i told ≡ []
+    pub no_step_left : length path ≤ i → steps_left path states origins along i told parts ≡ []
     no_step_left past = rw (drop_all i path past) refl

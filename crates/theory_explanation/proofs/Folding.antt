@@ -10,6 +10,8 @@ use Rattle.theory_notation.specs.Names.{Names}
 use Rattle.theory_notation.specs.Processes.{process_text}
 use Rattle.theory_explanation.specs.Cutting.{Width}
 use Rattle.theory_explanation.specs.Folding.{Hiding, Other, Unfolding, before_others, is_event, kind_told, state_behind, unfoldings}
+use Rattle.theory_explanation.specs.Legend.{legend}
+use Rattle.theory_explanation.specs.PartNames.{PartName, names_behind}
 use Rattle.theory_explanation.specs.Steps.{events_text, last_line, state_line, step_line, width_before}
 
 -- the last of some states, behind another one
@@ -81,19 +83,19 @@ module _ (origins : List (Option Origin)) (i : ℕ) (o : Option Origin) (at : sl
 -- ---- events
 
 module _ (names : Names) (path : List Action) (origins : List (Option Origin)) where
-  -- the events from this place on
-  abbrev pub events_left : ℕ → List ℕ
-  events_left i = events_text names (suc i) (drop i path) (drop i origins)
+  -- the events from this place on, where parts have such names
+  abbrev pub events_left : ℕ → List PartName → List ℕ
+  events_left i parts = events_text names (suc i) parts (drop i path) (drop i origins)
 
-  module _ (i : ℕ) where
+  module _ (i : ℕ) (parts : List PartName) where
     module _ (x : Action) (o : Option Origin) (p : slice_get path i ≡ Some x) (at : slice_get origins i ≡ Some o) where
-      pub event_left : is_event x o ≡ true → events_left i ≡ step_line names (i + 1) x o [] ++ events_left (i + 1)
+      pub event_left : is_event x o ≡ true → events_left i parts ≡ step_line (legend names parts) (i + 1) x o [] ++ events_left (i + 1) (names_behind parts o)
       event_left is = rw (add-one, drop_at path i x p, drop_at origins i o at, is) refl
 
-      pub no_event_left : is_event x o ≡ false → events_left i ≡ events_left (i + 1)
+      pub no_event_left : is_event x o ≡ false → events_left i parts ≡ events_left (i + 1) (names_behind parts o)
       no_event_left is = rw (add-one, drop_at path i x p, drop_at origins i o at, is) refl
 
-    without : (n : ℕ) (xs : List Action) → events_text names n xs [] ≡ []
+    without : (n : ℕ) (xs : List Action) → events_text names n parts xs [] ≡ []
     without n [] = refl
     without n (x ∷ xs) = refl
 
@@ -103,8 +105,8 @@ module _ (names : Names) (path : List Action) (origins : List (Option Origin)) w
     past (y ∷ ys) zero none = absurd (cc none)
     past (y ∷ ys) (suc k) none = past ys k none
 
-    pub no_origin_there : slice_get origins i ≡ None → events_left i ≡ []
+    pub no_origin_there : slice_get origins i ≡ None → events_left i parts ≡ []
     no_origin_there none = rw (past origins i none) (without (suc i) (drop i path))
 
-    pub no_action_there : length path ≤ i → events_left i ≡ []
+    pub no_action_there : length path ≤ i → events_left i parts ≡ []
     no_action_there long = rw (drop_all i path long) refl

@@ -3,6 +3,7 @@ pub mod Comparings
 pub mod Folding
 pub mod Lacking
 pub mod Lacks
+pub mod PartNames
 pub mod Replays
 pub mod Sources
 pub mod Tellings

@@ -6,6 +6,7 @@ use Rattle.theory_origins.specs.Origin.{Origin}
 use Rattle.theory_explanation.specs.Counterexamples.{Counterpart, Along, TooManyStates, Counterexample}
 use Rattle.theory_explanation.specs.Counterparts.{lack_text}
 use Rattle.theory_explanation.specs.Loops.{loop_text}
+use Rattle.theory_explanation.specs.PartNames.{names_along}
 use Rattle.theory_explanation.specs.Steps.{run_text}
 use Rattle.theory_explanation.specs.Styles.{Style}
 use Rattle.theory_explanation.specs.Waiting.{parts_text}
@@ -16,9 +17,10 @@ text_beside style v states origins (Some (Along all initials acceptances)) = run
 text_beside style v states origins (Some TooManyStates) = run_text style v states origins [] ++ codes "  along this path the specification has too many states to tell\n"
 text_beside style v states origins None = run_text style v states origins []
 
--- the text of a counterexample, and behind it the loop that it ends in, or the parts that wait at its end
+-- The text of a counterexample, and behind it the loop that it ends in, or the parts that wait at its end, by the names that
+-- its steps have given them.
 abbrev pub counterexample_text : Style → Violation → Counterexample → List ℕ
-counterexample_text style v c = text_beside style v c.states c.origins c.counterpart ++ (loop_text style (length v.path) c.loop ++ parts_text style c.waiting)
+counterexample_text style v c = text_beside style v c.states c.origins c.counterpart ++ (loop_text style (names_along [] c.origins) (length v.path) c.loop ++ parts_text style (names_along [] c.origins) c.waiting)
 
 -- of a divergence with too many states at its end
 abbrev pub wide_end_text : List ℕ

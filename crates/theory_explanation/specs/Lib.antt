@@ -11,8 +11,10 @@ pub mod Faults
 pub mod Folding
 pub mod Headline
 pub mod Lacking
+pub mod Legend
 pub mod Loops
 pub mod Origins
+pub mod PartNames
 pub mod Reasons
 pub mod Samples
 pub mod Steps

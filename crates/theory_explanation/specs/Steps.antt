@@ -12,7 +12,9 @@ use Rattle.theory_explanation.specs.Counterparts.{specification_text}
 use Rattle.theory_explanation.specs.Cutting.{Width, Whole, UpTo, cut, cut_after}
 use Rattle.theory_explanation.specs.Ends.{end_text}
 use Rattle.theory_explanation.specs.Folding.{ByEvents, EachStep, Folded, Telling, folded, is_event, is_folded, state_behind, then_text}
+use Rattle.theory_explanation.specs.Legend.{Legend, legend}
 use Rattle.theory_explanation.specs.Origins.{source_text}
+use Rattle.theory_explanation.specs.PartNames.{PartName, names_behind}
 use Rattle.theory_explanation.specs.Styles.{Style}
 
 -- ---- a state
@@ -45,29 +47,30 @@ beside_text style (Ev e) along = first_text style along
 -- ---- a path
 
 -- the number of a step, its action, where that comes from, and the names that are unfolded behind it
-abbrev pub step_line : Names → ℕ → Action → Option Origin → List ℕ → List ℕ
-step_line names n x o ns = codes "  " ++ (decimal n ++ (codes " " ++ (action_text names x ++ (source_text names x o ++ (then_text names ns ++ codes "\n")))))
+abbrev pub step_line : Legend → ℕ → Action → Option Origin → List ℕ → List ℕ
+step_line l n x o ns = codes "  " ++ (decimal n ++ (codes " " ++ (action_text l.names x ++ (source_text l x o ++ (then_text l.names ns ++ codes "\n")))))
 
 -- the state that a step leads to from another one
 abbrev pub behind_line : Names → Width → Process → Process → List ℕ
 behind_line names width before t = state_line (told_behind width (process_text names before) (process_text names t))
 
--- A step with the names that are unfolded behind it, and what has changed then in the state since the one that was told
--- before it. So much of the path is left behind that.
-abbrev pub step_text : Style → ℕ → Process → Action → Option Origin → List ℕ → List Action → Process → List ℕ
-step_text style n told x o ns path t = step_line style.names n x o ns ++ behind_line style.names (width_before style.width path) told t
+-- A step of parts with such names, with the names that are unfolded behind it, and what has changed then in the state since
+-- the one that was told before it. So much of the path is left behind that.
+abbrev pub step_text : Style → ℕ → Process → List PartName → Action → Option Origin → List ℕ → List Action → Process → List ℕ
+step_text style n told parts x o ns path t = step_line (legend style.names parts) n x o ns ++ behind_line style.names (width_before style.width path) told t
 
 -- The steps of a path, numbered from n, with the states behind them and their origins, and the states of the specification
--- behind each. A step that is told with the one before leads to the state that was told there.
-abbrev pub steps_text : Style → ℕ → Process → List Action → List Process → List (Option Origin) → List (List Process) → List ℕ
-steps_text style n told [] states origins along = []
-steps_text style n told (x ∷ path) [] origins along = []
-steps_text style n told (x ∷ path) (t ∷ states) [] along = []
-steps_text style n told (x ∷ path) (t ∷ states) (o ∷ origins) along =
+-- behind each. A step that is told with the one before leads to the state that was told there. Each gives the parts their
+-- names for those behind it.
+abbrev pub steps_text : Style → ℕ → Process → List PartName → List Action → List Process → List (Option Origin) → List (List Process) → List ℕ
+steps_text style n told parts [] states origins along = []
+steps_text style n told parts (x ∷ path) [] origins along = []
+steps_text style n told parts (x ∷ path) (t ∷ states) [] along = []
+steps_text style n told parts (x ∷ path) (t ∷ states) (o ∷ origins) along =
     let ns = folded style.telling origins in
-    if is_folded style.telling o then steps_text style (suc n) told path states origins (drop 1 along)
-    else step_text style n told x o ns (drop (length ns) path) (state_behind (length ns) t states)
-    ++ (beside_text style x along ++ steps_text style (suc n) (state_behind (length ns) t states) path states origins (drop 1 along))
+    if is_folded style.telling o then steps_text style (suc n) told (names_behind parts o) path states origins (drop 1 along)
+    else step_text style n told parts x o ns (drop (length ns) path) (state_behind (length ns) t states)
+    ++ (beside_text style x along ++ steps_text style (suc n) (state_behind (length ns) t states) (names_behind parts o) path states origins (drop 1 along))
 
 -- the names that are unfolded at the start of the path, and the state behind that
 abbrev pub start_line : Style → List ℕ → Process → List Action → List ℕ
@@ -76,10 +79,11 @@ start_line style ns t path = codes "  0 start" ++ (then_text style.names ns ++ (
 -- ---- events
 
 -- the steps that are events, seen or hidden
-abbrev pub events_text : Names → ℕ → List Action → List (Option Origin) → List ℕ
-events_text names n [] origins = []
-events_text names n (x ∷ path) [] = []
-events_text names n (x ∷ path) (o ∷ origins) = (if is_event x o then step_line names n x o [] else []) ++ events_text names (suc n) path origins
+abbrev pub events_text : Names → ℕ → List PartName → List Action → List (Option Origin) → List ℕ
+events_text names n parts [] origins = []
+events_text names n parts (x ∷ path) [] = []
+events_text names n parts (x ∷ path) (o ∷ origins) =
+    (if is_event x o then step_line (legend names parts) n x o [] else []) ++ events_text names (suc n) (names_behind parts o) path origins
 
 -- the last state, whole
 abbrev pub last_line : Names → Process → List Process → List ℕ
@@ -93,13 +97,13 @@ abbrev pub states_text : Style → List Action → Process → List Process → 
 states_text style path t states origins along =
     let ns = folded style.telling origins in
     let told = state_behind (length ns) t states in
-    start_line style ns told path ++ (first_text style along ++ steps_text style 1 told path states origins (drop 1 along))
+    start_line style ns told path ++ (first_text style along ++ steps_text style 1 told [] path states origins (drop 1 along))
 
 -- so, or the events alone, and the last state
 abbrev pub told_run : Telling → Style → List Action → Process → List Process → List (Option Origin) → List (List Process) → List ℕ
 told_run EachStep style path t states origins along = states_text style path t states origins along
 told_run Folded style path t states origins along = states_text style path t states origins along
-told_run ByEvents style path t states origins along = events_text style.names 1 path origins ++ last_line style.names t states
+told_run ByEvents style path t states origins along = events_text style.names 1 [] path origins ++ last_line style.names t states
 
 -- a run of a side alone, or beside a specification
 abbrev pub path_text : Style → List Action → List Process → List (Option Origin) → List (List Process) → List ℕ

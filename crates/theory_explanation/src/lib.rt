@@ -5,7 +5,7 @@
 //! the path of a violation, with its text, and how large a search was.
 #![tactic(auto)]
 
-ghost use Rattle.std.specs.Prelude.{◌≡◌, ◌∷◌, [], codes, false, true, pos, slice_get, Contains, List, None, Option, Some, ℕ};
+ghost use Rattle.std.specs.Prelude.{◌≡◌, ◌≢◌, ◌∷◌, [], codes, false, true, pos, slice_get, Contains, List, None, Option, Some, ℕ};
 ghost use Rattle.theory_syntax.specs.Process.{Assertion, DeadlockFree, DivergenceFree, ExternalChoice, Interleaving, Omega, Process, RefinementOf, Script, Skip, Stop, Traces};
 ghost use Rattle.theory_syntax.specs.Expression.{Add, Apply, Combine, Head, Modulus, Range, SequenceOf, SetOf, Tail, no_expressions};
 ghost use Rattle.theory_syntax.specs.Value.{Action, Integer, Tau, Tick};
@@ -15,7 +15,7 @@ ghost use Rattle.theory_semantics.specs.Laws.Terms.{digits};
 ghost use Rattle.theory_semantics.specs.Meaning.Evaluation.{BadModulus, Cause, EmptySequence, OutOfRange, Overflow};
 ghost use Rattle.theory_semantics.specs.Meaning.Violations.{ByDeadlock, ByDivergence, ByEvent, ByOffers, IsViolation, Violation};
 ghost use Rattle.theory_search.specs.Search.{EndedFails, IsLawful, Search};
-ghost use Rattle.theory_origins.specs.Origin.{Below, Chooses, Does, Ends, Hides, InBody, InChain, Left, OnBranch, OnSide, Origin, Renames, Right, SideEnds, Slides, Together, UnderGuard, Unfolds};
+ghost use Rattle.theory_origins.specs.Origin.{Below, Chooses, ComesFrom, Does, Ends, Hides, InBody, InChain, Left, OnBranch, Origin, Renames, Right, Side, SideEnds, Slides, Together, UnderGuard, Unfolds};
 ghost use Rattle.theory_notation.specs.Samples.{minus_one, names, number, p};
 ghost use Rattle.theory_runs.specs.States.{AreReached, IsReplay};
 ghost use Rattle.theory_runs.specs.Stops.{IsKnownAlong};
@@ -31,7 +31,9 @@ ghost use Rattle.theory_explanation.specs.Folding.{ByEvents, EachStep, Folded};
 ghost use Rattle.theory_explanation.specs.Headline.{assertion_text};
 ghost use Rattle.theory_explanation.specs.Loops.{loop_text};
 ghost use Rattle.theory_explanation.specs.Origins.{source_text};
-ghost use Rattle.theory_explanation.specs.Samples.{below, c, c_two, event, not_true, telling, told, unfolded_run};
+ghost use Rattle.theory_explanation.specs.Legend.{legend};
+ghost use Rattle.theory_explanation.specs.PartNames.{IsCallAt, PartName, name_of, names_along, names_behind, unfolded};
+ghost use Rattle.theory_explanation.specs.Samples.{below, c, c_two, event, named_run, not_true, right_named, telling, told, unfolded_run, unnamed};
 ghost use Rattle.theory_explanation.specs.Steps.{path_text, step_line};
 ghost use Rattle.theory_explanation.specs.Waiting.{parts_text};
 
@@ -137,40 +139,76 @@ pub fn texts_of_lacks()
 
 /// Where a tau comes from: a call, a choice or the end of a process, at the start or some sides below, and a hidden event.
 pub fn texts_of_origins()
-    ensures call { source_text names Tau (Some (Unfolds 0)) ≡ codes ": unfolds P" }
-    ensures sides { source_text names Tau (Some (below Left (Below InBody (below Right (Below InChain (Unfolds 0)))))) ≡ codes ": left.right: unfolds P" }
-    ensures choice { source_text names Tau (Some (below Right (Chooses Left))) ≡ codes ": right: chooses its left side" }
-    ensures slides { source_text names Tau (Some Slides) ≡ codes ": slides to its right side" }
-    ensures ends { source_text names Tau (Some (Below (SideEnds Left) Ends)) ≡ codes ": left: ends" }
-    ensures unknown { source_text names Tau None ≡ [] }
+    ensures call { source_text unnamed Tau (Some (Unfolds 0)) ≡ codes ": unfolds P" }
+    ensures sides { source_text unnamed Tau (Some (below Left (Below InBody (below Right (Below InChain (Unfolds 0)))))) ≡ codes ": left.right: unfolds P" }
+    ensures choice { source_text unnamed Tau (Some (below Right (Chooses Left))) ≡ codes ": right: chooses its left side" }
+    ensures slides { source_text unnamed Tau (Some Slides) ≡ codes ": slides to its right side" }
+    ensures ends { source_text unnamed Tau (Some (Below (SideEnds Left) Ends)) ≡ codes ": left: ends" }
+    ensures unknown { source_text unnamed Tau None ≡ [] }
 {}
 
 /// Which parts do a hidden event: the process itself, one below a side, both sides, or parts below both.
 pub fn texts_of_hidden_events()
-    ensures itself { source_text names Tau (Some (Below (Hides (event 1)) (Does (event 1)))) ≡ codes ": hidden c.1" }
-    ensures side { source_text names Tau (Some (below Left (Below (Hides (event 1)) (below Right (below Left (Does (event 1))))))) ≡ codes ": left: hidden c.1 by right.left" }
-    ensures both { source_text names Tau (Some (Below (Hides (event 1)) (Together (below Left (Does (event 1))) (Does (event 1))))) ≡ codes ": hidden c.1 by left.left, right" }
-    ensures renamed { source_text names Tau (Some (Below (Hides (event 1)) (below Left (Below (Renames (event 2) (event 1)) (Does (event 2)))))) ≡ codes ": hidden c.1 by left as c.2" }
+    ensures itself { source_text unnamed Tau (Some (Below (Hides (event 1)) (Does (event 1)))) ≡ codes ": hidden c.1" }
+    ensures side { source_text unnamed Tau (Some (below Left (Below (Hides (event 1)) (below Right (below Left (Does (event 1))))))) ≡ codes ": left: hidden c.1 by right.left" }
+    ensures both { source_text unnamed Tau (Some (Below (Hides (event 1)) (Together (below Left (Does (event 1))) (Does (event 1))))) ≡ codes ": hidden c.1 by left.left, right" }
+    ensures renamed { source_text unnamed Tau (Some (Below (Hides (event 1)) (below Left (Below (Renames (event 2) (event 1)) (Does (event 2)))))) ≡ codes ": hidden c.1 by left as c.2" }
 {}
 
 /// Which parts do an event that is seen: the process itself, or parts below sides of parallel operators, of which no side
 /// or branch is told. What is another event there, below a renaming, is told.
 pub fn texts_of_doers()
-    ensures itself { source_text names (c 1) (Some (Does (event 1))) ≡ [] }
-    ensures side { source_text names (c 1) (Some (below Right (Does (event 1)))) ≡ codes " by right" }
-    ensures branch { source_text names (c 1) (Some (below Right (Below (OnBranch Left) (Does (event 1))))) ≡ codes " by right" }
-    ensures guard { source_text names (c 1) (Some (below Right (Below UnderGuard (below Left (Does (event 1)))))) ≡ codes " by right" }
-    ensures under { source_text names (c 1) (Some (Below (OnBranch Left) (Below (Renames (event 2) (event 1)) (Does (event 2))))) ≡ [] }
-    ensures below { source_text names (c 1) (Some (Below (Renames (event 2) (event 1)) (Does (event 2)))) ≡ codes " as c.2" }
-    ensures twice { source_text names (c 1) (Some (Below (Renames (event 2) (event 1)) (Below (Renames (event 3) (event 2)) (Does (event 3))))) ≡ codes " as c.3" }
-    ensures together { source_text names (c 1) (Some (Together (Below (Renames (event 2) (event 1)) (Does (event 2))) (Together (Does (event 1)) (Does (event 1))))) ≡ codes " by left as c.2, right.left, right.right" }
-    ensures unknown { source_text names (c 1) None ≡ [] }
+    ensures itself { source_text unnamed (c 1) (Some (Does (event 1))) ≡ [] }
+    ensures side { source_text unnamed (c 1) (Some (below Right (Does (event 1)))) ≡ codes " by right" }
+    ensures branch { source_text unnamed (c 1) (Some (below Right (Below (OnBranch Left) (Does (event 1))))) ≡ codes " by right" }
+    ensures guard { source_text unnamed (c 1) (Some (below Right (Below UnderGuard (below Left (Does (event 1)))))) ≡ codes " by right" }
+    ensures under { source_text unnamed (c 1) (Some (Below (OnBranch Left) (Below (Renames (event 2) (event 1)) (Does (event 2))))) ≡ [] }
+    ensures below { source_text unnamed (c 1) (Some (Below (Renames (event 2) (event 1)) (Does (event 2)))) ≡ codes " as c.2" }
+    ensures twice { source_text unnamed (c 1) (Some (Below (Renames (event 2) (event 1)) (Below (Renames (event 3) (event 2)) (Does (event 3))))) ≡ codes " as c.3" }
+    ensures together { source_text unnamed (c 1) (Some (Together (Below (Renames (event 2) (event 1)) (Does (event 2))) (Together (Does (event 1)) (Does (event 1))))) ≡ codes " by left as c.2, right.left, right.right" }
+    ensures unknown { source_text unnamed (c 1) None ≡ [] }
+{}
+
+/// A part has the name of the equation that was unfolded last at its way, whatever is unfolded elsewhere.
+pub fn parts_have_the_last_names()
+    ensures there { (parts : List PartName) (o : Origin) (d : PartName) → unfolded o ≡ Some d → name_of (names_behind parts (Some o)) d.way ≡ Some d.equation }
+    ensures elsewhere { (parts : List PartName) (o : Origin) (way : List Side) → ((d : PartName) → unfolded o ≡ Some d → d.way ≢ way) → name_of (names_behind parts (Some o)) way ≡ name_of parts way }
+{}
+
+/// What a step is told to unfold is a call of that equation, which stands at the end of that way.
+pub fn names_are_of_calls()
+    ensures { (script : Script) (p : Process) (x : Action) (t : Process) (o : Origin) (d : PartName) → ComesFrom script p x t o → unfolded o ≡ Some d → IsCallAt script p d }
+{}
+
+/// The names of parts behind steps: of what is unfolded, the last one at each way. A name that is unfolded in a choice is
+/// none of a part, and a part of a body that is no call has none.
+pub fn names_of_small_runs()
+    ensures whole { names_along [] (Some (Unfolds 0) ∷ []) ≡ record { way = []; equation = 0 } ∷ [] }
+    ensures sides { names_along [] (Some (below Left (Unfolds 1)) ∷ Some (below Right (below Left (Unfolds 2))) ∷ []) ≡ record { way = Left ∷ []; equation = 1 } ∷ record { way = Right ∷ Left ∷ []; equation = 2 } ∷ [] }
+    ensures last { names_along [] (Some (below Left (Unfolds 1)) ∷ Some (below Left (Does (event 1))) ∷ Some (below Left (Unfolds 2)) ∷ []) ≡ record { way = Left ∷ []; equation = 2 } ∷ [] }
+    ensures through { names_along [] (Some (Below InBody (below Left (Below UnderGuard (Below InChain (Unfolds 1))))) ∷ []) ≡ record { way = Left ∷ []; equation = 1 } ∷ [] }
+    ensures choice { names_along [] (Some (below Left (Unfolds 1)) ∷ Some (below Left (Below (OnBranch Right) (Unfolds 2))) ∷ []) ≡ record { way = Left ∷ []; equation = 1 } ∷ [] }
+    ensures inside { name_of (names_along [] (Some (Unfolds 0) ∷ [])) (Left ∷ []) ≡ None }
+{}
+
+/// The names of parts behind their ways, where they have one: of what does an event, and of what moves in a tau, but for a
+/// name that unfolds. Within a choice nothing has a name.
+pub fn texts_of_part_names()
+    ensures event { source_text right_named (c 1) (Some (Together (Does (event 1)) (Does (event 1)))) ≡ codes " by left, right (P)" }
+    ensures renamed { source_text right_named (c 1) (Some (Below (Renames (event 2) (event 1)) (below Right (Does (event 2))))) ≡ codes " by right (P) as c.2" }
+    ensures hidden { source_text right_named Tau (Some (Below (Hides (event 1)) (Together (Does (event 1)) (below Left (Does (event 1)))))) ≡ codes ": hidden c.1 by left, right.left (P)" }
+    ensures below { source_text right_named Tau (Some (below Right (Below (Hides (event 1)) (Together (Does (event 1)) (Does (event 1)))))) ≡ codes ": right (P): hidden c.1 by left (P), right" }
+    ensures choice { source_text right_named Tau (Some (below Right (Chooses Left))) ≡ codes ": right (P): chooses its left side" }
+    ensures ends { source_text right_named Tau (Some (Below (SideEnds Right) Ends)) ≡ codes ": right (P): ends" }
+    ensures branch { source_text right_named Tau (Some (below Right (Below (OnBranch Left) (Chooses Left)))) ≡ codes ": right.left: chooses its left side" }
+    ensures call { source_text right_named Tau (Some (below Right (Unfolds 0))) ≡ codes ": right: unfolds P" }
+    ensures whole { source_text (legend names (record { way = []; equation = 0 } ∷ [])) Tau (Some Slides) ≡ codes ": slides to its right side" }
 {}
 
 /// The line of a tau, and that of an event.
 pub fn texts_of_steps()
-    ensures tau { step_line names 3 Tau (Some (below Left (Unfolds 0))) [] ≡ codes "  3 tau: left: unfolds P\n" }
-    ensures event { step_line names 12 (c 1) (Some (below Left (Does (event 1)))) [] ≡ codes "  12 c.1 by left\n" }
+    ensures tau { step_line unnamed 3 Tau (Some (below Left (Unfolds 0))) [] ≡ codes "  3 tau: left: unfolds P\n" }
+    ensures event { step_line unnamed 12 (c 1) (Some (below Left (Does (event 1)))) [] ≡ codes "  12 c.1 by left\n" }
 {}
 
 /// A step after which the specification cannot go on.
@@ -182,14 +220,16 @@ pub fn texts_of_counterexamples()
 /// the first few, and how many are left out.
 pub fn texts_of_loops()
     ensures whole { counterexample_text told (record { path = c 1 ∷ []; evidence = ByDivergence }) (record { states = Stop ∷ p ∷ []; origins = Some (Does (event 1)) ∷ []; counterpart = None; loop = Some (record { states = p ∷ Skip ∷ []; back = 0; origins = Some (Unfolds 0) ∷ Some Slides ∷ [] }); waiting = [] }) ≡ codes "  0 start\n      STOP\n  1 c.1\n      P\n  then it goes on with tau for ever:\n  2 tau: unfolds P\n      SKIP\n  3 tau: slides to its right side\n      back to state 1\n" }
-    ensures cut { loop_text told 4 (Some (record { states = p ∷ Stop ∷ p ∷ p ∷ []; back = 1; origins = Some (Unfolds 0) ∷ None ∷ None ∷ None ∷ [] })) ≡ codes "  5 tau: unfolds P\n      STOP\n  6 tau\n      P\n  .. 2 more taus, back to state 5\n" }
-    ensures none { loop_text told 4 None ≡ [] }
+    ensures named { loop_text told (record { way = Right ∷ []; equation = 0 } ∷ []) 0 (Some (record { states = p ∷ Stop ∷ []; back = 0; origins = Some (below Left (Unfolds 0)) ∷ Some (Below (Hides (event 1)) (Together (Does (event 1)) (Does (event 1)))) ∷ [] })) ≡ codes "  1 tau: left: unfolds P\n      STOP\n  2 tau: hidden c.1 by left (P), right (P)\n      back to state 0\n" }
+    ensures cut { loop_text told [] 4 (Some (record { states = p ∷ Stop ∷ p ∷ p ∷ []; back = 1; origins = Some (Unfolds 0) ∷ None ∷ None ∷ None ∷ [] })) ≡ codes "  5 tau: unfolds P\n      STOP\n  6 tau\n      P\n  .. 2 more taus, back to state 5\n" }
+    ensures none { loop_text told [] 4 None ≡ [] }
 {}
 
 /// A deadlock: what each part can do by itself. A state that is one part alone has been told.
 pub fn texts_of_waiting()
     ensures parts { counterexample_text told (record { path = []; evidence = ByDeadlock }) (record { states = Interleaving p Stop ∷ []; origins = []; counterpart = None; loop = None; waiting = record { way = Left ∷ []; process = p; initials = c 1 ∷ Tick ∷ [] } ∷ record { way = Right ∷ []; process = Stop; initials = [] } ∷ [] }) ≡ codes "  0 start\n      P ||| STOP\n  then it can do nothing\n  by itself left can do {c.1,tick}\n      P\n  by itself right can do {}\n      STOP\n" }
-    ensures one { parts_text told (record { way = []; process = p; initials = c 1 ∷ [] } ∷ []) ≡ [] }
+    ensures named { counterexample_text (telling ByEvents) (record { path = Tau ∷ []; evidence = ByDeadlock }) (record { states = Interleaving p Stop ∷ Interleaving Stop Stop ∷ []; origins = Some (below Left (Unfolds 0)) ∷ []; counterpart = None; loop = None; waiting = record { way = Left ∷ []; process = Stop; initials = [] } ∷ record { way = Right ∷ []; process = Stop; initials = [] } ∷ [] }) ≡ codes "      STOP ||| STOP\n  then it can do nothing\n  by itself left (P) can do {}\n      STOP\n  by itself right can do {}\n      STOP\n" }
+    ensures one { parts_text told [] (record { way = []; process = p; initials = c 1 ∷ [] } ∷ []) ≡ [] }
 {}
 
 /// How large a search was, of one and of several.
@@ -205,5 +245,7 @@ pub fn texts_of_tellings()
     ensures folded { path_text (telling Folded) (Tau ∷ c 1 ∷ Tau ∷ Tau ∷ []) (p ∷ Stop ∷ p ∷ Skip ∷ Stop ∷ []) unfolded_run [] ≡ codes "  0 start, then unfolds P\n      STOP\n  2 c.1 by left, then unfolds P, P\n      STOP\n" }
     ensures each { path_text (telling EachStep) (Tau ∷ []) (p ∷ Stop ∷ []) (Some (Unfolds 0) ∷ []) [] ≡ codes "  0 start\n      P\n  1 tau: unfolds P\n      STOP\n" }
     ensures events { path_text (telling ByEvents) (Tau ∷ c 1 ∷ Tau ∷ Tau ∷ []) (p ∷ Stop ∷ p ∷ Skip ∷ Stop ∷ []) unfolded_run [] ≡ codes "  2 c.1 by left\n      STOP\n" }
+    ensures named { path_text (telling Folded) (Tau ∷ c 1 ∷ Tau ∷ c 1 ∷ []) (p ∷ Stop ∷ p ∷ Skip ∷ Stop ∷ []) named_run [] ≡ codes "  0 start, then unfolds P\n      STOP\n  2 c.1 by left, right (P), then unfolds P\n      SKIP\n  4 c.1 by left (P), right (P)\n      STOP\n" }
+    ensures events_named { path_text (telling ByEvents) (Tau ∷ c 1 ∷ Tau ∷ c 1 ∷ []) (p ∷ Stop ∷ p ∷ Skip ∷ Stop ∷ []) named_run [] ≡ codes "  2 c.1 by left, right (P)\n  4 c.1 by left (P), right (P)\n      STOP\n" }
     ensures hidden { path_text (telling ByEvents) (Tau ∷ []) (p ∷ Skip ∷ []) (Some (Below (Hides (event 1)) (below Right (Does (event 1)))) ∷ []) [] ≡ codes "  1 tau: hidden c.1 by right\n      SKIP\n" }
 {}

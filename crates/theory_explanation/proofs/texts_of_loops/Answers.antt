@@ -9,3 +9,7 @@ returns-clause-whole c = refl
 pub returns-clause-cut : goal.returns-clause-cut
 unfolding digits
 returns-clause-cut c = refl
+
+pub returns-clause-named : goal.returns-clause-named
+unfolding digits
+returns-clause-named c = refl

@@ -17,3 +17,11 @@ returns-clause-events c = refl
 pub returns-clause-hidden : goal.returns-clause-hidden
 unfolding digits
 returns-clause-hidden c = refl
+
+pub returns-clause-named : goal.returns-clause-named
+unfolding digits
+returns-clause-named c = refl
+
+pub returns-clause-events_named : goal.returns-clause-events_named
+unfolding digits
+returns-clause-events_named c = refl

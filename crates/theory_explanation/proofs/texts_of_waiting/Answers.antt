@@ -5,3 +5,7 @@ use Rattle.theory_explanation.proofs.texts_of_waiting.Goals as goal
 pub returns-clause-parts : goal.returns-clause-parts
 unfolding digits
 returns-clause-parts c = refl
+
+pub returns-clause-named : goal.returns-clause-named
+unfolding digits
+returns-clause-named c = refl

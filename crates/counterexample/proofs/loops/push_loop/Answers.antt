@@ -1,5 +1,5 @@
 -- One more tau is told, or how many are left out.
-use Rattle.std.proofs.Common.{◌≡◌, List, [], ◌+◌, ◌-◌, ◌<◌, ◌++◌, length, map, option_map, Option, Some, slice_get, refl, sym, ◌∙◌, ap, inl, inr, lit≤, lit<, arith}
+use Rattle.std.proofs.Common.{◌≡◌, ℕ, List, [], ◌+◌, ◌-◌, ◌<◌, ◌++◌, length, map, option_map, Option, Some, slice_get, refl, sym, ◌∙◌, ap, inl, inr, lit<, arith}
 use Rattle.std.proofs.lemmas.List.{length-map}
 use Rattle.std.proofs.lemmas.Option.{slice_get-get_or, slice_get-map, slice_get_past, slice_get_read}
 use Rattle.std.specs.String.{string_bytes}
@@ -9,13 +9,18 @@ use Rattle.csp_term.specs.declared.term.Term.{Term}
 use Rattle.csp_moves.specs.Origin.{origin_of}
 use Rattle.csp_moves.specs.declared.origin.Origin.{Origin}
 use Rattle.theory_syntax.specs.Value.{Tau}
-use Rattle.theory_explanation.specs.Loops.{few_taus, left_out_line, loop_text, taus_told}
+use Rattle.theory_explanation.specs.Loops.{few_taus, left_out_line, taus_told}
+use Rattle.theory_explanation.specs.Legend.{legend}
+use Rattle.theory_explanation.specs.PartNames as names
+use Rattle.theory_explanation.specs.PartNames.{names_along, names_behind}
 use Rattle.theory_explanation.specs.Steps.{step_line}
 use Rattle.csp_print.proofs.Writing.{alike, comes_to_end, goes_on}
 use Rattle.counterexample.specs.Counterexample.{loop_of, origins_listed}
 use Rattle.counterexample.specs.Styles.{style_of}
+use Rattle.counterexample.specs.PartNames.{part_names_listed}
+use Rattle.counterexample.specs.declared.part_names.PartName.{PartName}
 use Rattle.counterexample.specs.Loops.{next_text}
-use Rattle.counterexample.proofs.LoopTexts.{lent_at, loop_whole, no_loop_left, no_tau_left, taus_cut_within, taus_left, taus_next}
+use Rattle.counterexample.proofs.LoopTexts.{lent_at, loop_whole, no_loop_left, no_tau_left, taus_cut_within, taus_left, taus_next, taus_whole}
 use Rattle.counterexample.proofs.Putting.{put_last}
 use Rattle.counterexample.proofs.loops.push_loop.Goals as goal
 
@@ -25,6 +30,24 @@ array_drop-tau-requires g c = elim g.met.A.AllocHandle.small [ inl e ↦ rw (e.0
 pub array_drop-tau-requires-in_err-push_next : goal.array_drop-tau-requires-in_err-push_next
 array_drop-tau-requires-in_err-push_next g c = elim g.met.A.AllocHandle.small [ inl e ↦ rw (e.0, e.1) (lit< tt) | inr e ↦ rw (e.0, e.1) (lit< tt) ]
 
+pub array_drop-tau-requires-in_err-put_unfolded : goal.array_drop-tau-requires-in_err-put_unfolded
+array_drop-tau-requires-in_err-put_unfolded g c = elim g.met.A.AllocHandle.small [ inl e ↦ rw (e.0, e.1) (lit< tt) | inr e ↦ rw (e.0, e.1) (lit< tt) ]
+
+pub loop-place-init : goal.loop-place-init
+loop-place-init g c =
+    let style = style_of c.args.style.now in
+    let n = c.args.number in
+    let loop = loop_of c.args.looping.now in
+    let few = c.taus_told-told.result in
+    let start = string_bytes c.args.text.now in
+    let first = names_along [] (origins_listed c.args.before.now) in
+    record {
+      few = omega arith;
+      text =
+          ap (λ (ps : List names.PartName). start ++ taus_left style few (n + 1) (n + loop.back) loop.states loop.origins 0 ps) c.in_ok-parts.ensures
+          ∙ ap (λ (ts : List ℕ). start ++ ts) (taus_whole style few (n + 1) (n + loop.back) first loop.states loop.origins);
+    }
+
 pub returns-in_default : goal.returns-in_default
 returns-in_default g c =
     let style = style_of c.args.style.now in
@@ -33,15 +56,17 @@ returns-in_default g c =
     let loop = loop_of l in
     let few = c.taus_told-told.result in
     let i = c.loop-place.place in
+    let parts = part_names_listed c.loop-place.parts.items in
+    let first = names_along [] (origins_listed c.args.before.now) in
     let start = string_bytes c.args.text.now in
     let now = string_bytes c.loop-place.text in
     let same = c.taus_told-told.ensures ∙ ap (λ (ts : List (Term g.row.A.Denot)). taus_told style.taus (map process_of ts)) c.deref.ensures.value in
     let os = c.deref-in-loop-place.result.now in
     let past = slice_get-map (λ o. option_map origin_of o) os i ∙ ap (option_map (λ o. option_map origin_of o)) (slice_get_past os i c.in_default.ensures.lookup.3) in
     let none = ap (λ (xs : List (Option (Origin g.row.A.Denot))). slice_get (origins_listed xs) i) (sym c.deref-in-loop-place.ensures.value) ∙ past in
-    comes_to_end start now (taus_left style few (n + 1) (n + l.back) loop.states loop.origins i) (few_taus style few (n + 1) (n + l.back) loop.states loop.origins) c.loop-place.invariant.text
-    (no_tau_left style few (n + 1) (n + l.back) loop.states loop.origins i none)
-    ∙ ap (λ ts. start ++ ts) (loop_whole style n few loop same)
+    comes_to_end start now (taus_left style few (n + 1) (n + l.back) loop.states loop.origins i parts) (few_taus style few (n + 1) (n + l.back) first loop.states loop.origins) c.loop-place.invariant.text
+    (no_tau_left style few (n + 1) (n + l.back) loop.states loop.origins i parts none)
+    ∙ ap (λ ts. start ++ ts) (loop_whole style n few first loop same)
 
 pub returns-then-place-told : goal.returns-then-place-told
 returns-then-place-told g c =
@@ -51,6 +76,8 @@ returns-then-place-told g c =
     let loop = loop_of l in
     let few = c.taus_told-told.result in
     let i = c.loop-place.place in
+    let parts = part_names_listed c.loop-place.parts.items in
+    let first = names_along [] (origins_listed c.args.before.now) in
     let r = c.push_left_out.result in
     let start = string_bytes c.args.text.now in
     let now = string_bytes c.loop-place.text in
@@ -66,9 +93,9 @@ returns-then-place-told g c =
     let here : i < length loop.states = omega (arith, long, low, mapped) in
     let place : i ≡ few = c.if-place-told.true in
     let number : length loop.states - i ≡ c.len-count.result - i = omega (arith, long, mapped) in
-    alike r start all _ _ (loop_whole style n few loop same)
-    (put_last r start now all (left_out_line (c.len-count.result - i) (n + l.back)) (taus_left style few (n + 1) (n + l.back) loop.states loop.origins i) (few_taus style few (n + 1) (n + l.back) loop.states loop.origins)
-    c.loop-place.invariant.text (taus_cut_within style few (n + 1) (n + l.back) loop.states loop.origins i _ here told (sym place) ∙ ap (λ k. left_out_line k (n + l.back)) number) c.push_left_out.ensures)
+    alike r start all _ _ (loop_whole style n few first loop same)
+    (put_last r start now all (left_out_line (c.len-count.result - i) (n + l.back)) (taus_left style few (n + 1) (n + l.back) loop.states loop.origins i parts) (few_taus style few (n + 1) (n + l.back) first loop.states loop.origins)
+    c.loop-place.invariant.text (taus_cut_within style few (n + 1) (n + l.back) loop.states loop.origins i parts _ here told (sym place) ∙ ap (λ k. left_out_line k (n + l.back)) number) c.push_left_out.ensures)
 
 pub loop-place-preserved : goal.loop-place-preserved
 loop-place-preserved g c =
@@ -79,6 +106,8 @@ loop-place-preserved g c =
     let few = c.taus_told-told.result in
     let back = n + l.back in
     let i = c.loop-place.place in
+    let parts = part_names_listed c.loop-place.parts.items in
+    let first = names_along [] (origins_listed c.args.before.now) in
     let now = string_bytes c.loop-place.text in
     let one = string_bytes c.push_step.new.text in
     let all = string_bytes c.push_next.new.text in
@@ -96,14 +125,21 @@ loop-place-preserved g c =
     let other = c.if-place-told.false in
     let low : i < few = omega (arith, most, other) in
     let t = c.get-next.result in
-    let next = lent_at process_of c.deref-in-loop-place-2.result.now (i + 1) t c.get-next.ensures.lookup ∙ ap (λ (ts : List (Term g.row.A.Denot)). slice_get (map process_of ts) (i + 1)) c.deref-in-loop-place-2.ensures.value in
+    let next = lent_at process_of c.deref-in-loop-place-3.result.now (i + 1) t c.get-next.ensures.lookup ∙ ap (λ (ts : List (Term g.row.A.Denot)). slice_get (map process_of ts) (i + 1)) c.deref-in-loop-place-3.ensures.value in
     let second : all ≡ one ++ next_text style back (process_of s) (slice_get loop.states (i + 1)) = c.in_ok-push_next.ensures ∙ ap (λ u. one ++ next_text style back (process_of s) u) next in
+    let more = names_behind parts o in
+    let named : part_names_listed c.put_unfolded.new.parts.items ≡ more = c.in_ok-put_unfolded.ensures in
+    let line = step_line (legend style.names parts) (n + 1 + i) Tau o [] in
+    let listed = ap (λ (ps : List (PartName g.row.A.Denot)). part_names_listed ps) c.deref-in-loop-place-2.ensures.value in
+    let put : one ≡ now ++ line = c.in_ok-push_step.ensures ∙ ap (λ (ps : List names.PartName). now ++ step_line (legend style.names ps) (n + 1 + i) Tau o []) listed in
     record {
       few = omega (arith, low);
-      text = goes_on now one all (step_line style.names (n + 1 + i) Tau o []) (next_text style back (process_of s) (slice_get loop.states (i + 1)))
-          (taus_left style few (n + 1) back loop.states loop.origins i) (taus_left style few (n + 1) back loop.states loop.origins (i + 1))
-          (string_bytes c.args.text.now ++ few_taus style few (n + 1) back loop.states loop.origins) c.loop-place.invariant.text
-          (taus_next style few (n + 1) back loop.states loop.origins i (process_of s) o here told low) c.in_ok-push_step.ensures second;
+      text =
+          ap (λ (ps : List names.PartName). all ++ taus_left style few (n + 1) back loop.states loop.origins (i + 1) ps) named
+          ∙ goes_on now one all line (next_text style back (process_of s) (slice_get loop.states (i + 1)))
+          (taus_left style few (n + 1) back loop.states loop.origins i parts) (taus_left style few (n + 1) back loop.states loop.origins (i + 1) more)
+          (string_bytes c.args.text.now ++ few_taus style few (n + 1) back first loop.states loop.origins) c.loop-place.invariant.text
+          (taus_next style few (n + 1) back loop.states loop.origins i parts (process_of s) o here told low) put second;
     }
 
 pub returns : goal.returns
@@ -114,12 +150,14 @@ returns g c =
     let loop = loop_of l in
     let few = c.taus_told-told.result in
     let i = c.loop-place.place in
+    let parts = part_names_listed c.loop-place.parts.items in
+    let first = names_along [] (origins_listed c.args.before.now) in
     let start = string_bytes c.args.text.now in
     let now = string_bytes c.loop-place.text in
     let same = c.taus_told-told.ensures ∙ ap (λ (ts : List (Term g.row.A.Denot)). taus_told style.taus (map process_of ts)) c.deref.ensures.value in
     let long = c.len-count.ensures in
     let past = c.loop-place-test.false in
     let mapped = length-map l.states.items process_of in
-    comes_to_end start now (taus_left style few (n + 1) (n + l.back) loop.states loop.origins i) (few_taus style few (n + 1) (n + l.back) loop.states loop.origins) c.loop-place.invariant.text
-    (no_loop_left style few (n + 1) (n + l.back) loop.states loop.origins i (omega (arith, long, past, mapped)))
-    ∙ ap (λ ts. start ++ ts) (loop_whole style n few loop same)
+    comes_to_end start now (taus_left style few (n + 1) (n + l.back) loop.states loop.origins i parts) (few_taus style few (n + 1) (n + l.back) first loop.states loop.origins) c.loop-place.invariant.text
+    (no_loop_left style few (n + 1) (n + l.back) loop.states loop.origins i parts (omega (arith, long, past, mapped)))
+    ∙ ap (λ ts. start ++ ts) (loop_whole style n few first loop same)

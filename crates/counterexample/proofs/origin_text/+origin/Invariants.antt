@@ -11,3 +11,6 @@ decreases-push_below g l = 3 * origin_size (origin_of l.part.now) + 2
 
 abbrev pub decreases-push_below_side : goal.decreases-push_below_side
 decreases-push_below_side g l = 3 * origin_size (origin_of l.part.now) + 1
+
+abbrev pub decreases-push_below_branch : goal.decreases-push_below_branch
+decreases-push_below_branch g l = 3 * origin_size (origin_of l.part.now) + 1

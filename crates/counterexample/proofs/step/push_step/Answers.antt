@@ -6,10 +6,12 @@ use Rattle.csp_value.specs.Action.{action_of}
 use Rattle.csp_moves.specs.Origin.{origin_of}
 use Rattle.theory_explanation.specs.Actions.{action_text}
 use Rattle.theory_explanation.specs.Folding.{then_text}
+use Rattle.theory_explanation.specs.Legend.{legend}
 use Rattle.theory_explanation.specs.Origins.{source_text}
 use Rattle.csp_print.specs.Names.{names_of}
 use Rattle.csp_print.proofs.Writing.{behind}
 use Rattle.counterexample.specs.Folding.{equations_listed}
+use Rattle.counterexample.specs.PartNames.{part_names_listed}
 use Rattle.counterexample.proofs.step.push_step.Goals as goal
 
 pub returns : goal.returns
@@ -19,7 +21,7 @@ returns g c =
     let names = names_of c.args.names.now in
     let step = c.args.step.now in
     let did = action_text names (action_of step.action.now) in
-    let source = source_text names (action_of step.action.now) (option_map origin_of step.origin.now) in
+    let source = source_text (legend names (part_names_listed c.args.parts.now)) (action_of step.action.now) (option_map origin_of step.origin.now) in
     let then = then_text names (equations_listed step.equations.now) in
     behind r (string_bytes c.args.text.now) (string_bytes c.push_mark.new.text) all (codes "  ") (decimal step.number ++ (codes " " ++ (did ++ (source ++ (then ++ codes "\n"))))) c.in_ok-push_mark.ensures
     (behind r (string_bytes c.push_mark.new.text) (string_bytes c.push_number.new.text) all (decimal step.number) (codes " " ++ (did ++ (source ++ (then ++ codes "\n")))) c.in_ok-push_number.ensures

@@ -4,9 +4,9 @@ use Rattle.std.specs.Prelude.{codes}
 use Rattle.std.specs.String.{string_bytes}
 use Rattle.csp_moves.specs.Passage.{side_of}
 use Rattle.csp_moves.specs.declared.passage.Side.{Side}
-use Rattle.theory_explanation.specs.Origins.{side_text, way_behind}
+use Rattle.theory_explanation.specs.Legend.{side_text, way_behind}
 use Rattle.csp_print.proofs.Writing.{comes_to_end, goes_on}
-use Rattle.counterexample.proofs.doers.push_sides_behind.Goals as goal
+use Rattle.counterexample.proofs.ways.push_sides_behind.Goals as goal
 
 abbrev texts : List Side → List ℕ
 texts way = way_behind (map side_of way)
