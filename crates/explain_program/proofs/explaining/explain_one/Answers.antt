@@ -158,3 +158,12 @@ array_drop-answer-requires-2 g c = elim (g.met.A.AllocHandle g.world.𝓛 g.worl
 
 pub outcome_status-requires : goal.outcome_status-requires
 outcome_status-requires g c = elim (g.met.A.AllocHandle g.world.𝓛 g.world.𝓜 g.world.𝓡 ((λ s x. x), (λ x. x), (λ x. x), λ x. x)).small [ inl e ↦ rw (e.0, e.1) (lit< tt) | inr e ↦ rw (e.0, e.1) (lit< tt) ]
+
+pub drop-answer-requires-in_err-text-room-T-Destruct : goal.drop-answer-requires-in_err-text-room-T-Destruct
+drop-answer-requires-in_err-text-room-T-Destruct g c κs within = elim (g.met.A.AllocHandle g.world.𝓛 g.world.𝓜 g.world.𝓡 ((λ s x. x), (λ x. x), (λ x. x), λ x. x)).small [ inl e ↦ rw (e.0, e.1) (lit< tt) | inr e ↦ rw (e.0, e.1) (lit< tt) ]
+
+pub drop-answer-requires-in-Ok-2-room-T-Destruct : goal.drop-answer-requires-in-Ok-2-room-T-Destruct
+drop-answer-requires-in-Ok-2-room-T-Destruct g c κs within = elim (g.met.A.AllocHandle g.world.𝓛 g.world.𝓜 g.world.𝓡 ((λ s x. x), (λ x. x), (λ x. x), λ x. x)).small [ inl e ↦ rw (e.0, e.1) (lit< tt) | inr e ↦ rw (e.0, e.1) (lit< tt) ]
+
+pub drop-answer-requires-3-room-T-Destruct : goal.drop-answer-requires-3-room-T-Destruct
+drop-answer-requires-3-room-T-Destruct g c κs within = elim (g.met.A.AllocHandle g.world.𝓛 g.world.𝓜 g.world.𝓡 ((λ s x. x), (λ x. x), (λ x. x), λ x. x)).small [ inl e ↦ rw (e.0, e.1) (lit< tt) | inr e ↦ rw (e.0, e.1) (lit< tt) ]

@@ -53,7 +53,7 @@ returns-then-not-takes-clause-stopped g c three =
       why = stop.Refused refusal.Thread;
       cause = too_long given request.name c.in-Ok.text.items c.in-Ok.ensures.holds (search rules);
       output = refl;
-      told = running.by_line c.refuse-then-not-takes.ensures.line;
+      told = running.by_line c.refuse.ensures.line;
     }
 
 pub returns-in-Ok-explain_script-clause-explained : goal.returns-in-Ok-explain_script-clause-explained

@@ -13,13 +13,20 @@ use Rattle.explain_program.specs.Asking.{request_of}
 use Rattle.explain_program.proofs.Tellings.{told_alone, told_with_size}
 use Rattle.explain_program.proofs.telling.explanation_text.Goals as goal
 
+pub lent-requires : goal.lent-requires
+lent-requires g c =
+    elim g.met.A.AllocHandle.small [
+      | inl e ↦ rw (e.0, e.1) (lit< tt)
+      | inr e ↦ rw (e.0, e.1) (lit< tt)
+    ]
+
 pub tell-requires : goal.tell-requires
 tell-requires g c =
     let S : Option (List Action) → Type 0 = HasStop (script_of c.args.named.now.script) (assertion_of c.args.assertion.now) (outcome_of c.args.answer.now.found) in
     let stop = subst S (sym c.lent.ensures) c.requires.stop in
     elim g.met.A.AllocHandle.small [
-      | inl e ↦ rw (e.0, e.1) (lit< tt, (c.requires.terms, (c.requires.shown, stop)))
-      | inr e ↦ rw (e.0, e.1) (lit< tt, (c.requires.terms, (c.requires.shown, stop)))
+      | inl e ↦ rw (e.0, e.1) (lit< tt, (lit< tt, (c.requires.terms, (c.requires.shown, stop))))
+      | inr e ↦ rw (e.0, e.1) (lit< tt, (lit< tt, (c.requires.terms, (c.requires.shown, stop))))
     ]
 
 pub returns-then-settings : goal.returns-then-settings
