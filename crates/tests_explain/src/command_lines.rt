@@ -1,46 +1,4 @@
-//! Command lines that are refused, and what is said of them. The file `script` is the only one.
-
-/// Words, the text of the file, and what is told of the refusal.
-pub(crate) type Refused = (&'static [&'static str], &'static str, &'static str);
-
-const ONE: &str = "channel a\nassert STOP [T= a -> STOP\n";
-
-static REFUSED: [Refused; 7] = [
-    (&["script", "2"], ONE, "refused assertion\n"),
-    (&["script", "1"], "", "refused assertion\n"),
-    (&["script", "1000000"], ONE, "refused assertion\n"),
-    (
-        &["other"],
-        ONE,
-        "other: refused file: there is no such file, or it cannot be read\n",
-    ),
-    (
-        &["other", "2"],
-        ONE,
-        "other: refused file: there is no such file, or it cannot be read\n",
-    ),
-    // A control character is shown as a space.
-    (
-        &["ot\u{1b}[2J\u{9b}her\n"],
-        ONE,
-        "ot [2J her : refused file: there is no such file, or it cannot be read\n",
-    ),
-    (
-        &["script", "2"],
-        "channel",
-        r"script:1:8: S03: the text ends within a declaration
-    channel
-           ^
-note: the last token is the `channel` at 1:1
-help: behind `channel` stands a name
-",
-    ),
-];
-
-/// Command lines whose words are fine.
-pub(crate) fn refused() -> &'static [Refused] {
-    &REFUSED
-}
+//! Command lines that are refused, and what is said of them.
 
 /// Words, and the first line of what is said of them.
 pub(crate) type WrongWords = (&'static [&'static str], &'static str);

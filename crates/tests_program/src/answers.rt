@@ -1,103 +1,14 @@
-//! Texts and command lines, each with what it is answered with.
+//! Command lines and texts that no table of cases can show.
 
-use crate::command_lines::{checked, wrong_words};
-use crate::examples::all_examples;
-use crate::examples_with_options::examples_with_options;
-use crate::outcomes::{BEYOND_STOP, failing, holding, unknown};
-use crate::refusals::{no_scripts, unchecked};
-use crate::rows::Row;
-use crate::runs::{check, run_on, run_over};
-use crate::tour::stops_of_the_tour;
-use std::alloc::Global;
-use std::process::Abort;
-use std::sync::Wait;
+use crate::command_lines::wrong_words;
+use crate::outcomes::BEYOND_STOP;
+use crate::runs::{check, run_on};
 use std::test::Fail;
-use std::thread::Threads;
-
-// How many workers each text is checked by, in turn.
-const WORKERS: [&str; 4] = ["--workers=1", "--workers=2", "--workers=8", "--workers=64"];
-
-fn is_answered_so<R: Abort + Threads + Wait + Sync>(
-    rt: &R,
-    alloc: Global,
-    status: u8,
-    row: &Row,
-) -> Result<(), Fail> {
-    let (text, lines) = *row;
-    for workers in &WORKERS {
-        let told = run_on(alloc, rt, &[*workers, "script"], text.as_bytes());
-        assert!(rt; told.is_answered(status, lines), "at {text} with {workers}");
-    }
-    Ok(())
-}
-
-fn are_answered_so<R: Abort + Threads + Wait + Sync>(
-    rt: &R,
-    alloc: Global,
-    status: u8,
-    rows: &[Row],
-) -> Result<(), Fail> {
-    for row in rows {
-        is_answered_so(rt, alloc, status, row)?;
-    }
-    Ok(())
-}
 
 #[test]
-fn texts_are_answered_so(rt: HostRuntime) -> Result<(), Fail> {
-    are_answered_so(&rt, rt.alloc(), 0, holding())?;
-    are_answered_so(&rt, rt.alloc(), 1, failing())?;
-    are_answered_so(&rt, rt.alloc(), 2, unknown())?;
-    are_answered_so(&rt, rt.alloc(), 3, no_scripts())?;
-    are_answered_so(&rt, rt.alloc(), 3, unchecked())
-}
-
-#[test]
-fn examples_are_answered_so(rt: HostRuntime) -> Result<(), Fail> {
-    for example in all_examples() {
-        let told = check(rt.alloc(), &rt, example.text.as_bytes());
-        assert!(rt;
-            told.is_answered(example.status, example.lines),
-            "at {}",
-            example.name
-        );
-    }
-    Ok(())
-}
-
-// The text of the example of that name.
-fn example_named(name: &str) -> Option<&'static str> {
-    let examples = all_examples();
-    let place = examples.iter().position(|example| example.name == name)?;
-    Some(examples.get(place)?.text)
-}
-
-#[test]
-fn examples_are_answered_so_with_options(rt: HostRuntime) -> Result<(), Fail> {
-    for (name, words, status, lines) in examples_with_options() {
-        let text = example_named(name).ok_or("an example")?;
-        let told = run_on(rt.alloc(), &rt, words, text.as_bytes());
-        assert!(rt; told.is_answered(*status, lines), "at {name}");
-    }
-    Ok(())
-}
-
-#[test]
-fn command_lines_are_answered_so(rt: HostRuntime) -> Result<(), Fail> {
-    for (words, status, (text, lines)) in checked() {
-        let told = run_on(rt.alloc(), &rt, words, text.as_bytes());
-        assert!(rt; told.is_answered(*status, lines), "at {words:?}");
-    }
-    Ok(())
-}
-
-#[test]
-fn the_tour_is_answered_so(rt: HostRuntime) -> Result<(), Fail> {
-    for (words, status, (beginning, rest), lines) in stops_of_the_tour() {
-        let text = format!(in rt.alloc(); "{beginning}{rest}")?;
-        let told = run_over(rt.alloc(), &rt, "protocol.csp", words, text.as_bytes());
-        assert!(rt; told.is_answered(*status, lines), "at {lines}");
-    }
+fn a_file_without_a_name_is_refused(rt: HostRuntime) -> Result<(), Fail> {
+    let told = run_on(rt.alloc(), &rt, &[""], b"");
+    assert!(rt; told.is_refused("refused file\n"));
     Ok(())
 }
 

@@ -1,5 +1,6 @@
-//! What runs of the program are seen to print and answer, over texts in memory. What is expected comes from the rules of
-//! the language and of the lines.
+//! What runs of the program are seen to print and answer where no table of cases can show it: long texts and deep values,
+//! memory that refuses, outputs that break off, files without an end. What is expected comes from the rules of the
+//! language and of the lines.
 //!
 //! The tests stand in a crate above the libraries, since a crate is proved anew for the tests that it has of its own.
 #![tactic(auto)]
@@ -15,12 +16,6 @@ mod deep;
 #[cfg(test)]
 mod endless;
 #[cfg(test)]
-mod example;
-#[cfg(test)]
-mod examples;
-#[cfg(test)]
-mod examples_with_options;
-#[cfg(test)]
 mod full;
 #[cfg(test)]
 mod limits;
@@ -33,14 +28,8 @@ mod outputs;
 #[cfg(test)]
 mod pieces;
 #[cfg(test)]
-mod refusals;
-#[cfg(test)]
-mod rows;
-#[cfg(test)]
 mod runs;
 #[cfg(test)]
 mod stacks;
 #[cfg(test)]
 mod starts;
-#[cfg(test)]
-mod tour;

@@ -1,7 +1,6 @@
 //! Runs that are refused memory.
 
-use crate::outcomes::{BEYOND_STOP, CHAIN, WITHIN_PREFIX};
-use crate::rows::Row;
+use crate::outcomes::{BEYOND_STOP, CHAIN, Row, WITHIN_PREFIX};
 use crate::runs::{Told, run_in};
 use program::{Files, OneText, Unread};
 use refusing_memory::RefusesOnce;

@@ -1,0 +1,96 @@
+//! Runs `refcheck` and `explain` over cases that stand in files, and tells each that is answered otherwise than it says.
+//!
+//! The words are the names of tables, each a text: what it is about, and then its cases, by the lines
+//!
+//! - `@@ ` with the words of a command line, `refcheck` or `explain` first, and behind it the text of the file `script`;
+//! - `@@ ` with the status, and behind it what the run gives: to its output, or, with the status 3, to its errors. `fine`
+//!   stands for any status but 3, whatever the run gives.
+//!
+//! With `--workers=*` a case is run by several numbers of workers. A case costs no proof, so that one more is some lines
+//! of text. What a table cannot show, as a memory that refuses or an output that breaks off, is left to the tests.
+#![tactic(auto)]
+
+mod case;
+mod told;
+
+use anyhow::Result;
+use case::{Case, cases_of};
+use std::alloc::Global;
+use std::process::ExitCode;
+use std::rt::Files;
+use std::sync::Wait;
+use std::thread::Threads;
+use std::{env, fs};
+use told::{Told, told_by};
+
+/// By how many workers a case is run in turn, where it says `--workers=*`.
+const WORKERS: [&str; 4] = ["--workers=1", "--workers=2", "--workers=8", "--workers=64"];
+
+/// How many of these numbers a case is run by.
+fn runs_of(case: &Case<'_>) -> usize {
+    if case.words.contains("--workers=*") {
+        WORKERS.len()
+    } else {
+        1
+    }
+}
+
+/// What a run of the case gives.
+fn run<R: Threads + Wait + Sync>(
+    rt: &R,
+    alloc: Global,
+    case: &Case<'_>,
+    workers: &str,
+) -> Result<Told> {
+    let mut words = Vec::new(alloc);
+    for word in case.words.split_whitespace() {
+        words.push(if word == "--workers=*" { workers } else { word })?;
+    }
+    Ok(told_by(rt, alloc, &words, case.text.as_bytes()))
+}
+
+/// Whether each run of the case gives what it says. What is given otherwise is told.
+fn is_as_said<R: Threads + Wait + Sync + Print>(
+    rt: &R,
+    alloc: Global,
+    name: &str,
+    case: &Case<'_>,
+) -> Result<bool> {
+    let mut is_as_said = true;
+    for workers in WORKERS.iter().take(runs_of(case)) {
+        let told = run(rt, alloc, case, *workers)?;
+        if !told.is_as_said(case) {
+            println!(rt; "{name}: {}\n{}\n{told}", case.words, case.text)?;
+            is_as_said = false;
+        }
+    }
+    Ok(is_as_said)
+}
+
+/// Whether all cases of the table of that name are as they say.
+fn are_as_said<R: Threads + Wait + Sync + Print + Files + AllocGlobal>(
+    rt: &R,
+    alloc: Global,
+    name: &str,
+) -> Result<bool> {
+    let table = fs::read_to_string(rt, name)?;
+    let cases = cases_of(alloc, &table)?;
+    let mut are_as_said = true;
+    for case in &cases {
+        are_as_said &= is_as_said(rt, alloc, name, case)?;
+    }
+    println!(rt; "{name}: {} cases", cases.len())?;
+    Ok(are_as_said)
+}
+
+fn main(rt: HostRuntime) -> Result<ExitCode> {
+    let mut are_all = true;
+    for name in env::args(&rt)?.skip(1) {
+        are_all &= are_as_said(&rt, rt.alloc(), name.as_str())?;
+    }
+    Ok(if are_all {
+        ExitCode::SUCCESS
+    } else {
+        ExitCode::FAILURE
+    })
+}

@@ -1,0 +1,80 @@
+//! What a run gives.
+
+use crate::case::Case;
+use program::{OneText, Resources, Stack};
+use report::Buffer;
+use std::alloc::Global;
+use std::fmt;
+use std::sync::Wait;
+use std::thread::Threads;
+
+/// The status of a run, and what it gave to its two outputs.
+#[derive(Drop)]
+pub(crate) struct Told {
+    status: u8,
+    out: Vec<u8>,
+    err: Vec<u8>,
+}
+
+/// Whether the bytes are the text, but for line ends behind both.
+fn is_text(bytes: &[u8], text: &str) -> bool {
+    match str::from_utf8(bytes) {
+        Ok(given) => given.trim_end_matches('\n') == text,
+        Err(_) => false,
+    }
+}
+
+impl Told {
+    /// Whether the run gave what the case says.
+    pub(crate) fn is_as_said(&self, case: &Case<'_>) -> bool {
+        match (case.status, self.status) {
+            ("fine", status) => status < 3,
+            ("3", 3) => self.out.is_empty() && is_text(&self.err, case.told),
+            ("0", 0) | ("1", 1) | ("2", 2) => {
+                self.err.is_empty() && is_text(&self.out, case.told)
+            }
+            _ => false,
+        }
+    }
+}
+
+impl fmt::Display for Told {
+    fn fmt<W: fmt::Write>(&self, f: &mut fmt::Formatter<W>) -> fmt::Result {
+        let out = str::from_utf8(&self.out).unwrap_or("no text");
+        let err = str::from_utf8(&self.err).unwrap_or("no text");
+        write!(f, "gave {}\n{out}{err}", self.status)
+    }
+}
+
+/// What the program of these words gives, where the file `script` holds the text.
+pub(crate) fn told_by<'w, R: Threads + Wait + Sync>(
+    rt: &R,
+    alloc: Global,
+    words: &'w [&'w str],
+    text: &[u8],
+) -> Told {
+    let resources = Resources {
+        command_line: alloc,
+        alloc,
+        rt,
+        stack: Stack::Large,
+    };
+    let mut files = OneText {
+        name: "script",
+        text,
+        alloc,
+    };
+    let (mut out, mut err) = (Buffer::new(alloc), Buffer::new(alloc));
+    let status = match words {
+        ["explain", rest @ ..] => {
+            explain_program::run(&resources, rest, &mut files, &mut out, &mut err)
+        }
+        [_, rest @ ..] => program::run(&resources, rest, &mut files, &mut out, &mut err),
+        [] => 3,
+    };
+    Told {
+        status,
+        out: out.bytes,
+        err: err.bytes,
+    }
+}
