@@ -1,7 +1,7 @@
 //! What can be seen of a store.
 
-use csp_norm::NodeId;
 use csp_term::AllocHandle;
+use normal_form::NodeId;
 use pair_store::{Level, Store, Verdict};
 use std::alloc::{AllocError, Global};
 use std::test::Fail;
