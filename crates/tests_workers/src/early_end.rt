@@ -48,6 +48,37 @@ fn put_until<'s, R: Wait + Sync>(
     seen_alone(alloc, level, script, &post)
 }
 
+// The cause that a worker sees in the end whose put of that number is refused, and the store as it leaves it.
+fn left_by_a_worker<'s, R: Wait + Sync>(
+    alloc: Global,
+    rt: &R,
+    script: &Script<Global>,
+    store: Store<'s, Global>,
+    refused: u64,
+) -> Result<(Option<Cause>, Store<'s, Global>), Fail>
+    requires { store.script ≡ script_of script.now }
+{
+    let level = unfinished(alloc, script, &store)?;
+    let lock = Mutex::new(store);
+    let cause = put_until(alloc, rt, &level, script, &lock, refused)?;
+    Ok((cause, lock.into_inner()))
+}
+
+// What is seen of the search once `finish` has done the rest of its level.
+fn finished(
+    alloc: Global,
+    script: &Script<Global>,
+    store: &mut Store<'_, Global>,
+) -> Result<Seen, Fail> {
+    if !is_for(script, store) {
+        return Err(Fail::new("another search"));
+    }
+    match finish(alloc, script, store)? {
+        Closed::Next => Ok(Seen::of(alloc, alloc, store)?),
+        Closed::Ended => Err(Fail::new("the search has ended")),
+    }
+}
+
 // The cause that the worker of a round saw, whose put of that number was refused, and what is seen of the search once
 // `finish` has done the rest.
 fn ended_round<R: Wait + Sync>(
@@ -57,17 +88,8 @@ fn ended_round<R: Wait + Sync>(
     refused: u64,
 ) -> Result<(Option<Cause>, Seen), Fail> {
     let store = at_second_level(alloc, script)?;
-    let level = unfinished(alloc, script, &store)?;
-    let lock = Mutex::new(store);
-    let cause = put_until(alloc, rt, &level, script, &lock, refused)?;
-    let mut store = lock.into_inner();
-    if !is_for(script, &store) {
-        return Err(Fail::new("another search"));
-    }
-    match finish(alloc, script, &mut store)? {
-        Closed::Next => Ok((cause, Seen::of(alloc, alloc, &store)?)),
-        Closed::Ended => Err(Fail::new("the search has ended")),
-    }
+    let (cause, mut store) = left_by_a_worker(alloc, rt, script, store, refused)?;
+    Ok((cause, finished(alloc, script, &mut store)?))
 }
 
 #[test]
