@@ -7,6 +7,7 @@ use Rattle.std.proofs.lemmas.List.{take-take, take_all}
 use Rattle.theory_syntax.specs.Process.{Script, Assertion}
 use Rattle.theory_search.specs.Outcome.{Outcome}
 use Rattle.theory_notation.specs.Names.{Names}
+use Rattle.program.specs.Unread.{IfLacks}
 use Rattle.program.specs.declared.files.Unread.{Unread}
 use Rattle.program.specs.declared.files.Unread.TheVariants as unread
 use Rattle.report.specs.Sending.{Sends, Breaks}
@@ -93,7 +94,7 @@ module _ (given : Given) (request : Request) (script : Script) (names : Names) (
   -- what stops the explanations of the file's script stops those of the file
   pub stop_cause : (why : Stop) (out : Sent) → StopsBy request script names why out → IsStopCause given request why
   stop_cause stop.NoAssertion out stops = record { script = script; names = names; of_file = file; fewer = stops.0 }
-  stop_cause (stop.Refused refusal.File) out stops = absurd stops
+  stop_cause (stop.Refused (refusal.File f)) out stops = absurd stops
   stop_cause (stop.Refused (refusal.Text f p)) out stops = absurd stops
   stop_cause (stop.Refused (refusal.Grammar f p)) out stops = absurd stops
   stop_cause (stop.Refused (refusal.Kinds f p)) out stops = absurd stops
@@ -103,7 +104,7 @@ module _ (given : Given) (request : Request) (script : Script) (names : Names) (
 
   pub stop_leaves : (why : Stop) (out : Sent) → StopsBy request script names why out → Leaves given request why out
   stop_leaves stop.NoAssertion out stops = stops.1
-  stop_leaves (stop.Refused refusal.File) out stops = absurd stops
+  stop_leaves (stop.Refused (refusal.File f)) out stops = absurd stops
   stop_leaves (stop.Refused (refusal.Text f p)) out stops = absurd stops
   stop_leaves (stop.Refused (refusal.Grammar f p)) out stops = absurd stops
   stop_leaves (stop.Refused (refusal.Kinds f p)) out stops = absurd stops
@@ -115,7 +116,7 @@ module _ (given : Given) (request : Request) (script : Script) (names : Names) (
 
 -- a text that is refused leaves the output as it was
 pub untouched : (given : Given) (request : Request) (bytes : List ℕ) (why : Refusal) (out : Sent) → out.Unchanged → IsRefusalOf bytes why → Leaves given request (stop.Refused why) out
-untouched given request bytes refusal.File out same is = absurd is
+untouched given request bytes (refusal.File f) out same is = absurd is
 untouched given request bytes (refusal.Text f p) out same is = same
 untouched given request bytes (refusal.Grammar f p) out same is = same
 untouched given request bytes (refusal.Kinds f p) out same is = same
@@ -124,19 +125,19 @@ untouched given request bytes refusal.Thread out same is = absurd is
 untouched given request bytes refusal.Output out same is = absurd is
 
 -- a file that is not read has its cause
-pub unread_cause : (given : Given) (name : List ℕ) (fault : Unread) → (fault ≡ unread.File → given.may_lack name) → IsCause given name (of_file fault)
-unread_cause given name unread.File lacks = lacks refl
+pub unread_cause : (given : Given) (name : List ℕ) (fault : Unread) → IfLacks (given.may_lack name) fault → IsCause given name (of_file fault)
+unread_cause given name (unread.File why) lacks = lacks
 unread_cause given name unread.Memory lacks = tt
 
 -- and it leaves the output as it was
 pub unread_leaves : (given : Given) (request : Request) (fault : Unread) (out : Sent) → out.Unchanged → Leaves given request (stop.Refused (of_file fault)) out
-unread_leaves given request unread.File out same = same
+unread_leaves given request (unread.File why) out same = same
 unread_leaves given request unread.Memory out same = inl same
 
 -- and is told by its line, or by its name
 pub unread_told : (given : Given) (name : List ℕ) (fault : Unread) (err : Sent) → TellsUnread name fault err → TellsStop given name (stop.Refused (of_file fault)) err
 unread_told given name fault err (refusals.by_line line) = running.by_line line
-unread_told given name fault err (refusals.by_name is line) = running.of_name (ap (λ f. stop.Refused (of_file f)) is) line
+unread_told given name fault err (refusals.by_name why is line) = running.of_name why (ap (λ f. stop.Refused (of_file f)) is) line
 
 -- ---- what is answered
 

@@ -6,6 +6,7 @@ use Rattle.diagnostics.specs.declared.faults.Refusal as text
 use Rattle.program.specs.Given.{Sent}
 use Rattle.program.specs.Refusal.{of_file, refusal_line}
 use Rattle.program.specs.Running.{IsGiven}
+use Rattle.program.specs.declared.files.Lack.{Lack}
 use Rattle.program.specs.declared.files.Unread.{Unread}
 use Rattle.program.specs.declared.files.Unread.TheVariants as unread
 use Rattle.program.specs.declared.refusal.Refusal.{Refusal}
@@ -25,7 +26,7 @@ pub data TellsRefusal (file bytes : List ℕ) (why : Refusal) (err : Sent) : Typ
   by_line : IsGiven err (refusal_line why) → TellsRefusal file bytes why err
   in_words : (refused : text.Refusal) (message : List ℕ) → refused_text why ≡ Some refused → IsMessage (shown_name file) bytes refused message → IsGiven err message → TellsRefusal file bytes why err
 
--- The line of why a file is not read was given, or where it cannot be read the same with its name.
+-- The line of why a file is not read was given, or where it cannot be read the same with its name and the reason.
 pub data TellsUnread (file : List ℕ) (fault : Unread) (err : Sent) : Type 0 where
   by_line : IsGiven err (refusal_line (of_file fault)) → TellsUnread file fault err
-  by_name : fault ≡ unread.File → IsGiven err (unread_line file) → TellsUnread file fault err
+  by_name : (why : Lack) → fault ≡ unread.File why → IsGiven err (unread_line file why) → TellsUnread file fault err

@@ -6,6 +6,7 @@ use Rattle.explain_settings.specs.Faults.{AreWrong}
 use Rattle.program.specs.Given.{Given, Sent}
 use Rattle.program.specs.Refusal.{refusal_line}
 use Rattle.program.specs.Running.{IsCause, IsGiven}
+use Rattle.program.specs.declared.files.Lack.{Lack}
 use Rattle.program.specs.declared.refusal.Refusal.{Refusal}
 use Rattle.program.specs.declared.refusal.Refusal.TheVariants as refusal
 use Rattle.explain_program.specs.Asking.{Request, AskForExplanation, AskForText}
@@ -44,11 +45,11 @@ Leaves given request (stop.Refused refusal.Output) out = IsBegun given request (
 Leaves given request (stop.Refused refusal.Memory) out = out.Unchanged ⊎ IsBegun given request (Sends out.old out.new out.failed)
 Leaves given request _ out = out.Unchanged
 
--- What is told of what stops a run: its line, of a file that cannot be read the same with its name, or of a text that is
--- refused the message on what is read of the file.
+-- What is told of what stops a run: its line, of a file that cannot be read the same with its name and the reason, or of a text
+-- that is refused the message on what is read of the file.
 pub data TellsStop (given : Given) (name : List ℕ) (why : Stop) (err : Sent) : Type 0 where
   by_line : IsGiven err (stop_line why) → TellsStop given name why err
-  of_name : why ≡ stop.Refused refusal.File → IsGiven err (unread_line name) → TellsStop given name why err
+  of_name : (lack : Lack) → why ≡ stop.Refused (refusal.File lack) → IsGiven err (unread_line name lack) → TellsStop given name why err
   of_text : (refused : Refusal) (bytes : List ℕ) → why ≡ stop.Refused refused → IsBeginning (given.may_hold name) bytes → TellsRefusal name bytes refused err → TellsStop given name why err
 
 -- A request is not met, with the cause, which the error output is told, and the other one is left so.

@@ -10,12 +10,12 @@ ghost use Rattle.explain_program.specs.Refusals.{TellsRefusal, TellsUnread, refu
 
 use crate::file_name::{shown_name, unread_line};
 use diagnostics::{Fault, message};
-use program::{Refusal, Unread, refuse, refuse_words};
+use program::{Lack, Refusal, Unread, refuse, refuse_words};
 use report::Sink;
 use std::alloc::{AllocError, Allocator};
 
 /// Tells `err` why the file is not read, and answers the status of a refusal. A file that cannot be read is told by its
-/// name, unless memory is refused for it.
+/// name and with the reason, unless memory is refused for it.
 pub(crate) fn refuse_unread<A: Allocator + Copy, E: Sink>(
     alloc: A,
     file: &str,
@@ -27,20 +27,21 @@ pub(crate) fn refuse_unread<A: Allocator + Copy, E: Sink>(
     ensures told { TellsUnread file.now fault (sent E.taken E.has_failed err.old err.new) }
 {
     match fault {
-        Unread::File => refuse_name(alloc, file, err),
+        Unread::File(why) => refuse_name(alloc, file, why, err),
         Unread::Memory => refuse(Refusal::Memory, err),
     }
 }
 
-// The same of a file that cannot be read.
-fn refuse_name<A: Allocator + Copy, E: Sink>(alloc: A, file: &str, err: &mut E) -> u8
+// The same of a file that cannot be read, for this reason.
+fn refuse_name<A: Allocator + Copy, E: Sink>(alloc: A, file: &str, why: Lack, err: &mut E) -> u8
     requires { E.has_failed err.old ≡ false }
     ensures status { result ≡ 3 }
-    ensures told { TellsUnread file.now unread.File (sent E.taken E.has_failed err.old err.new) }
+    ensures told { let errors = sent E.taken E.has_failed err.old err.new in
+        TellsUnread file.now (unread.File why) errors }
 {
-    match unread_line(alloc, file) {
+    match unread_line(alloc, file, why) {
         Ok(line) => refuse_words(line.as_str(), err),
-        Err(_) => refuse(Refusal::File, err),
+        Err(_) => refuse(Refusal::File(why), err),
     }
 }
 
@@ -87,7 +88,7 @@ fn refused_text(why: Refusal) -> Option<diagnostics::Refusal>
         Refusal::Text { fault, place } => (Fault::Text(fault), place),
         Refusal::Grammar { fault, place } => (Fault::Grammar(fault), place),
         Refusal::Kinds { fault, place } => (Fault::Kinds(fault), place),
-        Refusal::File | Refusal::Memory | Refusal::Thread | Refusal::Output => return None,
+        Refusal::File(_) | Refusal::Memory | Refusal::Thread | Refusal::Output => return None,
     };
     Some(diagnostics::Refusal { fault, place })
 }

@@ -51,7 +51,7 @@ grammar_refused bytes f p begins (of_grammar are refused) = (bytes, whole bytes 
 
 -- what is refused of what is read is refused of the file's text
 pub cause_of_text : (given : Given) (name bytes : List ℕ) (why : Refusal) → IsBeginning (given.may_hold name) bytes → IsRefusalOf bytes why → IsCause given name why
-cause_of_text given name bytes refusal.File begins is = absurd is
+cause_of_text given name bytes (refusal.File why) begins is = absurd is
 cause_of_text given name bytes (refusal.Text f p) begins is = text_refused bytes _ _ begins is
 cause_of_text given name bytes (refusal.Grammar f p) begins is = grammar_refused bytes _ _ begins is
 cause_of_text given name bytes (refusal.Kinds f p) begins is = (bytes, whole bytes begins (short_of_read bytes is.0 is.1), is)

@@ -23,7 +23,7 @@ abbrev pub place_line : List ℕ → Place → List ℕ
 place_line number p = concat (codes "refused " ∷ number ∷ codes " at " ∷ decimal p.line ∷ codes ":" ∷ decimal p.column ∷ codes "\n" ∷ [])
 
 abbrev pub refusal_line : Refusal → List ℕ
-refusal_line refusal.File = codes "refused file\n"
+refusal_line (refusal.File why) = codes "refused file\n"
 refusal_line (refusal.Text f p) = place_line (text_fault_spelling (lexer.fault_of f)) p
 refusal_line (refusal.Grammar f p) = place_line (grammar_fault_spelling (parser.fault_of f)) p
 refusal_line (refusal.Kinds f p) = place_line (kind_fault_spelling (names.fault_of f)) p
@@ -33,7 +33,7 @@ refusal_line refusal.Output = codes "refused output\n"
 
 -- what is refused where a file is not read
 abbrev pub of_file : Unread → Refusal
-of_file unread.File = refusal.File
+of_file (unread.File why) = refusal.File why
 of_file unread.Memory = refusal.Memory
 
 -- what is refused where a text has no tokens

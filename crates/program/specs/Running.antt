@@ -94,7 +94,7 @@ IsTooLong given name = (text : List ℕ) × given.may_hold name text × (Takes g
 -- Why the check of a file is refused. The output is written only where the file holds a script. Refused memory says
 -- nothing of the file.
 abbrev pub IsCause : Given → List ℕ → Refusal → Type 0
-IsCause given name refusal.File = given.may_lack name
+IsCause given name (refusal.File why) = given.may_lack name why
 IsCause given name (refusal.Text f p) = IsTextRefused given.may_hold name (refusal.Text f p)
 IsCause given name (refusal.Grammar f p) = IsTextRefused given.may_hold name (refusal.Grammar f p)
 IsCause given name (refusal.Kinds f p) = IsTextRefused given.may_hold name (refusal.Kinds f p)

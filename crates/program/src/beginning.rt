@@ -3,7 +3,7 @@
 ghost use Rattle.std.specs.Prelude.{◌≡◌, ◌≤◌, ◌<◌, length, take, vec_len, IfOk, IfSome};
 ghost use Rattle.std.specs.Io.KnownBytes.{Consumes, IsAtEnd};
 
-use crate::files::Unread;
+use crate::files::{Lack, Unread};
 use std::alloc::{AllocError, Allocator};
 use std::io::{ErrorKind, Read};
 
@@ -46,5 +46,5 @@ fn fill<R: Read>(reader: &mut R, room: &mut [u8]) -> Result<usize, Unread>
             Err(error) => return Err(error.into()),
         }
     }
-    Err(Unread::File)
+    Err(Unread::File(Lack::Broken))
 }

@@ -29,7 +29,7 @@ mod stack;
 mod words;
 
 pub use beginning::{MOST_BYTES, read_beginning};
-pub use files::{Files, Unread};
+pub use files::{Files, Lack, Unread};
 pub use large_stack::on_large_stack;
 pub use machine::MachineFiles;
 pub use one_text::OneText;

@@ -27,7 +27,7 @@ impl<R: rt::Files + Alloc> Files<R::A> for MachineFiles<'_, R> {
 
     ghost may_hold = { λ _ _ _. ⊤ };
 
-    ghost may_lack = { λ _ _. ⊤ };
+    ghost may_lack = { λ _ _ _. ⊤ };
 
     fn read(&mut self, name: &str) -> Result<Vec<u8, R::A>, Unread> {
         let mut file = File::open(self.machine, name)?;

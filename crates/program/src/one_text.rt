@@ -1,10 +1,11 @@
 //! One text in memory as a file.
 
 ghost use Rattle.std.specs.Prelude.{◌≡◌, ◌↔◌, IfOk};
+ghost use Rattle.program.specs.declared.files.Lack.TheVariants as lack;
 ghost use Rattle.program.specs.Beginning.{IsBeginning};
 
 use crate::beginning::MOST_BYTES;
-use crate::files::{Files, Unread};
+use crate::files::{Files, Lack, Unread};
 use std::alloc::Allocator;
 
 /// One text in memory, under a name. There is no other file.
@@ -21,15 +22,16 @@ pub struct OneText<'t, A> {
 impl<A: Allocator + Copy> Files<A> for OneText<'_, A> {
     ghost may_hold = { λ file name bytes. (name ≡ file.name.now) × (bytes ≡ file.text.now) };
 
-    ghost may_lack = { λ file name. name ≡ file.name.now → ⊥ };
+    ghost may_lack = { λ file name why. (why ≡ lack.Missing) × (name ≡ file.name.now → ⊥) };
 
     fn read(&mut self, name: &str) -> Result<Vec<u8, A>, Unread>
         ensures holds { IfOk result (λ bytes. IsBeginning
             (λ text. (name.now ≡ self.old.name.now) × (text ≡ self.old.text.now)) bytes.items) }
-        ensures name { result ≡ Err Unread.File ↔ (name.now ≡ self.old.name.now → ⊥) }
+        ensures name { result ≡ Err (Unread.File lack.Missing)
+            ↔ (name.now ≡ self.old.name.now → ⊥) }
     {
         if name != self.name {
-            return Err(Unread::File);
+            return Err(Unread::File(Lack::Missing));
         }
         let most = self.text.len().min(MOST_BYTES);
         match self.text[..most].to_vec(self.alloc) {

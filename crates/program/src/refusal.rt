@@ -5,7 +5,7 @@ ghost use Rattle.program.specs.Given.{sent};
 ghost use Rattle.program.specs.Refusal.{refusal_line, place_line};
 ghost use Rattle.program.specs.Running.{IsGiven};
 
-use crate::files::Unread;
+use crate::files::{Lack, Unread};
 use csp_kinds::KindFault;
 use csp_lex::{Place, TextFault};
 use csp_parse::GrammarFault;
@@ -16,8 +16,8 @@ use std::alloc::AllocError;
 /// What was refused.
 #[derive(Clone, Copy, Debug, PartialEq, Eq)]
 pub enum Refusal {
-    /// The file cannot be read.
-    File,
+    /// The file cannot be read, for this reason; or a word of the command line is no text.
+    File(Lack),
     /// The text has no tokens, by this fault at this place.
     Text { fault: TextFault, place: Place },
     /// The tokens are no script, by this fault at this place.
@@ -38,7 +38,7 @@ pub(crate) fn push_line<E: Sink>(why: Refusal, sink: &mut E)
     ensures { IsGiven (sent E.taken E.has_failed sink.old sink.new) (refusal_line why) }
 {
     let _ = match why {
-        Refusal::File => push_all(b"refused file\n", sink),
+        Refusal::File(_) => push_all(b"refused file\n", sink),
         Refusal::Text { fault, place } => push_place(fault.number(), place, sink),
         Refusal::Grammar { fault, place } => push_place(fault.number(), place, sink),
         Refusal::Kinds { fault, place } => push_place(fault.number(), place, sink),
@@ -73,7 +73,7 @@ impl From<Unread> for Refusal {
 
     fn from(fault: Unread) -> Refusal {
         match fault {
-            Unread::File => Refusal::File,
+            Unread::File(why) => Refusal::File(why),
             Unread::Memory => Refusal::Memory,
         }
     }

@@ -1,15 +1,52 @@
 //! Command lines that no table of cases can show.
 
 use crate::command_lines::wrong_words;
-use crate::runs::run_on;
+use crate::runs::{run_in, run_on};
+use program::{Files, Lack, Unread};
+use std::alloc::Global;
 use std::test::Fail;
 
-// A control character in the name of a file is shown as a space.
+// No file can be read, for this reason.
+#[derive(Clone, Copy, Drop)]
+struct Lacking {
+    why: Lack,
+}
+
+impl Files<Global> for Lacking {
+    ghost may_hold = { λ _ _ _. ⊥ };
+
+    ghost may_lack = { λ files _ why. why ≡ files.why };
+
+    fn read(&mut self, _name: &str) -> Result<Vec<u8>, Unread> {
+        Err(Unread::File(self.why))
+    }
+}
+
+// What is told of a file, by the reason why it cannot be read. A control character in its name is shown as a space.
+const LACKS: [(Lack, &str); 4] = [
+    (
+        Lack::Missing,
+        "ot [2J her : refused file: there is no such file\n",
+    ),
+    (Lack::Folder, "ot [2J her : refused file: it is a folder\n"),
+    (
+        Lack::Forbidden,
+        "ot [2J her : refused file: it may not be read\n",
+    ),
+    (
+        Lack::Broken,
+        "ot [2J her : refused file: it cannot be read\n",
+    ),
+];
+
 #[test]
-fn a_file_that_is_not_there_is_refused(rt: HostRuntime) -> Result<(), Fail> {
-    let told = run_on(rt.alloc(), &rt, &["ot\u{1b}[2J\u{9b}her\n"], b"");
-    let line = "ot [2J her : refused file: there is no such file, or it cannot be read\n";
-    assert!(rt; told.is(3, "", line));
+fn a_file_that_cannot_be_read_is_refused(rt: HostRuntime) -> Result<(), Fail> {
+    let words = ["ot\u{1b}[2J\u{9b}her\n"];
+    for (why, line) in &LACKS {
+        let mut files = Lacking { why: *why };
+        let told = run_in(rt.alloc(), rt.alloc(), &rt, &words, &mut files);
+        assert!(rt; told.is(3, "", line), "at {why:?}");
+    }
     Ok(())
 }
 

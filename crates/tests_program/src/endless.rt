@@ -1,7 +1,7 @@
 //! Readers without an end, and readers that fail.
 
 use crate::runs::check;
-use program::{MOST_BYTES, Unread, read_beginning};
+use program::{Lack, MOST_BYTES, Unread, read_beginning};
 use refusing_memory::RefusesOnce;
 use std::io::{Error, ErrorKind, Read, Result as IoResult};
 use std::test::Fail;
@@ -58,8 +58,12 @@ fn what_ends_is_read_whole(rt: HostRuntime) -> Result<(), Fail> {
     Ok(())
 }
 
-const FAULTS: [(ErrorKind, Unread); 2] = [
-    (ErrorKind::PermissionDenied, Unread::File),
+const FAULTS: [(ErrorKind, Unread); 6] = [
+    (ErrorKind::NotFound, Unread::File(Lack::Missing)),
+    (ErrorKind::NotADirectory, Unread::File(Lack::Missing)),
+    (ErrorKind::IsADirectory, Unread::File(Lack::Folder)),
+    (ErrorKind::PermissionDenied, Unread::File(Lack::Forbidden)),
+    (ErrorKind::TimedOut, Unread::File(Lack::Broken)),
     (ErrorKind::OutOfMemory, Unread::Memory),
 ];
 

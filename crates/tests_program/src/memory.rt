@@ -17,7 +17,7 @@ pub(crate) struct NoMemory;
 impl Files<Global> for NoMemory {
     ghost may_hold = { λ _ _ _. ⊥ };
 
-    ghost may_lack = { λ _ _. ⊥ };
+    ghost may_lack = { λ _ _ _. ⊥ };
 
     fn read(&mut self, _name: &str) -> Result<Vec<u8>, Unread> {
         Err(Unread::Memory)

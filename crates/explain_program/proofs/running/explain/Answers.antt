@@ -1,5 +1,5 @@
 -- What is told of the file's script is told of the file.
-use Rattle.std.proofs.Common.{ℕ, List, Err, subst, refl, ap, rules}
+use Rattle.std.proofs.Common.{ℕ, List, subst, refl, rules}
 use Rattle.csp_term.specs.Script.{script_of}
 use Rattle.csp_print.specs.Names.{names_of}
 use Rattle.program.specs.Given.{given_of, sent}
@@ -23,7 +23,7 @@ returns-in-Err-clause-stopped g c three =
     let fault = c.in-Err.fault in
     record {
       why = stop.Refused (of_file fault);
-      cause = unread_cause given request.name fault (λ file. c.in-Err.ensures.lacks (ap Err file));
+      cause = unread_cause given request.name fault c.in-Err.ensures.lacks;
       output = unread_leaves given request fault (sent g.O.Sink.taken g.O.Sink.has_failed c.args.out.now c.args.out.now) refl;
       told = unread_told given request.name fault (sent g.E.Sink.taken g.E.Sink.has_failed c.args.err.now c.refuse_unread.new.err) c.refuse_unread.ensures.told;
     }
