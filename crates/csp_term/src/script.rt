@@ -8,6 +8,7 @@ use crate::term::Term;
 use csp_expression::{Name, TypeTable};
 use csp_value::{FieldSet, Memory, TryCopy, copy_all};
 use std::alloc::Allocator;
+use theory_syntax::Unfolding;
 
 /// A channel with its spelling, and the set of the values of each of its fields.
 #[derive(Drop)]
@@ -51,6 +52,8 @@ pub struct ScriptParts<A: Allocator> {
     pub equations: Vec<Equation<A>, A>,
     /// The assertions.
     pub assertions: Vec<Assertion<A>, A>,
+    /// How the names of the equations are read.
+    pub unfolds: Unfolding,
 }
 
 impl<A: Allocator + Copy> TryCopy<A> for Channel<A> {
@@ -100,6 +103,7 @@ impl<A: Allocator + Copy> TryCopy<A> for ScriptParts<A> {
             channels: copy_all(alloc, self.channels.as_slice())?,
             equations: copy_all(alloc, self.equations.as_slice())?,
             assertions: copy_all(alloc, self.assertions.as_slice())?,
+            unfolds: self.unfolds,
         })
     }
 }

@@ -5,3 +5,5 @@ pub mod Replays
 pub mod Sources
 pub mod Tellings
 pub mod Paths
+pub mod Stops
+pub mod Waiting

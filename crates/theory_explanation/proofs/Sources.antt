@@ -1,15 +1,17 @@
 -- Each step of a counterexample, and of a run to a stuck state, comes from the origin that is told.
-use Rattle.std.proofs.Common.{◌≡◌, ℕ, zero, suc, List, [], ◌∷◌, Option, Some, None, slice_get, refl, sym, ap, subst}
-use Rattle.theory_syntax.specs.Value.{Action}
+use Rattle.std.proofs.Common.{◌≡◌, ℕ, zero, suc, ◌<◌, List, [], ◌∷◌, ◌++◌, length, replicate, Option, Some, None, slice_get, refl, sym, ap, subst, arith}
+use Rattle.theory_syntax.specs.Value.{Action, Tau}
 use Rattle.theory_syntax.specs.Process.{Process, Assertion, Script}
 use Rattle.theory_semantics.specs.Meaning.Transitions.{Step}
-use Rattle.theory_semantics.specs.Meaning.Violations.{Violation}
+use Rattle.theory_semantics.specs.Meaning.Runs.{Run}
+use Rattle.theory_semantics.specs.Meaning.Violations.{ByDivergence, Violation}
 use Rattle.theory_origins.specs.Origin.{Origin, ComesFrom}
 use Rattle.theory_origins.specs.Telling.{Tells}
 use Rattle.theory_runs.specs.States.{Visits}
-use Rattle.theory_runs.proofs.Visiting.{first_state}
+use Rattle.theory_runs.proofs.Visiting.{first_state, run_of}
 use Rattle.theory_runs.specs.Stuck.{Hindrance}
-use Rattle.theory_explanation.specs.Counterexamples.{AreOriginsAlong, Counterexample, HasOriginAt, IsCounterexample}
+use Rattle.theory_runs.proofs.Lassos.{each_diverges}
+use Rattle.theory_explanation.specs.Counterexamples.{AreOriginsAlong, Counterexample, HasOriginAt, IsCounterexample, IsLoop, IsLoopFor, Loop, TellsDivergence}
 use Rattle.theory_explanation.specs.Faults.{IsToldRun}
 
 module _ (script : Script) where
@@ -50,3 +52,35 @@ origins_told script a v n found i x is there = each_told script v.path a.impleme
 pub run_origins_told : (script : Script) (t : Process) (h : Hindrance) (path : List Action) (states : List Process) (origins : List (Option Origin)) (i : ℕ) (x : Action) →
     IsToldRun script t h path states origins → slice_get path i ≡ Some x → HasOriginAt script states origins i x
 run_origins_told script t h path states origins i x is there = each_told script path t is.run.end states origins is.run.visits is.told i x there
+
+-- ---- loops
+
+get_replicate : {X : Type 0} (n i : ℕ) (x : X) → i < n → slice_get (replicate n x) i ≡ Some x
+get_replicate zero i x low = absurd (omega (arith, low))
+get_replicate (suc n) zero x low = refl
+get_replicate (suc n) (suc i) x low = get_replicate n i x (omega (arith, low))
+
+first_of : (states : List Process) (again t : Process) (back : ℕ) → slice_get states back ≡ Some again → slice_get (states ++ again ∷ []) 0 ≡ Some t → slice_get states 0 ≡ Some t
+first_of [] again t back at first = absurd (cc at)
+first_of (s ∷ states) again t back at first = first
+
+loop_tells : (script : Script) (t end : Process) (path : List Action) (loop : Loop) → Run script t path end → IsLoop script end loop → TellsDivergence script t path loop
+loop_tells script t end path loop run is = record {
+  end = end;
+  run = run;
+  first = first_of loop.states is.again end loop.back is.lasso.stands (first_state script (replicate (length loop.states) Tau) end is.again (loop.states ++ is.again ∷ []) is.lasso.visits);
+  each = each_diverges script end loop.states loop.back is.again is.lasso;
+  told = (
+    is.again,
+    is.lasso.stands,
+    λ i low. each_told script (replicate (length loop.states) Tau) end is.again (loop.states ++ is.again ∷ []) loop.origins is.lasso.visits is.told i Tau (get_replicate (length loop.states) i Tau low),
+  );
+}
+
+pub divergence_told : (script : Script) (a : Assertion) (v : Violation) (n : ℕ) (found : Counterexample) → IsCounterexample script a v n found → v.evidence ≡ ByDivergence →
+    (loop : Loop) × (found.loop ≡ Some loop) × TellsDivergence script a.implementation v.path loop
+divergence_told script a v n found is diverges = by found.loop refl (subst (λ e. IsLoopFor script e is.replay.end found.loop) diverges is.loop)
+  where
+    by : (l : Option Loop) → found.loop ≡ l → IsLoopFor script ByDivergence is.replay.end l → (loop : Loop) × (l ≡ Some loop) × TellsDivergence script a.implementation v.path loop
+    by (Some loop) e told = (loop, refl, loop_tells script a.implementation is.replay.end v.path loop (run_of script v.path a.implementation is.replay.end found.states is.replay.visits) told)
+    by None e told = absurd told

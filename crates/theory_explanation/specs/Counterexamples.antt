@@ -1,13 +1,19 @@
--- A violation with what leads to it: the states of the implementation, where each step comes from, and what the
--- specification has beside them.
-use Rattle.std.specs.Prelude.{◌≡◌, ◌≢◌, ℕ, suc, List, [], ◌∷◌, length, slice_get, Option, Some, None, Contains, ⊤}
-use Rattle.theory_syntax.specs.Value.{Action}
+-- A violation with what leads to it: the states of the implementation, where each step comes from, what the specification
+-- has beside them, and of a divergence the loop that goes on for ever.
+use Rattle.std.specs.Prelude.{◌≡◌, ◌≢◌, ◌<◌, ℕ, suc, List, [], ◌∷◌, ◌++◌, length, replicate, slice_get, Option, Some, None, Contains, ⊤}
+use Rattle.theory_syntax.specs.Value.{Action, Tau}
 use Rattle.theory_syntax.specs.Process.{Process, Assertion, specification_of, Script}
-use Rattle.theory_semantics.specs.Meaning.Violations.{Evidence, ByEvent, ByOffers, Violation}
-use Rattle.theory_origins.specs.Origin.{Origin, ComesFrom}
+use Rattle.theory_semantics.specs.Meaning.Runs.{Run}
+use Rattle.theory_semantics.specs.Meaning.Violations.{Evidence, ByEvent, ByOffers, ByDeadlock, ByDivergence, Violation}
+use Rattle.theory_search.specs.Counting.{AreMoreThan}
+use Rattle.theory_search.specs.Subsets.{IsByTaus}
+use Rattle.theory_origins.specs.Doers.{IsPartAt}
+use Rattle.theory_origins.specs.Origin.{Side, Origin, ComesFrom}
+use Rattle.theory_origins.specs.Parts.{HasNoTau, Placed, placed_parts}
 use Rattle.theory_origins.specs.Telling.{Tells}
 use Rattle.theory_runs.specs.Acceptances.{AreLeastAcceptances}
 use Rattle.theory_runs.specs.Initials.{AreInitials}
+use Rattle.theory_runs.specs.Lassos.{EachDiverges, IsLasso}
 use Rattle.theory_runs.specs.States.{AreStatesAlong, AreSmall, AreMoreAlong, IsReplay}
 use Rattle.theory_explanation.specs.Lacking.{lacking}
 
@@ -17,11 +23,27 @@ pub data Counterpart : Type 0 where
   Along : (states : List (List Process)) (initials : List Action) (acceptances : List (List Action)) → Counterpart
   TooManyStates : Counterpart
 
--- the states of the implementation, the origin of each step, and what the specification has along the path, if there is one
+-- The states that taus lead through from the end of a run on, that end at first, the place of the one that the last tau
+-- leads back to, and the origin of each tau.
+pub record Loop : Type 0 where
+  pub states : List Process
+  pub back : ℕ
+  pub origins : List (Option Origin)
+
+-- A part of the last state, with the way down to it, and all that it can do by itself.
+pub record Waiting : Type 0 where
+  pub way : List Side
+  pub process : Process
+  pub initials : List Action
+
+-- the states of the implementation, the origin of each step, what the specification has along the path, if there is one,
+-- the loop behind it, if there is one, and which parts wait at its end
 pub record Counterexample : Type 0 where
   pub states : List Process
   pub origins : List (Option Origin)
   pub counterpart : Option Counterpart
+  pub loop : Option Loop
+  pub waiting : List Waiting
 
 -- the states along the path are at most n each time, and the last ones have these initials and least acceptances
 pub record HasAlong (script : Script) (spec : Process) (path : List Action) (n : ℕ) (states : List (List Process)) (initials : List Action) (acceptances : List (List Action)) : Type 0 where
@@ -53,16 +75,74 @@ AreOriginsAlong script (x ∷ path) (before ∷ t ∷ states) [] = ⊥
 AreOriginsAlong script (x ∷ path) (before ∷ []) origins = ⊥
 AreOriginsAlong script (x ∷ path) [] origins = ⊥
 
--- the states of a replay of the violation, where its steps come from, and what the specification has along its path
+-- taus lead from t through the states and back to the one at the place, and this is told of each tau
+pub record IsLoop (script : Script) (t : Process) (loop : Loop) : Type 0 where
+  pub again : Process
+  pub lasso : IsLasso script t loop.states loop.back again
+  pub told : AreOriginsAlong script (replicate (length loop.states) Tau) (loop.states ++ again ∷ []) loop.origins
+
+-- of a divergence there is a loop from its end on, and of nothing else
+abbrev pub IsLoopFor : Script → Evidence → Process → Option Loop → Type 0
+IsLoopFor script ByDivergence t (Some loop) = IsLoop script t loop
+IsLoopFor script ByDivergence t None = ⊥
+IsLoopFor script e t (Some loop) = ⊥
+IsLoopFor script e t None = ⊤
+
+-- it tells of the part
+pub record IsWaiting (script : Script) (part : Placed) (w : Waiting) : Type 0 where
+  pub way : w.way ≡ part.way
+  pub process : w.process ≡ part.process
+  pub initials : AreInitials script (part.process ∷ []) w.initials
+
+-- they tell of the parts, one each
+abbrev pub AreWaiting : Script → List Placed → List Waiting → Type 0
+AreWaiting script [] [] = ⊤
+AreWaiting script (part ∷ parts) (w ∷ ws) = IsWaiting script part w × AreWaiting script parts ws
+AreWaiting script [] (w ∷ ws) = ⊥
+AreWaiting script (part ∷ parts) [] = ⊥
+
+-- where the end of a path waits, as it refuses or can do nothing, its parts are told
+abbrev pub AreWaitingFor : Script → Evidence → Process → List Waiting → Type 0
+AreWaitingFor script (ByOffers xs) t ws = AreWaiting script (placed_parts t) ws
+AreWaitingFor script ByDeadlock t ws = AreWaiting script (placed_parts t) ws
+AreWaitingFor script e t ws = ws ≡ []
+
+-- the states of a replay of the violation, where its steps come from, what the specification has along its path, the loop
+-- at its end, and which parts wait there
 pub record IsCounterexample (script : Script) (a : Assertion) (v : Violation) (n : ℕ) (c : Counterexample) : Type 0 where
   pub replay : IsReplay script a.implementation v c.states
   pub origins : AreOriginsAlong script v.path c.states c.origins
   pub counterpart : IsCounterpartFor script (specification_of a.property) v.path n c.counterpart
+  pub loop : IsLoopFor script v.evidence replay.end c.loop
+  pub waiting : AreWaitingFor script v.evidence replay.end c.waiting
+
+-- More than n states are behind the path of a divergence, by taus, so that its loop is not looked for.
+pub record HasWideEnd (script : Script) (a : Assertion) (v : Violation) (n : ℕ) : Type 0 where
+  pub diverges : v.evidence ≡ ByDivergence
+  pub many : AreMoreThan ◌≡◌ n (IsByTaus script (λ t. Run script a.implementation v.path t))
 
 -- the step by x from the state at the place to the next one comes from the origin that is told
 abbrev pub HasOriginAt : Script → List Process → List (Option Origin) → ℕ → Action → Type 0
 HasOriginAt script states origins i x =
     (s t : Process) × (o : Origin) × (slice_get states i ≡ Some s) × (slice_get states (suc i) ≡ Some t) × (slice_get origins i ≡ Some (Some o)) × ComesFrom script s x t o
+
+-- each tau of the loop leads on from a state of it, and comes from the origin that is told
+abbrev pub HasLoopOrigins : Script → Loop → Type 0
+HasLoopOrigins script loop = (again : Process) × (slice_get loop.states loop.back ≡ Some again) × ((i : ℕ) → i < length loop.states → HasOriginAt script (loop.states ++ again ∷ []) loop.origins i Tau)
+
+-- each state of the loop diverges, the first one is the end of a run by the path, and it is told where its taus come from
+pub record TellsDivergence (script : Script) (t : Process) (path : List Action) (loop : Loop) : Type 0 where
+  pub end : Process
+  pub run : Run script t path end
+  pub first : slice_get loop.states 0 ≡ Some end
+  pub each : EachDiverges script loop.states
+  pub told : HasLoopOrigins script loop
+
+-- the part stands at its way in the state, and these are all the events, and tick, that it can do; and there is no tau
+pub record WaitsThere (script : Script) (end : Process) (w : Waiting) : Type 0 where
+  pub at : IsPartAt script end w.way w.process
+  pub initials : AreInitials script (w.process ∷ []) w.initials
+  pub no_tau : HasNoTau script end → HasNoTau script w.process
 
 -- the event is none of the initials, or each of the acceptances has something that is not offered
 abbrev pub ShowsLack : Evidence → Counterpart → Type 0

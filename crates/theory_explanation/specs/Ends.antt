@@ -8,4 +8,4 @@ abbrev pub end_text : Names → Evidence → List ℕ
 end_text names (ByEvent x) = codes "  then it does " ++ (action_text names x ++ codes ", and the specification cannot\n")
 end_text names (ByOffers xs) = codes "  then it may refuse all but {" ++ (actions_text names xs ++ codes "}, and the specification may not\n")
 end_text names ByDeadlock = codes "  then it can do nothing\n"
-end_text names ByDivergence = codes "  then it may go on with tau for ever\n"
+end_text names ByDivergence = codes "  then it goes on with tau for ever:\n"

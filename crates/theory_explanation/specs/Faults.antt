@@ -1,11 +1,13 @@
 -- Runs of a side to a state that is faulty or large, by which an assertion has no answer.
-use Rattle.std.specs.Prelude.{◌≡◌, ℕ, List, [], ◌++◌, codes, Option, Some, None}
+use Rattle.std.specs.Prelude.{◌≡◌, ℕ, List, ◌++◌, codes, Option, Some, None}
 use Rattle.theory_syntax.specs.Value.{Action}
 use Rattle.theory_syntax.specs.Process.{Process, Assertion, specification_of, Script}
+use Rattle.theory_search.specs.Counting.{AreMoreThan}
 use Rattle.theory_search.specs.Outcome.{Why, TooManyPairs, TooManyNodes, LargeTerm, Fault, NoMemory}
 use Rattle.theory_origins.specs.Origin.{Origin}
 use Rattle.theory_runs.specs.Stuck.{Hindrance, ByCause, BySize}
-use Rattle.theory_runs.specs.Runs.{HasNoneWithin, IsStuckRun}
+use Rattle.theory_runs.specs.Runs.{IsReached, IsStuckRun}
+use Rattle.theory_runs.specs.Stops.{StopsSearch}
 use Rattle.theory_explanation.specs.Counterexamples.{AreOriginsAlong}
 use Rattle.theory_explanation.specs.Paths.{path_text}
 use Rattle.theory_explanation.specs.Styles.{Style}
@@ -28,13 +30,17 @@ pub record IsToldRun (script : Script) (t : Process) (h : Hindrance) (path : Lis
   pub run : IsStuckRun script t h path states
   pub told : AreOriginsAlong script path states origins
 
--- The run is one of the implementation to a state that is stuck so; or one of the specification, where none of the
--- implementation is found among n states. Where there is none, none of either is found among so many.
+-- a run of the implementation that is told, along a trace of the specification, which is never stuck itself
+pub record IsStopTold (script : Script) (a : Assertion) (h : Hindrance) (path : List Action) (states : List Process) (origins : List (Option Origin)) : Type 0 where
+  pub stops : StopsSearch script a h path
+  pub told : IsToldRun script a.implementation h path states origins
+
+-- The run is one of the side that has no answer: of the specification where that comes to a state that is stuck so, and else
+-- of the implementation. Where there is none, the specification has more than n states.
 abbrev pub IsFound : Script → Assertion → Hindrance → ℕ → Option SideRun → Type 0
-IsFound script a h n (Some (OfImplementation path states origins)) = IsToldRun script a.implementation h path states origins
-IsFound script a h n (Some (OfSpecification path states origins)) =
-    HasNoneWithin script a.implementation h n × ((spec : Process) × (specification_of a.property ≡ Some spec) × IsToldRun script spec h path states origins)
-IsFound script a h n None = HasNoneWithin script a.implementation h n × ((spec : Process) → specification_of a.property ≡ Some spec → HasNoneWithin script spec h n)
+IsFound script a h n (Some (OfImplementation path states origins)) = IsStopTold script a h path states origins
+IsFound script a h n (Some (OfSpecification path states origins)) = (spec : Process) × (specification_of a.property ≡ Some spec) × IsToldRun script spec h path states origins
+IsFound script a h n None = (spec : Process) × (specification_of a.property ≡ Some spec) × AreMoreThan ◌≡◌ n (IsReached script spec)
 
 -- ---- the text
 
@@ -48,7 +54,7 @@ abbrev pub fault_run_text : Style → Hindrance → SideRun → List ℕ
 fault_run_text style h (OfImplementation path states origins) = codes "  the implementation comes there by\n" ++ (path_text style path states origins ++ stuck_line h)
 fault_run_text style h (OfSpecification path states origins) = codes "  the specification comes there by\n" ++ (path_text style path states origins ++ stuck_line h)
 
--- of no run nothing is told
+-- where there is no run, that the specification has too many states for one to be looked for
 abbrev pub found_text : Style → Hindrance → Option SideRun → List ℕ
 found_text style h (Some run) = fault_run_text style h run
-found_text style h None = []
+found_text style h None = codes "  the specification comes there, and has too many states to tell how\n"

@@ -1,7 +1,9 @@
 -- The line that an explanation begins with.
-use Rattle.std.specs.Prelude.{ℕ, Bool, true, false, List, [], ◌++◌, codes, decimal}
+use Rattle.std.specs.Prelude.{ℕ, nat_eq, Bool, true, false, not, List, [], ◌++◌, take, codes, decimal}
+use Rattle.std.specs.Cmp.Lexicographic.{pointwise}
 use Rattle.theory_syntax.specs.Process.{Process, Model, Traces, Failures, Property, RefinementOf, DeadlockFree, DivergenceFree, Assertion}
 use Rattle.theory_search.specs.Outcome.{Outcome, Holds, Fails, Unknown, Denied}
+use Rattle.theory_notation.specs.Marks.{bare_or_bracketed}
 use Rattle.theory_notation.specs.Names.{Names}
 use Rattle.theory_notation.specs.Processes.{process_text}
 
@@ -17,10 +19,18 @@ abbrev pub model_text : Model → List ℕ
 model_text Traces = codes " [T= "
 model_text Failures = codes " [F= "
 
+-- whether a text begins with the word `not`
+abbrev pub begins_with_not : List ℕ → Bool
+begins_with_not text = pointwise nat_eq (take 4 text) (codes "not ")
+
+-- The side behind `assert`. A `not` there negates, so where the side's own text begins with one, it stands in brackets.
+abbrev pub first_side : List ℕ → List ℕ
+first_side text = bare_or_bracketed (not (begins_with_not text)) text
+
 abbrev pub property_text : Names → Property → Process → List ℕ
-property_text names (RefinementOf model spec) p = process_text names spec ++ (model_text model ++ process_text names p)
-property_text names DeadlockFree p = process_text names p ++ codes " :[deadlock free]"
-property_text names DivergenceFree p = process_text names p ++ codes " :[divergence free]"
+property_text names (RefinementOf model spec) p = first_side (process_text names spec) ++ (model_text model ++ process_text names p)
+property_text names DeadlockFree p = first_side (process_text names p) ++ codes " :[deadlock free]"
+property_text names DivergenceFree p = first_side (process_text names p) ++ codes " :[divergence free]"
 
 abbrev pub negation_text : Bool → List ℕ
 negation_text true = codes "not "

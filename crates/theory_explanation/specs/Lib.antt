@@ -9,6 +9,7 @@ pub mod Ends
 pub mod Faults
 pub mod Headline
 pub mod Lacking
+pub mod Loops
 pub mod Origins
 pub mod Paths
 pub mod Reasons
@@ -16,3 +17,4 @@ pub mod Samples
 pub mod Steps
 pub mod Styles
 pub mod Telling
+pub mod Waiting

@@ -5,23 +5,29 @@
 //! the path of a violation, with its text, and how large a search was.
 #![tactic(auto)]
 
-ghost use Rattle.std.specs.Prelude.{◌≡◌, ◌∷◌, [], codes, slice_get, List, None, Option, Some, ℕ};
-ghost use Rattle.theory_syntax.specs.Process.{Assertion, DeadlockFree, Omega, Process, RefinementOf, Script, Stop, Traces};
+ghost use Rattle.std.specs.Prelude.{◌≡◌, ◌∷◌, [], codes, false, true, slice_get, Contains, List, None, Option, Some, ℕ};
+ghost use Rattle.theory_syntax.specs.Process.{Assertion, DeadlockFree, DivergenceFree, ExternalChoice, Interleaving, Omega, Process, RefinementOf, Script, Skip, Stop, Traces};
 ghost use Rattle.theory_syntax.specs.Value.{Action, Tau, Tick};
-ghost use Rattle.theory_semantics.specs.Meaning.Violations.{ByEvent, ByOffers, IsViolation, Violation};
-ghost use Rattle.theory_origins.specs.Origin.{Below, Chooses, Does, Ends, Hides, InBody, InChain, Left, OnSide, Origin, Right, SideEnds, Slides, Together, Unfolds};
+ghost use Rattle.theory_semantics.specs.Meaning.Evaluation.{OutOfRange};
+ghost use Rattle.theory_semantics.specs.Meaning.Violations.{ByDeadlock, ByDivergence, ByEvent, ByOffers, IsViolation, Violation};
+ghost use Rattle.theory_search.specs.Search.{EndedFails, IsLawful, Search};
+ghost use Rattle.theory_origins.specs.Origin.{Below, Chooses, Does, Ends, Hides, InBody, InChain, Left, OnSide, Origin, Renames, Right, SideEnds, Slides, Together, Unfolds};
 ghost use Rattle.theory_notation.specs.Samples.{names, p};
 ghost use Rattle.theory_runs.specs.States.{AreReached, IsReplay};
-ghost use Rattle.theory_runs.specs.Stuck.{Hindrance};
+ghost use Rattle.theory_runs.specs.Stops.{IsKnownAlong};
+ghost use Rattle.theory_runs.specs.Stuck.{ByCause, BySize, Hindrance};
 ghost use Rattle.theory_explanation.specs.Comparing.{counterexample_text};
-ghost use Rattle.theory_explanation.specs.Counterexamples.{Along, Counterexample, Counterpart, HasOriginAt, IsCounterexample, ShowsLack};
+ghost use Rattle.theory_explanation.specs.Counterexamples.{Along, Counterexample, Counterpart, HasOriginAt, HasWideEnd, IsCounterexample, Loop, ShowsLack, TellsDivergence, Waiting, WaitsThere};
 ghost use Rattle.theory_explanation.specs.Counterparts.{lack_text, specification_text};
 ghost use Rattle.theory_explanation.specs.Counting.{count_text};
 ghost use Rattle.theory_explanation.specs.Cutting.{Whole};
-ghost use Rattle.theory_explanation.specs.Faults.{IsToldRun};
+ghost use Rattle.theory_explanation.specs.Faults.{IsFound, IsToldRun, OfImplementation, OfSpecification, found_text};
+ghost use Rattle.theory_explanation.specs.Headline.{assertion_text};
+ghost use Rattle.theory_explanation.specs.Loops.{loop_text};
 ghost use Rattle.theory_explanation.specs.Origins.{source_text};
-ghost use Rattle.theory_explanation.specs.Samples.{below, c, event, told};
+ghost use Rattle.theory_explanation.specs.Samples.{below, c, event, not_true, told};
 ghost use Rattle.theory_explanation.specs.Steps.{step_line};
+ghost use Rattle.theory_explanation.specs.Waiting.{parts_text};
 
 /// Each state of a replay is reached by the path's beginning that leads up to it.
 pub fn replayed_states_are_reached()
@@ -40,10 +46,53 @@ pub fn counterexamples_tell_origins()
         IsCounterexample script a v n found → slice_get v.path i ≡ Some x → HasOriginAt script found.states found.origins i x }
 {}
 
+/// A counterexample of divergence has a loop that begins where a run by its path ends. Each state of the loop diverges,
+/// and each of its taus comes from the origin that is told.
+pub fn counterexamples_tell_divergence()
+    ensures { (script : Script) (a : Assertion) (v : Violation) (n : ℕ) (found : Counterexample) → IsCounterexample script a v n found → v.evidence ≡ ByDivergence → (loop : Loop) × (found.loop ≡ Some loop) × TellsDivergence script a.implementation v.path loop }
+{}
+
+/// Of a search that fails by divergence the loop is told, where it is looked for among as many states as there may be
+/// pairs.
+pub fn failed_searches_have_loops()
+    ensures { (script : Script) (s : Search) (i : ℕ) (v : Violation) → IsLawful script s → s.assertion.property ≡ DivergenceFree → s.verdict ≡ EndedFails i → ¬ HasWideEnd script s.assertion v s.bounds.max_pairs }
+{}
+
+/// Each part that is told to wait at the end of a counterexample stands there, and can do what is told. It can do no tau,
+/// as the state cannot.
+pub fn counterexamples_tell_what_waits()
+    ensures { (script : Script) (a : Assertion) (v : Violation) (n : ℕ) (found : Counterexample) → (is : IsCounterexample script a v n found) → (w : Waiting) → Contains found.waiting w → WaitsThere script is.replay.end w }
+{}
+
 /// Each step of a run to a stuck state comes from the origin that is told.
 pub fn stuck_runs_tell_origins()
     ensures { (script : Script) (t : Process) (h : Hindrance) (path : List Action) (states : List Process) (origins : List (Option Origin)) (i : ℕ) (x : Action) →
         IsToldRun script t h path states origins → slice_get path i ≡ Some x → HasOriginAt script states origins i x }
+{}
+
+/// A run of the implementation that is told where there is no answer is along traces of the specification, each beginning
+/// of it, and the specification has no state that is stuck.
+pub fn told_stops_are_known()
+    ensures known { (script : Script) (a : Assertion) (h : Hindrance) (n : ℕ) (path : List Action) (states : List Process) (origins : List (Option Origin)) →
+        IsFound script a h n (Some (OfImplementation path states origins)) → IsKnownAlong script a path }
+    ensures one { (script : Script) (a : Assertion) (h k : Hindrance) (n : ℕ) (path others : List Action) (states : List Process) (ends : List Process) (origins : List (Option Origin)) (told : List (Option Origin)) →
+        IsFound script a h n (Some (OfImplementation path states origins)) → ¬ IsFound script a k n (Some (OfSpecification others ends told)) }
+{}
+
+/// A run to a state for which there is no answer, with the side that it is of, or that none is looked for.
+pub fn texts_of_stops()
+    ensures implementation { found_text told (ByCause OutOfRange) (Some (OfImplementation (c 1 ∷ []) (Stop ∷ p ∷ []) (Some (Does (event 1)) ∷ []))) ≡ codes "  the implementation comes there by\n  0 start\n      STOP\n  1 c.1\n      P\n  there a rule lacks a value\n" }
+    ensures specification { found_text told BySize (Some (OfSpecification [] (p ∷ []) [])) ≡ codes "  the specification comes there by\n  0 start\n      P\n  there it is too large, or what a step leads to\n" }
+    ensures none { found_text told BySize None ≡ codes "  the specification comes there, and has too many states to tell how\n" }
+{}
+
+/// `not` negates behind `assert` alone, so a first side that begins with it stands in brackets: in a refinement, and in an
+/// assertion of a property.
+pub fn texts_of_assertions()
+    ensures plain { assertion_text names (record { property = RefinementOf Traces Stop; implementation = p; negated = true }) ≡ codes "not STOP [T= P" }
+    ensures side { assertion_text names (record { property = RefinementOf Traces not_true; implementation = not_true; negated = false }) ≡ codes "(not true & STOP) [T= not true & STOP" }
+    ensures both { assertion_text names (record { property = DeadlockFree; implementation = not_true; negated = true }) ≡ codes "not (not true & STOP) :[deadlock free]" }
+    ensures chain { assertion_text names (record { property = DivergenceFree; implementation = ExternalChoice not_true p; negated = false }) ≡ codes "(not true & STOP [] P) :[divergence free]" }
 {}
 
 /// The first few states of a specification, and how many more there are.
@@ -64,31 +113,55 @@ pub fn texts_of_lacks()
 /// Where a tau comes from: a call, a choice or the end of a process, at the start or some sides below, and a hidden event.
 pub fn texts_of_origins()
     ensures call { source_text names Tau (Some (Unfolds 0)) ≡ codes ": unfolds P" }
-    ensures sides { source_text names Tau (Some (below Left (Below InBody (below Right (Below InChain (Unfolds 0)))))) ≡ codes ": left, right: unfolds P" }
+    ensures sides { source_text names Tau (Some (below Left (Below InBody (below Right (Below InChain (Unfolds 0)))))) ≡ codes ": left.right: unfolds P" }
     ensures choice { source_text names Tau (Some (below Right (Chooses Left))) ≡ codes ": right: chooses its left side" }
     ensures slides { source_text names Tau (Some Slides) ≡ codes ": slides to its right side" }
     ensures ends { source_text names Tau (Some (Below (SideEnds Left) Ends)) ≡ codes ": left: ends" }
     ensures unknown { source_text names Tau None ≡ [] }
-    ensures seen { source_text names (c 1) (Some (Does (event 1))) ≡ [] }
 {}
 
-/// Which sides do a hidden event: the process itself, a side of a side, both, or both sides of one.
+/// Which parts do a hidden event: the process itself, one below a side, both sides, or parts below both.
 pub fn texts_of_hidden_events()
     ensures itself { source_text names Tau (Some (Below (Hides (event 1)) (Does (event 1)))) ≡ codes ": hidden c.1" }
-    ensures side { source_text names Tau (Some (below Left (Below (Hides (event 1)) (below Right (below Left (Does (event 1))))))) ≡ codes ": left: hidden c.1 by right, left" }
-    ensures both { source_text names Tau (Some (Below (Hides (event 1)) (Together (below Left (Does (event 1))) (Does (event 1))))) ≡ codes ": hidden c.1 by both sides" }
-    ensures below { source_text names Tau (Some (Below (Hides (event 1)) (below Left (Together (Does (event 1)) (Does (event 1)))))) ≡ codes ": hidden c.1 by left, both sides" }
+    ensures side { source_text names Tau (Some (below Left (Below (Hides (event 1)) (below Right (below Left (Does (event 1))))))) ≡ codes ": left: hidden c.1 by right.left" }
+    ensures both { source_text names Tau (Some (Below (Hides (event 1)) (Together (below Left (Does (event 1))) (Does (event 1))))) ≡ codes ": hidden c.1 by left.left, right" }
+    ensures renamed { source_text names Tau (Some (Below (Hides (event 1)) (below Left (Below (Renames (event 2) (event 1)) (Does (event 2)))))) ≡ codes ": hidden c.1 by left as c.2" }
+{}
+
+/// Which parts do an event that is seen: the process itself, or parts below sides. What is another event there, below a
+/// renaming, is told.
+pub fn texts_of_doers()
+    ensures itself { source_text names (c 1) (Some (Does (event 1))) ≡ [] }
+    ensures side { source_text names (c 1) (Some (below Right (Does (event 1)))) ≡ codes " by right" }
+    ensures below { source_text names (c 1) (Some (Below (Renames (event 2) (event 1)) (Does (event 2)))) ≡ codes " as c.2" }
+    ensures twice { source_text names (c 1) (Some (Below (Renames (event 2) (event 1)) (Below (Renames (event 3) (event 2)) (Does (event 3))))) ≡ codes " as c.3" }
+    ensures together { source_text names (c 1) (Some (Together (Below (Renames (event 2) (event 1)) (Does (event 2))) (Together (Does (event 1)) (Does (event 1))))) ≡ codes " by left as c.2, right.left, right.right" }
+    ensures unknown { source_text names (c 1) None ≡ [] }
 {}
 
 /// The line of a tau, and that of an event.
 pub fn texts_of_steps()
     ensures tau { step_line names 3 Tau (Some (below Left (Unfolds 0))) ≡ codes "  3 tau: left: unfolds P\n" }
-    ensures event { step_line names 12 (c 1) (Some (Does (event 1))) ≡ codes "  12 c.1\n" }
+    ensures event { step_line names 12 (c 1) (Some (below Left (Does (event 1)))) ≡ codes "  12 c.1 by left\n" }
 {}
 
 /// A step after which the specification cannot go on.
 pub fn texts_of_counterexamples()
-    ensures { counterexample_text told (record { path = c 1 ∷ []; evidence = ByEvent (c 2) }) (record { states = p ∷ Stop ∷ []; origins = Some (Does (event 1)) ∷ []; counterpart = Some (Along ((p ∷ []) ∷ (Omega ∷ p ∷ []) ∷ []) (Tick ∷ []) []) }) ≡ codes "  0 start\n      P\n      specification: P\n  1 c.1\n      STOP\n      specification: _OMEGA\n      specification: and 1 more\n  then it does c.2, and the specification cannot\n  there the specification can do no more than {tick}\n" }
+    ensures { counterexample_text told (record { path = c 1 ∷ []; evidence = ByEvent (c 2) }) (record { states = p ∷ Stop ∷ []; origins = Some (Does (event 1)) ∷ []; counterpart = Some (Along ((p ∷ []) ∷ (Omega ∷ p ∷ []) ∷ []) (Tick ∷ []) []); loop = None; waiting = [] }) ≡ codes "  0 start\n      P\n      specification: P\n  1 c.1\n      STOP\n      specification: _OMEGA\n      specification: and 1 more\n  then it does c.2, and the specification cannot\n  there the specification can do no more than {tick}\n" }
+{}
+
+/// A divergence: the run, and behind it the taus of its loop, with the state that the last one leads back to. Of many taus
+/// the first few, and how many are left out.
+pub fn texts_of_loops()
+    ensures whole { counterexample_text told (record { path = c 1 ∷ []; evidence = ByDivergence }) (record { states = Stop ∷ p ∷ []; origins = Some (Does (event 1)) ∷ []; counterpart = None; loop = Some (record { states = p ∷ Skip ∷ []; back = 0; origins = Some (Unfolds 0) ∷ Some Slides ∷ [] }); waiting = [] }) ≡ codes "  0 start\n      STOP\n  1 c.1\n      P\n  then it goes on with tau for ever:\n  2 tau: unfolds P\n      SKIP\n  3 tau: slides to its right side\n      back to state 1\n" }
+    ensures cut { loop_text told 4 (Some (record { states = p ∷ Stop ∷ p ∷ p ∷ []; back = 1; origins = Some (Unfolds 0) ∷ None ∷ None ∷ None ∷ [] })) ≡ codes "  5 tau: unfolds P\n      STOP\n  6 tau\n      P\n  .. 2 more taus, back to state 5\n" }
+    ensures none { loop_text told 4 None ≡ [] }
+{}
+
+/// A deadlock: what each part can do by itself. A state that is one part alone has been told.
+pub fn texts_of_waiting()
+    ensures parts { counterexample_text told (record { path = []; evidence = ByDeadlock }) (record { states = Interleaving p Stop ∷ []; origins = []; counterpart = None; loop = None; waiting = record { way = Left ∷ []; process = p; initials = c 1 ∷ Tick ∷ [] } ∷ record { way = Right ∷ []; process = Stop; initials = [] } ∷ [] }) ≡ codes "  0 start\n      P ||| STOP\n  then it can do nothing\n  by itself left can do {c.1,tick}\n      P\n  by itself right can do {}\n      STOP\n" }
+    ensures one { parts_text told (record { way = []; process = p; initials = c 1 ∷ [] } ∷ []) ≡ [] }
 {}
 
 /// How large a search was, of one and of several.

@@ -11,3 +11,5 @@ pub mod OperandWays
 pub mod ParallelWays
 pub mod LeafWays
 pub mod BodyWays
+pub mod Doers
+pub mod Parts

@@ -4,3 +4,5 @@ pub mod Worked
 pub mod Telling
 pub mod Weight
 pub mod Ways
+pub mod Doers
+pub mod Parts

@@ -5,13 +5,15 @@
 //! step.
 #![tactic(auto)]
 
-ghost use Rattle.std.specs.Prelude.{◌≡◌, ◌⊎◌, [], ◌∷◌};
-ghost use Rattle.theory_syntax.specs.Value.{Action, Tau, Tick, Ev};
+ghost use Rattle.std.specs.Prelude.{◌≡◌, ◌≢◌, ◌⊎◌, [], ◌∷◌};
+ghost use Rattle.theory_syntax.specs.Value.{Action, Event, Tau, Tick, Ev};
 ghost use Rattle.theory_syntax.specs.Expression.{no_expressions};
-ghost use Rattle.theory_syntax.specs.Process.{Process, Stop, Skip, Omega, Call, Sequential, InternalChoice, SlidingChoice, Script};
+ghost use Rattle.theory_syntax.specs.Process.{Process, Stop, Skip, Omega, Call, Sequential, Interleaving, InternalChoice, SlidingChoice, Script};
 ghost use Rattle.theory_semantics.specs.Meaning.Transitions.{RuleStep};
 ghost use Rattle.theory_semantics.specs.Laws.Terms.{letters, digits, letter, a_stop, looping, choice_of_calls};
 ghost use Rattle.theory_origins.specs.Origin.{Left, Right, OnSide, InChain, SideEnds, Hides, Renames, Origin, Does, Ends, Unfolds, Chooses, Slides, Below, Together, ComesFrom};
+ghost use Rattle.theory_origins.specs.Doers.{AreDoneBy, doers};
+ghost use Rattle.theory_origins.specs.Parts.{ArePlaced, HasNoTau, HaveNoTau, placed_parts};
 ghost use Rattle.theory_origins.specs.Action.{action_of};
 ghost use Rattle.theory_origins.specs.Worked.{event, without, b_for_a, a_together, may_slide, first_two, third};
 
@@ -60,4 +62,23 @@ pub fn all_origins_of_small_steps()
     ensures left { ComesFrom (letters []) (InternalChoice Skip Skip) Tau Skip (Chooses Left) }
     ensures right { ComesFrom (letters []) (InternalChoice Skip Skip) Tau Skip (Chooses Right) }
     ensures unfolds { (o : Origin) → ComesFrom looping (Call 0 no_expressions) Tau (Call 0 no_expressions) o → o ≡ Unfolds 0 }
+{}
+
+/// Each part that an origin tells to do an event stands at the end of its way down, and can do that event. Each event has
+/// such a part.
+pub fn doers_do_their_events()
+    ensures done { (script : Script) (p : Process) (x : Action) (t : Process) (o : Origin) → ComesFrom script p x t o → AreDoneBy script p (doers o) }
+    ensures some { (script : Script) (p t : Process) (e : Event) (o : Origin) → ComesFrom script p (Ev e) t o → doers o ≢ [] }
+{}
+
+/// The parts below parallel operators, hiding and renaming stand at the ends of their ways. Where the process has no tau,
+/// none of them has one.
+pub fn parts_wait_together()
+    ensures placed { (script : Script) (p : Process) → ArePlaced script p (placed_parts p) }
+    ensures waits { (script : Script) (p : Process) → HasNoTau script p → HaveNoTau script (placed_parts p) }
+{}
+
+/// The parts of `((a -> STOP) [| {a} |] SKIP) \ {b} ||| STOP`.
+pub fn parts_of_small_terms()
+    ensures { placed_parts (Interleaving (without 1 (a_together a_stop Skip)) Stop) ≡ record { way = Left ∷ Left ∷ []; process = a_stop } ∷ record { way = Left ∷ Right ∷ []; process = Skip } ∷ record { way = Right ∷ []; process = Stop } ∷ [] }
 {}

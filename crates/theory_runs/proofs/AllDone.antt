@@ -1,5 +1,5 @@
 -- Once all terms are done there is none that is stuck so.
-use Rattle.std.proofs.Common.{◌≡◌, ℕ, ◌<◌, ◌≤◌, inl, inr, List, [], ◌∷◌, length, slice_get, Some, Contains, sym, ◌∙◌, ap, subst, arith}
+use Rattle.std.proofs.Common.{ℕ, ◌<◌, ◌≤◌, inl, inr, List, [], ◌∷◌, length, Some, Contains, sym, ◌∙◌, ap, subst, arith}
 use Rattle.std.proofs.lemmas.Option.{slice_get_within}
 use Rattle.theory_syntax.specs.Value.{Action}
 use Rattle.theory_syntax.specs.Process.{Process, Script}
@@ -9,7 +9,7 @@ use Rattle.theory_semantics.proofs.KindedSteps.{run_closed}
 use Rattle.theory_semantics.proofs.Rising.{stands_from_Contains, Contains-from_stands}
 use Rattle.theory_runs.specs.Layers.{AreTermsOf}
 use Rattle.theory_runs.specs.States.{Visits}
-use Rattle.theory_runs.specs.Stuck.{Hindrance, IsStuckBy}
+use Rattle.theory_runs.specs.Stuck.{Hindrance}
 use Rattle.theory_runs.specs.Runs.{HasNoStuckRun, HasNoneWithin}
 use Rattle.theory_runs.specs.Meeting.{Met, AreMet, AreDone}
 

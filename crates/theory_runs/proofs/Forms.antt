@@ -1,5 +1,5 @@
 -- What a form shows of a term.
-use Rattle.std.proofs.Common.{◌≡◌, ◌↔◌, true, false, None, Some, [], refl, sym, ◌∙◌, ap, subst}
+use Rattle.std.proofs.Common.{◌≡◌, true, false, None, Some, refl, sym, ◌∙◌, ap, subst}
 use Rattle.theory_syntax.specs.Process.{Process, Script}
 use Rattle.theory_semantics.specs.Meaning.Evaluation.{Cause}
 use Rattle.theory_semantics.specs.Meaning.Expansions.{Form, Fired, FiredFaulty, FiredLarge, IsFormOf}
@@ -16,7 +16,7 @@ module _ (script : Script) (t : Process) where
   faulty_is_not_large c faulty (itself past) = let e : false ≡ true = sym past ∙ faulty.within in cc e
   faulty_is_not_large c faulty (by_step none leads) = let e : None ≡ Some c = sym none ∙ faulty.cause in cc e
 
-  free_is_not_stuck : (h : Hindrance) → IsNotStuck script t → IsStuckBy script t h → ⊥
+  pub free_is_not_stuck : (h : Hindrance) → IsNotStuck script t → IsStuckBy script t h → ⊥
   free_is_not_stuck (ByCause c) free stuck = not_both script t c stuck free
   free_is_not_stuck BySize free stuck = not_large script t stuck free
 

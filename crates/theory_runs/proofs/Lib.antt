@@ -11,7 +11,11 @@ pub mod Gathering
 pub mod Initials
 pub mod Acceptances
 pub mod Sortings
+pub mod Lassos
+pub mod SmallLassos
+pub mod Behind
 pub mod Forms
 pub mod Meeting
 pub mod AllDone
 pub mod WayBack
+pub mod Stops

@@ -20,7 +20,7 @@ pub stuck_shows_none : (script : Script) (t : Process) (e : Evidence) → (IsNot
 stuck_shows_none script t (ByEvent x) stuck can = stuck can.1.0
 stuck_shows_none script t (ByOffers xs) stuck accepts = stuck (accepts_free script t xs accepts)
 stuck_shows_none script t ByDeadlock stuck dead = stuck (accepts_free script t [] dead.1)
-stuck_shows_none script t ByDivergence stuck can = stuck can.1.0
+stuck_shows_none script t ByDivergence stuck long = stuck (long 1).1.1.0
 
 module _ (script : Script) (t : Process) (steps : List (Action × Process)) (offers : List (List Action)) (fired : IsFired script t steps offers) where
   -- its steps tell what it can do

@@ -1,5 +1,5 @@
 -- The states on the way of a path.
-use Rattle.std.proofs.Common.{◌≡◌, ◌≢◌, zero, suc, List, [], ◌∷◌, slice_get, Some, take, refl, sym, ◌∙◌, ap, subst}
+use Rattle.std.proofs.Common.{◌≡◌, zero, suc, List, [], ◌∷◌, slice_get, Some, take, sym, ◌∙◌, ap, subst}
 use Rattle.theory_syntax.specs.Value.{Action}
 use Rattle.theory_syntax.specs.Process.{Process, Traces, Failures, Property, RefinementOf, DeadlockFree, DivergenceFree, Assertion, Script}
 use Rattle.theory_syntax.proofs.Places.{get_only}
@@ -20,6 +20,11 @@ reached script (x ∷ path) t u states visits zero v at =
     let f : Some t ≡ Some v = sym (ap (λ ss. slice_get ss 0) visits.2) ∙ at in cc f
 reached script (x ∷ path) t u states visits (suc i) v at =
     (visits.0, visits.3, reached script path visits.0 u visits.1 visits.4 i v (sym (ap (λ ss. slice_get ss (suc i)) visits.2) ∙ at))
+
+-- the path leads to its end
+pub run_of : (script : Script) (path : List Action) (t u : Process) (states : List Process) → Visits script t path states u → Run script t path u
+run_of script [] t u states visits = visits.1
+run_of script (x ∷ path) t u states visits = (visits.0, visits.3, run_of script path visits.0 u visits.1 visits.4)
 
 pub step_by_step : (script : Script) (path : List Action) (t u : Process) (states : List Process) → Visits script t path states u → AreStepByStep script path states
 step_by_step script [] t u states visits i x at = absurd (cc at)
@@ -49,25 +54,28 @@ shows_by script DivergenceFree path t ByDeadlock h = absurd h
 shows_by script (RefinementOf Traces spec) path t ByDivergence h = absurd h
 shows_by script (RefinementOf Failures spec) path t ByDivergence h = absurd h
 shows_by script DeadlockFree path t ByDivergence h = absurd h
-shows_by script DivergenceFree path t ByDivergence h = let run = (h 1).1 in (run.0, run.1)
+shows_by script DivergenceFree path t ByDivergence h = h
 
-meets_by : (script : Script) (property : Property) (path : List Action) (t u : Process) (e : Evidence) → IsEvidence script property path t e → Shows script u e → e ≢ ByDivergence → IsEvidence script property path u e
-meets_by script (RefinementOf Traces spec) path t u (ByEvent x) h shows other = (h.0, shows, h.2)
-meets_by script (RefinementOf Failures spec) path t u (ByEvent x) h shows other = (h.0, shows, h.2)
-meets_by script (RefinementOf Traces spec) path t u (ByOffers xs) h shows other = absurd h
-meets_by script (RefinementOf Failures spec) path t u (ByOffers xs) h shows other = (shows, h.1)
-meets_by script (RefinementOf Traces spec) path t u ByDeadlock h shows other = absurd h
-meets_by script (RefinementOf Failures spec) path t u ByDeadlock h shows other = absurd h
-meets_by script DeadlockFree path t u (ByEvent x) h shows other = absurd h
-meets_by script DeadlockFree path t u (ByOffers xs) h shows other = absurd h
-meets_by script DeadlockFree path t u ByDeadlock h shows other = shows
-meets_by script DivergenceFree path t u (ByEvent x) h shows other = absurd h
-meets_by script DivergenceFree path t u (ByOffers xs) h shows other = absurd h
-meets_by script DivergenceFree path t u ByDeadlock h shows other = absurd h
-meets_by script property path t u ByDivergence h shows other = absurd (other refl)
+meets_by : (script : Script) (property : Property) (path : List Action) (t u : Process) (e : Evidence) → IsEvidence script property path t e → Shows script u e → IsEvidence script property path u e
+meets_by script (RefinementOf Traces spec) path t u (ByEvent x) h shows = (h.0, shows, h.2)
+meets_by script (RefinementOf Failures spec) path t u (ByEvent x) h shows = (h.0, shows, h.2)
+meets_by script (RefinementOf Traces spec) path t u (ByOffers xs) h shows = absurd h
+meets_by script (RefinementOf Failures spec) path t u (ByOffers xs) h shows = (shows, h.1)
+meets_by script (RefinementOf Traces spec) path t u ByDeadlock h shows = absurd h
+meets_by script (RefinementOf Failures spec) path t u ByDeadlock h shows = absurd h
+meets_by script DeadlockFree path t u (ByEvent x) h shows = absurd h
+meets_by script DeadlockFree path t u (ByOffers xs) h shows = absurd h
+meets_by script DeadlockFree path t u ByDeadlock h shows = shows
+meets_by script DivergenceFree path t u (ByEvent x) h shows = absurd h
+meets_by script DivergenceFree path t u (ByOffers xs) h shows = absurd h
+meets_by script DivergenceFree path t u ByDeadlock h shows = absurd h
+meets_by script (RefinementOf Traces spec) path t u ByDivergence h shows = absurd h
+meets_by script (RefinementOf Failures spec) path t u ByDivergence h shows = absurd h
+meets_by script DeadlockFree path t u ByDivergence h shows = absurd h
+meets_by script DivergenceFree path t u ByDivergence h shows = shows
 
 pub has_end : (script : Script) (a : Assertion) (v : Violation) → IsViolation script a v → HasEnd script a.implementation v
 has_end script a v is = (is.end, is.run, shows_by script a.property v.path is.end v.evidence is.evidence)
 
 pub ends_met : (script : Script) (a : Assertion) (v : Violation) → IsViolation script a v → EndsAreMet script a v
-ends_met script a v is u shows other = meets_by script a.property v.path is.end u v.evidence is.evidence shows other
+ends_met script a v is u shows = meets_by script a.property v.path is.end u v.evidence is.evidence shows

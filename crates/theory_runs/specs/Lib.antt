@@ -1,4 +1,5 @@
 pub mod States
+pub mod Lassos
 pub mod Layers
 pub mod Within
 pub mod Gathering
@@ -6,5 +7,6 @@ pub mod Initials
 pub mod Acceptances
 pub mod Stuck
 pub mod Runs
+pub mod Stops
 pub mod Meeting
 pub mod Returning

@@ -1,11 +1,11 @@
 -- Runs told state by state.
-use Rattle.std.specs.Prelude.{◌≡◌, ◌≢◌, ◌↔◌, ◌≤◌, ℕ, suc, List, [], ◌∷◌, length, slice_get, Some, take, Contains}
-use Rattle.theory_syntax.specs.Value.{Action, Tau}
+use Rattle.std.specs.Prelude.{◌≡◌, ◌↔◌, ◌≤◌, ℕ, suc, List, [], ◌∷◌, length, slice_get, Some, take, Contains}
+use Rattle.theory_syntax.specs.Value.{Action}
 use Rattle.theory_syntax.specs.Process.{Process, Assertion, Script}
 use Rattle.theory_semantics.specs.Meaning.Transitions.{Step}
 use Rattle.theory_semantics.specs.Meaning.Runs.{Run, trace, IsAfter}
 use Rattle.theory_semantics.specs.Meaning.Offers.{CanDo, IsAcceptance}
-use Rattle.theory_semantics.specs.Meaning.Divergence.{IsDeadlocked}
+use Rattle.theory_semantics.specs.Meaning.Divergence.{Diverges, IsDeadlocked}
 use Rattle.theory_search.specs.Counting.{AreMoreThan}
 use Rattle.theory_search.specs.Growth.{AreDistinct}
 use Rattle.theory_semantics.specs.Meaning.Violations.{Evidence, ByEvent, ByOffers, ByDeadlock, ByDivergence, Violation, IsEvidence}
@@ -15,12 +15,12 @@ abbrev pub Visits : Script → Process → List Action → List Process → Proc
 Visits script t [] states u = (states ≡ t ∷ []) × (t ≡ u)
 Visits script t (x ∷ path) states u = (mid : Process) × (rest : List Process) × (states ≡ t ∷ rest) × Step script t x mid × Visits script mid path rest u
 
--- The end of a path does what the evidence says. Of a divergence one tau is asked, and not that they go on for ever.
+-- The end of a path does what the evidence says.
 abbrev pub Shows : Script → Process → Evidence → Type 0
 Shows script t (ByEvent x) = CanDo script t x
 Shows script t (ByOffers xs) = IsAcceptance script t xs
 Shows script t ByDeadlock = IsDeadlocked script t
-Shows script t ByDivergence = CanDo script t Tau
+Shows script t ByDivergence = Diverges script t
 
 -- the path leads from t to a state that shows the evidence, and these are the states on its way
 pub record IsReplay (script : Script) (t : Process) (v : Violation) (states : List Process) : Type 0 where
@@ -50,9 +50,9 @@ AreStepByStep script path states = (i : ℕ) (x : Action) → slice_get path i �
 abbrev pub HasEnd : Script → Process → Violation → Type 0
 HasEnd script t v = (u : Process) × Run script t v.path u × Shows script u v.evidence
 
--- Each end of the path of a violation that shows its evidence is one where it is met, but for divergence.
+-- each end of the path of a violation that shows its evidence is one where it is met
 abbrev pub EndsAreMet : Script → Assertion → Violation → Type 0
-EndsAreMet script a v = (u : Process) → Shows script u v.evidence → v.evidence ≢ ByDivergence → IsEvidence script a.property v.path u v.evidence
+EndsAreMet script a v = (u : Process) → Shows script u v.evidence → IsEvidence script a.property v.path u v.evidence
 
 -- ---- the states after a trace
 

@@ -14,6 +14,6 @@ pub returns-clause-both : goal.returns-clause-both
 unfolding digits
 returns-clause-both c = refl
 
-pub returns-clause-below : goal.returns-clause-below
+pub returns-clause-renamed : goal.returns-clause-renamed
 unfolding digits
-returns-clause-below c = refl
+returns-clause-renamed c = refl

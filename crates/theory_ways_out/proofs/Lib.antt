@@ -1,0 +1,10 @@
+pub mod Filled
+pub mod Moving
+pub mod Apart
+pub mod Leading
+pub mod Grafting
+pub mod Splicing
+pub mod Leaving
+pub mod GraftSteps
+pub mod Measured
+pub mod Causes

@@ -1,0 +1,9 @@
+pub mod Wide
+pub mod Apart
+pub mod Forking
+pub mod Moves
+pub mod Examples
+pub mod Grafts
+pub mod GraftSteps
+pub mod Measures
+pub mod Causes
