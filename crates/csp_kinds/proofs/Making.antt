@@ -52,6 +52,7 @@ script_made raw types sets items constructors channels ks cs of_types of_sets of
   assertions = of_items.assertions;
   channel_names = encoded_names raw cs (channel_spellings channels.items) (declared_as ChannelName) named_cs spelled_cs;
   constructor_names = encoded_names raw ks (constructor_spellings constructors.items) (declared_as ConstructorName) named_ks spelled_ks;
+  unfolds = refl;
 }
 
 -- ---- the sets that were evaluated are the script's

@@ -21,18 +21,18 @@ use Rattle.explain_program.specs.declared.search_size.SearchSize.{SearchSize}
 
 -- ---- one of them
 
-module _ (request : Request) (script : Script) (names : Names) (n : ℕ) (a : Assertion) (o : Outcome) where
+module _ (request : Request) (script : Script) (names : Names) (n : ℕ) (written a : Assertion) (o : Outcome) where
   -- alone, where that is asked for
-  pub told_alone : (told : List ℕ) → request.count ≡ false → IsTold (style_for request names) script n a o told → IsToldAsAsked request script names n a o told
+  pub told_alone : (told : List ℕ) → request.count ≡ false → IsTold (style_for request names) script n written a o told → IsToldAsAsked request script names n written a o told
   told_alone told alone is =
-      let T : Bool → Type 0 = λ count. IsToldBy count request script names n a o told in
+      let T : Bool → Type 0 = λ count. IsToldBy count request script names n written a o told in
       subst T (sym alone) is
 
   -- with the size of its search
-  pub told_with_size : {E A : Type 0} (made : Result (String A) E) (told : List ℕ) (size : Option SearchSize) → request.count ≡ true → IsTold (style_for request names) script n a o told →
-      IsSizeFor script a request.bounds o size → IfOk made (λ all. string_bytes all ≡ told ++ size_text a.property size) → IfOk made (λ all. IsToldAsAsked request script names n a o (string_bytes all))
+  pub told_with_size : {E A : Type 0} (made : Result (String A) E) (told : List ℕ) (size : Option SearchSize) → request.count ≡ true → IsTold (style_for request names) script n written a o told →
+      IsSizeFor script a request.bounds o size → IfOk made (λ all. string_bytes all ≡ told ++ size_text a.property size) → IfOk made (λ all. IsToldAsAsked request script names n written a o (string_bytes all))
   told_with_size (Ok all) told size counted is is_size whole =
-      let T : Bool → Type 0 = λ count. IsToldBy count request script names n a o (string_bytes all) in
+      let T : Bool → Type 0 = λ count. IsToldBy count request script names n written a o (string_bytes all) in
       subst T (sym counted) (record { told = told; is_told = is; size = size; is_size = is_size; whole = whole })
   told_with_size (Err e) told size counted is is_size whole = tt
 

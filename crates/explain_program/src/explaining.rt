@@ -13,7 +13,8 @@ use crate::reader::NamedScript;
 use crate::stop::Stop;
 use crate::telling::explanation_text;
 use crate::untold::Untold;
-use csp_term::AllocHandle;
+use csp_settling::settled_assertion;
+use csp_term::{AllocHandle, Unfolding};
 use explain_settings::Settings;
 use report::{Sink, push_all};
 use std::sync::Wait;
@@ -107,9 +108,25 @@ fn explain_one<A: AllocHandle + Send + Sync, R: Threads + Wait + Sync, O: Sink>(
         (λ _ text. WentOut text)) output) }
 {
     let assertions = named.script.assertions();
-    let assertion = &assertions[place];
+    let written = &assertions[place];
+    let settled;
+    let assertion = match named.script.parts().unfolds {
+        Unfolding::ByTau => written,
+        Unfolding::AtOnce => {
+            settled = settled_assertion(alloc, named.script.parts(), written)?;
+            &settled
+        }
+    };
     let answer = answer(alloc, rt, settings, &named.script, assertion);
-    let text = explanation_text(alloc, settings, named, place + 1, assertion, &answer)?;
+    let text = explanation_text(
+        alloc,
+        settings,
+        named,
+        place + 1,
+        written,
+        assertion,
+        &answer,
+    )?;
     match push_all(text.as_str().as_bytes(), out) {
         Ok(()) => Ok(outcome_status(&answer.outcome)),
         Err(_) => Err(Untold::Output),

@@ -24,6 +24,15 @@ pub struct NamedScript<'t, A: Allocator> {
     pub names: Names<'t, A>,
 }
 
+impl<'t, A: Allocator> NamedScript<'t, A> {
+    /// The same with its names unfolded at once, where that is asked for.
+    pub(crate) fn as_asked(self, unfold: bool) -> NamedScript<'t, A> {
+        let NamedScript { script, names } = self;
+        let script = if unfold { script.at_once() } else { script };
+        NamedScript { script, names }
+    }
+}
+
 /// The script that the text is, with its names.
 ///
 /// The tokens are looked at first (`Text`), then the grammar (`Grammar`), then names and kinds (`Kinds`). `Memory`

@@ -23,19 +23,20 @@ use csp_term::{AllocHandle, Assertion, Memory};
 use explain_settings::Settings;
 use explanation::tell;
 
-/// What is told of the assertion with this number and answer, and where it is asked for, how large the search was.
+/// What is told of the assertion with this number and answer, which is written so, and where it is asked for, how large the search was.
 pub(crate) fn explanation_text<A: AllocHandle>(
     alloc: A,
     settings: &Settings<'_>,
     named: &NamedScript<'_, A>,
     number: usize,
+    written: &Assertion<A>,
     assertion: &Assertion<A>,
     answer: &Answer<A>,
 ) -> Result<String<A>, Memory>
     requires terms { IsAssertionOf (script_of named.now.script) (assertion_of assertion.now) }
     requires run { HasRun (script_of named.now.script) (process_of assertion.now.implementation) (outcome_of answer.now.outcome) }
     requires size { IsSizeFor (script_of named.now.script) (assertion_of assertion.now) (bounds_asked settings.now) (outcome_of answer.now.outcome) answer.now.size }
-    ensures { IfOk result (λ text. IsToldAsAsked (request_of settings.now) (script_of named.now.script) (names_of named.now.names) number (assertion_of assertion.now) (outcome_of answer.now.outcome) (string_bytes text)) }
+    ensures { IfOk result (λ text. IsToldAsAsked (request_of settings.now) (script_of named.now.script) (names_of named.now.names) number (assertion_of written.now) (assertion_of assertion.now) (outcome_of answer.now.outcome) (string_bytes text)) }
 {
     let style = style(settings, &named.names);
     let text = tell(
@@ -43,6 +44,7 @@ pub(crate) fn explanation_text<A: AllocHandle>(
         &style,
         &named.script,
         number,
+        written,
         assertion,
         &answer.outcome,
     )?;

@@ -7,7 +7,7 @@ ghost use Rattle.explain_settings.specs.CommandLine.{command_line, count_rule, f
 
 use crate::help::{ABOUT, STATUS, VERSION};
 use clap::{Arg, ArgAction, Command};
-use settings::{MAX_NODES, MAX_PAIRS, MAX_WORKERS};
+use settings::{MAX_NODES, MAX_PAIRS, MAX_WORKERS, flag};
 use std::alloc::{AllocError, Global};
 
 /// The most characters of a state that may be asked for, and the greatest number of an assertion. A text has no more.
@@ -32,6 +32,9 @@ pub(crate) fn command_line<'a>(alloc: Global) -> Result<Command<'a>, AllocError>
     let counted = flag(alloc, "count").help(
         "Tell how many pairs and nodes the search of each assertion had",
     );
+    let unfolded = flag(alloc, "unfold").help(
+        "Unfold names at once, as FDR does: the same answers from fewer states; the trace shown may be another one",
+    );
     let file = file(alloc);
     let assertion = count(alloc, "assertion", "0", MOST).help(
         "The number of the assertion to tell of, or 0 for each",
@@ -44,6 +47,7 @@ pub(crate) fn command_line<'a>(alloc: Global) -> Result<Command<'a>, AllocError>
         .arg(workers)?
         .arg(pairs)?
         .arg(nodes)?
+        .arg(unfolded)?
         .arg(width)?
         .arg(counted)?
         .arg(file)?
@@ -86,12 +90,4 @@ fn count<'a>(alloc: Global, name: &'a str, default: &'a str, most: usize) -> Arg
         .action(ArgAction::Set)
         .value_parser(clap::value_parser!(usize).range(0..=most as i64))
         .default_value(default)
-}
-
-// An option without a value of its own.
-fn flag<'a>(alloc: Global, name: &'a str) -> Arg<'a>
-    ensures rule { rule_of result ≡ flag_rule name.now }
-    ensures local { result.global ≡ false }
-{
-    Arg::new(alloc, name).long(name).action(ArgAction::SetTrue)
 }

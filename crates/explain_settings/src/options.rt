@@ -11,7 +11,7 @@ ghost use Rattle.explain_settings.specs.Faults.{IsFaultOf, faults_of};
 use crate::command::command_line;
 use crate::help::with_refusals;
 use clap::ArgMatches;
-use settings::{CommandLineFault, number};
+use settings::{CommandLineFault, is_used, number};
 use std::alloc::Global;
 
 /// What a command line asks of the program.
@@ -23,6 +23,8 @@ pub struct Settings<'a> {
     pub max_pairs: usize,
     /// The most nodes of a normal form, and the most states of each, 1 to 100,000.
     pub max_nodes: usize,
+    /// Whether names are unfolded at once.
+    pub unfold: bool,
     /// The most characters of a state that are told, or 0 for all.
     pub width: usize,
     /// Whether it is told how large the search of an assertion was.
@@ -60,21 +62,12 @@ pub fn read<'a>(alloc: Global, words: &'a [&'a str]) -> Result<Settings<'a>, Com
         workers: number(&matches, "workers"),
         max_pairs: number(&matches, "max-pairs"),
         max_nodes: number(&matches, "max-nodes"),
+        unfold: is_used(&matches, "unfold"),
         width: number(&matches, "width"),
         count: is_used(&matches, "count"),
         file: matches.get_str("file").unwrap(),
         assertion: number(&matches, "assertion"),
     })
-}
-
-// Whether the words use the flag, whose value is then `true`.
-fn is_used(matches: &ArgMatches<'_>, flag: &str) -> bool
-    ensures { IsTrue result ↔ first_value (found_of matches.now) flag.now ≡ Some (codes "true") }
-{
-    match matches.get_str(flag) {
-        Some(value) => value == "true",
-        None => false,
-    }
 }
 
 // What the command line answers in place of matches. The help has the refusals of a script behind it.

@@ -18,8 +18,8 @@ use counterexample::{Style, counterexample_of, push_counterexample, push_mark};
 use csp_term::{AllocHandle, Assertion, Memory, Script};
 use verdict::{Outcome, Shown};
 
-/// What is told of an assertion between terms of the script, with its number and outcome: a headline, and why. Where the
-/// outcome shows a violation, a run by its path ends with its evidence, and such a run is told state by state, beside
+/// What is told of an assertion between terms of the script, with its number and outcome: the headline of the assertion as it
+/// is written, and why. Where the outcome shows a violation, a run by its path ends with its evidence, and such a run is told state by state, beside
 /// what the specification has along the path.
 ///
 /// `Memory` says that there is no room to tell.
@@ -28,14 +28,15 @@ pub fn tell<A: AllocHandle>(
     style: &Style<'_, '_, A>,
     script: &Script<A>,
     number: usize,
+    written: &Assertion<A>,
     assertion: &Assertion<A>,
     outcome: &Outcome<A>,
 ) -> Result<String<A>, Memory>
     requires terms { IsAssertionOf (script_of script.now) (assertion_of assertion.now) }
     requires run { HasRun (script_of script.now) (process_of assertion.now.implementation) (outcome_of outcome.now) }
-    ensures { IfOk result (λ text. IsTold (style_of style.now) (script_of script.now) number (assertion_of assertion.now) (outcome_of outcome.now) (string_bytes text)) }
+    ensures { IfOk result (λ text. IsTold (style_of style.now) (script_of script.now) number (assertion_of written.now) (assertion_of assertion.now) (outcome_of outcome.now) (string_bytes text)) }
 {
-    let mut text = headline_text(alloc, style.names, number, assertion, outcome)?;
+    let mut text = headline_text(alloc, style.names, number, written, outcome)?;
     push_why(alloc, style, script, assertion, outcome, &mut text)?;
     Ok(text)
 }

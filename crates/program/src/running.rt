@@ -16,7 +16,8 @@ use crate::files::Files;
 use crate::reader;
 use crate::refusal::{Refusal, push_line};
 use crate::resources::Resources;
-use csp_term::{AllocHandle, Script};
+use csp_settling::settled_assertion;
+use csp_term::{AllocHandle, Assertion, Script, Unfolding};
 use explore::{Open, explore};
 use pair_store::Limits;
 use report::{Sink, push_all, write};
@@ -158,12 +159,26 @@ fn answer<A: AllocHandle + Send + Sync, R: Threads + Wait + Sync, F: Files<A>, O
     if !resources.stack.takes(text.len()) {
         return Err(Refusal::Thread);
     }
-    let script = reader::read(resources.alloc, &text)?;
+    let script = read_as_asked(resources.alloc, settings, &text)?;
     let limits = limits(settings);
     let outcomes = outcomes(resources, &script, limits, settings.workers)?;
     match write(&script, &outcomes, out) {
         Ok(()) => Ok(status(&outcomes)),
         Err(_) => Err(Refusal::Output),
+    }
+}
+
+// The script of the text, with its names as the settings ask.
+fn read_as_asked<A: AllocHandle>(
+    alloc: A,
+    settings: &Settings<'_>,
+    text: &[u8],
+) -> Result<Script<A>, Refusal> {
+    let script = reader::read(alloc, text)?;
+    if settings.unfold {
+        Ok(script.at_once())
+    } else {
+        Ok(script)
     }
 }
 
@@ -189,9 +204,29 @@ fn outcomes<A: AllocHandle + Send + Sync, R: Threads + Wait + Sync>(
     let (alloc, rt) = (resources.alloc, resources.rt);
     let mut outcomes = Vec::new(alloc);
     for assertion in script.assertions() {
-        outcomes.push(explore(alloc, rt, script, assertion, limits, workers, &Open))?;
+        outcomes.push(outcome(alloc, rt, script, assertion, limits, workers)?)?;
     }
     Ok(outcomes)
+}
+
+// A right outcome for the assertion. Where names are unfolded at once, the search begins with its sides settled.
+fn outcome<A: AllocHandle + Send + Sync, R: Threads + Wait + Sync>(
+    alloc: A,
+    rt: &R,
+    script: &Script<A>,
+    assertion: &Assertion<A>,
+    limits: Limits,
+    workers: usize,
+) -> Result<Outcome<A>, AllocError> {
+    match script.parts().unfolds {
+        Unfolding::ByTau => { Ok(explore(alloc, rt, script, assertion, limits, workers, &Open)) }
+        Unfolding::AtOnce => {
+            let Ok(settled) = settled_assertion(alloc, script.parts(), assertion) else {
+                return Err(AllocError);
+            };
+            Ok(explore(alloc, rt, script, &settled, limits, workers, &Open))
+        }
+    }
 }
 
 // The greatest status of an outcome.

@@ -22,6 +22,9 @@ pub(crate) fn command_line<'a>(alloc: Global) -> Result<Command<'a>, AllocError>
     let nodes = number(alloc, "max-nodes", "10000", MAX_NODES).help(
         "The most nodes of a specification, 1 to 100000",
     );
+    let unfolded = flag(alloc, "unfold").help(
+        "Unfold names at once, as FDR does: the same answers from fewer states; the trace shown may be another one",
+    );
     let file = Arg::new(alloc, "file")
         .value_name("FILE")
         .help("The script to check")
@@ -35,6 +38,7 @@ pub(crate) fn command_line<'a>(alloc: Global) -> Result<Command<'a>, AllocError>
         .arg(workers)?
         .arg(pairs)?
         .arg(nodes)?
+        .arg(unfolded)?
         .arg(file)
 }
 
@@ -50,4 +54,12 @@ fn number<'a>(alloc: Global, name: &'a str, default: &'a str, most: usize) -> Ar
         .action(ArgAction::Set)
         .value_parser(clap::value_parser!(usize).range(1..=most as i64))
         .default_value(default)
+}
+
+/// An option without a value of its own.
+pub fn flag<'a>(alloc: Global, name: &'a str) -> Arg<'a>
+    ensures rule { rule_of result ≡ flag_rule name.now }
+    ensures local { result.global ≡ false }
+{
+    Arg::new(alloc, name).long(name).action(ArgAction::SetTrue)
 }

@@ -29,6 +29,8 @@ pub struct Settings<'a> {
     pub max_pairs: usize,
     /// The most nodes of a normal form, and the most states of each, 1 to 100,000.
     pub max_nodes: usize,
+    /// Whether names are unfolded at once.
+    pub unfold: bool,
     /// The name of the script's file.
     pub file: &'a str,
     pub ghost workers_in_range: { (1 ≤ workers) × (workers ≤ 64) },
@@ -57,6 +59,7 @@ pub fn read<'a>(alloc: Global, words: &'a [&'a str]) -> Result<Settings<'a>, Com
         workers: number(&matches, "workers"),
         max_pairs: number(&matches, "max-pairs"),
         max_nodes: number(&matches, "max-nodes"),
+        unfold: is_used(&matches, "unfold"),
         file: matches.get_str("file").unwrap(),
     })
 }
@@ -67,4 +70,14 @@ pub fn number(matches: &ArgMatches<'_>, name: &str) -> usize
     ensures { HasNumber (one_text (found_of matches.now) name.now) result }
 {
     matches.get_one::<usize>(name).unwrap()
+}
+
+/// Whether the words use the flag, whose value is then `true`.
+pub fn is_used(matches: &ArgMatches<'_>, flag: &str) -> bool
+    ensures { IsTrue result ↔ first_value (found_of matches.now) flag.now ≡ Some (codes "true") }
+{
+    match matches.get_str(flag) {
+        Some(value) => value == "true",
+        None => false,
+    }
 }
