@@ -2,10 +2,10 @@
 use Rattle.std.specs.Prelude.{◌≡◌, ◌⊎◌, ⊤, ℕ, Bool, true, false, IsFalse, cond, List, Option, Some, None, Result, Ok, Err, option_map}
 use denote.Ref.{Bor}
 use Rattle.theory_syntax.specs.Value.{Value}
-use Rattle.theory_syntax.specs.Process.{Process, Property, RefinementOf, DeadlockFree, DivergenceFree, Assertion, Script}
+use Rattle.theory_syntax.specs.Process.{Process}
 use Rattle.theory_semantics.specs.Meaning.Evaluation.{Cause}
 use Rattle.theory_semantics.specs.Meaning.Limits.{fits}
-use Rattle.theory_semantics.specs.Meaning.Unfolding.{chained, unfold_calls, unfolded_or, settled_within, settled}
+use Rattle.theory_semantics.specs.Meaning.Unfolding.{chained, unfold_calls, unfolded_or, settled_within}
 use Rattle.csp_expression.specs.Agreement.{AgreesBy}
 use Rattle.csp_expression.specs.declared.no_value.NoValue.{NoValue}
 use Rattle.csp_term.specs.declared.term.Term.{Term}
@@ -66,18 +66,3 @@ abbrev pub IsTruth : Result Bool Cause → Decision → Type 0
 IsTruth r decision.Holds = r ≡ Ok true
 IsTruth r decision.Fails = r ≡ Ok false
 IsTruth r decision.Faulty = (c : Cause) × (r ≡ Err c)
-
--- ---- assertions
-
--- a side settled, unless it is then past the limits
-abbrev pub settled_side : Script → Process → Process
-settled_side script p = cond (fits (settled script p)) (settled script p) p
-
-abbrev pub settled_sides : Script → Property → Property
-settled_sides script (RefinementOf model spec) = RefinementOf model (settled_side script spec)
-settled_sides script DeadlockFree = DeadlockFree
-settled_sides script DivergenceFree = DivergenceFree
-
--- the assertion with each side settled, unless it is then past the limits
-abbrev pub with_settled_sides : Script → Assertion → Assertion
-with_settled_sides script a = record { negated = a.negated; property = settled_sides script a.property; implementation = settled_side script a.implementation }

@@ -4,7 +4,8 @@ ghost use Rattle.std.specs.Prelude.{◌≡◌, IfOk};
 ghost use Rattle.theory_semantics.specs.Meaning.Unfolding.{settled};
 ghost use Rattle.csp_term.specs.Script.{assertion_of, property_of, script_of_parts};
 ghost use Rattle.csp_term.specs.Term.{process_of};
-ghost use Rattle.csp_settling.specs.Settling.{TellsUnfolded, settled_side, settled_sides, with_settled_sides};
+ghost use Rattle.theory_unfolding.specs.Assertions.{settled_assertion, settled_property, settled_side};
+ghost use Rattle.csp_settling.specs.Settling.{TellsUnfolded};
 
 use crate::calls::{no_call, unfold};
 use crate::unfolded::Unfolded;
@@ -35,7 +36,7 @@ pub fn settled_assertion<A: Allocator + Copy>(
     script: &ScriptParts<A>,
     assertion: &Assertion<A>,
 ) -> Result<Assertion<A>, Memory>
-    ensures { IfOk result (λ settled. assertion_of settled ≡ with_settled_sides (script_of_parts script.now) (assertion_of assertion.now)) }
+    ensures { IfOk result (λ settled. assertion_of settled ≡ settled_assertion (script_of_parts script.now) (assertion_of assertion.now)) }
 {
     let property = settled_property(alloc, script, &assertion.property)?;
     let implementation = settled_side(alloc, script, &assertion.implementation)?;
@@ -52,7 +53,7 @@ fn settled_property<A: Allocator + Copy>(
     script: &ScriptParts<A>,
     property: &Property<A>,
 ) -> Result<Property<A>, Memory>
-    ensures { IfOk result (λ settled. property_of settled ≡ settled_sides (script_of_parts script.now) (property_of property.now)) }
+    ensures { IfOk result (λ settled. property_of settled ≡ settled_property (script_of_parts script.now) (property_of property.now)) }
 {
     match property {
         Property::Refinement {

@@ -5,7 +5,7 @@ use Rattle.theory_syntax.specs.Process.{Script, Assertion}
 use Rattle.theory_search.specs.Outcome.{Bounds, Outcome, Holds, Fails, Unknown, Denied}
 use Rattle.theory_notation.specs.Names.{Names}
 use Rattle.theory_runs.proofs.Visiting.{has_end}
-use Rattle.explore.specs.Answering.{IsRightAsWritten}
+use Rattle.theory_search.specs.Truth.{IsRightAsWritten}
 use Rattle.explanation.specs.Running.{HasRun}
 use Rattle.report.specs.Sending.{Sends}
 use Rattle.program.specs.Running.{outcome_status}

@@ -6,7 +6,8 @@ use Rattle.theory_search.specs.Answer.{MayHaveForm, as_written}
 use Rattle.theory_search.specs.Outcome.{Bounds, Why, Outcome, Unknown}
 use Rattle.theory_search.specs.Search.{IsLawful, Open}
 use Rattle.theory_search.specs.Sound.{IsFor, ScriptSearch}
-use Rattle.explore.specs.Answering.{IsNotBegun, IsRightAsWritten}
+use Rattle.theory_search.specs.Truth.{IsRightAsWritten}
+use Rattle.explore.specs.Answering.{IsNotBegun}
 use Rattle.explore.proofs.Ending.{not_begun_right, right_for}
 use Rattle.explore.proofs.Exchanging.{right_as_written}
 use Rattle.explain_program.specs.Sizes.{HasSize, IsSizeFor, IsToldAsWritten}

@@ -9,7 +9,7 @@ use Rattle.theory_syntax.specs.Process.{Script, Assertion}
 use Rattle.theory_search.specs.Outcome.{Outcome}
 use Rattle.theory_notation.specs.Names.{Names}
 use Rattle.theory_explanation.specs.Telling.{IsTold}
-use Rattle.explore.specs.Answering.{IsRightAsWritten}
+use Rattle.theory_search.specs.Truth.{IsRightAsWritten}
 use Rattle.report.specs.Sending.{Sends, Breaks}
 use Rattle.report.proofs.Sending.{appends_nothing, both, later}
 use Rattle.program.specs.Running.{status_of}

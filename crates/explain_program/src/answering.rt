@@ -4,7 +4,7 @@ ghost use Rattle.std.specs.Prelude.{◌≡◌};
 ghost use Rattle.theory_search.specs.Terms.{IsAssertionOf};
 ghost use Rattle.csp_term.specs.Script.{assertion_of, script_of};
 ghost use Rattle.pair_store.specs.Bounds.{bounds_of};
-ghost use Rattle.explore.specs.Answering.{IsRightAsWritten};
+ghost use Rattle.theory_search.specs.Truth.{IsRightAsWritten};
 ghost use Rattle.verdict.specs.Outcome.{outcome_of};
 ghost use Rattle.program.specs.Running as program;
 ghost use Rattle.explain_program.specs.Asking.{bounds_asked};

@@ -3,7 +3,7 @@
 ghost use Rattle.std.specs.Prelude.{◌≡◌, ◌≤◌, IfOk, false};
 ghost use Rattle.clap.specs.Words.{app_of, rule_of};
 ghost use Rattle.settings.specs.CommandLine.{file_rule, number_rule};
-ghost use Rattle.explain_settings.specs.CommandLine.{command_line, count_rule, flag_rule};
+ghost use Rattle.explain_settings.specs.CommandLine.{command_line, count_rule};
 
 use crate::help::{ABOUT, STATUS, VERSION};
 use clap::{Arg, ArgAction, Command};

@@ -2,7 +2,7 @@
 
 ghost use Rattle.std.specs.Prelude.{◌≡◌, ◌≤◌, ◌↔◌, Some, [], IfOk, IfErr, IsTrue, codes};
 ghost use Rattle.clap.specs.Walk.{texts};
-ghost use Rattle.clap.specs.Words.{first_value, found_of, kind_of};
+ghost use Rattle.clap.specs.Words.{kind_of};
 ghost use Rattle.settings.specs.CommandLine.{HasNumber};
 ghost use Rattle.settings.specs.Faults.{IsAnswerOf};
 ghost use Rattle.explain_settings.specs.CommandLine.{IsUsed, value};
@@ -10,7 +10,6 @@ ghost use Rattle.explain_settings.specs.Faults.{IsFaultOf, faults_of};
 
 use crate::command::command_line;
 use crate::help::with_refusals;
-use clap::ArgMatches;
 use settings::{CommandLineFault, is_used, number};
 use std::alloc::Global;
 
@@ -48,6 +47,7 @@ pub fn read<'a>(alloc: Global, words: &'a [&'a str]) -> Result<Settings<'a>, Com
     ensures workers { IfOk result (λ s. HasNumber (value (codes "workers") (texts words.entry.now)) s.workers) }
     ensures pairs { IfOk result (λ s. HasNumber (value (codes "max-pairs") (texts words.entry.now)) s.max_pairs) }
     ensures nodes { IfOk result (λ s. HasNumber (value (codes "max-nodes") (texts words.entry.now)) s.max_nodes) }
+    ensures unfold { IfOk result (λ s. IsTrue s.unfold ↔ IsUsed (codes "unfold") (texts words.entry.now)) }
     ensures width { IfOk result (λ s. HasNumber (value (codes "width") (texts words.entry.now)) s.width) }
     ensures count { IfOk result (λ s. IsTrue s.count ↔ IsUsed (codes "count") (texts words.entry.now)) }
     ensures file { IfOk result (λ s. value (codes "file") (texts words.entry.now) ≡ Some s.file.now) }

@@ -2,7 +2,7 @@
 
 ghost use Rattle.std.specs.Prelude.{◌≡◌, ◌≤◌, IfOk, false};
 ghost use Rattle.clap.specs.Words.{app_of, rule_of};
-ghost use Rattle.settings.specs.CommandLine.{command_line, number_rule};
+ghost use Rattle.settings.specs.CommandLine.{command_line, flag_rule, number_rule};
 
 use crate::help::{ABOUT, LINES_AND_STATUS, VERSION};
 use crate::settings::{MAX_NODES, MAX_PAIRS, MAX_WORKERS};

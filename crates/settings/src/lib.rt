@@ -1,4 +1,4 @@
-//! The command line of `refcheck`: a file to check, and four options: three are numbers in a range, and one has no value.
+//! The command line of `refcheck`: a file to check, three options, each a number in a range, and a flag.
 //!
 //! `read` makes the settings of the words after the program's name. Which value a word gives to which option is said in
 //! the words of `clap`, of which the command here is a simple one.

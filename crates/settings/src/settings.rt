@@ -1,9 +1,9 @@
 //! What a command line asks of the program.
 
-ghost use Rattle.std.specs.Prelude.{◌≡◌, ◌≤◌, Some, [], IfOk, IfErr, codes};
+ghost use Rattle.std.specs.Prelude.{◌≡◌, ◌≤◌, ◌↔◌, Some, [], IfOk, IfErr, IsTrue, codes};
 ghost use Rattle.clap.specs.Walk.{texts};
-ghost use Rattle.clap.specs.Words.{found_of, one_text};
-ghost use Rattle.settings.specs.CommandLine.{HasNumber, IsNumeric, chosen, given};
+ghost use Rattle.clap.specs.Words.{first_value, found_of, one_text};
+ghost use Rattle.settings.specs.CommandLine.{HasNumber, IsNumeric, IsUsed, chosen, given};
 ghost use Rattle.settings.specs.Faults.{IsFaultOf, faults_of};
 
 use crate::command::command_line;
@@ -48,6 +48,7 @@ pub fn read<'a>(alloc: Global, words: &'a [&'a str]) -> Result<Settings<'a>, Com
     ensures workers { IfOk result (λ s. s.workers ≡ chosen (codes "workers") 1 (texts words.entry.now)) }
     ensures pairs { IfOk result (λ s. s.max_pairs ≡ chosen (codes "max-pairs") 100000 (texts words.entry.now)) }
     ensures nodes { IfOk result (λ s. s.max_nodes ≡ chosen (codes "max-nodes") 10000 (texts words.entry.now)) }
+    ensures unfold { IfOk result (λ s. IsTrue s.unfold ↔ IsUsed (codes "unfold") (texts words.entry.now)) }
     ensures file { IfOk result (λ s. given (codes "file") (texts words.entry.now) ≡ Some s.file.now) }
     ensures fault { IfErr result (IsFaultOf (texts words.entry.now)) }
 {

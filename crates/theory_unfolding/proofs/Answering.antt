@@ -1,8 +1,10 @@
 -- Assertions get the same answer in both readings, with the same trace and evidence.
-use Rattle.std.proofs.Common.{◌≡◌, ◌↔◌, Bool, true, false, List, [], ◌∷◌, ◌++◌, refl, sym, subst}
+use Rattle.std.proofs.Common.{◌≡◌, ◌↔◌, Bool, true, false, cond, List, [], ◌∷◌, ◌++◌, refl, sym, subst}
 use Rattle.std.specs.Prelude.{IfSome}
 use Rattle.theory_syntax.specs.Value.{Action}
 use Rattle.theory_syntax.specs.Process.{Process, Traces, Failures, Property, RefinementOf, DeadlockFree, DivergenceFree, specification_of, Assertion, Script}
+use Rattle.theory_semantics.specs.Meaning.Limits.{fits}
+use Rattle.theory_semantics.specs.Meaning.Unfolding.{settled}
 use Rattle.theory_semantics.specs.Meaning.Transitions.{IsNotStuck}
 use Rattle.theory_semantics.specs.Meaning.Runs.{trace, IsTrace, IsKnown, NoneStuck}
 use Rattle.theory_semantics.specs.Meaning.Offers.{AllBut, IsFailure}
@@ -10,7 +12,7 @@ use Rattle.theory_semantics.specs.Meaning.Properties.{HasProperty, HoldsPlainly}
 use Rattle.theory_semantics.specs.Meaning.Violations.{Evidence, ByEvent, ByOffers, ByDeadlock, ByDivergence, Violation, IsEvidence, IsViolation, HoldsBy, HoldsAsWritten}
 use Rattle.theory_syntax.specs.Readings.{by_tau, at_once}
 use Rattle.theory_unfolding.specs.Unfolded.{itself, IsUnfoldedTo}
-use Rattle.theory_unfolding.specs.Assertions.{IsUnfoldedProperty, of_refinement, of_deadlock, of_divergence, IsUnfoldedAssertion, settled_property, settled_assertion, SidesNeverStick, HasViolationLike}
+use Rattle.theory_unfolding.specs.Assertions.{IsUnfoldedProperty, of_refinement, of_deadlock, of_divergence, IsUnfoldedAssertion, settled_side, settled_property, settled_assertion, SidesNeverStick, HasViolationLike}
 use Rattle.theory_unfolding.proofs.Settled.{settled_unfolded}
 use Rattle.theory_unfolding.proofs.Running.{run_on, run_to_end, none_reached}
 use Rattle.theory_unfolding.proofs.Offering.{can_on, can_back, accepts_on, accepts_back, deadlocked_on, deadlocked_back}
@@ -20,13 +22,20 @@ use Rattle.theory_unfolding.proofs.Diverging.{diverges_on, diverges_back, diverg
 module _ (s : Script) where
   -- ---- settled assertions
 
+  side_unfolded : (p : Process) → IsUnfoldedTo s p (settled_side (at_once s) p)
+  side_unfolded p = go (fits (settled (at_once s) p))
+    where
+      go : (within : Bool) → IsUnfoldedTo s p (cond within (settled (at_once s) p) p)
+      go true = settled_unfolded s p
+      go false = (0, itself)
+
   settled_properties : (p : Property) → IsUnfoldedProperty s p (settled_property (at_once s) p)
-  settled_properties (RefinementOf model spec) = of_refinement (settled_unfolded s spec)
+  settled_properties (RefinementOf model spec) = of_refinement (side_unfolded spec)
   settled_properties DeadlockFree = of_deadlock
   settled_properties DivergenceFree = of_divergence
 
   pub settled_assertions : (a : Assertion) → IsUnfoldedAssertion s a (settled_assertion (at_once s) a)
-  settled_assertions a = record { negated = refl; property = settled_properties a.property; implementation = settled_unfolded s a.implementation }
+  settled_assertions a = record { negated = refl; property = settled_properties a.property; implementation = side_unfolded a.implementation }
 
   same_properties : (p : Property) → IsUnfoldedProperty s p p
   same_properties (RefinementOf model spec) = of_refinement (0, itself)

@@ -16,3 +16,5 @@ pub mod Sticking
 pub mod WorkedRows
 pub mod Sides
 pub mod Telling
+pub mod SettledSides
+pub mod Outcomes

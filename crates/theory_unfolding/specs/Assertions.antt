@@ -1,6 +1,7 @@
 -- Assertions in the two readings.
-use Rattle.std.specs.Prelude.{◌≡◌, IfSome}
+use Rattle.std.specs.Prelude.{◌≡◌, IfSome, cond}
 use Rattle.theory_syntax.specs.Process.{Process, Model, Property, RefinementOf, DeadlockFree, DivergenceFree, specification_of, Assertion, Script}
+use Rattle.theory_semantics.specs.Meaning.Limits.{fits}
 use Rattle.theory_semantics.specs.Meaning.Unfolding.{settled}
 use Rattle.theory_semantics.specs.Meaning.Runs.{trace, NoneStuck}
 use Rattle.theory_semantics.specs.Meaning.Violations.{Violation, IsViolation}
@@ -18,14 +19,18 @@ pub record IsUnfoldedAssertion (script : Script) (a b : Assertion) : Type 0 wher
   pub property : IsUnfoldedProperty script a.property b.property
   pub implementation : IsUnfoldedTo script a.implementation b.implementation
 
--- the assertion with its sides settled
+-- a side settled, unless it is then past the limits
+abbrev pub settled_side : Script → Process → Process
+settled_side script p = cond (fits (settled script p)) (settled script p) p
+
 abbrev pub settled_property : Script → Property → Property
-settled_property script (RefinementOf model spec) = RefinementOf model (settled script spec)
+settled_property script (RefinementOf model spec) = RefinementOf model (settled_side script spec)
 settled_property script DeadlockFree = DeadlockFree
 settled_property script DivergenceFree = DivergenceFree
 
+-- the assertion with its sides settled
 abbrev pub settled_assertion : Script → Assertion → Assertion
-settled_assertion script a = record { negated = a.negated; property = settled_property script a.property; implementation = settled script a.implementation }
+settled_assertion script a = record { negated = a.negated; property = settled_property script a.property; implementation = settled_side script a.implementation }
 
 -- no side of an assertion leads to a stuck term
 pub record SidesNeverStick (script : Script) (a : Assertion) : Type 0 where

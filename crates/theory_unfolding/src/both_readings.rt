@@ -12,6 +12,7 @@ ghost use Rattle.theory_semantics.specs.Meaning.Properties.{IsDeadlockFree, IsDi
 ghost use Rattle.theory_semantics.specs.Meaning.Refinement.{Refines};
 ghost use Rattle.theory_semantics.specs.Meaning.Violations.{Violation, IsViolation, HoldsAsWritten};
 ghost use Rattle.theory_semantics.specs.Laws.Terms.{letter, plain, just, a_stop, send, send_x, num};
+ghost use Rattle.theory_search.specs.Terms.{IsAssertionOf};
 ghost use Rattle.theory_syntax.specs.Readings.{by_tau, at_once};
 ghost use Rattle.theory_unfolding.specs.Unfolded.{IsUnfoldedTo};
 ghost use Rattle.theory_unfolding.specs.Assertions.{IsUnfoldedAssertion, settled_assertion, SidesNeverStick, HasViolationLike};
@@ -23,6 +24,12 @@ pub fn settled_terms_are_unfolded()
     ensures term { (script : Script) (t : Process) → IsUnfoldedTo script t (settled (at_once script) t) }
     ensures assertion { (script : Script) (a : Assertion) → IsUnfoldedAssertion script a (settled_assertion (at_once script) a) }
     ensures itself { (script : Script) (a : Assertion) → IsUnfoldedAssertion script a a }
+{}
+
+/// The sides of a settled assertion are terms of the script, as they were, and where names do a tau it is the same assertion.
+pub fn settled_sides_stay_terms()
+    ensures terms { (script : Script) (a : Assertion) → IsAssertionOf script a → IsAssertionOf script (settled_assertion script a) }
+    ensures by_tau { (script : Script) (a : Assertion) → script.unfolds ≡ ByTau → settled_assertion script a ≡ a }
 {}
 
 /// What unfolding does is what the taus of the calls do: a term runs to what it is unfolded to, each step at once is a step,

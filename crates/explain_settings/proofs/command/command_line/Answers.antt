@@ -3,8 +3,8 @@ use Rattle.std.proofs.lemmas.Result.{IfOk-weaker}
 use Rattle.clap.specs.Simple.{app_of_fields, new_app, on_top, with_rule}
 use Rattle.clap.specs.Words.{Rule, app_of, rule_of}
 use Rattle.clap.specs.declared.builder.arg.Arg.{Arg}
-use Rattle.settings.specs.CommandLine.{number_rule}
-use Rattle.explain_settings.specs.CommandLine.{count_option, count_rule, flag_rule}
+use Rattle.settings.specs.CommandLine.{flag_rule, number_rule}
+use Rattle.explain_settings.specs.CommandLine.{count_option, count_rule}
 use Rattle.explain_settings.proofs.command.command_line.Goals as goal
 
 pub returns : goal.returns
@@ -17,6 +17,8 @@ returns c =
     let width_local : c.help-width.result.global ≡ false = ap (λ (a : Arg). a.global) c.help-width.ensures ∙ ap (λ (a : Arg). a.global) c.long.ensures ∙ c.count.ensures.local in
     let counted_is : rule_of c.help-counted.result ≡ flag_rule (codes "count") = ap rule_of c.help-counted.ensures ∙ c.flag.ensures.rule in
     let counted_local : c.help-counted.result.global ≡ false = ap (λ (a : Arg). a.global) c.help-counted.ensures ∙ c.flag.ensures.local in
+    let unfolded_is : rule_of c.help-unfolded.result ≡ flag_rule (codes "unfold") = ap rule_of c.help-unfolded.ensures ∙ c.flag-2.ensures.rule in
+    let unfolded_local : c.help-unfolded.result.global ≡ false = ap (λ (a : Arg). a.global) c.help-unfolded.ensures ∙ c.flag-2.ensures.local in
     let assertion_is : rule_of c.help-assertion.result ≡ count_rule (codes "assertion") (codes "0") 1000000 = ap rule_of c.help-assertion.ensures ∙ c.count-2.ensures.rule in
     let assertion_local : c.help-assertion.result.global ≡ false = ap (λ (a : Arg). a.global) c.help-assertion.ensures ∙ c.count-2.ensures.local in
     let named : app_of c.after_help.result ≡ on_top (λ s. record s { no_binary_name = true; has_version = true }) (new_app (codes "explain")) =
@@ -25,7 +27,8 @@ returns c =
     let one = c.in_ok-arg.ensures.shape (ap (λ (a : Arg). a.global) c.help-workers.ensures ∙ c.option.ensures.local) ∙ ap₂ with_rule named workers_is in
     let two = c.in_ok-arg-2.ensures.shape (ap (λ (a : Arg). a.global) c.help-pairs.ensures ∙ c.option-2.ensures.local) ∙ ap₂ with_rule one pairs_is in
     let three = c.in_ok-arg-3.ensures.shape (ap (λ (a : Arg). a.global) c.help-nodes.ensures ∙ c.option-3.ensures.local) ∙ ap₂ with_rule two nodes_is in
-    let four = c.in_ok-arg-4.ensures.shape width_local ∙ ap₂ with_rule three width_is in
-    let five = c.in_ok-arg-5.ensures.shape counted_local ∙ ap₂ with_rule four counted_is in
-    let six = c.in_ok-arg-6.ensures.shape c.file-file.ensures.local ∙ ap₂ with_rule five c.file-file.ensures.rule in
-    IfOk-weaker c.arg-7.result _ _ (λ x h. h.shape assertion_local ∙ ap₂ with_rule six assertion_is) c.arg-7.ensures
+    let four = c.in_ok-arg-4.ensures.shape unfolded_local ∙ ap₂ with_rule three unfolded_is in
+    let five = c.in_ok-arg-5.ensures.shape width_local ∙ ap₂ with_rule four width_is in
+    let six = c.in_ok-arg-6.ensures.shape counted_local ∙ ap₂ with_rule five counted_is in
+    let seven = c.in_ok-arg-7.ensures.shape c.file-file.ensures.local ∙ ap₂ with_rule six c.file-file.ensures.rule in
+    IfOk-weaker c.arg-8.result _ _ (λ x h. h.shape assertion_local ∙ ap₂ with_rule seven assertion_is) c.arg-8.ensures
