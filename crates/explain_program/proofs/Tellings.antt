@@ -6,12 +6,13 @@ use Rattle.std.specs.declared.string.String.{String}
 use Rattle.std.specs.List.{AllZip}
 use Rattle.std.proofs.lemmas.List.{length-take-le}
 use Rattle.theory_syntax.specs.Process.{Script, Assertion}
+use Rattle.theory_syntax.specs.Readings.{by_tau}
 use Rattle.theory_search.specs.Outcome.{Outcome}
 use Rattle.theory_notation.specs.Names.{Names}
 use Rattle.theory_explanation.specs.Telling.{IsTold}
-use Rattle.theory_search.specs.Truth.{IsRightAsWritten}
 use Rattle.report.specs.Sending.{Sends, Breaks}
 use Rattle.report.proofs.Sending.{appends_nothing, both, later}
+use Rattle.program.specs.Answering.{IsRightRead}
 use Rattle.program.specs.Running.{status_of}
 use Rattle.explain_program.specs.Asking.{Request, one_at, style_for}
 use Rattle.explain_program.specs.Giving.{AreTold, GoesOut}
@@ -80,7 +81,7 @@ both_told request script names place P Q R within first second joined =
     let whole = take_one_more place script.assertions in
     let long : length asked ≡ place = length-take-le place script.assertions within in
     let at : suc place ≡ 1 + length asked = omega (arith, long) in
-    let right = zip_both (λ a o. IsRightAsWritten script a request.bounds o) asked one first.outcomes second.outcomes first.right second.right in
+    let right = zip_both (IsRightRead script.unfolds (by_tau script) request.bounds) asked one first.outcomes second.outcomes first.right second.right in
     let told = tells_both request script names 1 (suc place) asked one first.outcomes second.outcomes first.text second.text at first.told second.told in
     record {
       outcomes = first.outcomes ++ second.outcomes;

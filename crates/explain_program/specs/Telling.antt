@@ -5,6 +5,7 @@ use Rattle.theory_search.specs.Outcome.{Outcome}
 use Rattle.theory_notation.specs.Names.{Names}
 use Rattle.theory_explanation.specs.Counting.{count_text}
 use Rattle.theory_explanation.specs.Telling.{IsTold}
+use Rattle.theory_unfolding.specs.Assertions.{settled_assertion}
 use Rattle.explain_program.specs.Asking.{Request, style_for}
 use Rattle.explain_program.specs.Sizes.{IsSizeFor}
 use Rattle.explain_program.specs.declared.search_size.SearchSize.{SearchSize}
@@ -31,10 +32,11 @@ IsToldBy false request script names n written a o text = IsTold (style_for reque
 abbrev pub IsToldAsAsked : Request → Script → Names → ℕ → Assertion → Assertion → Outcome → List ℕ → Type 0
 IsToldAsAsked request = IsToldBy request.count request
 
--- The text tells of the assertions with these outcomes, one behind the other, numbered from n.
+-- The text tells of the assertions with these outcomes, one behind the other, numbered from n. Each is asked with its sides
+-- settled; where names do a tau that is the assertion itself.
 abbrev pub TellsEach : Request → Script → Names → ℕ → List Assertion → List Outcome → List ℕ → Type 0
 TellsEach request script names n [] [] text = text ≡ []
 TellsEach request script names n [] (o ∷ os) text = ⊥
 TellsEach request script names n (a ∷ others) [] text = ⊥
 TellsEach request script names n (a ∷ others) (o ∷ os) text =
-    (first : List ℕ) × (rest : List ℕ) × (text ≡ first ++ rest) × IsToldAsAsked request script names n a a o first × TellsEach request script names (suc n) others os rest
+    (first : List ℕ) × (rest : List ℕ) × (text ≡ first ++ rest) × IsToldAsAsked request script names n a (settled_assertion script a) o first × TellsEach request script names (suc n) others os rest

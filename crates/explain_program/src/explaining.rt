@@ -14,8 +14,9 @@ use crate::stop::Stop;
 use crate::telling::explanation_text;
 use crate::untold::Untold;
 use csp_settling::settled_assertion;
-use csp_term::{AllocHandle, Unfolding};
+use csp_term::AllocHandle;
 use explain_settings::Settings;
+use explanation::Question;
 use report::{Sink, push_all};
 use std::sync::Wait;
 use std::thread::Threads;
@@ -109,24 +110,14 @@ fn explain_one<A: AllocHandle + Send + Sync, R: Threads + Wait + Sync, O: Sink>(
 {
     let assertions = named.script.assertions();
     let written = &assertions[place];
-    let settled;
-    let assertion = match named.script.parts().unfolds {
-        Unfolding::ByTau => written,
-        Unfolding::AtOnce => {
-            settled = settled_assertion(alloc, named.script.parts(), written)?;
-            &settled
-        }
-    };
-    let answer = answer(alloc, rt, settings, &named.script, assertion);
-    let text = explanation_text(
-        alloc,
-        settings,
-        named,
-        place + 1,
+    let asked = settled_assertion(alloc, named.script.parts(), written)?;
+    let answer = answer(alloc, rt, settings, &named.script, &asked);
+    let question = Question {
+        number: place + 1,
         written,
-        assertion,
-        &answer,
-    )?;
+        asked: &asked,
+    };
+    let text = explanation_text(alloc, settings, named, &question, &answer)?;
     match push_all(text.as_str().as_bytes(), out) {
         Ok(()) => Ok(outcome_status(&answer.outcome)),
         Err(_) => Err(Untold::Output),

@@ -1,9 +1,12 @@
 //! From a text to its script and names.
 
-ghost use Rattle.std.specs.Prelude.{IfOk, IfErr};
+ghost use Rattle.std.specs.Prelude.{◌≡◌, IfOk, IfErr};
+ghost use Rattle.theory_syntax.specs.Process.{ByTau};
+ghost use Rattle.theory_syntax.specs.Readings.{reading};
 ghost use Rattle.csp_term.specs.Script.{script_of};
 ghost use Rattle.csp_print.specs.Names.{names_of};
 ghost use Rattle.program.specs.Reading.{IsRefusalOf};
+ghost use Rattle.program.specs.Running.{names_read};
 ghost use Rattle.explain_program.specs.Naming.{IsNamedText};
 
 use csp_kinds::check;
@@ -25,8 +28,13 @@ pub struct NamedScript<'t, A: Allocator> {
 }
 
 impl<'t, A: Allocator> NamedScript<'t, A> {
-    /// The same with its names unfolded at once, where that is asked for.
-    pub(crate) fn as_asked(self, unfold: bool) -> NamedScript<'t, A> {
+    /// The same with the names of its equations unfolded at once, where that is asked for.
+    pub(crate) fn as_asked(self, unfold: bool) -> NamedScript<'t, A>
+        ensures script { let read = names_read unfold in
+            (script_of self.script).unfolds ≡ ByTau
+            → script_of result.script ≡ reading read (script_of self.script) }
+        ensures names { names_of result.names ≡ names_of self.names }
+    {
         let NamedScript { script, names } = self;
         let script = if unfold { script.at_once() } else { script };
         NamedScript { script, names }

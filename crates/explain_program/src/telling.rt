@@ -4,7 +4,6 @@ ghost use Rattle.std.specs.Prelude.{◌≡◌, IfOk};
 ghost use Rattle.std.specs.String.{string_bytes};
 ghost use Rattle.theory_search.specs.Terms.{IsAssertionOf};
 ghost use Rattle.csp_term.specs.Script.{assertion_of, script_of};
-ghost use Rattle.csp_term.specs.Term.{process_of};
 ghost use Rattle.csp_print.specs.Names.{names_of};
 ghost use Rattle.counterexample.specs.Styles.{style_of};
 ghost use Rattle.counterexample.specs.Widths.{width_of};
@@ -19,37 +18,36 @@ use crate::reader::NamedScript;
 use crate::searching::Answer;
 use counterexample::{Style, Width};
 use csp_print::Names;
-use csp_term::{AllocHandle, Assertion, Memory};
+use csp_term::{AllocHandle, Memory};
 use explain_settings::Settings;
-use explanation::tell;
+use explanation::{Question, tell};
 
-/// What is told of the assertion with this number and answer, which is written so, and where it is asked for, how large the search was.
+/// What is told of the assertion with this answer, and where it is asked for, how large the search was.
 pub(crate) fn explanation_text<A: AllocHandle>(
     alloc: A,
     settings: &Settings<'_>,
     named: &NamedScript<'_, A>,
-    number: usize,
-    written: &Assertion<A>,
-    assertion: &Assertion<A>,
+    question: &Question<'_, A>,
     answer: &Answer<A>,
 ) -> Result<String<A>, Memory>
-    requires terms { IsAssertionOf (script_of named.now.script) (assertion_of assertion.now) }
-    requires run { HasRun (script_of named.now.script) (process_of assertion.now.implementation) (outcome_of answer.now.outcome) }
-    requires size { IsSizeFor (script_of named.now.script) (assertion_of assertion.now) (bounds_asked settings.now) (outcome_of answer.now.outcome) answer.now.size }
-    ensures { IfOk result (λ text. IsToldAsAsked (request_of settings.now) (script_of named.now.script) (names_of named.now.names) number (assertion_of written.now) (assertion_of assertion.now) (outcome_of answer.now.outcome) (string_bytes text)) }
+    requires terms { IsAssertionOf (script_of named.now.script) (assertion_of question.now.asked.now) }
+    requires run { let asked = assertion_of question.now.asked.now in
+        HasRun (script_of named.now.script) asked.implementation (outcome_of answer.now.outcome) }
+    requires size { let it = script_of named.now.script in
+        let asked = assertion_of question.now.asked.now in
+        let bounds = bounds_asked settings.now in
+        IsSizeFor it asked bounds (outcome_of answer.now.outcome) answer.now.size }
+    ensures { let it = script_of named.now.script in
+        let names = names_of named.now.names in
+        let written = assertion_of question.now.written.now in
+        let asked = assertion_of question.now.asked.now in
+        let told = IsToldAsAsked (request_of settings.now) it names question.now.number in
+        IfOk result (λ text. told written asked (outcome_of answer.now.outcome) (string_bytes text)) }
 {
     let style = style(settings, &named.names);
-    let text = tell(
-        alloc,
-        &style,
-        &named.script,
-        number,
-        written,
-        assertion,
-        &answer.outcome,
-    )?;
+    let text = tell(alloc, &style, &named.script, question, &answer.outcome)?;
     if settings.count {
-        with_size(&assertion.property, answer.size, text)
+        with_size(&question.asked.property, answer.size, text)
     } else {
         Ok(text)
     }

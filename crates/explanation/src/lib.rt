@@ -9,9 +9,11 @@
 
 mod faults;
 mod headline;
+mod question;
 mod reasons;
 mod sides;
 mod telling;
 mod told_run;
 
+pub use question::Question;
 pub use telling::tell;

@@ -14,30 +14,34 @@ ghost use Rattle.explanation.specs.Running.{HasRun};
 
 use crate::faults::push_unknown;
 use crate::headline::headline_text;
+use crate::question::Question;
 use counterexample::{Style, counterexample_of, push_counterexample, push_mark};
 use csp_term::{AllocHandle, Assertion, Memory, Script};
 use verdict::{Outcome, Shown};
 
-/// What is told of an assertion between terms of the script, with its number and outcome: the headline of the assertion as it
-/// is written, and why. Where the outcome shows a violation, a run by its path ends with its evidence, and such a run is told state by state, beside
-/// what the specification has along the path.
+/// What is told of an assertion between terms of the script, with its outcome: the headline of the assertion as it is
+/// written, and why. Where the outcome shows a violation, a run by its path ends with its evidence, and such a run is told
+/// state by state, beside what the specification has along the path.
 ///
 /// `Memory` says that there is no room to tell.
 pub fn tell<A: AllocHandle>(
     alloc: A,
     style: &Style<'_, '_, A>,
     script: &Script<A>,
-    number: usize,
-    written: &Assertion<A>,
-    assertion: &Assertion<A>,
+    question: &Question<'_, A>,
     outcome: &Outcome<A>,
 ) -> Result<String<A>, Memory>
-    requires terms { IsAssertionOf (script_of script.now) (assertion_of assertion.now) }
-    requires run { HasRun (script_of script.now) (process_of assertion.now.implementation) (outcome_of outcome.now) }
-    ensures { IfOk result (λ text. IsTold (style_of style.now) (script_of script.now) number (assertion_of written.now) (assertion_of assertion.now) (outcome_of outcome.now) (string_bytes text)) }
+    requires terms { IsAssertionOf (script_of script.now) (assertion_of question.now.asked.now) }
+    requires run { let asked = assertion_of question.now.asked.now in
+        HasRun (script_of script.now) asked.implementation (outcome_of outcome.now) }
+    ensures { let it = script_of script.now in
+        let written = assertion_of question.now.written.now in
+        let asked = assertion_of question.now.asked.now in
+        let told = IsTold (style_of style.now) it question.now.number written asked in
+        IfOk result (λ text. told (outcome_of outcome.now) (string_bytes text)) }
 {
-    let mut text = headline_text(alloc, style.names, number, written, outcome)?;
-    push_why(alloc, style, script, assertion, outcome, &mut text)?;
+    let mut text = headline_text(alloc, style.names, question.number, question.written, outcome)?;
+    push_why(alloc, style, script, question.asked, outcome, &mut text)?;
     Ok(text)
 }
 

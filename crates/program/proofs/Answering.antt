@@ -74,7 +74,7 @@ read_at_once bytes s t is checked = subst (IsTextRead AtOnce bytes) (sym is) ((r
 
 -- what is right for the assertion with its sides settled is right where names are read so
 module _ (s : Script) (bounds : Bounds) where
-  right_read : (names : Unfolding) → s.unfolds ≡ names → (a : Assertion) (o : Outcome) → IsRightAsWritten s (settled_assertion s a) bounds o → IsRightRead names (by_tau s) bounds a o
+  pub right_read : (names : Unfolding) → s.unfolds ≡ names → (a : Assertion) (o : Outcome) → IsRightAsWritten s (settled_assertion s a) bounds o → IsRightRead names (by_tau s) bounds a o
   right_read ByTau read a o right =
       let P : Script → Type 0 = λ z. IsRightAsWritten z a bounds o in
       let Q : Assertion → Type 0 = λ b. IsRightAsWritten s b bounds o in

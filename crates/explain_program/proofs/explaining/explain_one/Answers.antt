@@ -9,6 +9,10 @@ use Rattle.csp_print.specs.Names.{names_of}
 use Rattle.report.specs.Sending.{Breaks, Sends}
 use Rattle.verdict.specs.Outcome.{outcome_of}
 use Rattle.program.specs.Running.{outcome_status}
+use Rattle.theory_search.specs.Terms.{IsAssertionOf}
+use Rattle.theory_search.specs.Truth.{IsRightAsWritten}
+use Rattle.theory_unfolding.specs.Assertions.{settled_assertion}
+use Rattle.theory_unfolding.proofs.SettledSides.{sides_stay}
 use Rattle.program.proofs.Answering.{sides_at}
 use Rattle.program.proofs.Reporting.{status_at_most}
 use Rattle.explain_program.specs.Asking.{one_at, request_of}
@@ -27,6 +31,9 @@ answer-answer-requires g c =
     let within : c.args.place < length items = omega (arith, whole, mapped, there) in
     let sides = sides_at assertion_of (HasSidesOf script) script items c.args.place c.index-assertions-place.result c.assertions-assertions.ensures.sides within c.index-assertions-place.is
     (λ b sides. record { specification = sides.0; implementation = sides.1 }) in
+    let written = assertion_of c.index-assertions-place.result in
+    let is : assertion_of c.in_ok-asked.asked ≡ settled_assertion script written = c.in_ok-asked.ensures ∙ ap (λ s. settled_assertion s written) c.parts.ensures.value in
+    let asked_sides = subst (IsAssertionOf script) (sym is) (sides_stay script written sides) in
     let sa = c.type_bounds.send-A in
     let ya = c.type_bounds.sync-A in
     let sr = c.type_bounds.sync-R in
@@ -43,7 +50,7 @@ answer-answer-requires g c =
                 | inl e ↦ rw (e.0, e.1) (lit< tt)
                 | inr e ↦ rw (e.0, e.1) (lit< tt)
               ],
-              sides,
+              asked_sides,
             ),
           ),
         ),
@@ -60,10 +67,13 @@ explanation_text-requires g c =
     let within : c.args.place < length items = omega (arith, whole, mapped, there) in
     let sides = sides_at assertion_of (HasSidesOf script) script items c.args.place c.index-assertions-place.result c.assertions-assertions.ensures.sides within c.index-assertions-place.is
     (λ b sides. record { specification = sides.0; implementation = sides.1 }) in
-    let run = right_has_run script (assertion_of c.index-assertions-place.result) (request_of c.args.settings.now).bounds (outcome_of c.answer-answer.result.outcome) c.answer-answer.ensures.right in
+    let written = assertion_of c.index-assertions-place.result in
+    let is : assertion_of c.in_ok-asked.asked ≡ settled_assertion script written = c.in_ok-asked.ensures ∙ ap (λ s. settled_assertion s written) c.parts.ensures.value in
+    let asked_sides = subst (IsAssertionOf script) (sym is) (sides_stay script written sides) in
+    let run = right_has_run script (assertion_of c.in_ok-asked.asked) (request_of c.args.settings.now).bounds (outcome_of c.answer-answer.result.outcome) c.answer-answer.ensures.right in
     elim (g.met.A.AllocHandle g.world.𝓛 g.world.𝓜 g.world.𝓡 ((λ s x. x), (λ x. x), (λ x. x), λ x. x)).small [
-      | inl e ↦ rw (e.0, e.1) (lit< tt, (sides, (run, c.answer-answer.ensures.size)))
-      | inr e ↦ rw (e.0, e.1) (lit< tt, (sides, (run, c.answer-answer.ensures.size)))
+      | inl e ↦ rw (e.0, e.1) (lit< tt, (asked_sides, (run, c.answer-answer.ensures.size)))
+      | inr e ↦ rw (e.0, e.1) (lit< tt, (asked_sides, (run, c.answer-answer.ensures.size)))
     ]
 
 pub returns-in-Ok-clause-told : goal.returns-in-Ok-clause-told
@@ -82,9 +92,14 @@ returns-in-Ok-clause-told g c =
     let A : List pure.Assertion → Type 0 = λ xs. one_at place xs ≡ a ∷ [] in
     let alone = subst A c.assertions-assertions.ensures.value (alone_at assertion_of items place c.index-assertions-place.result within c.index-assertions-place.is) in
     let bytes = string_bytes c.in_ok-text.text in
-    let N : ℕ → Type 0 = λ n. IsToldAsAsked request script names n a o bytes in
+    let b = assertion_of c.in_ok-asked.asked in
+    let is : b ≡ settled_assertion script a = c.in_ok-asked.ensures ∙ ap (λ s. settled_assertion s a) c.parts.ensures.value in
+    let N : ℕ → Type 0 = λ n. IsToldAsAsked request script names n a b o bytes in
     let next : place + 1 ≡ suc place = omega arith in
-    let told = subst N next c.in_ok-text.ensures in
+    let B : pure.Assertion → Type 0 = λ x. IsToldAsAsked request script names (suc place) a x o bytes in
+    let told = subst B is (subst N next c.in_ok-text.ensures) in
+    let R : pure.Assertion → Type 0 = λ x. IsRightAsWritten script x request.bounds o in
+    let right = subst R is c.answer-answer.ensures.right in
     let old = g.O.Sink.taken c.args.out.now in
     let new = g.O.Sink.taken c.push_all.new.sink in
     let failed = g.O.Sink.has_failed c.push_all.new.sink in
@@ -94,7 +109,7 @@ returns-in-Ok-clause-told g c =
     let is = c.outcome_status.ensures in
     let most = status_at_most (o ∷ []) in (
       omega (arith, is, most),
-      subst T (sym is) (one_told request script names (suc place) (one_at place script.assertions) a o (GoesOut old new failed (outcome_status o)) alone c.answer-answer.ensures.right bytes told (went_out o old new failed bytes sends)),
+      subst T (sym is) (one_told request script names (suc place) (one_at place script.assertions) a o (GoesOut old new failed (outcome_status o)) alone right bytes told (went_out o old new failed bytes sends)),
     )
 
 pub returns-clause-left : goal.returns-clause-left
@@ -113,15 +128,20 @@ returns-clause-left g c =
     let A : List pure.Assertion → Type 0 = λ xs. one_at place xs ≡ a ∷ [] in
     let alone = subst A c.assertions-assertions.ensures.value (alone_at assertion_of items place c.index-assertions-place.result within c.index-assertions-place.is) in
     let bytes = string_bytes c.in_ok-text.text in
-    let N : ℕ → Type 0 = λ n. IsToldAsAsked request script names n a o bytes in
+    let b = assertion_of c.in_ok-asked.asked in
+    let is : b ≡ settled_assertion script a = c.in_ok-asked.ensures ∙ ap (λ s. settled_assertion s a) c.parts.ensures.value in
+    let N : ℕ → Type 0 = λ n. IsToldAsAsked request script names n a b o bytes in
     let next : place + 1 ≡ suc place = omega arith in
-    let told = subst N next c.in_ok-text.ensures in
+    let B : pure.Assertion → Type 0 = λ x. IsToldAsAsked request script names (suc place) a x o bytes in
+    let told = subst B is (subst N next c.in_ok-text.ensures) in
+    let R : pure.Assertion → Type 0 = λ x. IsRightAsWritten script x request.bounds o in
+    let right = subst R is c.answer-answer.ensures.right in
     let old = g.O.Sink.taken c.args.out.now in
     let new = g.O.Sink.taken c.push_all.new.sink in
     let failed = g.O.Sink.has_failed c.push_all.new.sink in
     let S : List ℕ → Type 0 = λ ts. Breaks old new failed ts in
     let breaks = subst S (c.as_bytes.ensures.value ∙ c.as_str.ensures.value) c.in-Err.ensures.beginning in
-    one_told request script names (suc place) (one_at place script.assertions) a o (λ os text. Breaks old new failed text) alone c.answer-answer.ensures.right bytes told breaks
+    one_told request script names (suc place) (one_at place script.assertions) a o (λ os text. Breaks old new failed text) alone right bytes told breaks
 
 pub drop-answer-requires-room-T-Destruct : goal.drop-answer-requires-room-T-Destruct
 drop-answer-requires-room-T-Destruct g c κs within = elim (g.met.A.AllocHandle g.world.𝓛 g.world.𝓜 g.world.𝓡 ((λ s x. x), (λ x. x), (λ x. x), λ x. x)).small [ inl e ↦ rw (e.0, e.1) (lit< tt) | inr e ↦ rw (e.0, e.1) (lit< tt) ]

@@ -20,20 +20,20 @@ tell-requires g c =
 pub returns-then-settings : goal.returns-then-settings
 returns-then-settings g c =
     let script = script_of c.args.named.now.script in
-    let w = assertion_of c.args.written.now in
-    let a = assertion_of c.args.assertion.now in
+    let w = assertion_of c.args.question.now.written.now in
+    let a = assertion_of c.args.question.now.asked.now in
     let o = outcome_of c.args.answer.now.outcome in
     let told = string_bytes c.in_ok-text.text in
-    let W : Style → Type 0 = λ style. IsTold style script c.args.number w a o told in
-    told_with_size (request_of c.args.settings.now) script (names_of c.args.named.now.names) c.args.number w a o c.with_size.result told c.args.answer.now.size c.if-settings.true
+    let W : Style → Type 0 = λ style. IsTold style script c.args.question.now.number w a o told in
+    told_with_size (request_of c.args.settings.now) script (names_of c.args.named.now.names) c.args.question.now.number w a o c.with_size.result told c.args.answer.now.size c.if-settings.true
     (subst W c.style-style.ensures c.in_ok-text.ensures) c.requires.size c.with_size.ensures
 
 pub returns-else-settings : goal.returns-else-settings
 returns-else-settings g c =
     let script = script_of c.args.named.now.script in
-    let w = assertion_of c.args.written.now in
-    let a = assertion_of c.args.assertion.now in
+    let w = assertion_of c.args.question.now.written.now in
+    let a = assertion_of c.args.question.now.asked.now in
     let o = outcome_of c.args.answer.now.outcome in
     let told = string_bytes c.in_ok-text.text in
-    let W : Style → Type 0 = λ style. IsTold style script c.args.number w a o told in
-    told_alone (request_of c.args.settings.now) script (names_of c.args.named.now.names) c.args.number w a o told c.if-settings.false (subst W c.style-style.ensures c.in_ok-text.ensures)
+    let W : Style → Type 0 = λ style. IsTold style script c.args.question.now.number w a o told in
+    told_alone (request_of c.args.settings.now) script (names_of c.args.named.now.names) c.args.question.now.number w a o told c.if-settings.false (subst W c.style-style.ensures c.in_ok-text.ensures)

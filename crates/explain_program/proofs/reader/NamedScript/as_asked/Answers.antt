@@ -1,0 +1,18 @@
+-- The script is read as it is asked.
+use Rattle.std.proofs.Common.{◌≡◌, ◌∙◌, Bool, ap, sym}
+use Rattle.theory_syntax.specs.Process.{ByTau}
+use Rattle.theory_syntax.specs.Readings.{reading}
+use Rattle.csp_term.specs.Script.{script_of}
+use Rattle.program.specs.Running.{names_read}
+use Rattle.program.proofs.Answering.{is_by_tau}
+use Rattle.explain_program.proofs.reader.NamedScript.as_asked.Goals as goal
+
+pub returns-then-unfold-clause-script : goal.returns-then-unfold-clause-script
+returns-then-unfold-clause-script g c read =
+    let s = script_of c.args.self.script in
+    c.at_once.ensures ∙ ap (λ asked. reading (names_read asked) s) (sym c.if-unfold.true)
+
+pub returns-else-unfold-clause-script : goal.returns-else-unfold-clause-script
+returns-else-unfold-clause-script g c read =
+    let s = script_of c.args.self.script in
+    sym (is_by_tau s read) ∙ ap (λ asked. reading (names_read asked) s) (sym c.if-unfold.false)
