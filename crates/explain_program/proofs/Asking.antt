@@ -9,16 +9,16 @@ use Rattle.explain_settings.specs.declared.options.Settings.{Settings}
 use Rattle.explain_program.specs.Asking.{AskForExplanation, request_of}
 
 pub asked : (words : List (List ℕ)) (s : Settings) → faults_of words ≡ [] → value (codes "file") words ≡ Some s.file.now → HasNumber (value (codes "max-pairs") words) s.max_pairs →
-    HasNumber (value (codes "max-nodes") words) s.max_nodes → (IsTrue s.unfold ↔ IsUsed (codes "unfold") words) → HasNumber (value (codes "width") words) s.width → (IsTrue s.count ↔ IsUsed (codes "count") words) →
+    HasNumber (value (codes "max-nodes") words) s.max_nodes → (IsTrue s.at_once ↔ IsUsed (codes "unfold") words) → HasNumber (value (codes "width") words) s.width → (IsTrue s.count ↔ IsUsed (codes "count") words) →
     HasNumber (value (codes "assertion") words) s.assertion → AskForExplanation words (request_of s)
-asked words s taken file pairs nodes unfold width count number =
-    let at_once = at_once_if s.unfold in
+asked words s taken file pairs nodes used width count number =
+    let read = at_once_if s.at_once in
     record {
       taken = taken;
       file = file;
       pairs = pairs;
       nodes = nodes;
-      names = (λ e. unfold.0 (at_once.0 e), λ e. at_once.1 (unfold.1 e));
+      names = (λ e. used.0 (read.0 e), λ e. read.1 (used.1 e));
       width = (s.width, width, refl);
       count = count;
       number = number;

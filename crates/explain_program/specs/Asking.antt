@@ -38,7 +38,7 @@ abbrev pub request_of : Settings → Request
 request_of settings = record {
   name = settings.file.now;
   bounds = bounds_asked settings;
-  names = names_read settings.unfold;
+  names = names_read settings.at_once;
   width = width_of_number settings.width;
   count = settings.count;
   number = settings.assertion;

@@ -29,14 +29,14 @@ pub struct NamedScript<'t, A: Allocator> {
 
 impl<'t, A: Allocator> NamedScript<'t, A> {
     /// The same with the names of its equations unfolded at once, where that is asked for.
-    pub(crate) fn as_asked(self, unfold: bool) -> NamedScript<'t, A>
-        ensures script { let read = names_read unfold in
+    pub(crate) fn as_asked(self, at_once: bool) -> NamedScript<'t, A>
+        ensures script { let read = names_read at_once in
             (script_of self.script).unfolds ≡ ByTau
             → script_of result.script ≡ reading read (script_of self.script) }
         ensures names { names_of result.names ≡ names_of self.names }
     {
         let NamedScript { script, names } = self;
-        let script = if unfold { script.at_once() } else { script };
+        let script = if at_once { script.at_once() } else { script };
         NamedScript { script, names }
     }
 }

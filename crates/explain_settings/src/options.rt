@@ -23,7 +23,7 @@ pub struct Settings<'a> {
     /// The most nodes of a normal form, and the most states of each, 1 to 100,000.
     pub max_nodes: usize,
     /// Whether names are unfolded at once.
-    pub unfold: bool,
+    pub at_once: bool,
     /// The most characters of a state that are told, or 0 for all.
     pub width: usize,
     /// Whether it is told how large the search of an assertion was.
@@ -47,7 +47,7 @@ pub fn read<'a>(alloc: Global, words: &'a [&'a str]) -> Result<Settings<'a>, Com
     ensures workers { IfOk result (λ s. HasNumber (value (codes "workers") (texts words.entry.now)) s.workers) }
     ensures pairs { IfOk result (λ s. HasNumber (value (codes "max-pairs") (texts words.entry.now)) s.max_pairs) }
     ensures nodes { IfOk result (λ s. HasNumber (value (codes "max-nodes") (texts words.entry.now)) s.max_nodes) }
-    ensures unfold { IfOk result (λ s. IsTrue s.unfold ↔ IsUsed (codes "unfold") (texts words.entry.now)) }
+    ensures at_once { IfOk result (λ s. IsTrue s.at_once ↔ IsUsed (codes "unfold") (texts words.entry.now)) }
     ensures width { IfOk result (λ s. HasNumber (value (codes "width") (texts words.entry.now)) s.width) }
     ensures count { IfOk result (λ s. IsTrue s.count ↔ IsUsed (codes "count") (texts words.entry.now)) }
     ensures file { IfOk result (λ s. value (codes "file") (texts words.entry.now) ≡ Some s.file.now) }
@@ -62,7 +62,7 @@ pub fn read<'a>(alloc: Global, words: &'a [&'a str]) -> Result<Settings<'a>, Com
         workers: number(&matches, "workers"),
         max_pairs: number(&matches, "max-pairs"),
         max_nodes: number(&matches, "max-nodes"),
-        unfold: is_used(&matches, "unfold"),
+        at_once: is_used(&matches, "unfold"),
         width: number(&matches, "width"),
         count: is_used(&matches, "count"),
         file: matches.get_str("file").unwrap(),

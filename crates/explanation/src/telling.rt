@@ -40,7 +40,13 @@ pub fn tell<A: AllocHandle>(
         let told = IsTold (style_of style.now) it question.now.number written asked in
         IfOk result (λ text. told (outcome_of outcome.now) (string_bytes text)) }
 {
-    let mut text = headline_text(alloc, style.names, question.number, question.written, outcome)?;
+    let mut text = headline_text(
+        alloc,
+        style.names,
+        question.number,
+        question.written,
+        outcome,
+    )?;
     push_why(alloc, style, script, question.asked, outcome, &mut text)?;
     Ok(text)
 }

@@ -13,10 +13,10 @@ at_once_if false = (λ e. cc e, λ e. cc e)
 
 -- the check that the settings of these words ask for
 pub asked : (words : List (List ℕ)) (s : Settings) → faults_of words ≡ [] → s.max_pairs ≡ chosen (codes "max-pairs") 100000 words → s.max_nodes ≡ chosen (codes "max-nodes") 10000 words →
-    IsTrue s.unfold ↔ IsUsed (codes "unfold") words → given (codes "file") words ≡ Some s.file.now → AskForCheck words s.file.now (check_of s)
-asked words s taken pairs nodes unfold file =
-    let at_once = at_once_if s.unfold in
-    record { taken = taken; file = file; pairs = pairs; nodes = nodes; names = (λ e. unfold.0 (at_once.0 e), λ e. at_once.1 (unfold.1 e)) }
+    IsTrue s.at_once ↔ IsUsed (codes "unfold") words → given (codes "file") words ≡ Some s.file.now → AskForCheck words s.file.now (check_of s)
+asked words s taken pairs nodes used file =
+    let read = at_once_if s.at_once in
+    record { taken = taken; file = file; pairs = pairs; nodes = nodes; names = (λ e. used.0 (read.0 e), λ e. read.1 (used.1 e)) }
 
 -- of the two statuses of a text, the one below that of a refusal
 pub zero_below : (n : ℕ) → (n ≡ 0) ⊎ (n ≡ 3) → n < 3 → n ≡ 0

@@ -48,7 +48,7 @@ names_read false = ByTau
 
 -- what the settings ask of a check
 abbrev pub check_of : Settings → Check
-check_of settings = record { bounds = limits_of settings; names = names_read settings.unfold }
+check_of settings = record { bounds = limits_of settings; names = names_read settings.at_once }
 
 -- The words have no fault. They name this file, and choose these limits, by an option or by its default. Names are
 -- unfolded at once where they use the flag.

@@ -174,12 +174,12 @@ fn read_as_asked<A: AllocHandle>(
     settings: &Settings<'_>,
     text: &[u8],
 ) -> Result<Script<A>, Refusal>
-    ensures script { let names = names_read settings.now.unfold in
+    ensures script { let names = names_read settings.now.at_once in
         IfOk result (λ script. IsTextRead names text.now (script_of script)) }
     ensures refused { IfErr result (λ why. IsRefusalOf text.now why) }
 {
     let script = reader::read(alloc, text)?;
-    if settings.unfold {
+    if settings.at_once {
         Ok(script.at_once())
     } else {
         Ok(script)

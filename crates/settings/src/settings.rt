@@ -30,7 +30,7 @@ pub struct Settings<'a> {
     /// The most nodes of a normal form, and the most states of each, 1 to 100,000.
     pub max_nodes: usize,
     /// Whether names are unfolded at once.
-    pub unfold: bool,
+    pub at_once: bool,
     /// The name of the script's file.
     pub file: &'a str,
     pub ghost workers_in_range: { (1 ≤ workers) × (workers ≤ 64) },
@@ -48,7 +48,7 @@ pub fn read<'a>(alloc: Global, words: &'a [&'a str]) -> Result<Settings<'a>, Com
     ensures workers { IfOk result (λ s. s.workers ≡ chosen (codes "workers") 1 (texts words.entry.now)) }
     ensures pairs { IfOk result (λ s. s.max_pairs ≡ chosen (codes "max-pairs") 100000 (texts words.entry.now)) }
     ensures nodes { IfOk result (λ s. s.max_nodes ≡ chosen (codes "max-nodes") 10000 (texts words.entry.now)) }
-    ensures unfold { IfOk result (λ s. IsTrue s.unfold ↔ IsUsed (codes "unfold") (texts words.entry.now)) }
+    ensures at_once { IfOk result (λ s. IsTrue s.at_once ↔ IsUsed (codes "unfold") (texts words.entry.now)) }
     ensures file { IfOk result (λ s. given (codes "file") (texts words.entry.now) ≡ Some s.file.now) }
     ensures fault { IfErr result (IsFaultOf (texts words.entry.now)) }
 {
@@ -60,7 +60,7 @@ pub fn read<'a>(alloc: Global, words: &'a [&'a str]) -> Result<Settings<'a>, Com
         workers: number(&matches, "workers"),
         max_pairs: number(&matches, "max-pairs"),
         max_nodes: number(&matches, "max-nodes"),
-        unfold: is_used(&matches, "unfold"),
+        at_once: is_used(&matches, "unfold"),
         file: matches.get_str("file").unwrap(),
     })
 }

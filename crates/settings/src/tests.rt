@@ -11,10 +11,16 @@ static TAKEN: [Taken; 11] = [
     (&["f"], (1, 100_000, 10_000, false)),
     (&["--workers=8", "f"], (8, 100_000, 10_000, false)),
     (&["--workers", "64", "f"], (64, 100_000, 10_000, false)),
-    (&["f", "--max-pairs", "1000000"], (1, 1_000_000, 10_000, false)),
+    (
+        &["f", "--max-pairs", "1000000"],
+        (1, 1_000_000, 10_000, false),
+    ),
     (&["f", "--max-pairs=1"], (1, 1, 10_000, false)),
     (&["--max-nodes", "03", "f"], (1, 100_000, 3, false)),
-    (&["--max-nodes", "100000", "f"], (1, 100_000, 100_000, false)),
+    (
+        &["--max-nodes", "100000", "f"],
+        (1, 100_000, 100_000, false),
+    ),
     (
         &[
             "--max-nodes",
@@ -29,7 +35,10 @@ static TAKEN: [Taken; 11] = [
     ),
     (&["--unfold", "f"], (1, 100_000, 10_000, true)),
     (&["f", "--max-pairs=7", "--unfold"], (1, 7, 10_000, true)),
-    (&["--max-nodes=5", "--", "--workers"], (1, 100_000, 5, false)),
+    (
+        &["--max-nodes=5", "--", "--workers"],
+        (1, 100_000, 5, false),
+    ),
 ];
 
 // Words, and the first line of what is said of them.
@@ -138,7 +147,7 @@ fn choices(alloc: Global, words: &[&str]) -> Option<(usize, usize, usize, bool)>
         settings.workers,
         settings.max_pairs,
         settings.max_nodes,
-        settings.unfold,
+        settings.at_once,
     ))
 }
 

@@ -141,9 +141,9 @@ fn counts_are_asked_for(rt: HostRuntime) -> Result<(), Fail> {
 
 #[test]
 fn names_at_once_are_asked_for(rt: HostRuntime) -> Result<(), Fail> {
-    assert!(rt; !read(rt.alloc(), &["a.csp"])?.unfold);
-    assert!(rt; !read(rt.alloc(), &["--count", "--", "--unfold"])?.unfold);
-    assert!(rt; read(rt.alloc(), &["a.csp", "--unfold", "3"])?.unfold);
+    assert!(rt; !read(rt.alloc(), &["a.csp"])?.at_once);
+    assert!(rt; !read(rt.alloc(), &["--count", "--", "--unfold"])?.at_once);
+    assert!(rt; read(rt.alloc(), &["a.csp", "--unfold", "3"])?.at_once);
     Ok(())
 }
 

@@ -45,7 +45,10 @@ fn is_answered_at_once<R: Abort + Threads + Wait + Sync>(
     for workers in &WORKERS_AT_ONCE {
         let words = [*workers, "--unfold", "script"];
         let told = run_on(alloc, rt, &words, row.0.as_bytes());
-        assert!(rt; told.is_answered(status, lines), "at {row:?} with {workers}");
+        assert!(rt;
+            told.is_answered(status, lines),
+            "at {row:?} with {workers}"
+        );
     }
     Ok(())
 }

@@ -55,8 +55,8 @@ returns-clause-width c = taken.is_value c.in_ok-command_line.field-0 c.in-Ok.mat
 pub returns-clause-assertion : goal.returns-clause-assertion
 returns-clause-assertion c = taken.is_value c.in_ok-command_line.field-0 c.in-Ok.matches (texts c.args.words.now) c.in_ok-command_line.ensures c.in-Ok.ensures.parsed c.in-Ok.ensures.matches (codes "assertion") 0 1000000 c.number-5.result (taken.assertion c.in_ok-command_line.field-0 c.in-Ok.matches (texts c.args.words.now) c.in_ok-command_line.ensures c.in-Ok.ensures.parsed c.in-Ok.ensures.matches) c.number-5.ensures
 
-pub returns-clause-unfold : goal.returns-clause-unfold
-returns-clause-unfold c =
+pub returns-clause-at_once : goal.returns-clause-at_once
+returns-clause-at_once c =
     let P : Option (List ℕ) → Type 0 = λ found. IsTrue c.is_used.result ↔ (found ≡ Some (codes "true")) in
     subst P (taken.same_value c.in_ok-command_line.field-0 c.in-Ok.matches (texts c.args.words.now) c.in_ok-command_line.ensures c.in-Ok.ensures.parsed c.in-Ok.ensures.matches (codes "unfold")) c.is_used.ensures
 
