@@ -28,8 +28,11 @@ fn is_settled(
     said: &Term<Global>,
 ) -> Result<bool, Fail> {
     let said = meant(alloc, said)?;
-    let stays = matches!(settle(alloc, script.parts(), of)?, Unfolded::Same);
-    let is_so = match settle(alloc, &at_once(alloc, script)?, of)? {
+    let by_tau = settle(alloc, script.parts(), of)?;
+    let stays = matches!(by_tau, Unfolded::Same);
+    let parts = at_once(alloc, script)?;
+    let unfolded = settle(alloc, &parts, of)?;
+    let is_so = match unfolded {
         Unfolded::Same => *of == said,
         Unfolded::To(other) => other == said,
         Unfolded::Past => false,
@@ -44,7 +47,8 @@ fn leads(
     of: &Term<Global>,
     said: &Term<Global>,
 ) -> Result<bool, Fail> {
-    match steps(alloc, &at_once(alloc, script)?, &[], of) {
+    let parts = at_once(alloc, script)?;
+    match steps(alloc, &parts, &[], of) {
         Ok(found) => Ok(in_order(alloc, found)? == said::steps(alloc, said)?),
         Err(NoValue::Memory) => Err(Fail::from(Memory)),
         Err(NoValue::Cause(_)) => Ok(false),

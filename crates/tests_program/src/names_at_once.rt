@@ -38,7 +38,7 @@ pub(crate) fn lines_at_once(row: &Row) -> &'static str {
     let (text, lines) = *row;
     for (other, _, at_once) in &OTHERS {
         if *other == text {
-            return at_once;
+            return *at_once;
         }
     }
     lines
