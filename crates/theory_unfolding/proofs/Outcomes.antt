@@ -8,7 +8,7 @@ use Rattle.theory_semantics.specs.Meaning.Properties.{HoldsPlainly}
 use Rattle.theory_semantics.specs.Meaning.Violations.{Violation, IsViolation, HoldsBy}
 use Rattle.theory_semantics.proofs.Refining.{no_property}
 use Rattle.theory_search.specs.Outcome.{Bounds, Why, TooManyPairs, TooManyNodes, LargeTerm, Fault, NoMemory, Outcome, Holds, Fails, Unknown, Denied}
-use Rattle.theory_search.specs.Answer.{IsAnswer, of_specification, of_search, IsAnswerTo, MayHaveForm, as_written}
+use Rattle.theory_search.specs.Answer.{IsAnswer, of_specification, of_search, MayHaveForm, as_written}
 use Rattle.theory_search.specs.Telling.{HoldsWithoutStuck, HoldsSoundlyBy}
 use Rattle.theory_search.specs.Truth.{SpecificationReaches, SomeSideReaches, IsAnswerOrNoMemory, IsTrueAsWritten, IsRightAsWritten}
 use Rattle.theory_syntax.specs.Readings.{by_tau, at_once}
