@@ -336,24 +336,38 @@ fn texts_with_deep_sequences_are_answered_so(rt: HostRuntime) -> Result<(), Fail
 }
 
 #[test]
-fn deep_sets_are_shown(rt: HostRuntime) -> Result<(), Fail> {
-    for workers in &WORKERS {
-        let is_so = on_large_stack(&rt, move |stack| {
-            is_shown(&rt, rt.alloc(), stack, DEEPEST, workers)
-        })?;
-        assert!(rt; is_so, "with {workers}");
-    }
+fn deep_sets_are_shown_by_one_worker(rt: HostRuntime) -> Result<(), Fail> {
+    let is_so = on_large_stack(&rt, move |stack| {
+        is_shown(&rt, rt.alloc(), stack, DEEPEST, "--workers=1")
+    })?;
+    assert!(rt; is_so);
     Ok(())
 }
 
 #[test]
-fn deep_sequences_are_shown(rt: HostRuntime) -> Result<(), Fail> {
-    for workers in &WORKERS {
-        let is_so = on_large_stack(&rt, move |stack| {
-            is_shown(&rt, rt.alloc(), stack, SEQUENCES, workers)
-        })?;
-        assert!(rt; is_so, "with {workers}");
-    }
+fn deep_sets_are_shown_by_four_workers(rt: HostRuntime) -> Result<(), Fail> {
+    let is_so = on_large_stack(&rt, move |stack| {
+        is_shown(&rt, rt.alloc(), stack, DEEPEST, "--workers=4")
+    })?;
+    assert!(rt; is_so);
+    Ok(())
+}
+
+#[test]
+fn deep_sequences_are_shown_by_one_worker(rt: HostRuntime) -> Result<(), Fail> {
+    let is_so = on_large_stack(&rt, move |stack| {
+        is_shown(&rt, rt.alloc(), stack, SEQUENCES, "--workers=1")
+    })?;
+    assert!(rt; is_so);
+    Ok(())
+}
+
+#[test]
+fn deep_sequences_are_shown_by_four_workers(rt: HostRuntime) -> Result<(), Fail> {
+    let is_so = on_large_stack(&rt, move |stack| {
+        is_shown(&rt, rt.alloc(), stack, SEQUENCES, "--workers=4")
+    })?;
+    assert!(rt; is_so);
     Ok(())
 }
 

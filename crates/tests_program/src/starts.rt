@@ -87,6 +87,7 @@ fn programs_are_started_so(rt: HostRuntime) -> Result<(), Fail> {
     Ok(())
 }
 
+// A request that is refused may be made again, and is granted then.
 #[test]
 fn words_without_memory_are_refused(rt: HostRuntime) -> Result<(), Fail> {
     let mut refused = 0u32;
@@ -94,12 +95,18 @@ fn words_without_memory_are_refused(rt: HostRuntime) -> Result<(), Fail> {
         let memory = RefusesOnce::new(rt.alloc(), request);
         let words = command_words(&(Machine(&[b"refcheck", b"a", b"b"]), &memory));
         let told = started(rt.alloc(), &memory, words);
+        let is_run = told.is(2, "ab", "said\n");
         if !memory.has_refused() {
-            assert!(rt; told.is(2, "ab", "said\n") && refused > 4);
+            assert!(rt; is_run && refused > 4, "without {refused}");
             return Ok(());
         }
-        assert!(rt; told.is_refused("refused memory\n"), "without {request}");
-        refused = refused.saturating_add(1);
+        assert!(rt;
+            is_run || told.is_refused("refused memory\n"),
+            "without {request}"
+        );
+        if !is_run {
+            refused = refused.saturating_add(1);
+        }
     }
     Err("no end".into())
 }
