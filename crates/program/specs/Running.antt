@@ -69,8 +69,8 @@ pub record IsScriptOfFile (may_hold : List ℕ → List ℕ → Type 0) (name : 
   pub held : may_hold name text
   pub of_text : IsCheckedText text script
 
--- The report of right outcomes for the assertions of the file's script went out, one for each, and the status is that
--- of the outcomes.
+-- The report of right outcomes for the assertions of the file's script, with its names read as is asked, went out, one for
+-- each, and the status is that of the outcomes.
 pub record IsReported (given : Given) (name : List ℕ) (check : Check) (out : Sent) (status : ℕ) : Type 0 where
   pub script : Script
   pub outcomes : List Outcome
