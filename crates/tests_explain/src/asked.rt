@@ -1,8 +1,8 @@
-//! Words that ask for one assertion, or for so much of a state.
+//! Words that ask for one assertion, for so much of a state, or for names at once.
 
 use crate::rows::Row;
 
-static ASKED: [Row; 6] = [
+static ASKED: [Row; 8] = [
     // The status is that of the one assertion.
     Row {
         words: &["script", "2"],
@@ -97,6 +97,36 @@ static ASKED: [Row; 6] = [
       STOP
   by itself right can do {}
       STOP
+",
+    },
+    // With names at once the assertion stands as it is written, and its sides are settled: no tau stands before `a`.
+    Row {
+        words: &["--unfold", "script"],
+        status: 1,
+        text: "channel a, b\nP = a -> STOP\nassert STOP [T= P [] b -> STOP\n",
+        told: "\
+1 fails  assert STOP [T= P [] b -> STOP
+  0 start
+      a -> STOP [] b -> STOP
+      specification: STOP
+  then it does a, and the specification cannot
+  there the specification can do no more than {}
+",
+    },
+    Row {
+        words: &["--unfold", "script"],
+        status: 1,
+        text: "channel a, b\nP = a -> Q\nQ = b -> P\nassert a -> STOP [T= P\n",
+        told: "\
+1 fails  assert a -> STOP [T= P
+  0 start
+      a -> Q
+      specification: a -> STOP
+  1 a
+      b -> P
+      specification: STOP
+  then it does b, and the specification cannot
+  there the specification can do no more than {}
 ",
     },
 ];

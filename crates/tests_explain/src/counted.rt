@@ -3,7 +3,7 @@
 
 use crate::rows::Row;
 
-static COUNTED: [Row; 9] = [
+static COUNTED: [Row; 10] = [
     // P and a -> P, which lead to one another, are states of the one node and stand in one pair each.
     Row {
         words: &["--count", "script"],
@@ -16,6 +16,13 @@ static COUNTED: [Row; 9] = [
         status: 0,
         text: "channel a\nP = a -> P\nassert P [T= P\n",
         told: "1 holds  assert P [T= P\n",
+    },
+    // At once P is a -> P, and leads to that.
+    Row {
+        words: &["--count", "--unfold", "script"],
+        status: 0,
+        text: "channel a\nP = a -> P\nassert P [T= P\n",
+        told: "1 holds  assert P [T= P\n  1 pair, 1 node\n",
     },
     // The node behind a is one of the specification's, and stands in no pair.
     Row {

@@ -3,6 +3,7 @@
 use crate::command_lines::{checked, wrong_words};
 use crate::examples::all_examples;
 use crate::examples_with_options::examples_with_options;
+use crate::names_at_once::{lines_at_once, other_at_once};
 use crate::outcomes::{BEYOND_STOP, failing, holding, unknown};
 use crate::refusals::{no_scripts, unchecked};
 use crate::rows::Row;
@@ -16,6 +17,9 @@ use std::thread::Threads;
 
 // How many workers each text is checked by, in turn.
 const WORKERS: [&str; 4] = ["--workers=1", "--workers=2", "--workers=8", "--workers=64"];
+
+// How many of them with names at once.
+const WORKERS_AT_ONCE: [&str; 2] = ["--workers=1", "--workers=8"];
 
 fn is_answered_so<R: Abort + Threads + Wait + Sync>(
     rt: &R,
@@ -31,6 +35,24 @@ fn is_answered_so<R: Abort + Threads + Wait + Sync>(
     Ok(())
 }
 
+fn is_answered_at_once<R: Abort + Threads + Wait + Sync>(
+    rt: &R,
+    alloc: Global,
+    status: u8,
+    row: &Row,
+) -> Result<(), Fail> {
+    let lines = lines_at_once(row);
+    for workers in &WORKERS_AT_ONCE {
+        let words = [*workers, "--unfold", "script"];
+        let told = run_on(alloc, rt, &words, row.0.as_bytes());
+        assert!(rt;
+            told.is_answered(status, lines),
+            "at {row:?} with {workers}"
+        );
+    }
+    Ok(())
+}
+
 fn are_answered_so<R: Abort + Threads + Wait + Sync>(
     rt: &R,
     alloc: Global,
@@ -39,6 +61,7 @@ fn are_answered_so<R: Abort + Threads + Wait + Sync>(
 ) -> Result<(), Fail> {
     for row in rows {
         is_answered_so(rt, alloc, status, row)?;
+        is_answered_at_once(rt, alloc, status, row)?;
     }
     Ok(())
 }
@@ -61,6 +84,25 @@ fn examples_are_answered_so(rt: HostRuntime) -> Result<(), Fail> {
             "at {}",
             example.name
         );
+    }
+    Ok(())
+}
+
+#[test]
+fn examples_have_the_same_lines_with_names_at_once(rt: HostRuntime) -> Result<(), Fail> {
+    for example in all_examples() {
+        let row = (example.text, example.lines);
+        is_answered_at_once(&rt, rt.alloc(), example.status, &row)?;
+    }
+    Ok(())
+}
+
+#[test]
+fn another_trace_is_shown_with_names_at_once(rt: HostRuntime) -> Result<(), Fail> {
+    for (text, lines, _) in other_at_once() {
+        let row = (*text, *lines);
+        is_answered_so(&rt, rt.alloc(), 1, &row)?;
+        is_answered_at_once(&rt, rt.alloc(), 1, &row)?;
     }
     Ok(())
 }

@@ -9,7 +9,8 @@ pub(crate) type Line = (&'static [&'static str], u8, Row);
 // A process with one event, again and again: two pairs with one node.
 const AGAIN: &str = "channel a, b, c\nR = a -> R\nassert R [T= a -> STOP";
 
-// `P` unfolds by a tau to `a -> P`, so that the one node of the specification has two states.
+// `P` unfolds by a tau to `a -> P`, so that the one node of the specification has two states. At once it has one, and there
+// is one pair.
 const REPEATED: &str = "channel a\nP = a -> P\nassert P [T= P";
 
 // After one tau the implementation can do `b`, which the specification cannot.
@@ -18,7 +19,7 @@ const CHOICE: &str = "channel a, b, c\nassert a -> STOP [T= a -> STOP |~| b -> S
 // A specification whose states never end.
 const COUNTING: &str = "channel a, b, c\nP(n) = a -> P(n+1)\nassert P(0) [T= P(0)";
 
-static CHECKED: [Line; 27] = [
+static CHECKED: [Line; 33] = [
     (&["--workers", "1", "script"], 1, CHAIN),
     (&["--workers", "2", "script"], 1, CHAIN),
     (&["--workers", "8", "script"], 1, CHAIN),
@@ -62,6 +63,28 @@ static CHECKED: [Line; 27] = [
         2,
         (REPEATED, "1 unknown nodes\n"),
     ),
+    (
+        &["--max-nodes", "1", "--unfold", "script"],
+        0,
+        (REPEATED, "1 holds\n"),
+    ),
+    (
+        &["--unfold", "script", "--max-pairs=1"],
+        0,
+        (REPEATED, "1 holds\n"),
+    ),
+    (
+        &["--max-pairs", "1", "--unfold", "script"],
+        2,
+        (AGAIN, "1 unknown pairs\n"),
+    ),
+    (
+        &["--unfold", "--max-nodes=10", "script"],
+        2,
+        (COUNTING, "1 unknown nodes\n"),
+    ),
+    (&["--unfold", "script"], 1, BEYOND_STOP),
+    (&["--unfold", "--", "--unfold"], 3, ("", "refused file\n")),
     (&["--max-nodes", "+2", "script"], 0, (AGAIN, "1 holds\n")),
     (&["--", "script"], 1, BEYOND_STOP),
     (&["script"], 0, ("", "")),
@@ -116,7 +139,7 @@ pub(crate) fn checked() -> &'static [Line] {
 /// Words, and the first line of what is said of them.
 pub(crate) type WrongWords = (&'static [&'static str], &'static str);
 
-static WRONG_WORDS: [WrongWords; 16] = [
+static WRONG_WORDS: [WrongWords; 18] = [
     (
         &[],
         "error: the following required arguments were not provided:\n",
@@ -160,6 +183,14 @@ static WRONG_WORDS: [WrongWords; 16] = [
     (
         &["--max-pairs", "2", "--max-pairs", "2", "script"],
         "error: the argument '--max-pairs <N>' cannot be used multiple times\n",
+    ),
+    (
+        &["--unfold", "script", "--unfold"],
+        "error: the argument '--unfold' cannot be used multiple times\n",
+    ),
+    (
+        &["--unfold=no", "script"],
+        "error: unexpected value 'no' for '--unfold' found; no more were expected\n",
     ),
     (
         &["script", "other"],

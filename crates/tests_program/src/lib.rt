@@ -27,6 +27,8 @@ mod limits;
 #[cfg(test)]
 mod memory;
 #[cfg(test)]
+mod names_at_once;
+#[cfg(test)]
 mod outcomes;
 #[cfg(test)]
 mod outputs;

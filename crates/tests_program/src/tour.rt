@@ -132,7 +132,13 @@ const MIXED_OPERATORS: &str = r"channel a
 P = STOP [] a -> STOP |~| STOP
 ";
 
-static TOUR: [Stop; 12] = [
+// Two violations, one of which is behind a name.
+const BEHIND_A_NAME: &str = r"channel a, b
+P = a -> STOP
+assert STOP [T= P [] b -> STOP
+";
+
+static TOUR: [Stop; 15] = [
     (
         &["protocol.csp"],
         1,
@@ -198,6 +204,24 @@ static TOUR: [Stop; 12] = [
         2,
         (ALTERNATING, QUEUE_WITHOUT_END),
         "1 unknown nodes\n",
+    ),
+    (
+        &["--unfold", "protocol.csp"],
+        0,
+        (ALTERNATING, BUFFER_BY_BOTH),
+        "1 holds\n2 holds\n",
+    ),
+    (
+        &["protocol.csp"],
+        1,
+        (BEHIND_A_NAME, ""),
+        "1 fails trace <> event b\n",
+    ),
+    (
+        &["--unfold", "protocol.csp"],
+        1,
+        (BEHIND_A_NAME, ""),
+        "1 fails trace <> event a\n",
     ),
     (
         &["protocol.csp"],
