@@ -35,6 +35,18 @@ abbrev pub failing_text : (negated : Bool) → List ℕ
 failing_text true = codes "  without `not` it fails:\n"
 failing_text false = []
 
+abbrev pub holding_text : (negated : Bool) → List ℕ
+holding_text true = codes "  without `not` it holds\n"
+holding_text false = []
+
+-- Behind the old text stands why the assertion has its outcome, by the one that it has but for a `not`: where that one is a
+-- violation, it is told.
+abbrev pub TellsWhy : Style → Script → Assertion → (found : Outcome) → List ℕ → List ℕ → Type 0
+TellsWhy style script a Holds old new = new ≡ old ++ holding_text a.negated
+TellsWhy style script a (Fails v) old new = IsViolation script a v × TellsViolation style script a v (old ++ failing_text a.negated) new
+TellsWhy style script a (Unknown why) old new = TellsUnknown style script a why old new
+TellsWhy style script a Denied old new = new ≡ old
+
 -- The text tells of the assertion with this number and outcome, which is written as the first one and asked as the second:
 -- the headline of the first one, and why of the second, by the outcome that it has but for a `not`.
 abbrev pub IsTold : Style → Script → ℕ → Assertion → Assertion → Outcome → List ℕ → Type 0
