@@ -2,7 +2,7 @@
 
 use crate::rows::Row;
 
-static ASKED: [Row; 8] = [
+static ASKED: [Row; 10] = [
     // The status is that of the one assertion.
     Row {
         words: &["script", "2"],
@@ -126,6 +126,33 @@ static ASKED: [Row; 8] = [
       b -> P
       specification: STOP
   then it does b, and the specification cannot
+  there the specification can do no more than {}
+",
+    },
+    Row {
+        words: &["--unfold", "script"],
+        status: 1,
+        text: "channel a\nP = a -> P\nassert (P [| {a} |] P) \\ {a} :[divergence free]\n",
+        told: "\
+1 fails  assert (P [| {a} |] P) \\ {a} :[divergence free]
+  0 start
+      (a -> P [| {a} |] a -> P) \\ {a}
+  then it goes on with tau for ever:
+  1 tau: hidden a by left, right
+      back to state 0
+",
+    },
+    // Eight names in a row are unfolded at once. The ninth is left to its tau.
+    Row {
+        words: &["--unfold", "script"],
+        status: 1,
+        text: "channel a\nA = B\nB = C\nC = D\nD = E\nE = F\nF = G\nG = H\nH = I\nI = J\nJ = a -> STOP\nassert STOP [T= A\n",
+        told: "\
+1 fails  assert STOP [T= A
+  0 start, then unfolds I
+      a -> STOP
+      specification: STOP
+  then it does a, and the specification cannot
   there the specification can do no more than {}
 ",
     },
