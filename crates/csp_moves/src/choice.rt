@@ -118,7 +118,8 @@ fn internal_by_tau<'t, A: AllocHandle>(
     requires { IsTrue (fits (process_of target.now)) }
     ensures { IfOk result (AreFoundIn (script_of_parts script.now) (InternalChoice (process_of left.now) (process_of right.now)) Tau (process_of target.now)) }
 {
-    match chosen_side(alloc, script, left, right, target)? {
+    let chosen = chosen_side(alloc, script, left, right, target)?;
+    match chosen {
         Some(side) => one_way(alloc, Way::Chooses(side)),
         None => no_ways(alloc),
     }
