@@ -15,7 +15,9 @@ pub(crate) const MOST: usize = 1_000_000;
 
 // What is told of the options without a value.
 const COUNT: &str = "Tell how many pairs and nodes the search of each assertion had";
+
 const EVENTS: &str = "Tell of each path its events alone, seen and hidden, and its last state";
+
 const STEPS: &str = "Tell steps that unfold a name one by one; with --events no matter";
 
 /// The command line of the program, without the program's name.

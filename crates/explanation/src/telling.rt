@@ -45,13 +45,7 @@ pub fn tell<A: AllocHandle>(
         let told = IsTold (style_of style.now) it question.now.number written asked outcome in
         IfOk result (λ text. told (string_bytes text)) }
 {
-    let mut text = headline_text(
-        alloc,
-        style.names,
-        question.number,
-        question.written,
-        found,
-    )?;
+    let mut text = headline_text(alloc, style.names, question.number, question.written, found)?;
     push_why(alloc, style, script, question.asked, found, stop, &mut text)?;
     Ok(text)
 }
