@@ -6,8 +6,9 @@
 //! - `@@ ` with the status, and behind it what the run gives: to its output, or, with the status 3, to its errors. `fine`
 //!   stands for any status but 3, whatever the run gives.
 //!
-//! With `--workers=*` a case is run by several numbers of workers. A case costs no proof, so that one more is some lines
-//! of text. What a table cannot show, as a memory that refuses or an output that breaks off, is left to the tests.
+//! With `--workers=*` a case is run by several numbers of workers, and with `[--unfold]` without and with this word. A
+//! case costs no proof, so that one more is some lines of text. What a table cannot show, as a memory that refuses or an
+//! output that breaks off, is left to the tests.
 #![tactic(auto)]
 
 mod case;
@@ -26,8 +27,20 @@ use told::{Told, told_by};
 /// By how many workers a case is run in turn, where it says `--workers=*`.
 const WORKERS: [&str; 4] = ["--workers=1", "--workers=2", "--workers=8", "--workers=64"];
 
-/// How many of these numbers a case is run by.
-fn runs_of(case: &Case<'_>) -> usize {
+/// The word that a case is run without and with, where it says so.
+const UNFOLD: &str = "[--unfold]";
+
+/// How one run of a case reads its words.
+#[derive(Clone, Copy)]
+struct Reading {
+    /// What stands for `--workers=*`.
+    workers: &'static str,
+    /// Whether names are unfolded at once where the case leaves that open.
+    unfolds: bool,
+}
+
+/// By how many numbers of workers a case is run.
+fn numbers_of(case: &Case<'_>) -> usize {
     if case.words.contains("--workers=*") {
         WORKERS.len()
     } else {
@@ -40,25 +53,32 @@ fn run<R: Threads + Wait + Sync>(
     rt: &R,
     alloc: Global,
     case: &Case<'_>,
-    workers: &str,
+    reading: Reading,
 ) -> Result<Told> {
     let mut words = Vec::new(alloc);
     for word in case.words.split_whitespace() {
-        words.push(if word == "--workers=*" { workers } else { word })?;
+        match word {
+            "--workers=*" => words.push(reading.workers)?,
+            UNFOLD if reading.unfolds => words.push("--unfold")?,
+            UNFOLD => {}
+            _ => words.push(word)?,
+        }
     }
     Ok(told_by(rt, alloc, &words, case.text.as_bytes()))
 }
 
-/// Whether each run of the case gives what it says. What is given otherwise is told.
+/// Whether each run of the case with names read so gives what it says. What is given otherwise is told.
 fn is_as_said<R: Threads + Wait + Sync + Print>(
     rt: &R,
     alloc: Global,
     name: &str,
     case: &Case<'_>,
+    unfolds: bool,
 ) -> Result<bool> {
     let mut is_as_said = true;
-    for workers in WORKERS.iter().take(runs_of(case)) {
-        let told = run(rt, alloc, case, *workers)?;
+    for workers in WORKERS.iter().take(numbers_of(case)) {
+        let workers = *workers;
+        let told = run(rt, alloc, case, Reading { workers, unfolds })?;
         if !told.is_as_said(case) {
             println!(rt; "{name}: {}\n{}\n{told}", case.words, case.text)?;
             is_as_said = false;
@@ -77,7 +97,10 @@ fn are_as_said<R: Threads + Wait + Sync + Print + Files + AllocGlobal>(
     let cases = cases_of(alloc, &table)?;
     let mut are_as_said = true;
     for case in &cases {
-        are_as_said &= is_as_said(rt, alloc, name, case)?;
+        are_as_said &= is_as_said(rt, alloc, name, case, false)?;
+        if case.words.contains(UNFOLD) {
+            are_as_said &= is_as_said(rt, alloc, name, case, true)?;
+        }
     }
     println!(rt; "{name}: {} cases", cases.len())?;
     Ok(are_as_said)

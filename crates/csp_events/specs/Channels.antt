@@ -2,7 +2,7 @@
 use Rattle.std.specs.Prelude.{ℕ, List, [], map}
 use Rattle.std.specs.String.{string_bytes}
 use Rattle.theory_syntax.specs.Value.{Value}
-use Rattle.theory_syntax.specs.Process.{Script}
+use Rattle.theory_syntax.specs.Process.{Script, ByTau}
 use Rattle.csp_value.specs.Fields.{sets_of}
 use Rattle.csp_expression.specs.declared.types.TypeTable.{TypeTable}
 use Rattle.csp_expression.specs.Evaluation.{table_of}
@@ -25,4 +25,5 @@ declaring types channels = record {
   assertions = [];
   channel_names = [];
   constructor_names = [];
+  unfolds = ByTau;
 }

@@ -7,6 +7,7 @@ use Rattle.std.proofs.lemmas.List.Elements.{All-from_recursion}
 use Rattle.std.proofs.lemmas.List.{length-map}
 use Rattle.std.proofs.Common.{◌≡◌, ℕ, List, [], ◌∷◌, length, map, Option, Some, None, refl, sym, ap, ◌∙◌}
 use Rattle.theory_syntax.specs.Value.{Value}
+use Rattle.theory_syntax.specs.declared.reading.Unfolding.TheVariants as reading
 use Rattle.theory_text.specs.Raw.{RawScript}
 use Rattle.theory_checking.specs.Names.{ChannelName, ConstructorName, declared_as, names_of, spellings}
 use Rattle.theory_checking.specs.Scripts.{IsScriptOf}
@@ -42,7 +43,7 @@ encoded_names raw names all f is are = are ∙ ap (λ ns. map encode_utf8_all (s
 
 pub script_made : {A : Type 0} (raw : RawScript) (types : TypeTable A) (sets : List (Option (Vec (FieldSet A) A))) (items : Items A) (constructors : Vec (Constructor A) A) (channels : Vec (Channel A) A) (ks cs : List Name) → AreTypesOf raw types → AreFieldSetsOf raw sets → AreItemsOf raw raw items →
     map name_of ks ≡ flat_map (declared_as ConstructorName) raw → constructor_spellings constructors.items ≡ encoded ks → map name_of cs ≡ flat_map (declared_as ChannelName) raw → channel_spellings channels.items ≡ encoded cs → sets_listed channels.items ≡ map known_sets sets →
-    IsScriptOf raw (script_of_parts (record { types = types; constructors = constructors; channels = channels; equations = items.equations; assertions = items.assertions }))
+    IsScriptOf raw (script_of_parts (record { types = types; constructors = constructors; channels = channels; equations = items.equations; assertions = items.assertions; unfolds = reading.ByTau }))
 script_made raw types sets items constructors channels ks cs of_types of_sets of_items named_ks spelled_ks named_cs spelled_cs same = record {
   datatypes = of_types.datatypes;
   nametypes = of_types.nametypes;
@@ -52,6 +53,7 @@ script_made raw types sets items constructors channels ks cs of_types of_sets of
   assertions = of_items.assertions;
   channel_names = encoded_names raw cs (channel_spellings channels.items) (declared_as ChannelName) named_cs spelled_cs;
   constructor_names = encoded_names raw ks (constructor_spellings constructors.items) (declared_as ConstructorName) named_ks spelled_ks;
+  unfolds = refl;
 }
 
 -- ---- the sets that were evaluated are the script's

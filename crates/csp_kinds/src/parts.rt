@@ -12,7 +12,7 @@ use crate::names_in_order::{channel_names, constructor_names};
 use crate::spellings::{channels, constructors};
 use csp_expression::TypeTable;
 use csp_parse::Raw;
-use csp_term::ScriptParts;
+use csp_term::{ScriptParts, Unfolding};
 use csp_value::FieldSet;
 use std::alloc::{AllocError, Allocator};
 
@@ -41,5 +41,6 @@ pub(crate) fn make_parts<A: Allocator + Copy>(
         channels,
         equations,
         assertions,
+        unfolds: Unfolding::ByTau,
     })
 }

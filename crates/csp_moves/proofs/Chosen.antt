@@ -2,7 +2,8 @@
 use Rattle.std.proofs.Common.{◌≡◌, IfOk, [], ◌∷◌, refl, Some, None, Result}
 use Rattle.std.specs.declared.vec.Vec.{Vec}
 use Rattle.theory_syntax.specs.Value.{Tau}
-use Rattle.theory_syntax.specs.Process.{Process, InternalChoice}
+use Rattle.theory_syntax.specs.Process.{Process, InternalChoice, Script}
+use Rattle.theory_semantics.specs.Meaning.Unfolding.{settled}
 use Rattle.theory_origins.specs.Origin.{Chooses, Left, Right}
 use Rattle.theory_origins.specs.Ways.{Here}
 use Rattle.theory_origins.proofs.OperandWays.{left_choice_ways, no_choice_ways, right_choice_ways}
@@ -11,13 +12,13 @@ use Rattle.csp_moves.specs.declared.passage.Side.TheVariants as side
 use Rattle.csp_moves.specs.declared.way.Way.{Way}
 use Rattle.csp_moves.specs.Choice.{IsChosen}
 use Rattle.csp_moves.specs.Passage.{side_of}
-use Rattle.csp_moves.specs.Way.{AreFound, ways_of}
-use Rattle.csp_moves.proofs.Found.{found_all}
+use Rattle.csp_moves.specs.Way.{AreFoundIn, ways_of}
+use Rattle.csp_moves.proofs.Found.{found_in}
 
-module _ {A E : Type 0} (p q t : Process) (r : Result (Vec (Way A) A) E) where
-  pub chosen_found : (s : Side) → IsChosen p q t (Some s) → IfOk r (λ ways. ways_of ways ≡ Here (Chooses (side_of s)) ∷ []) → IfOk r (AreFound (InternalChoice p q) Tau t)
-  chosen_found side.Left is ways = found_all (InternalChoice p q) Tau t r _ (Here (Chooses Left) ∷ []) ways refl (λ s. left_choice_ways s p q t is)
-  chosen_found side.Right is ways = found_all (InternalChoice p q) Tau t r _ (Here (Chooses Right) ∷ []) ways refl (λ s. right_choice_ways s p q t is)
+module _ {A E : Type 0} (s : Script) (p q t : Process) (r : Result (Vec (Way A) A) E) where
+  pub chosen_found : (one : Side) → IsChosen (settled s p) (settled s q) t (Some one) → IfOk r (λ ways. ways_of ways ≡ Here (Chooses (side_of one)) ∷ []) → IfOk r (AreFoundIn s (InternalChoice p q) Tau t)
+  chosen_found side.Left is ways = found_in s (InternalChoice p q) Tau t r _ (Here (Chooses Left) ∷ []) ways refl (left_choice_ways s p q t is)
+  chosen_found side.Right is ways = found_in s (InternalChoice p q) Tau t r _ (Here (Chooses Right) ∷ []) ways refl (right_choice_ways s p q t is)
 
-  pub none_chosen : IsChosen p q t None → IfOk r (λ ways. ways_of ways ≡ []) → IfOk r (AreFound (InternalChoice p q) Tau t)
-  none_chosen is ways = found_all (InternalChoice p q) Tau t r _ [] ways refl (λ s. no_choice_ways s p q t is.0 is.1)
+  pub none_chosen : IsChosen (settled s p) (settled s q) t None → IfOk r (λ ways. ways_of ways ≡ []) → IfOk r (AreFoundIn s (InternalChoice p q) Tau t)
+  none_chosen is ways = found_in s (InternalChoice p q) Tau t r _ [] ways refl (no_choice_ways s p q t is.0 is.1)

@@ -1,19 +1,22 @@
 //! The ways of `P [] Q` and of `P |~| Q`.
 
-ghost use Rattle.std.specs.Prelude.{IfOk};
-ghost use Rattle.theory_syntax.specs.Process.{ExternalChoice, InternalChoice, Process};
+ghost use Rattle.std.specs.Prelude.{IfOk, IsTrue};
+ghost use Rattle.theory_syntax.specs.Process.{ExternalChoice, InternalChoice, Process, Script};
 ghost use Rattle.theory_syntax.specs.Value as pure;
 ghost use Rattle.theory_syntax.specs.Value.{Tau};
 ghost use Rattle.theory_semantics.specs.Meaning.Transitions.{IsVisible};
+ghost use Rattle.theory_semantics.specs.Meaning.Limits.{fits};
+ghost use Rattle.theory_semantics.specs.Meaning.Unfolding.{settled};
+ghost use Rattle.csp_term.specs.Script.{script_of_parts};
 ghost use Rattle.csp_term.specs.Term.{process_of};
 ghost use Rattle.csp_moves.specs.Choice.{IsChosen};
-ghost use Rattle.csp_moves.specs.Way.{AreFound, lent_action};
+ghost use Rattle.csp_moves.specs.Way.{AreFound, AreFoundIn, lent_action};
 
 use crate::operator::{Joint, left_of, right_of};
 use crate::passage::Side;
+use crate::settled::leads_to;
 use crate::way::{LentAction, Way, no_ways, one_way, through_branch, two_ways};
-use csp_term::laws::equal_terms;
-use csp_term::{AllocHandle, Memory, ProcessOperator, Term};
+use csp_term::{AllocHandle, Memory, ProcessOperator, ScriptParts, Term};
 
 /// The ways in which `P [] Q` may do the step. `Memory` says that there is no room for them.
 pub fn external_ways<'t, A: AllocHandle>(
@@ -68,43 +71,55 @@ fn external_by_visible<'t, A: AllocHandle>(
 /// The ways in which `P |~| Q` may do the step. `Memory` says that there is no room for them.
 pub fn internal_ways<'t, A: AllocHandle>(
     alloc: A,
+    script: &ScriptParts<A>,
     left: &'t Term<A>,
     right: &'t Term<A>,
     action: LentAction<'t, A>,
     target: &'t Term<A>,
 ) -> Result<Vec<Way<'t, A>, A>, Memory>
-    ensures { IfOk result (AreFound (InternalChoice (process_of left.now) (process_of right.now)) (lent_action action.entry) (process_of target.now)) }
+    requires { IsTrue (fits (process_of target.now)) }
+    ensures { IfOk result (AreFoundIn (script_of_parts script.now) (InternalChoice (process_of left.now) (process_of right.now)) (lent_action action.entry) (process_of target.now)) }
 {
     match action {
-        LentAction::Tau => internal_by_tau(alloc, left, right, target),
+        LentAction::Tau => internal_by_tau(alloc, script, left, right, target),
         LentAction::Tick => internal_by_visible(alloc),
         LentAction::Event(_) => internal_by_visible(alloc),
     }
 }
 
-/// The side that the target is, the left one where it is both.
-fn chosen_side<A: AllocHandle>(left: &Term<A>, right: &Term<A>, target: &Term<A>) -> Option<Side>
-    ensures { IsChosen (process_of left.now) (process_of right.now) (process_of target.now) result }
+/// The side that the target is, settled; the left one where it is both.
+fn chosen_side<A: AllocHandle>(
+    alloc: A,
+    script: &ScriptParts<A>,
+    left: &Term<A>,
+    right: &Term<A>,
+    target: &Term<A>,
+) -> Result<Option<Side>, Memory>
+    requires { IsTrue (fits (process_of target.now)) }
+    ensures { IfOk result (IsChosen (settled (script_of_parts script.now) (process_of left.now)) (settled (script_of_parts script.now) (process_of right.now)) (process_of target.now)) }
 {
-    if equal_terms(target, left) {
-        return Some(Side::Left);
+    if leads_to(alloc, script, left, target)? {
+        return Ok(Some(Side::Left));
     }
-    if equal_terms(target, right) {
-        return Some(Side::Right);
+    if leads_to(alloc, script, right, target)? {
+        return Ok(Some(Side::Right));
     }
-    None
+    Ok(None)
 }
 
 /// It becomes a side, by itself.
 fn internal_by_tau<'t, A: AllocHandle>(
     alloc: A,
+    script: &ScriptParts<A>,
     left: &'t Term<A>,
     right: &'t Term<A>,
     target: &'t Term<A>,
 ) -> Result<Vec<Way<'t, A>, A>, Memory>
-    ensures { IfOk result (AreFound (InternalChoice (process_of left.now) (process_of right.now)) Tau (process_of target.now)) }
+    requires { IsTrue (fits (process_of target.now)) }
+    ensures { IfOk result (AreFoundIn (script_of_parts script.now) (InternalChoice (process_of left.now) (process_of right.now)) Tau (process_of target.now)) }
 {
-    match chosen_side(left, right, target) {
+    let chosen = chosen_side(alloc, script, left, right, target)?;
+    match chosen {
         Some(side) => one_way(alloc, Way::Chooses(side)),
         None => no_ways(alloc),
     }
@@ -112,7 +127,7 @@ fn internal_by_tau<'t, A: AllocHandle>(
 
 /// It does nothing that is seen.
 fn internal_by_visible<'t, A: AllocHandle>(alloc: A) -> Result<Vec<Way<'t, A>, A>, Memory>
-    ensures { (p q : Process) (x : pure.Action) (t : Process) → IsVisible x → IfOk result (AreFound (InternalChoice p q) x t) }
+    ensures { (s : Script) (p q : Process) (x : pure.Action) (t : Process) → IsVisible x → IfOk result (AreFoundIn s (InternalChoice p q) x t) }
 {
     no_ways(alloc)
 }

@@ -30,6 +30,10 @@ pub fn origin_of_step<A: AllocHandle>(
 ) -> Result<Option<Origin<A>>, Memory>
     ensures { IfOk result (λ found. Tells (script_of_parts script.now) (process_of term.now) (lent_action action.entry) (process_of target.now) (origin_found found)) }
 {
+    // Past the limits there is no step to tell of.
+    if !target.fits() {
+        return Ok(None);
+    }
     let made = made_for(alloc, script, term, action, target)?;
     let ways = ways_of_step(alloc, script, &*term, &made, action, &*target)?;
     let found = first_along(alloc, script, &ways);

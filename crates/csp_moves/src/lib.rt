@@ -30,6 +30,7 @@ mod prefix;
 mod renaming;
 mod replicated;
 mod sequential;
+mod settled;
 mod sliding;
 mod tested;
 mod together;

@@ -1,14 +1,15 @@
 //! The ways of any process.
 
-ghost use Rattle.std.specs.Prelude.{◌≡◌, IfOk, IsSome};
+ghost use Rattle.std.specs.Prelude.{◌≡◌, IfOk, IsSome, IsTrue};
 ghost use Rattle.theory_syntax.specs.Operators.{binary_process};
 ghost use Rattle.theory_syntax.specs.Process.{Omega};
+ghost use Rattle.theory_semantics.specs.Meaning.Limits.{fits};
 ghost use Rattle.csp_term.specs.Script.{script_of_parts};
 ghost use Rattle.csp_term.specs.Term.{process_of};
 ghost use Rattle.csp_moves.specs.Frames.{unframed};
 ghost use Rattle.csp_moves.specs.Made.{IsMade};
 ghost use Rattle.csp_moves.specs.Sides.{taken_apart};
-ghost use Rattle.csp_moves.specs.Way.{AreFound, AreFoundIn, lent_action};
+ghost use Rattle.csp_moves.specs.Way.{AreFoundIn, lent_action};
 
 use crate::alphabetised::{Alphabetised, alphabetised_ways};
 use crate::branch::{Conditional, conditional_ways, guard_ways};
@@ -33,21 +34,27 @@ use csp_term::{AllocHandle, Memory, ProcessOperator, ScriptParts, Term, TermForm
 /// The ways of an operator that has nothing beside its sides, of which the left may end in `ended`.
 fn binary_ways<'t, A: AllocHandle>(
     alloc: A,
+    script: &ScriptParts<A>,
     operator: ProcessOperator,
     sides: Sides<'t, A>,
     ended: &'t Term<A>,
     action: LentAction<'t, A>,
     target: &'t Term<A>,
 ) -> Result<Vec<Way<'t, A>, A>, Memory>
-    requires { process_of ended.now ≡ Omega }
-    ensures { IfOk result (AreFound (binary_process operator (process_of sides.entry.left.now) (process_of sides.entry.right.now)) (lent_action action.entry) (process_of target.now)) }
+    requires ended { process_of ended.now ≡ Omega }
+    requires within { IsTrue (fits (process_of target.now)) }
+    ensures { IfOk result (AreFoundIn (script_of_parts script.now) (binary_process operator (process_of sides.entry.left.now) (process_of sides.entry.right.now)) (lent_action action.entry) (process_of target.now)) }
 {
     let left = sides.left;
     let right = sides.right;
     match operator {
         ProcessOperator::ExternalChoice => external_ways(alloc, left, right, action, target),
-        ProcessOperator::InternalChoice => internal_ways(alloc, left, right, action, target),
-        ProcessOperator::Sequential => sequential_ways(alloc, left, right, ended, action, target),
+        ProcessOperator::InternalChoice => internal_ways(
+            alloc, script, left, right, action, target,
+        ),
+        ProcessOperator::Sequential => {
+            sequential_ways(alloc, script, left, right, ended, action, target)
+        }
         ProcessOperator::Interleaving => interleaving_ways(alloc, left, right, action, target),
         ProcessOperator::Interrupt => interrupt_ways(alloc, left, right, action, target),
     }
@@ -63,6 +70,7 @@ fn joined_ways<'t, A: AllocHandle>(
     target: &'t Term<A>,
 ) -> Result<Vec<Way<'t, A>, A>, Memory>
     requires joined { IsSome (taken_apart (process_of term.now)) }
+    requires within { IsTrue (fits (process_of target.now)) }
     requires made { IsMade (script_of_parts script.now) (process_of term.now) (lent_action action) (process_of target.now) made.now }
     ensures { IfOk result (AreFoundIn (script_of_parts script.now) (process_of term.now) (lent_action action.entry) (process_of target.now)) }
 {
@@ -71,7 +79,7 @@ fn joined_ways<'t, A: AllocHandle>(
     };
     match sides.operator {
         Joint::Binary(operator) => {
-            binary_ways(alloc, operator, sides, &made.ended, action, target)
+            binary_ways(alloc, script, operator, sides, &made.ended, action, target)
         }
         Joint::Generalised(shared) => {
             let process = Generalised {
@@ -90,7 +98,7 @@ fn joined_ways<'t, A: AllocHandle>(
             };
             alphabetised_ways(alloc, script, process, action, target)
         }
-        Joint::Sliding => sliding_ways(alloc, sides.left, sides.right, action, target),
+        Joint::Sliding => sliding_ways(alloc, script, sides.left, sides.right, action, target),
     }
 }
 
@@ -132,7 +140,8 @@ pub(crate) fn ways_of_step<'t, A: AllocHandle>(
     action: LentAction<'t, A>,
     target: &'t Term<A>,
 ) -> Result<Vec<Way<'t, A>, A>, Memory>
-    requires { IsMade (script_of_parts script.now) (process_of term.now) (lent_action action) (process_of target.now) made.now }
+    requires within { IsTrue (fits (process_of target.now)) }
+    requires made { IsMade (script_of_parts script.now) (process_of term.now) (lent_action action) (process_of target.now) made.now }
     ensures { IfOk result (AreFoundIn (script_of_parts script.now) (process_of term.now) (lent_action action.entry) (process_of target.now)) }
 {
     match term.form() {

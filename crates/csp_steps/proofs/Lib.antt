@@ -14,13 +14,11 @@ pub mod Sided
 pub mod Imaged
 pub mod Ruling
 pub mod Smaller
-pub mod Seeing
-pub mod Parameters
 pub mod Reaching
 pub mod Calling
+pub mod Targets
 pub mod Further
 pub mod Walking
-pub mod Members
 pub mod Twice
 pub mod Beginning
 pub mod Prefixing

@@ -5,6 +5,7 @@ use Rattle.theory_syntax.specs.Value.{Tau, Tick}
 use Rattle.theory_syntax.specs.Process.{Process, Script, Omega, ExternalChoice, InternalChoice, Sequential, Interrupt, SlidingChoice}
 use Rattle.theory_semantics.specs.Meaning.Faults.{cause_in, height}
 use Rattle.theory_semantics.specs.Meaning.Stepping.{Steps, always, each_step, external_steps, leave, rule_steps, stay, steps_within}
+use Rattle.theory_semantics.specs.Meaning.Unfolding.{settled}
 use Rattle.theory_semantics.proofs.Causes.{external_cause, interrupt_cause, sequential_cause, sliding_cause}
 use Rattle.theory_semantics.proofs.Stepping.{exact, exact_within, external_exact}
 use Rattle.csp_expression.specs.declared.no_value.NoValue.{NoValue}
@@ -54,25 +55,26 @@ external_answered s p bs q cs o r first_is second_is first second =
     let P : List Answered → Type 0 = λ xs. IsAnswered s (ExternalChoice p q) xs in
     subst P (ap₂ (λ o r. external_answers o bs r cs) (sym first_is) (sym second_is)) all
 
-pub internal_answered : (s : Script) (p q : Process) → IsAnswered s (InternalChoice p q) ((Tau, within_limits p) ∷ (Tau, within_limits q) ∷ [])
-internal_answered s p q = answered_by s (InternalChoice p q) ((Tau, p) ∷ (Tau, q) ∷ []) refl (exact s (InternalChoice p q))
+pub internal_answered : (s : Script) (p q : Process) → IsAnswered s (InternalChoice p q) ((Tau, within_limits (settled s p)) ∷ (Tau, within_limits (settled s q)) ∷ [])
+internal_answered s p q = answered_by s (InternalChoice p q) ((Tau, settled s p) ∷ (Tau, settled s q) ∷ []) refl (exact s (InternalChoice p q))
 
 -- ---- one process and then another
 
-pub sequential_answered : (s : Script) (p : Process) (bs : List Answered) (q : Process) (r : Option Process) → r ≡ within_limits q → IsAnswered s p bs → IsAnswered s (Sequential p q) (sequential_answers bs r)
-sequential_answered s p bs q r second_is first =
+pub sequential_answered : (s : Script) (p : Process) (bs : List Answered) (q : Process) (r next : Option Process) → r ≡ within_limits q → next ≡ within_limits (settled s q) → IsAnswered s p bs →
+    IsAnswered s (Sequential p q) (sequential_answers bs r next)
+sequential_answered s p bs q r next second_is next_is first =
     let n = max (height p) (height q) in
     let ps = steps_within n s p in
-    let end : Steps = (Tau, q) ∷ [] in
+    let end : Steps = (Tau, settled s q) ∷ [] in
     let under : Process → Process = λ t. Sequential t q in
     let answer : Option Process → Option Process = λ t. under_both Sequential t (within_limits q) in
-    let ended : List Answered = (Tau, within_limits q) ∷ [] in
-    let all = by_its_steps s (Sequential p q) (each_step (stay always under end) ps) (exact s (Sequential p q)) (sequential_answers bs (within_limits q)) (sequential_cause s p q ∙ first.no_cause)
+    let ended : List Answered = (Tau, within_limits (settled s q)) ∷ [] in
+    let all = by_its_steps s (Sequential p q) (each_step (stay always under end) ps) (exact s (Sequential p q)) (sequential_answers bs (within_limits q) (within_limits (settled s q))) (sequential_cause s p q ∙ first.no_cause)
     (each_answered (stay always under end) (stay_answer always answer ended) (stay_answered answer under (λ t. limits_under_both Sequential sequential_first sequential_second t q) always end ended (kept_answers end)) ps bs
     (its_steps s p ps (exact_within n s p (omega arith)) bs first))
     in
-    let P : Option Process → Type 0 = λ o. IsAnswered s (Sequential p q) (sequential_answers bs o) in
-    subst P (sym second_is) all
+    let P : List Answered → Type 0 = λ xs. IsAnswered s (Sequential p q) xs in
+    subst P (ap₂ (λ o x. sequential_answers bs o x) (sym second_is) (sym next_is)) all
 
 -- ---- one process until another one acts
 
@@ -101,17 +103,18 @@ interrupt_answered s p bs q cs o r first_is second_is first second =
 
 -- ---- one process, or by tau another one
 
-pub sliding_answered : (s : Script) (p : Process) (bs : List Answered) (q : Process) (cs : List Answered) (o r : Option Process) → r ≡ within_limits q → IsAnswered s p bs → IsAnswered s q cs → IsAnswered s (SlidingChoice p q) (sliding_answers o bs r cs)
-sliding_answered s p bs q cs o r second_is first second =
+pub sliding_answered : (s : Script) (p : Process) (bs : List Answered) (q : Process) (cs : List Answered) (r away : Option Process) → r ≡ within_limits q → away ≡ within_limits (settled s q) →
+    IsAnswered s p bs → IsAnswered s q cs → IsAnswered s (SlidingChoice p q) (sliding_answers bs r away)
+sliding_answered s p bs q cs r away second_is away_is first second =
     let n = max (height p) (height q) in
     let ps = steps_within n s p in
     let under : Process → Process = λ t. SlidingChoice t q in
     let answer : Option Process → Option Process = λ t. under_both SlidingChoice t (within_limits q) in
-    let away : Steps = (Tau, q) ∷ [] in
+    let last : Steps = (Tau, settled s q) ∷ [] in
     let firsts = each_answered (leave under) (leave_answer answer) (leave_answered answer under (λ t. limits_under_both SlidingChoice sliding_first sliding_second t q)) ps bs (its_steps s p ps (exact_within n s p (omega arith)) bs first) in
-    let all = by_its_steps s (SlidingChoice p q) (each_step (leave under) ps ++ away) (exact s (SlidingChoice p q)) (sliding_answers o bs (within_limits q) cs)
+    let all = by_its_steps s (SlidingChoice p q) (each_step (leave under) ps ++ last) (exact s (SlidingChoice p q)) (sliding_answers bs (within_limits q) (within_limits (settled s q)))
     (clear_of_both s p q (SlidingChoice p q) (sliding_cause s p q) first.no_cause second.no_cause)
-    (both_answered (each_step (leave under) ps) away (each_answer (leave_answer answer) bs) ((Tau, within_limits q) ∷ []) firsts (kept_answers away))
+    (both_answered (each_step (leave under) ps) last (each_answer (leave_answer answer) bs) ((Tau, within_limits (settled s q)) ∷ []) firsts (kept_answers last))
     in
-    let P : Option Process → Type 0 = λ t. IsAnswered s (SlidingChoice p q) (sliding_answers o bs t cs) in
-    subst P (sym second_is) all
+    let P : List Answered → Type 0 = λ xs. IsAnswered s (SlidingChoice p q) xs in
+    subst P (ap₂ (λ t x. sliding_answers bs t x) (sym second_is) (sym away_is)) all

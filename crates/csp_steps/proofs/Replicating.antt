@@ -17,6 +17,7 @@ use Rattle.theory_semantics.specs.Meaning.Stepping.{always, never}
 use Rattle.theory_semantics.specs.Meaning.Substitution.{Bindings, bind, put, without}
 use Rattle.theory_semantics.specs.Meaning.Transitions as rule
 use Rattle.theory_semantics.specs.Meaning.Transitions.{chain, left_grouped}
+use Rattle.theory_semantics.specs.Meaning.Unfolding.{settled}
 use Rattle.theory_semantics.proofs.Causes.{replicated_external_cause, replicated_interleaving_cause, replicated_internal_cause}
 use Rattle.theory_semantics.proofs.Chains.{external_chain_cause, interleaving_chain_cause, internal_chain_cause, or_assoc}
 use Rattle.csp_value.specs.declared.value.Value.{Value}
@@ -111,7 +112,7 @@ module _ (s : Script) where
   )
 
   -- a choice between the chain of the first ones and the last one
-  pub last_choice : (p : Process) (qs : List Process) (q : Process) (answers : List Answered) → answers ≡ (pure.Tau, within_limits (left_grouped InternalChoice p qs)) ∷ (pure.Tau, within_limits q) ∷ [] →
+  pub last_choice : (p : Process) (qs : List Process) (q : Process) (answers : List Answered) → answers ≡ (pure.Tau, within_limits (settled s (left_grouped InternalChoice p qs))) ∷ (pure.Tau, within_limits (settled s q)) ∷ [] →
       IsAnswered s (left_grouped InternalChoice p (qs ++ q ∷ [])) answers
   last_choice p qs q answers is =
       let P : Process → Type 0 = λ t. IsAnswered s t answers in
@@ -171,11 +172,6 @@ module _ (s : Script) (n : ℕ) (e : Expression) (p : Process) where
   internal_by_chain (v ∷ vs) are r h =
       answered s (chain InternalChoice Stop (instances n p (v ∷ vs))) (ReplicatedInternalChoice n e p) (λ x t. (internal_in (v ∷ vs) are x t, λ step. rule.replicated_internal v vs are step))
       (replicated_internal_cause s n e p ∙ ap (λ r. in_instances r (λ us. in_internal_chain (cause_in s) (instances n p us))) are ∙ sym (internal_chain_cause s (put ((n, v) ∷ []) p) (instances n p vs))) r h
-
--- the elements of a set that is seen
-pub seen_elements : {A : Type 0} (types : Types) (e : Expression) (v : Value A) (set : SetOf A) (vs : List (Value A)) → value types e ≡ Ok (value_of v) → v ≡ views.Set set → values_of vs ≡ pure.values_list (set_members set) →
-    elements types e ≡ Ok (values_of vs)
-seen_elements types e v set vs seen is listed = ap (λ r. r and_then λ w. members_of w) seen ∙ ap members_of (set_is v set is) ∙ ap Ok (sym listed)
 
 -- equal answers have the same steps
 pub same_by_equal : {A E : Type 0} (r : Result (Side A) E) (answers : List Answered) → IfOk r (λ side. side_answers side ≡ answers) → IfOk r (λ side. HaveSameSteps (side_answers side) answers)

@@ -12,7 +12,7 @@ use Rattle.csp_steps.specs.declared.rule_step.RuleStep.{RuleStep}
 use Rattle.csp_expression.specs.declared.no_value.NoValue.{NoValue}
 use Rattle.csp_expression.specs.declared.no_value.NoValue.TheVariants as eval
 use Rattle.csp_steps.specs.Answering.{Answers, IsAnswered}
-use Rattle.csp_steps.specs.Arguments.{Decides}
+use Rattle.csp_settling.specs.Arguments.{Decides}
 use Rattle.csp_steps.proofs.Answered.{answered_by}
 
 module _ (s : Script) (p q : Process) (same : (x : Action) (u : Process) → (rule.RuleStep s q x u → rule.RuleStep s p x u) × (rule.RuleStep s p x u → rule.RuleStep s q x u)) (cause : cause_in s q ≡ cause_in s p) where

@@ -4,7 +4,7 @@ use Rattle.std.proofs.lemmas.List.{append-nil, drop_more, map-append, take-appen
 use Rattle.std.proofs.lemmas.List.Elements.{filter-append}
 use Rattle.theory_syntax.specs.Value as pure
 use Rattle.theory_syntax.specs.Expression.{Expression}
-use Rattle.theory_syntax.specs.Process.{Field, Given, Input, InputFrom, Process}
+use Rattle.theory_syntax.specs.Process.{Field, Given, Input, InputFrom, Process, Script}
 use Rattle.theory_syntax.specs.Types.{Types}
 use Rattle.theory_semantics.specs.Meaning.Evaluation.{Cause, IllKinded, OutOfRange, ◌and_then◌, in_field_set, value}
 use Rattle.theory_semantics.specs.Meaning.Events.{Communication, communications, each_list, members_of, with_value}
@@ -23,20 +23,20 @@ module _ (types : Types) (bs : Bindings) (fs : List Field) (set : List pure.Valu
   abbrev pub behind_input : ℕ → pure.Value → Result (List Communication) Cause
   behind_input n v = communications types (bind n v bs) fs sets and_then λ ms. Ok (with_value v ms)
 
-  module _ (A : Type 0) (c : ℕ) (p : Process) (vs : List pure.Value) (before : Vec (RuleStep A) A) (e : Expression) (why : NoValue) (none : Sees {A = A} (Err why) (value types (put_expression bs e))) where
+  module _ (A : Type 0) (script : Script) (c : ℕ) (p : Process) (vs : List pure.Value) (before : Vec (RuleStep A) A) (e : Expression) (why : NoValue) (none : Sees {A = A} (Err why) (value types (put_expression bs e))) where
     -- a given value that does not exist
-    pub given_stuck : Finds c p vs before (communications types bs (Given e ∷ fs) (set ∷ sets)) (Err why)
+    pub given_stuck : Finds script c p vs before (communications types bs (Given e ∷ fs) (set ∷ sets)) (Err why)
     given_stuck = by_fault why none
       where
-        by_fault : (f : NoValue) → Sees {A = A} (Err f) (value types (put_expression bs e)) → Finds c p vs before (communications types bs (Given e ∷ fs) (set ∷ sets)) (Err f)
+        by_fault : (f : NoValue) → Sees {A = A} (Err f) (value types (put_expression bs e)) → Finds script c p vs before (communications types bs (Given e ∷ fs) (set ∷ sets)) (Err f)
         by_fault eval.Memory is = tt
         by_fault (eval.Cause d) is = ap (λ r. r and_then λ v. in_field_set set v and_then λ w. communications types bs fs sets and_then λ ms. Ok (with_value v ms)) is
 
     -- a set to choose from that does not exist
-    pub chosen_stuck : (n : ℕ) → Finds c p vs before (communications types bs (InputFrom n e ∷ fs) (set ∷ sets)) (Err why)
+    pub chosen_stuck : (n : ℕ) → Finds script c p vs before (communications types bs (InputFrom n e ∷ fs) (set ∷ sets)) (Err why)
     chosen_stuck n = by_fault why none
       where
-        by_fault : (f : NoValue) → Sees {A = A} (Err f) (value types (put_expression bs e)) → Finds c p vs before (communications types bs (InputFrom n e ∷ fs) (set ∷ sets)) (Err f)
+        by_fault : (f : NoValue) → Sees {A = A} (Err f) (value types (put_expression bs e)) → Finds script c p vs before (communications types bs (InputFrom n e ∷ fs) (set ∷ sets)) (Err f)
         by_fault eval.Memory is = tt
         by_fault (eval.Cause d) is = ap (λ r. (r and_then λ v. members_of v) and_then λ us. each_list (behind_input n) (filter (λ v. pure.has_value set v) us)) is
 

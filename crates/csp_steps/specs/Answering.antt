@@ -1,5 +1,5 @@
 -- What the rules answer of a term, and why they answer nothing.
-use Rattle.std.specs.Prelude.{◌≡◌, ⊤, cond, List, [], ◌∷◌, map, Contains, Option, Some, None, Result, Ok, Err}
+use Rattle.std.specs.Prelude.{◌≡◌, cond, List, [], ◌∷◌, map, Contains, Option, Some, None, Result}
 use Rattle.std.specs.Option.{option_map}
 use Rattle.std.specs.declared.vec.Vec.{Vec}
 use Rattle.theory_syntax.specs.Value as pure

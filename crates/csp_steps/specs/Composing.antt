@@ -136,8 +136,9 @@ left_answers under o bs r cs = each_answer (leave_answer (λ t. under_both under
 abbrev pub external_answers : Option Process → List Answered → Option Process → List Answered → List Answered
 external_answers o bs r cs = left_answers ExternalChoice o bs r cs
 
-abbrev pub sequential_answers : List Answered → Option Process → List Answered
-sequential_answers bs r = each_answer (stay_answer always (λ t. under_both Sequential t r) ((Tau, r) ∷ [])) bs
+-- the first stays under the operator, and its tick leads to what follows
+abbrev pub sequential_answers : List Answered → Option Process → Option Process → List Answered
+sequential_answers bs r next = each_answer (stay_answer always (λ t. under_both Sequential t r) ((Tau, next) ∷ [])) bs
 
 -- the first stays under the operator and ends it, and a visible action of the second leaves it
 abbrev pub ended_or_left_answers : (Process → Process → Process) → Option Process → List Answered → Option Process → List Answered → List Answered
@@ -146,12 +147,12 @@ ended_or_left_answers under o bs r cs = each_answer (ending_answer (λ t. under_
 abbrev pub interrupt_answers : Option Process → List Answered → Option Process → List Answered → List Answered
 interrupt_answers o bs r cs = ended_or_left_answers Interrupt o bs r cs
 
--- a visible action of the first leaves the operator, and a tau leaves it for the second
-abbrev pub left_or_away_answers : (Process → Process → Process) → Option Process → List Answered → Option Process → List Answered → List Answered
-left_or_away_answers under o bs r cs = each_answer (leave_answer (λ t. under_both under t r)) bs ++ (Tau, r) ∷ []
+-- a visible action of the first leaves the operator, and a tau leads away
+abbrev pub left_or_away_answers : (Process → Process → Process) → List Answered → Option Process → Option Process → List Answered
+left_or_away_answers under bs r away = each_answer (leave_answer (λ t. under_both under t r)) bs ++ (Tau, away) ∷ []
 
-abbrev pub sliding_answers : Option Process → List Answered → Option Process → List Answered → List Answered
-sliding_answers o bs r cs = left_or_away_answers SlidingChoice o bs r cs
+abbrev pub sliding_answers : List Answered → Option Process → Option Process → List Answered
+sliding_answers bs r away = left_or_away_answers SlidingChoice bs r away
 
 abbrev pub meet_answer : (Event → Bool) → (Process → Process → Process) → Action → Option Process → Action → Option Process → List Answered
 meet_answer shared under (Ev e) t (Ev f) u = cond (event_eq e f && shared e) ((Ev e, under_both under t u) ∷ []) []

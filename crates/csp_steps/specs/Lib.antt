@@ -4,7 +4,6 @@ pub mod Renaming
 pub mod Sharing
 pub mod Together
 pub mod UnderBindings
-pub mod Arguments
 pub mod Communicating
 pub mod Repeating
 pub mod Replicating

@@ -4,10 +4,12 @@ use Rattle.std.specs.declared.vec.Vec.{Vec}
 use Rattle.theory_syntax.specs.Process.{Process, Script, Stop, ExternalChoice, InternalChoice, Interleaving}
 use Rattle.theory_semantics.specs.Meaning.Substitution.{bind, put}
 use Rattle.theory_semantics.specs.Meaning.Transitions.{chain, left_grouped}
+use Rattle.theory_semantics.specs.Meaning.Unfolding.{settled}
 use Rattle.csp_value.specs.declared.value.Value.{Value}
 use Rattle.csp_value.specs.Value.{value_of}
 use Rattle.csp_expression.specs.Bindings.{bindings_of}
 use Rattle.csp_expression.specs.declared.cause.Cause.TheVariants as fault
+use Rattle.csp_term.specs.Script.{script_of_parts}
 use Rattle.csp_term.specs.Term.{process_of}
 use Rattle.csp_steps.specs.declared.rule_step.RuleStep.{RuleStep}
 use Rattle.csp_steps.specs.declared.side.Side.{Side}
@@ -30,6 +32,10 @@ instances_of i vs = map (instance_of i) vs
 abbrev pub instance_chain : {A : Type 0} → Instances A → (Process → Process → Process) → Value A → List (Value A) → Process
 instance_chain i under first others = left_grouped under (instance_of i first) (instances_of i others)
 
+-- the process, settled in the script
+abbrev pub settled_in : {A : Type 0} → Instances A → Process → Process
+settled_in i p = settled (script_of_parts i.script.now) p
+
 -- each of the others' instances is that of the first
 abbrev pub AreAlike : {A : Type 0} → Instances A → Value A → List (Value A) → Type 0
 AreAlike i first others = instances_of i others ≡ map (λ v. instance_of i first) others
@@ -38,9 +44,9 @@ AreAlike i first others = instances_of i others ≡ map (λ v. instance_of i fir
 abbrev pub GoesOn : {A : Type 0} → Script → (Process → Process → Process) → Side A → List Process → Result (Vec (RuleStep A) A) NoValue → Type 0
 GoesOn s under side qs r = (p : Process) → IsSideOf s p (Ok side) → Answers s (left_grouped under p qs) r
 
--- a tau to the chain of internal choices before the last value, and one to the last one's instance
+-- a tau to the chain of internal choices before the last value, and one to the last one's instance, both settled
 abbrev pub chosen_answers : {A : Type 0} → Instances A → Value A → List (Value A) → Value A → List Answered
-chosen_answers i first others last = tau_answers (within_limits (instance_chain i InternalChoice first others)) (within_limits (instance_of i last))
+chosen_answers i first others last = tau_answers (within_limits (settled_in i (instance_chain i InternalChoice first others))) (within_limits (settled_in i (instance_of i last)))
 
 -- the operator between the instances
 abbrev pub looking_process : Looking → Process → Process → Process

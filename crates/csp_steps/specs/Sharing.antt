@@ -1,5 +1,5 @@
 -- Which events the sides of a composition do alone, and which together, and what follows a side's tick.
-use Rattle.std.specs.Prelude.{◌≡◌, ⊤, Bool, true, false, not, ◌&&◌, List, [], ◌∷◌, Option, Some, Result, Ok, Err}
+use Rattle.std.specs.Prelude.{◌≡◌, ⊤, Bool, true, false, not, ◌&&◌, List, [], ◌∷◌, Option, Some, Result, Ok}
 use Rattle.std.specs.Option.{option_or}
 use Rattle.std.specs.Result.{result_err}
 use Rattle.theory_syntax.specs.Value.{Action, Event, Tau, Tick}
@@ -51,7 +51,7 @@ composed_answers s under o bs r cs = parallel_answers (is_free s hand.Left) (is_
 
 -- what is answered of a side's tick
 abbrev pub ended_by : {A : Type 0} → AfterTick → Context A → List Answered
-ended_by after.Other c = (Tau, target_of c.other.now) ∷ []
+ended_by after.Next c = (Tau, target_of c.next.now) ∷ []
 ended_by after.All c = (Tick, Some Omega) ∷ []
 ended_by after.Beside c = (Tau, around_of c (Some Omega)) ∷ []
 

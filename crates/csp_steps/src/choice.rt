@@ -4,9 +4,6 @@
 ghost use Rattle.std.specs.Prelude.{◌≡◌, IfOk};
 ghost use Rattle.theory_syntax.specs.Process as pure;
 ghost use Rattle.theory_syntax.specs.Process.{ExternalChoice, InternalChoice};
-ghost use Rattle.theory_semantics.specs.Meaning.Substitution.{put};
-ghost use Rattle.csp_expression.specs.Bindings.{bindings_of};
-ghost use Rattle.csp_term.specs.Term.{process_of};
 ghost use Rattle.csp_steps.specs.Answering.{Answers, answers_of, target_of};
 ghost use Rattle.csp_steps.specs.Composing.{AreSidesOf, answers_of_sides, composition_of, external_answers, left_answers, process_of_sides, side_answers, tau_answers, under_both};
 
@@ -15,8 +12,8 @@ use crate::context::{Context, Hand};
 use crate::leave;
 use crate::rule_step::{RuleStep, Target, add_step, one_step};
 use crate::side::Side;
-use csp_expression::{Binding, NoValue};
-use csp_term::{Action, AllocHandle, Memory, ProcessOperator, Term};
+use csp_expression::NoValue;
+use csp_term::{Action, AllocHandle, Memory, ProcessOperator};
 
 /// The steps of `P [] Q` by those of its sides, or the first cause of both. `Memory` says that there is no room.
 pub fn by_sides<A: AllocHandle>(
@@ -55,31 +52,18 @@ fn under<A: AllocHandle>(
         composition,
         hand: Hand::Left,
         other: &right.process,
+        next: &right.process,
     };
     leave::add(alloc, context, left.steps, &mut steps)?;
     let context = Context {
         composition,
         hand: Hand::Right,
         other: &left.process,
+        next: &left.process,
     };
     leave::add(alloc, context, right.steps, &mut steps)?;
     let process = composition.of(alloc, left.process, right.process)?;
     Ok(Side { process, steps })
-}
-
-/// The steps of `P |~| Q`, of the terms with the values put in. There is no cause, since neither side is looked at.
-/// `Memory` says that there is no room.
-pub fn internal<A: AllocHandle>(
-    alloc: A,
-    bindings: &[Binding<'_, A>],
-    left: &Term<A>,
-    right: &Term<A>,
-) -> Result<Vec<RuleStep<A>, A>, NoValue>
-    ensures { (s : pure.Script) → Answers s (put (bindings_of bindings.now) (InternalChoice (process_of left.now) (process_of right.now))) result }
-{
-    let left = Target::put_in(alloc, left, bindings)?;
-    let right = Target::put_in(alloc, right, bindings)?;
-    Ok(taus(alloc, left, right)?)
 }
 
 /// A tau to each of the two. `Memory` says that there is no room.

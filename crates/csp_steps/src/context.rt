@@ -22,6 +22,8 @@ pub(crate) struct Context<'c, A: AllocHandle> {
     pub(crate) composition: &'c Composition<A>,
     pub(crate) hand: Hand,
     pub(crate) other: &'c Target<A>,
+    /// Where a tick of the side that moves leads, if something follows it.
+    pub(crate) next: &'c Target<A>,
 }
 
 impl<'c, A: AllocHandle> Context<'c, A> {

@@ -44,12 +44,14 @@ fn under<A: AllocHandle>(
         composition,
         hand: Hand::Left,
         other: &right.process,
+        next: &right.process,
     };
     goes_on(alloc, context, left.steps, &mut steps)?;
     let context = Context {
         composition,
         hand: Hand::Right,
         other: &left.process,
+        next: &left.process,
     };
     leave::add(alloc, context, right.steps, &mut steps)?;
     Ok(steps)

@@ -10,7 +10,6 @@ ghost use Rattle.csp_steps.specs.UnderBindings.{AnswersUnder};
 mod call;
 mod choice;
 mod communications;
-mod condition;
 mod conditional;
 mod guard;
 mod hiding;
@@ -21,6 +20,7 @@ mod renaming;
 mod repeated;
 mod replicated;
 mod sequential;
+mod settled;
 mod side;
 mod skip;
 mod sliding;
@@ -89,7 +89,7 @@ fn binary<'v, A: AllocHandle>(
 {
     match operator {
         ProcessOperator::ExternalChoice => choice::external(alloc, script, bindings, left, right),
-        ProcessOperator::InternalChoice => crate::choice::internal(alloc, bindings, left, right),
+        ProcessOperator::InternalChoice => choice::internal(alloc, script, bindings, left, right),
         ProcessOperator::Sequential => sequential::steps(alloc, script, bindings, left, right),
         ProcessOperator::Interleaving => parallel::interleaving(
             alloc, script, bindings, left, right,

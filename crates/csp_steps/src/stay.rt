@@ -15,8 +15,8 @@ use csp_term::{Action, AllocHandle, Memory};
 /// What becomes of a side's tick.
 #[derive(Clone, Copy)]
 pub(crate) enum AfterTick {
-    /// It is hidden, and the other side follows.
-    Other,
+    /// It is hidden, and leads to what the context says.
+    Next,
     /// All ends with it.
     All,
     /// It is hidden, and the other side goes on beside what has ended.
@@ -31,8 +31,8 @@ fn after_tick<A: AllocHandle>(
     ensures { IfOk result (λ s. answered_of s ∷ [] ≡ ended_by after context.entry) }
 {
     match after {
-        AfterTick::Other => {
-            let target = context.other.try_copy(alloc)?;
+        AfterTick::Next => {
+            let target = context.next.try_copy(alloc)?;
             let action = Action::Tau;
             Ok(RuleStep { action, target })
         }

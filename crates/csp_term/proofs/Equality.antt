@@ -17,7 +17,10 @@ use Rattle.theory_syntax.proofs.Truths.{and_first, and_second}
 use Rattle.theory_syntax.specs.declared.model.Model.{Model}
 use Rattle.theory_syntax.specs.declared.model.Model.TheVariants as model
 use Rattle.theory_syntax.specs.contracts.model.ModelPartialEq.TheImpl as model_impl
-use Rattle.theory_syntax.specs.Models.{model_of}
+use Rattle.theory_syntax.specs.declared.reading.Unfolding.{Unfolding}
+use Rattle.theory_syntax.specs.declared.reading.Unfolding.TheVariants as reads
+use Rattle.theory_syntax.specs.contracts.reading.UnfoldingPartialEq.TheImpl as unfolding_impl
+use Rattle.theory_syntax.specs.Models.{model_of, unfolding_of}
 use Rattle.csp_value.specs.declared.set.SetOf.{SetOf}
 use Rattle.csp_value.specs.Value.{members_of}
 use Rattle.csp_value.proofs.Equality.{set_eq, set_tells}
@@ -70,6 +73,21 @@ model_complete model.Traces model.Traces e = refl
 model_complete model.Failures model.Failures e = refl
 model_complete model.Traces model.Failures e = absurd (cc e)
 model_complete model.Failures model.Traces e = absurd (cc e)
+
+abbrev pub unfolding_eq : Unfolding → Unfolding → Bool
+unfolding_eq = unfolding_impl.ghosts.eq
+
+unfolding_sound : (x y : Unfolding) → unfolding_eq x y ≡ true → unfolding_of x ≡ unfolding_of y
+unfolding_sound reads.ByTau reads.ByTau e = refl
+unfolding_sound reads.AtOnce reads.AtOnce e = refl
+unfolding_sound reads.ByTau reads.AtOnce e = absurd (cc e)
+unfolding_sound reads.AtOnce reads.ByTau e = absurd (cc e)
+
+unfolding_complete : (x y : Unfolding) → unfolding_of x ≡ unfolding_of y → unfolding_eq x y ≡ true
+unfolding_complete reads.ByTau reads.ByTau e = refl
+unfolding_complete reads.AtOnce reads.AtOnce e = refl
+unfolding_complete reads.ByTau reads.AtOnce e = absurd (cc e)
+unfolding_complete reads.AtOnce reads.ByTau e = absurd (cc e)
 
 bool_sound : (a b : Bool) → beq a b ≡ true → a ≡ b
 bool_sound true true e = refl
@@ -300,17 +318,21 @@ module _ (R : RattleType.RattleType) (A : allocator.Ghosts R.Denot) (ad dd : Syn
       let cs = pointwise channel_eq x.channels.items y.channels.items in
       let es = pointwise equation_eq x.equations.items y.equations.items in
       let asserted = pointwise assertion_eq x.assertions.items y.assertions.items in
-      let second = and_second ts (ks && (cs && (es && asserted))) e in
-      let third = and_second ks (cs && (es && asserted)) second in
-      let rest = and_second cs (es && asserted) third in
-      let types = table_tells.sound x.types y.types (and_first ts (ks && (cs && (es && asserted))) e) in
-      let constructors = (lists_tell constructor_eq (λ c. string_bytes c.spelling) constructor_tells).sound x.constructors.items y.constructors.items (and_first ks (cs && (es && asserted)) second) in
-      let channels = (lists_tell channel_eq channel_of channel_tells).sound x.channels.items y.channels.items (and_first cs (es && asserted) third) in
-      let equations = (lists_tell equation_eq equation_of equation_tells).sound x.equations.items y.equations.items (and_first es asserted rest) in
-      let assertions = (lists_tell assertion_eq assertion_of assertion_tells).sound x.assertions.items y.assertions.items (and_second es asserted rest) in
+      let read = unfolding_eq x.unfolds y.unfolds in
+      let last = asserted && read in
+      let second = and_second ts (ks && (cs && (es && last))) e in
+      let third = and_second ks (cs && (es && last)) second in
+      let fourth = and_second cs (es && last) third in
+      let rest = and_second es last fourth in
+      let types = table_tells.sound x.types y.types (and_first ts (ks && (cs && (es && last))) e) in
+      let constructors = (lists_tell constructor_eq (λ c. string_bytes c.spelling) constructor_tells).sound x.constructors.items y.constructors.items (and_first ks (cs && (es && last)) second) in
+      let channels = (lists_tell channel_eq channel_of channel_tells).sound x.channels.items y.channels.items (and_first cs (es && last) third) in
+      let equations = (lists_tell equation_eq equation_of equation_tells).sound x.equations.items y.equations.items (and_first es last fourth) in
+      let assertions = (lists_tell assertion_eq assertion_of assertion_tells).sound x.assertions.items y.assertions.items (and_first asserted read rest) in
+      let reading = unfolding_sound x.unfolds y.unfolds (and_second asserted read rest) in
       let sets = same_sets x.channels.items y.channels.items channels in
       let names = same_names x.channels.items y.channels.items channels in
-      λ k. record { types = types k; channels = sets k; equations = equations k; assertions = assertions k; channel_names = names k; constructor_names = constructors k }
+      λ k. record { types = types k; channels = sets k; equations = equations k; assertions = assertions k; channel_names = names k; constructor_names = constructors k; unfolds = reading k }
 
   script_complete : (x y : ScriptParts R.Denot) → script_of_parts x ≡ script_of_parts y → script_eq x y ≡ true
   script_complete x y e =
@@ -318,12 +340,15 @@ module _ (R : RattleType.RattleType) (A : allocator.Ghosts R.Denot) (ad dd : Syn
       let cs = pointwise channel_eq x.channels.items y.channels.items in
       let es = pointwise equation_eq x.equations.items y.equations.items in
       let asserted = pointwise assertion_eq x.assertions.items y.assertions.items in
+      let read = unfolding_eq x.unfolds y.unfolds in
+      let last = asserted && read in
       let channels = same_channels x.channels.items y.channels.items (ap (λ s. s.channel_names) e) (ap (λ s. s.channels) e) in
-      and_from (table_eq x.types y.types) (ks && (cs && (es && asserted))) (table_tells.complete x.types y.types (ap (λ s. s.types) e))
-      (and_from ks (cs && (es && asserted)) ((lists_tell constructor_eq (λ c. string_bytes c.spelling) constructor_tells).complete x.constructors.items y.constructors.items (ap (λ s. s.constructor_names) e))
-      (and_from cs (es && asserted) ((lists_tell channel_eq channel_of channel_tells).complete x.channels.items y.channels.items channels)
-      (and_from es asserted ((lists_tell equation_eq equation_of equation_tells).complete x.equations.items y.equations.items (ap (λ s. s.equations) e))
-      ((lists_tell assertion_eq assertion_of assertion_tells).complete x.assertions.items y.assertions.items (ap (λ s. s.assertions) e)))))
+      and_from (table_eq x.types y.types) (ks && (cs && (es && last))) (table_tells.complete x.types y.types (ap (λ s. s.types) e))
+      (and_from ks (cs && (es && last)) ((lists_tell constructor_eq (λ c. string_bytes c.spelling) constructor_tells).complete x.constructors.items y.constructors.items (ap (λ s. s.constructor_names) e))
+      (and_from cs (es && last) ((lists_tell channel_eq channel_of channel_tells).complete x.channels.items y.channels.items channels)
+      (and_from es last ((lists_tell equation_eq equation_of equation_tells).complete x.equations.items y.equations.items (ap (λ s. s.equations) e))
+      (and_from asserted read ((lists_tell assertion_eq assertion_of assertion_tells).complete x.assertions.items y.assertions.items (ap (λ s. s.assertions) e))
+      (unfolding_complete x.unfolds y.unfolds (ap (λ s. s.unfolds) e))))))
 
   pub script_tells : Tells script_eq (script_of_parts {A = R.Denot})
   script_tells = record { sound = script_sound; complete = script_complete }

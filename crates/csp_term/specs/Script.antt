@@ -2,7 +2,7 @@
 use Rattle.std.specs.Prelude.{map, IfSome}
 use Rattle.std.specs.String.{string_bytes}
 use Rattle.theory_syntax.specs.Process as pure
-use Rattle.theory_syntax.specs.Models.{model_of}
+use Rattle.theory_syntax.specs.Models.{model_of, unfolding_of}
 use Rattle.theory_semantics.specs.Kinds.Scripts.{IsTermOf}
 use Rattle.csp_term.specs.declared.assertion.Assertion.{Assertion}
 use Rattle.csp_term.specs.declared.property.Property.{Property}
@@ -33,6 +33,7 @@ script_of_parts s = record {
   assertions = map assertion_of s.assertions.items;
   channel_names = map (λ c. string_bytes c.spelling) s.channels.items;
   constructor_names = map (λ c. string_bytes c.spelling) s.constructors.items;
+  unfolds = unfolding_of s.unfolds;
 }
 
 -- a clause sees a script of the code as the one that it stands for

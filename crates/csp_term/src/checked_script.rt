@@ -2,6 +2,7 @@
 
 ghost use Rattle.std.specs.Prelude.{◌≡◌, All, IfOk, map};
 ghost use Rattle.std.specs.String.{string_bytes};
+ghost use Rattle.theory_syntax.specs.Readings.{at_once};
 ghost use Rattle.theory_semantics.specs.Kinds.Scripts.{IsCheckedScript};
 ghost use Rattle.csp_expression.specs.Evaluation.{table_of};
 ghost use Rattle.csp_events.specs.Channels.{field_sets_of};
@@ -14,6 +15,7 @@ use csp_expression::TypeTable;
 use csp_value::{Memory, TryCopy};
 use std::alloc::Allocator;
 use std::marker::Model;
+use theory_syntax::Unfolding;
 
 /// A script that is checked: some kinds fit it, which is a fact of the type. A clause sees it as the script that it
 /// stands for.
@@ -44,6 +46,15 @@ impl<A: Allocator> Script<A> {
         requires checked { IsCheckedScript (script_of_parts parts) }
         ensures { script_of result ≡ script_of_parts parts }
     {
+        Script { parts }
+    }
+
+    /// The script whose names are unfolded at once.
+    pub fn at_once(self) -> Script<A>
+        ensures { script_of result ≡ at_once (script_of self) }
+    {
+        let mut parts = self.parts;
+        parts.unfolds = Unfolding::AtOnce;
         Script { parts }
     }
 

@@ -9,6 +9,7 @@ use csp_events::Channel;
 use csp_expression::{Name, TypeTable};
 use csp_value::{Memory, TryCopy, copy_all};
 use std::alloc::Allocator;
+use theory_syntax::Unfolding;
 
 /// A constructor of a datatype with its spelling.
 #[derive(Drop)]
@@ -42,6 +43,8 @@ pub struct ScriptParts<A: Allocator> {
     pub equations: Vec<Equation<A>, A>,
     /// The assertions.
     pub assertions: Vec<Assertion<A>, A>,
+    /// How the names of the equations are read.
+    pub unfolds: Unfolding,
 }
 
 impl<A: Allocator + Copy> TryCopy<A> for Constructor<A> {
@@ -78,6 +81,7 @@ impl<A: Allocator + Copy> TryCopy<A> for ScriptParts<A> {
             channels: copy_all(alloc, self.channels.as_slice())?,
             equations: copy_all(alloc, self.equations.as_slice())?,
             assertions: copy_all(alloc, self.assertions.as_slice())?,
+            unfolds: self.unfolds,
         })
     }
 }

@@ -4,10 +4,12 @@ use Rattle.std.specs.Prelude.{Option}
 use Rattle.theory_syntax.specs.Process.{Script, Assertion}
 use Rattle.theory_search.specs.Outcome.{Bounds, Outcome, Holds, Fails, Unknown, Denied}
 use Rattle.theory_notation.specs.Names.{Names}
-use Rattle.explore.specs.Answering.{IsRight, IsRightAsWritten}
+use Rattle.theory_search.specs.Truth.{IsRight, IsRightAsWritten}
 use Rattle.explanation.specs.Running.{HasViolation}
 use Rattle.report.specs.Sending.{Sends}
+use Rattle.theory_unfolding.specs.Assertions.{settled_assertion}
 use Rattle.program.specs.Running.{outcome_status}
+use Rattle.program.proofs.Answering.{right_read}
 use Rattle.explain_program.specs.Asking.{Request, one_at}
 use Rattle.explain_program.specs.Giving.{AreTold, GoesOut}
 use Rattle.explain_program.specs.Telling.{IsToldAsAsked}
@@ -20,13 +22,13 @@ alone_at assertion_of (x ∷ xs) (suc i) a within read = alone_at assertion_of x
 
 -- a right outcome of one assertion, told in a text
 pub one_told : (request : Request) (script : Script) (names : Names) (n : ℕ) (asked : List Assertion) (a : Assertion) (o : Outcome) (Q : List Outcome → List ℕ → Type 0) → asked ≡ a ∷ [] →
-    IsRightAsWritten script a request.bounds o → (text : List ℕ) → IsToldAsAsked request script names n a o text → Q (o ∷ []) text → AreTold request script names n asked Q
+    IsRightAsWritten script (settled_assertion script a) request.bounds o → (text : List ℕ) → IsToldAsAsked request script names n a (settled_assertion script a) o text → Q (o ∷ []) text → AreTold request script names n asked Q
 one_told request script names n asked a o Q alone right text told out =
     let T : List Assertion → Type 0 = λ xs. AreTold request script names n xs Q in
     subst T (sym alone) (record {
       outcomes = o ∷ [];
       text = text;
-      right = (right, tt);
+      right = (right_read script request.bounds script.unfolds refl a o right, tt);
       told = (text, [], sym (append-nil text), told, refl);
       went_out = out;
     })

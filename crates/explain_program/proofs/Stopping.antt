@@ -5,6 +5,7 @@ use Rattle.std.specs.Result.{IsErr, IsErrAnd}
 use Rattle.std.proofs.lemmas.Result.{err_from_is_err_and}
 use Rattle.std.proofs.lemmas.List.{take-take, take_all}
 use Rattle.theory_syntax.specs.Process.{Script, Assertion}
+use Rattle.theory_syntax.specs.Readings.{reading}
 use Rattle.theory_search.specs.Outcome.{Outcome}
 use Rattle.theory_notation.specs.Names.{Names}
 use Rattle.program.specs.Unread.{IfLacks}
@@ -88,11 +89,11 @@ module _ (request : Request) (script : Script) (names : Names) where
 -- ---- of a file
 
 module _ (given : Given) (request : Request) (script : Script) (names : Names) (file : IsNamedFile given.may_hold request.name script names) where
-  begun : (P : List ℕ → Type 0) → TellsFew request script names P → IsBegun given request P
+  begun : (P : List ℕ → Type 0) → TellsFew request (reading request.names script) names P → IsBegun given request P
   begun P told = record { script = script; names = names; of_file = file; told = told }
 
   -- what stops the explanations of the file's script stops those of the file
-  pub stop_cause : (why : Stop) (out : Sent) → StopsBy request script names why out → IsStopCause given request why
+  pub stop_cause : (why : Stop) (out : Sent) → StopsBy request (reading request.names script) names why out → IsStopCause given request why
   stop_cause stop.NoAssertion out stops = record { script = script; names = names; of_file = file; fewer = stops.0 }
   stop_cause (stop.Refused (refusal.File f)) out stops = absurd stops
   stop_cause (stop.Refused (refusal.Text f p)) out stops = absurd stops
@@ -102,7 +103,7 @@ module _ (given : Given) (request : Request) (script : Script) (names : Names) (
   stop_cause (stop.Refused refusal.Thread) out stops = absurd stops
   stop_cause (stop.Refused refusal.Output) out stops = (script, script_of_file given.may_hold request.name script names file)
 
-  pub stop_leaves : (why : Stop) (out : Sent) → StopsBy request script names why out → Leaves given request why out
+  pub stop_leaves : (why : Stop) (out : Sent) → StopsBy request (reading request.names script) names why out → Leaves given request why out
   stop_leaves stop.NoAssertion out stops = stops.1
   stop_leaves (stop.Refused (refusal.File f)) out stops = absurd stops
   stop_leaves (stop.Refused (refusal.Text f p)) out stops = absurd stops

@@ -6,12 +6,13 @@ use Rattle.std.specs.declared.string.String.{String}
 use Rattle.std.specs.List.{AllZip}
 use Rattle.std.proofs.lemmas.List.{length-take-le}
 use Rattle.theory_syntax.specs.Process.{Script, Assertion}
+use Rattle.theory_syntax.specs.Readings.{by_tau}
 use Rattle.theory_search.specs.Outcome.{Outcome}
 use Rattle.theory_notation.specs.Names.{Names}
 use Rattle.theory_explanation.specs.Telling.{IsTold}
-use Rattle.explore.specs.Answering.{IsRightAsWritten}
 use Rattle.report.specs.Sending.{Sends, Breaks}
 use Rattle.report.proofs.Sending.{appends_nothing, both, later}
+use Rattle.program.specs.Answering.{IsRightRead}
 use Rattle.program.specs.Running.{status_of}
 use Rattle.explain_program.specs.Asking.{Request, one_at, style_for}
 use Rattle.explain_program.specs.Giving.{AreTold, GoesOut}
@@ -21,18 +22,18 @@ use Rattle.explain_program.specs.declared.search_size.SearchSize.{SearchSize}
 
 -- ---- one of them
 
-module _ (request : Request) (script : Script) (names : Names) (n : ℕ) (a : Assertion) (o : Outcome) where
+module _ (request : Request) (script : Script) (names : Names) (n : ℕ) (written a : Assertion) (o : Outcome) where
   -- alone, where that is asked for
-  pub told_alone : (told : List ℕ) → request.count ≡ false → IsTold (style_for request names) script n a o told → IsToldAsAsked request script names n a o told
+  pub told_alone : (told : List ℕ) → request.count ≡ false → IsTold (style_for request names) script n written a o told → IsToldAsAsked request script names n written a o told
   told_alone told alone is =
-      let T : Bool → Type 0 = λ count. IsToldBy count request script names n a o told in
+      let T : Bool → Type 0 = λ count. IsToldBy count request script names n written a o told in
       subst T (sym alone) is
 
   -- with the size of its search
-  pub told_with_size : {E A : Type 0} (made : Result (String A) E) (told : List ℕ) (size : Option SearchSize) → request.count ≡ true → IsTold (style_for request names) script n a o told →
-      IsSizeFor script a request.bounds o size → IfOk made (λ all. string_bytes all ≡ told ++ size_text a.property size) → IfOk made (λ all. IsToldAsAsked request script names n a o (string_bytes all))
+  pub told_with_size : {E A : Type 0} (made : Result (String A) E) (told : List ℕ) (size : Option SearchSize) → request.count ≡ true → IsTold (style_for request names) script n written a o told →
+      IsSizeFor script a request.bounds o size → IfOk made (λ all. string_bytes all ≡ told ++ size_text a.property size) → IfOk made (λ all. IsToldAsAsked request script names n written a o (string_bytes all))
   told_with_size (Ok all) told size counted is is_size whole =
-      let T : Bool → Type 0 = λ count. IsToldBy count request script names n a o (string_bytes all) in
+      let T : Bool → Type 0 = λ count. IsToldBy count request script names n written a o (string_bytes all) in
       subst T (sym counted) (record { told = told; is_told = is; size = size; is_size = is_size; whole = whole })
   told_with_size (Err e) told size counted is is_size whole = tt
 
@@ -80,7 +81,7 @@ both_told request script names place P Q R within first second joined =
     let whole = take_one_more place script.assertions in
     let long : length asked ≡ place = length-take-le place script.assertions within in
     let at : suc place ≡ 1 + length asked = omega (arith, long) in
-    let right = zip_both (λ a o. IsRightAsWritten script a request.bounds o) asked one first.outcomes second.outcomes first.right second.right in
+    let right = zip_both (IsRightRead script.unfolds (by_tau script) request.bounds) asked one first.outcomes second.outcomes first.right second.right in
     let told = tells_both request script names 1 (suc place) asked one first.outcomes second.outcomes first.text second.text at first.told second.told in
     record {
       outcomes = first.outcomes ++ second.outcomes;

@@ -1,5 +1,6 @@
 -- What the words ask for.
 use Rattle.std.specs.Prelude.{◌≡◌, ◌⊎◌, ◌↔◌, ℕ, Bool, true, false, IsTrue, zero, suc, List, [], Some, codes, take, drop}
+use Rattle.theory_syntax.specs.Process.{Unfolding, AtOnce}
 use Rattle.theory_search.specs.Outcome.{Bounds}
 use Rattle.theory_notation.specs.Names.{Names}
 use Rattle.theory_explanation.specs.Cutting.{Width, Whole, UpTo}
@@ -9,12 +10,14 @@ use Rattle.settings.specs.CommandLine.{HasNumber}
 use Rattle.explain_settings.specs.CommandLine.{IsUsed, value}
 use Rattle.explain_settings.specs.Faults.{AskForHelp, AskForVersion, faults_of}
 use Rattle.explain_settings.specs.declared.options.Settings.{Settings}
+use Rattle.program.specs.Running.{names_read}
 
--- a file, limits, how much of a state is told, how steps are, whether it is told how large a search was, and the number of an
--- assertion, or 0 for each
+-- a file, limits, how names are read, how much of a state is told, how steps are, whether it is told how large a search was,
+-- and the number of an assertion, or 0 for each
 pub record Request : Type 0 where
   pub name : List ℕ
   pub bounds : Bounds
+  pub names : Unfolding
   pub width : Width
   pub telling : Telling
   pub count : Bool
@@ -49,6 +52,7 @@ abbrev pub request_of : Settings → Request
 request_of settings = record {
   name = settings.file.now;
   bounds = bounds_asked settings;
+  names = names_read settings.at_once;
   width = width_of_number settings.width;
   telling = telling_for settings.events settings.steps;
   count = settings.count;
@@ -73,6 +77,7 @@ pub record AskForExplanation (words : List (List ℕ)) (request : Request) : Typ
   pub file : value (codes "file") words ≡ Some request.name
   pub pairs : HasNumber (value (codes "max-pairs") words) request.bounds.max_pairs
   pub nodes : HasNumber (value (codes "max-nodes") words) request.bounds.max_nodes
+  pub names : (request.names ≡ AtOnce) ↔ IsUsed (codes "unfold") words
   pub width : (n : ℕ) × HasNumber (value (codes "width") words) n × IsWidthOf request.width n
   pub telling : AskForTelling words request.telling
   pub count : IsTrue request.count ↔ IsUsed (codes "count") words

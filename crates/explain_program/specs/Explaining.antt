@@ -1,6 +1,7 @@
 -- Explanations of the assertions of a file.
 use Rattle.std.specs.Prelude.{◌≤◌, ◌<◌, ℕ, List, length, take}
 use Rattle.theory_syntax.specs.Process.{Script}
+use Rattle.theory_syntax.specs.Readings.{reading}
 use Rattle.theory_notation.specs.Names.{Names}
 use Rattle.report.specs.Sending.{Sends, Breaks}
 use Rattle.program.specs.Given.{Given, Sent}
@@ -31,19 +32,20 @@ StopsBy request script names (stop.Refused _) out = ⊥
 
 -- ---- of a file
 
--- The explanations of all that is asked for of the file's script went out, and the status is that of the outcomes.
+-- The explanations of all that is asked for of the file's script, with its names read as is asked, went out, and the status
+-- is that of the outcomes.
 pub record IsExplained (given : Given) (request : Request) (out : Sent) (status : ℕ) : Type 0 where
   pub script : Script
   pub names : Names
   pub of_file : IsNamedFile given.may_hold request.name script names
-  pub told : TellsAll request script names out status
+  pub told : TellsAll request (reading request.names script) names out status
 
 -- the explanations of the first few of them, of which so much went out
 pub record IsBegun (given : Given) (request : Request) (WentOut : List ℕ → Type 0) : Type 0 where
   pub script : Script
   pub names : Names
   pub of_file : IsNamedFile given.may_hold request.name script names
-  pub told : TellsFew request script names WentOut
+  pub told : TellsFew request (reading request.names script) names WentOut
 
 -- The file's script has fewer assertions than the number.
 pub record LacksAssertion (given : Given) (request : Request) : Type 0 where

@@ -1,6 +1,7 @@
 -- Explanations that are given to a sink.
 use Rattle.std.specs.Prelude.{◌≡◌, ℕ, Bool, List, Option}
 use Rattle.theory_syntax.specs.Process.{Script, Assertion}
+use Rattle.theory_syntax.specs.Readings.{by_tau}
 use Rattle.theory_search.specs.Outcome.{Outcome}
 use Rattle.theory_notation.specs.Names.{Names}
 use Rattle.report.specs.Sending.{Sends, Breaks}
@@ -17,11 +18,12 @@ abbrev pub LeavesText : Untold → ((List ℕ → Type 0) → Type 0) → Sent �
 LeavesText untold.Memory Told out = out.Unchanged
 LeavesText untold.Output Told out = Told (Breaks out.old out.new out.failed)
 
--- Right outcomes of the assertions, told one behind the other and numbered from the first, of which so much went out.
+-- Right outcomes of the assertions, as the names of the script are read, told one behind the other and numbered from the
+-- first, of which so much went out.
 pub record AreTold (request : Request) (script : Script) (names : Names) (first : ℕ) (assertions : List Assertion) (WentOut : List Outcome → List ℕ → Type 0) : Type 0 where
   pub outcomes : List Outcome
   pub text : List ℕ
-  pub right : AreRight script request.bounds assertions outcomes
+  pub right : AreRight script.unfolds (by_tau script) request.bounds assertions outcomes
   pub told : TellsEach request script names first assertions outcomes text
   pub went_out : WentOut outcomes text
 

@@ -5,7 +5,7 @@ ghost use Rattle.theory_search.specs.Answer.{as_written};
 ghost use Rattle.theory_search.specs.Terms.{IsAssertionOf};
 ghost use Rattle.csp_term.specs.Script.{assertion_of, script_of};
 ghost use Rattle.pair_store.specs.Bounds.{bounds_of};
-ghost use Rattle.explore.specs.Answering.{IsRight};
+ghost use Rattle.theory_search.specs.Truth.{IsRight};
 ghost use Rattle.explanation.specs.Running.{HasStop};
 ghost use Rattle.verdict.specs.Outcome.{outcome_of};
 ghost use Rattle.program.specs.Running as program;

@@ -13,8 +13,10 @@ use crate::reader::NamedScript;
 use crate::stop::Stop;
 use crate::telling::explanation_text;
 use crate::untold::Untold;
+use csp_settling::settled_assertion;
 use csp_term::AllocHandle;
 use explain_settings::Settings;
+use explanation::Question;
 use report::{Sink, push_all};
 use std::sync::Wait;
 use std::thread::Threads;
@@ -107,11 +109,17 @@ fn explain_one<A: AllocHandle + Send + Sync, R: Threads + Wait + Sync, O: Sink>(
         (λ _ text. WentOut text)) output) }
 {
     let assertions = named.script.assertions();
-    let assertion = &assertions[place];
-    let answer = answer(alloc, rt, settings, &named.script, assertion);
-    let text = explanation_text(alloc, settings, named, place + 1, assertion, &answer)?;
+    let written = &assertions[place];
+    let asked = settled_assertion(alloc, named.script.parts(), written)?;
+    let answer = answer(alloc, rt, settings, &named.script, &asked);
+    let question = Question {
+        number: place + 1,
+        written,
+        asked: &asked,
+    };
+    let text = explanation_text(alloc, settings, named, &question, &answer)?;
     match push_all(text.as_str().as_bytes(), out) {
-        Ok(()) => Ok(outcome_status(&answer.found, assertion.negated)),
+        Ok(()) => Ok(outcome_status(&answer.found, written.negated)),
         Err(_) => Err(Untold::Output),
     }
 }

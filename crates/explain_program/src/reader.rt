@@ -1,12 +1,15 @@
 //! From a text to its script and names.
 
 ghost use Rattle.std.specs.Prelude.{◌≡◌, IfOk, IfErr};
+ghost use Rattle.theory_syntax.specs.Process.{ByTau};
+ghost use Rattle.theory_syntax.specs.Readings.{reading};
 ghost use Rattle.theory_notation.specs.Names.{names_in, with_types};
 ghost use Rattle.csp_expression.specs.Evaluation.{table_of};
 ghost use Rattle.csp_parse.specs.Declarations as raw;
 ghost use Rattle.csp_term.specs.Script.{script_of};
 ghost use Rattle.csp_print.specs.Names.{names_of};
 ghost use Rattle.program.specs.Reading.{IsRefusalOf};
+ghost use Rattle.program.specs.Running.{names_read};
 ghost use Rattle.explain_program.specs.Naming.{IsNamedText};
 
 use csp_expression::TypeTable;
@@ -26,6 +29,20 @@ pub struct NamedScript<'t, A: Allocator> {
     pub script: Script<A>,
     /// The spellings of its names, and its types, by which values are told.
     pub names: Names<'t, A>,
+}
+
+impl<'t, A: Allocator> NamedScript<'t, A> {
+    /// The same with the names of its equations unfolded at once, where that is asked for.
+    pub(crate) fn as_asked(self, at_once: bool) -> NamedScript<'t, A>
+        ensures script { let read = names_read at_once in
+            (script_of self.script).unfolds ≡ ByTau
+            → script_of result.script ≡ reading read (script_of self.script) }
+        ensures names { names_of result.names ≡ names_of self.names }
+    {
+        let NamedScript { script, names } = self;
+        let script = if at_once { script.at_once() } else { script };
+        NamedScript { script, names }
+    }
 }
 
 /// The script that the text is, with its names.

@@ -93,6 +93,7 @@ fn explain<A: AllocHandle + Send + Sync, R: Threads + Wait + Sync, F: Files<A>, 
         Ok(named) => named,
         Err(why) => return refuse_text(alloc, settings.file, &text, why, err),
     };
+    let named = named.as_asked(settings.at_once);
     match explain_script(alloc, rt, settings, &named, out) {
         Ok(status) => status,
         Err(why) => report_stop(why, err),

@@ -21,39 +21,46 @@ use crate::reader::NamedScript;
 use crate::searching::Answer;
 use counterexample::{Style, Telling, Width};
 use csp_print::Names;
-use csp_term::{Action, AllocHandle, Assertion, Memory};
+use csp_term::{Action, AllocHandle, Memory};
 use explain_settings::Settings;
-use explanation::tell;
+use explanation::{Question, tell};
 
-/// What is told of the assertion with this number and answer, and where it is asked for, how large the search was.
+/// What is told of the assertion with this answer, and where it is asked for, how large the search was.
 pub(crate) fn explanation_text<A: AllocHandle>(
     alloc: A,
     settings: &Settings<'_>,
     named: &NamedScript<'_, A>,
-    number: usize,
-    assertion: &Assertion<A>,
+    question: &Question<'_, A>,
     answer: &Answer<A>,
 ) -> Result<String<A>, Memory>
-    requires terms { IsAssertionOf (script_of named.now.script) (assertion_of assertion.now) }
-    requires shown { HasViolation (script_of named.now.script) (assertion_of assertion.now) (outcome_of answer.now.found) }
-    requires size { let outcome = as_written assertion.now.negated (outcome_of answer.now.found) in
-        IsSizeFor (script_of named.now.script) (assertion_of assertion.now) (bounds_asked settings.now) outcome answer.now.size }
-    requires stop { HasStop (script_of named.now.script) (assertion_of assertion.now) (outcome_of answer.now.found) (stop_kept answer.now.stop) }
-    ensures { let outcome = as_written assertion.now.negated (outcome_of answer.now.found) in
-        IfOk result (λ text. IsToldAsAsked (request_of settings.now) (script_of named.now.script) (names_of named.now.names) number (assertion_of assertion.now) outcome (string_bytes text)) }
+    requires terms { IsAssertionOf (script_of named.now.script) (assertion_of question.now.asked.now) }
+    requires shown { HasViolation (script_of named.now.script) (assertion_of question.now.asked.now) (outcome_of answer.now.found) }
+    requires size { let it = script_of named.now.script in
+        let asked = assertion_of question.now.asked.now in
+        let outcome = as_written question.now.written.now.negated (outcome_of answer.now.found) in
+        IsSizeFor it asked (bounds_asked settings.now) outcome answer.now.size }
+    requires stop { let it = script_of named.now.script in
+        let asked = assertion_of question.now.asked.now in
+        HasStop it asked (outcome_of answer.now.found) (stop_kept answer.now.stop) }
+    ensures { let it = script_of named.now.script in
+        let names = names_of named.now.names in
+        let written = assertion_of question.now.written.now in
+        let asked = assertion_of question.now.asked.now in
+        let outcome = as_written written.negated (outcome_of answer.now.found) in
+        let told = IsToldAsAsked (request_of settings.now) it names question.now.number in
+        IfOk result (λ text. told written asked outcome (string_bytes text)) }
 {
     let style = style(settings, &named.names);
     let text = tell(
         alloc,
         &style,
         &named.script,
-        number,
-        assertion,
+        question,
         &answer.found,
         lent(&answer.stop),
     )?;
     if settings.count {
-        with_size(&assertion.property, answer.size, text)
+        with_size(&question.asked.property, answer.size, text)
     } else {
         Ok(text)
     }

@@ -44,3 +44,11 @@ events_given = refl
 no_steps : value (codes "steps") (codes "--events" ∷ codes "f" ∷ []) ≡ Some (codes "false")
 unfolding clap_on_literals
 no_steps = refl
+
+names_at_once : value (codes "unfold") (codes "--unfold" ∷ codes "f" ∷ codes "2" ∷ []) ≡ Some (codes "true")
+unfolding clap_on_literals
+names_at_once = refl
+
+names_by_tau : value (codes "unfold") (codes "--count" ∷ codes "f" ∷ []) ≡ Some (codes "false")
+unfolding clap_on_literals
+names_by_tau = refl

@@ -1,10 +1,9 @@
 -- What a parse of the command line gives.
-use Rattle.std.proofs.Common.{zero, suc, ◌≡◌, ◌∙◌, ◌<◌, ◌≤◌, ◌||◌, ◌&&◌, ℕ, Bool, List, [], ◌∷◌, Option, Some, None, is_some, length, map, codes, true, false, not, refl, sym, ap, subst, inl, inr, arith, true≢false}
-use Rattle.std.specs.List.{All, list_all, list_any, slice_index_or}
+use Rattle.std.proofs.Common.{◌≡◌, ◌∙◌, ◌<◌, ◌≤◌, ℕ, List, [], ◌∷◌, Some, None, is_some, length, map, codes, true, false, refl, sym, ap, subst, inl, inr, arith}
+use Rattle.std.specs.List.{All, list_all, slice_index_or}
 use Rattle.std.specs.Str.{bytes_eq}
 use Rattle.std.proofs.Math.ListN.{get_or-map}
 use Rattle.std.proofs.lemmas.List.{length-map}
-use Rattle.std.proofs.lemmas.Slice.Eq.{bytes_eq-Decides}
 use Rattle.clap.specs.Facts.{WantsDefault, args_of, least_values, unwrap_or_range}
 use Rattle.clap.specs.Texts.{items_of}
 use Rattle.clap.specs.Built.{IsAuto, IsParsedFrom, IsPlain, IsPlainArg}
@@ -24,56 +23,8 @@ use Rattle.clap.proofs.WalkLemmas.{first_value-rows}
 use Rattle.settings.specs.CommandLine.{HasNumber, IsNumeric, file_rule}
 use Rattle.settings.proofs.Found.{has_entry, reads}
 use Rattle.settings.proofs.Numbers.{number_is}
+use Rattle.settings.proofs.Places.{differ, head_of, is_only_at, is_own, neither, only_at, text_of}
 use Rattle.explain_settings.specs.CommandLine.{command_line, command_rules, value}
-
--- ---- an id that one argument has
-
--- the rule at the place has the id, and no other one
-abbrev is_only_at : Text → ℕ → List Rule → Bool
-is_only_at id k [] = false
-is_only_at id zero (r ∷ rules) = list_all (λ s. not (bytes_eq s.id id)) rules
-is_only_at id (suc k) (r ∷ rules) = not (bytes_eq r.id id) && is_only_at id k rules
-
-both : (a b : Bool) → (a && b) ≡ true → (a ≡ true) × (b ≡ true)
-both true b e = (refl, e)
-both false b e = absurd (true≢false (sym e))
-
-not_so : (b : Bool) → not b ≡ true → b ≡ true → ⊥
-not_so true e f = true≢false (sym e)
-not_so false e f = true≢false (sym f)
-
-none_has : (id : Text) (rules : List Rule) → list_all (λ s. not (bytes_eq s.id id)) rules ≡ true → (j : ℕ) (e : Rule) → j < length rules → bytes_eq (slice_index_or rules j e).id id ≡ true → ⊥
-none_has id [] all j e lt same = absurd (omega arith)
-none_has id (r ∷ rules) all zero e lt same = not_so (bytes_eq r.id id) (both _ _ all).0 same
-none_has id (r ∷ rules) all (suc j) e lt same = none_has id rules (both (not (bytes_eq r.id id)) _ all).1 j e (omega arith) same
-
-only_at : (id : Text) (k : ℕ) (rules : List Rule) → is_only_at id k rules ≡ true → (j : ℕ) (e : Rule) → j < length rules → bytes_eq (slice_index_or rules j e).id id ≡ true → j ≡ k
-only_at id k [] only j e lt same = absurd (omega arith)
-only_at id zero (r ∷ rules) only zero e lt same = refl
-only_at id zero (r ∷ rules) only (suc j) e lt same = absurd (none_has id rules only j e (omega arith) same)
-only_at id (suc k) (r ∷ rules) only zero e lt same = absurd (not_so (bytes_eq r.id id) (both _ _ only).0 same)
-only_at id (suc k) (r ∷ rules) only (suc j) e lt same = ap suc (only_at id k rules (both (not (bytes_eq r.id id)) _ only).1 j e (omega arith) same)
-
--- ---- an answer that is some text, and the text
-
-text_of : (o : Option Text) → is_some o ≡ true → (t : Text) × (o ≡ Some t)
-text_of None h = absurd (true≢false (sym h))
-text_of (Some t) h = (t, refl)
-
-differ : (a b : Text) → bytes_eq a b ≡ false → a ≡ b → ⊥
-differ a b apart e = true≢false (sym ((bytes_eq-Decides a b).1 e) ∙ apart)
-
-head_of : {X : Type 0} (xs : List X) → 0 < length xs → X
-head_of [] lt = absurd (omega arith)
-head_of (x ∷ xs) lt = x
-
--- the id is no flag of the command line's own
-abbrev is_own : Text → Bool
-is_own id = bytes_eq id [] || (bytes_eq id (codes "help") || bytes_eq id (codes "version"))
-
-neither : (a b : Bool) → (a || b) ≡ false → (a ≡ false) × (b ≡ false)
-neither true b e = absurd (true≢false e)
-neither false b e = (refl, e)
 
 module _ (c : Command) (m : ArgMatches) (words : List Text) (is : app_of c ≡ command_line) (p : IsParsedFrom c m)
     (has : HasMatchesOf (app_of c) words m) where
@@ -89,7 +40,7 @@ module _ (c : Command) (m : ArgMatches) (words : List Text) (is : app_of c ≡ c
   rule_at : (j : ℕ) (d : Arg) → rule_of (slice_index_or (args_of c) j d) ≡ slice_index_or command_rules j (rule_of d)
   rule_at j d = sym (get_or-map rule_of (args_of c) j d) ∙ ap (λ rs. slice_index_or rs j (rule_of d)) rules_are
 
-  count : length (args_of c) ≡ 9
+  count : length (args_of c) ≡ 10
   count = sym (length-map (args_of c) rule_of) ∙ ap length rules_are
 
   -- some argument of the command
@@ -127,7 +78,7 @@ module _ (c : Command) (m : ArgMatches) (words : List Text) (is : app_of c ≡ c
   abbrev IsNumber : Text → ℕ → ℕ → Rule → Type 0
   IsNumber name least most r = (default : Text) × (r.id ≡ name) × (r.defaults ≡ default ∷ []) × (r.parser ≡ Some (vp.Unsigned least most)) × (r.action ≡ Some Set) × (r.range ≡ None)
 
-  number_text : (k : ℕ) (name : Text) (least most : ℕ) → k < 9 → is_only_at name k command_rules ≡ true → is_own name ≡ false
+  number_text : (k : ℕ) (name : Text) (least most : ℕ) → k < 10 → is_only_at name k command_rules ≡ true → is_own name ≡ false
       → IsNumber name least most (slice_index_or command_rules k (rule_of first_arg)) → (t : Text) × IsNumberText name least most t
   number_text k name least most below only own_name r =
       let d = first_arg in
@@ -165,22 +116,22 @@ module _ (c : Command) (m : ArgMatches) (words : List Text) (is : app_of c ≡ c
   nodes = number_text 2 (codes "max-nodes") 1 100000 (omega arith) refl refl (codes "10000", refl, refl, refl, refl, refl)
 
   pub width : (t : Text) × IsNumberText (codes "width") 0 1000000 t
-  width = number_text 3 (codes "width") 0 1000000 (omega arith) refl refl (codes "200", refl, refl, refl, refl, refl)
+  width = number_text 4 (codes "width") 0 1000000 (omega arith) refl refl (codes "200", refl, refl, refl, refl, refl)
 
   pub assertion : (t : Text) × IsNumberText (codes "assertion") 0 1000000 t
-  assertion = number_text 8 (codes "assertion") 0 1000000 (omega arith) refl refl (codes "0", refl, refl, refl, refl, refl)
+  assertion = number_text 9 (codes "assertion") 0 1000000 (omega arith) refl refl (codes "0", refl, refl, refl, refl, refl)
 
   file_has_value : is_some (first_value (found_of m) (codes "file")) ≡ true
   file_has_value =
-      let lt : 7 < length (args_of c) = subst (λ n. 7 < n) (sym count) (omega arith) in
-      let at : rule_of (slice_index_or (args_of c) 7 first_arg) ≡ file_rule = rule_at 7 first_arg in
-      let id : (slice_index_or (args_of c) 7 first_arg).id.now ≡ codes "file" = ap (λ (x : Rule). x.id) at in
-      let enough : 1 ≤ least_values (slice_index_or (args_of c) 7 first_arg) =
+      let lt : 8 < length (args_of c) = subst (λ n. 8 < n) (sym count) (omega arith) in
+      let at : rule_of (slice_index_or (args_of c) 8 first_arg) ≡ file_rule = rule_at 8 first_arg in
+      let id : (slice_index_or (args_of c) 8 first_arg).id.now ≡ codes "file" = ap (λ (x : Rule). x.id) at in
+      let enough : 1 ≤ least_values (slice_index_or (args_of c) 8 first_arg) =
       subst (λ o. 1 ≤ (unwrap_or_range o).start_inclusive) (sym (ap (λ (x : Rule). x.range) at)) (omega arith) in
       subst (λ t. is_some (first_value (found_of m) t) ≡ true) id
-      (required_has_value c m p plain simple.globals (ap (λ (a : App). a.top.subcommand_negates_reqs) is) 7 first_arg lt
-      (ap (λ (x : Rule). x.required) at) (ap (λ (x : Rule). x.action) at) (simple.args 7 first_arg lt).delimiter enough
-      (unique_at 7 first_arg (codes "file") id refl)
+      (required_has_value c m p plain simple.globals (ap (λ (a : App). a.top.subcommand_negates_reqs) is) 8 first_arg lt
+      (ap (λ (x : Rule). x.required) at) (ap (λ (x : Rule). x.action) at) (simple.args 8 first_arg lt).delimiter enough
+      (unique_at 8 first_arg (codes "file") id refl)
       (λ e. differ (codes "file") [] refl (sym id ∙ e))
       (λ auto. elim auto [
         | inl h ↦ differ (codes "file") (codes "help") refl (sym id ∙ h)

@@ -2,9 +2,9 @@
 use Rattle.std.specs.Prelude.{◌≡◌, ℕ, List, [], ◌∷◌, Option, Some, codes, true}
 use Rattle.clap.specs.Walk.{Rule, Text, first_of}
 use Rattle.clap.specs.Simple.{App, matches_of, new_rule, new_shape}
-use Rattle.clap.specs.declared.builder.action.ArgAction.TheVariants.{Set, SetTrue}
+use Rattle.clap.specs.declared.builder.action.ArgAction.TheVariants.{Set}
 use Rattle.clap.specs.declared.builder.value_parser.ValueParser.TheVariants as vp
-use Rattle.settings.specs.CommandLine.{file_rule, number_rule}
+use Rattle.settings.specs.CommandLine.{file_rule, flag_rule, number_rule}
 
 -- an argument that is a number up to `most`, and is `default` where no word gives it
 abbrev pub count_rule : Text → Text → ℕ → Rule
@@ -19,14 +19,11 @@ count_rule name default most = record (new_rule name) {
 abbrev pub count_option : Text → Text → ℕ → Rule
 count_option name default most = record (count_rule name default most) { long = Some name }
 
--- an option without a value of its own: `true` where the words use it, and else `false`
-abbrev pub flag_rule : Text → Rule
-flag_rule name = record (new_rule name) { long = Some name; action = Some SetTrue }
-
 abbrev pub command_rules : List Rule
 command_rules = number_rule (codes "workers") (codes "1") 64
     ∷ number_rule (codes "max-pairs") (codes "100000") 1000000
     ∷ number_rule (codes "max-nodes") (codes "10000") 100000
+    ∷ flag_rule (codes "unfold")
     ∷ count_option (codes "width") (codes "200") 1000000
     ∷ flag_rule (codes "count") ∷ flag_rule (codes "events") ∷ flag_rule (codes "steps")
     ∷ file_rule ∷ count_rule (codes "assertion") (codes "0") 1000000 ∷ []

@@ -3,11 +3,11 @@
 ghost use Rattle.std.specs.Prelude.{◌≡◌, ◌≤◌, IfOk, false};
 ghost use Rattle.clap.specs.Words.{app_of, rule_of};
 ghost use Rattle.settings.specs.CommandLine.{file_rule, number_rule};
-ghost use Rattle.explain_settings.specs.CommandLine.{command_line, count_rule, flag_rule};
+ghost use Rattle.explain_settings.specs.CommandLine.{command_line, count_rule};
 
 use crate::help::{ABOUT, STATUS, VERSION};
 use clap::{Arg, ArgAction, Command};
-use settings::{MAX_NODES, MAX_PAIRS, MAX_WORKERS};
+use settings::{MAX_NODES, MAX_PAIRS, MAX_WORKERS, UNFOLD, flag};
 use std::alloc::{AllocError, Global};
 
 /// The most characters of a state that may be asked for, and the greatest number of an assertion. A text has no more.
@@ -38,6 +38,7 @@ pub(crate) fn command_line<'a>(alloc: Global) -> Result<Command<'a>, AllocError>
     let width = count(alloc, "width", "200", MOST).long("width").help(
         "The most characters that are told of a state, or 0 for all of it",
     );
+    let unfolded = flag(alloc, "unfold", UNFOLD);
     let counted = flag(alloc, "count", COUNT);
     let events = flag(alloc, "events", EVENTS);
     let steps = flag(alloc, "steps", STEPS);
@@ -53,6 +54,7 @@ pub(crate) fn command_line<'a>(alloc: Global) -> Result<Command<'a>, AllocError>
         .arg(workers)?
         .arg(pairs)?
         .arg(nodes)?
+        .arg(unfolded)?
         .arg(width)?
         .arg(counted)?
         .arg(events)?
@@ -97,15 +99,4 @@ fn count<'a>(alloc: Global, name: &'a str, default: &'a str, most: usize) -> Arg
         .action(ArgAction::Set)
         .value_parser(clap::value_parser!(usize).range(0..=most as i64))
         .default_value(default)
-}
-
-// An option without a value of its own.
-fn flag<'a>(alloc: Global, name: &'a str, help: &'a str) -> Arg<'a>
-    ensures rule { rule_of result ≡ flag_rule name.now }
-    ensures local { result.global ≡ false }
-{
-    Arg::new(alloc, name)
-        .long(name)
-        .action(ArgAction::SetTrue)
-        .help(help)
 }

@@ -2,7 +2,7 @@
 
 ghost use Rattle.std.specs.Prelude.{◌≡◌, ◌≤◌, ◌↔◌, Some, [], IfOk, IfErr, IsTrue, codes};
 ghost use Rattle.clap.specs.Walk.{texts};
-ghost use Rattle.clap.specs.Words.{first_value, found_of, kind_of};
+ghost use Rattle.clap.specs.Words.{kind_of};
 ghost use Rattle.settings.specs.CommandLine.{HasNumber};
 ghost use Rattle.settings.specs.Faults.{IsAnswerOf};
 ghost use Rattle.explain_settings.specs.CommandLine.{IsUsed, value};
@@ -10,8 +10,7 @@ ghost use Rattle.explain_settings.specs.Faults.{IsFaultOf, faults_of};
 
 use crate::command::command_line;
 use crate::help::with_refusals;
-use clap::ArgMatches;
-use settings::{CommandLineFault, number};
+use settings::{CommandLineFault, is_used, number};
 use std::alloc::Global;
 
 /// What a command line asks of the program.
@@ -23,6 +22,8 @@ pub struct Settings<'a> {
     pub max_pairs: usize,
     /// The most nodes of a normal form, and the most states of each, 1 to 100,000.
     pub max_nodes: usize,
+    /// Whether names are unfolded at once.
+    pub at_once: bool,
     /// The most characters of a state that are told, or 0 for all.
     pub width: usize,
     /// Whether it is told how large the search of an assertion was.
@@ -50,6 +51,7 @@ pub fn read<'a>(alloc: Global, words: &'a [&'a str]) -> Result<Settings<'a>, Com
     ensures workers { IfOk result (λ s. HasNumber (value (codes "workers") (texts words.entry.now)) s.workers) }
     ensures pairs { IfOk result (λ s. HasNumber (value (codes "max-pairs") (texts words.entry.now)) s.max_pairs) }
     ensures nodes { IfOk result (λ s. HasNumber (value (codes "max-nodes") (texts words.entry.now)) s.max_nodes) }
+    ensures at_once { IfOk result (λ s. IsTrue s.at_once ↔ IsUsed (codes "unfold") (texts words.entry.now)) }
     ensures width { IfOk result (λ s. HasNumber (value (codes "width") (texts words.entry.now)) s.width) }
     ensures count { IfOk result (λ s. IsTrue s.count ↔ IsUsed (codes "count") (texts words.entry.now)) }
     ensures events { IfOk result (λ s. IsTrue s.events ↔ IsUsed (codes "events") (texts words.entry.now)) }
@@ -66,6 +68,7 @@ pub fn read<'a>(alloc: Global, words: &'a [&'a str]) -> Result<Settings<'a>, Com
         workers: number(&matches, "workers"),
         max_pairs: number(&matches, "max-pairs"),
         max_nodes: number(&matches, "max-nodes"),
+        at_once: is_used(&matches, "unfold"),
         width: number(&matches, "width"),
         count: is_used(&matches, "count"),
         events: is_used(&matches, "events"),
@@ -73,16 +76,6 @@ pub fn read<'a>(alloc: Global, words: &'a [&'a str]) -> Result<Settings<'a>, Com
         file: matches.get_str("file").unwrap(),
         assertion: number(&matches, "assertion"),
     })
-}
-
-// Whether the words use the flag, whose value is then `true`.
-fn is_used(matches: &ArgMatches<'_>, flag: &str) -> bool
-    ensures { IsTrue result ↔ first_value (found_of matches.now) flag.now ≡ Some (codes "true") }
-{
-    match matches.get_str(flag) {
-        Some(value) => value == "true",
-        None => false,
-    }
 }
 
 // What the command line answers in place of matches. The help has the refusals of a script behind it.

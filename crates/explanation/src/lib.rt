@@ -11,9 +11,11 @@ mod blame;
 mod culprits;
 mod faults;
 mod headline;
+mod question;
 mod reasons;
 mod sides;
 mod telling;
 mod told_run;
 
+pub use question::Question;
 pub use telling::tell;

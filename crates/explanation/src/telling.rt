@@ -15,33 +15,38 @@ ghost use Rattle.explanation.specs.Running.{HasStop, HasViolation, stop_in};
 
 use crate::faults::push_unknown;
 use crate::headline::headline_text;
+use crate::question::Question;
 use counterexample::{Replayed, Style, counterexample_of, push_counterexample, push_mark};
 use csp_term::{Action, AllocHandle, Assertion, Memory, Script};
 use verdict::{Outcome, Shown};
 
-/// What is told of an assertion between terms of the script, with its number: a headline with its outcome, and why. `found`
-/// is the outcome that it has but for a `not`. Where that is a violation, a run by its path ends with its evidence, and such
-/// a run is told state by state, beside what the specification has along the path. Where there is no answer for a state,
-/// `stop` is the path of the implementation that stopped the search, and with none no search was begun, for the
-/// specification's sake.
+/// What is told of an assertion between terms of the script, with its number: the headline of the assertion as it is written,
+/// with its outcome, and why. `found` is the outcome that it has but for a `not`. Where that is a violation, a run by its path
+/// ends with its evidence, and such a run is told state by state, beside what the specification has along the path. Where
+/// there is no answer for a state, `stop` is the path of the implementation that stopped the search, and with none no search
+/// was begun, for the specification's sake.
 ///
 /// `Memory` says that there is no room to tell.
 pub fn tell<A: AllocHandle>(
     alloc: A,
     style: &Style<'_, '_, A>,
     script: &Script<A>,
-    number: usize,
-    assertion: &Assertion<A>,
+    question: &Question<'_, A>,
     found: &Outcome<A>,
     stop: Option<&[Action<A>]>,
 ) -> Result<String<A>, Memory>
-    requires terms { IsAssertionOf (script_of script.now) (assertion_of assertion.now) }
-    requires shown { HasViolation (script_of script.now) (assertion_of assertion.now) (outcome_of found.now) }
-    requires stop { HasStop (script_of script.now) (assertion_of assertion.now) (outcome_of found.now) (stop_in stop) }
-    ensures { IfOk result (λ text. IsTold (style_of style.now) (script_of script.now) number (assertion_of assertion.now) (as_written assertion.now.negated (outcome_of found.now)) (string_bytes text)) }
+    requires terms { IsAssertionOf (script_of script.now) (assertion_of question.now.asked.now) }
+    requires shown { HasViolation (script_of script.now) (assertion_of question.now.asked.now) (outcome_of found.now) }
+    requires stop { HasStop (script_of script.now) (assertion_of question.now.asked.now) (outcome_of found.now) (stop_in stop) }
+    ensures { let it = script_of script.now in
+        let written = assertion_of question.now.written.now in
+        let asked = assertion_of question.now.asked.now in
+        let outcome = as_written written.negated (outcome_of found.now) in
+        let told = IsTold (style_of style.now) it question.now.number written asked outcome in
+        IfOk result (λ text. told (string_bytes text)) }
 {
-    let mut text = headline_text(alloc, style.names, number, assertion, found)?;
-    push_why(alloc, style, script, assertion, found, stop, &mut text)?;
+    let mut text = headline_text(alloc, style.names, question.number, question.written, found)?;
+    push_why(alloc, style, script, question.asked, found, stop, &mut text)?;
     Ok(text)
 }
 

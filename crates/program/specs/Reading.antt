@@ -1,8 +1,10 @@
 -- What the reader hands out.
-use Rattle.std.specs.Prelude.{ℕ, List, ⊤}
+use Rattle.std.specs.Prelude.{◌≡◌, ℕ, List, ⊤}
+use Rattle.theory_syntax.specs.Process.{Script, Unfolding}
+use Rattle.theory_syntax.specs.Readings.{by_tau}
 use Rattle.theory_text.specs.Reading.{OfGrammar, IsReadingRefusal}
 use Rattle.theory_text.specs.Token.{IsTextRefusal}
-use Rattle.theory_checking.specs.Checked.{IsRefusedText}
+use Rattle.theory_checking.specs.Checked.{IsCheckedText, IsRefusedText}
 use Rattle.csp_lex.specs.Places.{place_of}
 use Rattle.csp_lex.specs.Refusals.{fault_of}
 use Rattle.csp_parse.specs.Refusals as grammar
@@ -17,3 +19,7 @@ IsRefusalOf bytes (refusal.Grammar f p) = IsReadingRefusal bytes (OfGrammar (gra
 IsRefusalOf bytes (refusal.Kinds f p) = IsRefusedText bytes (kinds.fault_of f) (place_of p)
 IsRefusalOf bytes refusal.Memory = ⊤
 IsRefusalOf bytes _ = ⊥
+
+-- the text is checked, and this is its script with its names read so
+abbrev pub IsTextRead : Unfolding → List ℕ → Script → Type 0
+IsTextRead names bytes script = IsCheckedText bytes (by_tau script) × (script.unfolds ≡ names)

@@ -9,9 +9,9 @@ use crate::files::{Lack, Unread};
 use csp_kinds::KindFault;
 use csp_lex::{Place, TextFault};
 use csp_parse::GrammarFault;
+use csp_term::Memory;
 use itoa::Buffer;
 use report::{Failed, Sink, push_all, push_each};
-use std::alloc::AllocError;
 
 /// What was refused.
 #[derive(Clone, Copy, Debug, PartialEq, Eq)]
@@ -118,12 +118,12 @@ impl From<csp_kinds::Refused> for Refusal {
     }
 }
 
-impl From<AllocError> for Refusal {
+impl From<Memory> for Refusal {
     ghost use Rattle.program.specs.declared.refusal.Refusal.TheVariants.{Memory as no_memory};
 
     ghost from_gives = { λ _ why. why ≡ no_memory };
 
-    fn from(_refused: AllocError) -> Refusal {
+    fn from(_refused: Memory) -> Refusal {
         Refusal::Memory
     }
 }

@@ -9,19 +9,20 @@ ghost use Rattle.verdict.specs.Outcome.{outcome_of};
 ghost use Rattle.program.specs.Given.{given_of, sent};
 ghost use Rattle.program.specs.Refusal.{refusal_line};
 ghost use Rattle.program.specs.declared.refusal.Refusal.TheVariants as refusal;
-ghost use Rattle.program.specs.Answering.{AreRight};
-ghost use Rattle.program.specs.Running.{IsCause, IsCheckRefused, IsGiven, IsRefused, IsReported, IsServed, Leaves, limits_of, outcome_status, status_of, texts_of};
+ghost use Rattle.program.specs.Answering.{AreRightSettled};
+ghost use Rattle.program.specs.Reading.{IsRefusalOf, IsTextRead};
+ghost use Rattle.program.specs.Running.{IsCause, IsCheckRefused, IsGiven, IsRefused, IsReported, IsServed, Leaves, check_of, limits_of, names_read, outcome_status, status_of, texts_of};
 
 use crate::files::Files;
 use crate::reader;
 use crate::refusal::{Refusal, push_line};
 use crate::resources::Resources;
-use csp_term::{AllocHandle, Script};
+use csp_settling::settled_assertion;
+use csp_term::{AllocHandle, Memory, Script};
 use explore::{Open, explore};
 use pair_store::Limits;
 use report::{Sink, push_all, write};
 use settings::{CommandLineFault, Settings};
-use std::alloc::AllocError;
 use std::sync::Wait;
 use std::thread::Threads;
 use verdict::Outcome;
@@ -120,13 +121,13 @@ fn check<A: AllocHandle + Send + Sync, R: Threads + Wait + Sync, F: Files<A>, O:
     ensures status { result ≤ 3 }
     ensures reported { let given = given_of F.may_hold F.may_lack files.old resources.now.stack in
         let output = sent O.taken O.has_failed out.old out.new in
-        result < 3 → IsReported given settings.now.file.now (limits_of settings.now) output result }
+        result < 3 → IsReported given settings.now.file.now (check_of settings.now) output result }
     ensures silent { result < 3 → err.new ≡ err.old }
     ensures refused { let given = given_of F.may_hold F.may_lack files.old resources.now.stack in
         let output = sent O.taken O.has_failed out.old out.new in
         let errors = sent E.taken E.has_failed err.old err.new in
-        let bounds = limits_of settings.now in
-        result ≡ 3 → IsCheckRefused given settings.now.file.now bounds output errors }
+        let asked = check_of settings.now in
+        result ≡ 3 → IsCheckRefused given settings.now.file.now asked output errors }
 {
     match answer(resources, settings, files, out) {
         Ok(status) => status,
@@ -143,27 +144,45 @@ fn answer<A: AllocHandle + Send + Sync, R: Threads + Wait + Sync, F: Files<A>, O
 ) -> Result<u8, Refusal>
     requires { O.has_failed out.old ≡ false }
     ensures reported { let given = given_of F.may_hold F.may_lack files.old resources.now.stack in
-        let bounds = limits_of settings.now in
+        let asked = check_of settings.now in
         let output = sent O.taken O.has_failed out.old out.new in
         IfOk result (λ status. (status ≤ 2)
-        × IsReported given settings.now.file.now bounds output status) }
+        × IsReported given settings.now.file.now asked output status) }
     ensures cause { let given = given_of F.may_hold F.may_lack files.old resources.now.stack in
         IfErr result (IsCause given settings.now.file.now) }
     ensures refused { let given = given_of F.may_hold F.may_lack files.old resources.now.stack in
-        let bounds = limits_of settings.now in
+        let asked = check_of settings.now in
         let output = sent O.taken O.has_failed out.old out.new in
-        IfErr result (λ why. Leaves given settings.now.file.now bounds why output) }
+        IfErr result (λ why. Leaves given settings.now.file.now asked why output) }
 {
     let text = files.read(settings.file)?;
     if !resources.stack.takes(text.len()) {
         return Err(Refusal::Thread);
     }
-    let script = reader::read(resources.alloc, &text)?;
+    let script = read_as_asked(resources.alloc, settings, &text)?;
     let limits = limits(settings);
     let outcomes = outcomes(resources, &script, limits, settings.workers)?;
     match write(&script, &outcomes, out) {
         Ok(()) => Ok(status(&outcomes)),
         Err(_) => Err(Refusal::Output),
+    }
+}
+
+// The script of the text, with its names as the settings ask.
+fn read_as_asked<A: AllocHandle>(
+    alloc: A,
+    settings: &Settings<'_>,
+    text: &[u8],
+) -> Result<Script<A>, Refusal>
+    ensures script { let names = names_read settings.now.at_once in
+        IfOk result (λ script. IsTextRead names text.now (script_of script)) }
+    ensures refused { IfErr result (λ why. IsRefusalOf text.now why) }
+{
+    let script = reader::read(alloc, text)?;
+    if settings.at_once {
+        Ok(script.at_once())
+    } else {
+        Ok(script)
     }
 }
 
@@ -180,16 +199,17 @@ fn outcomes<A: AllocHandle + Send + Sync, R: Threads + Wait + Sync>(
     script: &Script<A>,
     limits: Limits,
     workers: usize,
-) -> Result<Vec<Outcome<A>, A>, AllocError>
+) -> Result<Vec<Outcome<A>, A>, Memory>
     requires { (1 ≤ workers) × (workers ≤ 64) }
     ensures { let it = script_of script.now in
         let bounds = bounds_of limits in
-        IfOk result (λ all. AreRight it bounds it.assertions (map outcome_of all.items)) }
+        IfOk result (λ all. AreRightSettled it bounds it.assertions (map outcome_of all.items)) }
 {
     let (alloc, rt) = (resources.alloc, resources.rt);
     let mut outcomes = Vec::new(alloc);
     for assertion in script.assertions() {
-        outcomes.push(explore(alloc, rt, script, assertion, limits, workers, &Open))?;
+        let settled = settled_assertion(alloc, script.parts(), assertion)?;
+        outcomes.push(explore(alloc, rt, script, &settled, limits, workers, &Open))?;
     }
     Ok(outcomes)
 }

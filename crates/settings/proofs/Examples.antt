@@ -2,7 +2,7 @@
 use Rattle.std.proofs.Common.{◌≡◌, refl, codes, List, [], ◌∷◌, Some, None}
 use Rattle.clap.specs.declared.error.kind.ErrorKind.TheVariants as kind
 use Rattle.clap.proofs.OnLiterals.{clap_on_literals}
-use Rattle.settings.specs.CommandLine.{chosen, given}
+use Rattle.settings.specs.CommandLine.{IsUsed, chosen, given}
 use Rattle.settings.specs.Faults.{faults_of}
 
 file_alone : faults_of (codes "f" ∷ []) ≡ []
@@ -48,3 +48,11 @@ workers_left = refl
 file_after_dashes : given (codes "file") (codes "--" ∷ codes "-f" ∷ []) ≡ Some (codes "-f")
 unfolding clap_on_literals
 file_after_dashes = refl
+
+names_at_once : IsUsed (codes "unfold") (codes "--unfold" ∷ codes "f" ∷ [])
+unfolding clap_on_literals
+names_at_once = refl
+
+unfold_twice : faults_of (codes "--unfold" ∷ codes "f" ∷ codes "--unfold" ∷ []) ≡ kind.ArgumentConflict ∷ []
+unfolding clap_on_literals
+unfold_twice = refl

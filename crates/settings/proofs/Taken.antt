@@ -1,10 +1,9 @@
 -- What a parse of the command line gives.
-use Rattle.std.proofs.Common.{zero, suc, ◌≡◌, ◌∙◌, ◌++◌, ◌<◌, ◌≤◌, ℕ, List, [], ◌∷◌, Option, Some, None, is_some, length, map, take, drop, codes, true, false, refl, sym, ap, subst, inl, inr, arith, true≢false}
+use Rattle.std.proofs.Common.{◌≡◌, ◌∙◌, ◌++◌, ◌<◌, ◌≤◌, ℕ, List, [], ◌∷◌, Some, is_some, length, map, take, drop, codes, true, false, refl, sym, ap, subst, inl, inr, arith}
 use Rattle.std.specs.List.{All, fold, list_all, slice_index_or}
 use Rattle.std.specs.Str.{bytes_eq}
 use Rattle.std.proofs.Math.ListN.{get_or-map}
 use Rattle.std.proofs.lemmas.List.{length-map}
-use Rattle.std.proofs.lemmas.Slice.Eq.{bytes_eq-Decides}
 use Rattle.clap.specs.Facts.{WantsDefault, args_of, least_values, unwrap_or_range}
 use Rattle.clap.specs.Texts.{items_of}
 use Rattle.clap.specs.Built.{IsAuto, IsParsedFrom, IsPlain, IsPlainArg}
@@ -23,50 +22,7 @@ use Rattle.clap.proofs.WalkLemmas.{first_value-rows}
 use Rattle.settings.specs.CommandLine.{built_rules, chosen, command_line, command_rules, file_rule, given, given_rows, number_of, number_rule}
 use Rattle.settings.proofs.Defaults.{AllLeave, found, given_alone, given_or, number_or}
 use Rattle.settings.proofs.Found.{has_entry, reads}
-
--- no two arguments have one id
-abbrev Differs : ℕ → ℕ → Rule → Rule → Type 0
-Differs j k e d = bytes_eq (slice_index_or command_rules j e).id (slice_index_or command_rules k d).id ≡ true → j ≡ k
-
-from_first : (j : ℕ) (e d : Rule) → j < 4 → Differs j 0 e d
-from_first zero e d lt same = refl
-from_first (suc zero) e d lt same = absurd (true≢false (sym same))
-from_first (suc (suc zero)) e d lt same = absurd (true≢false (sym same))
-from_first (suc (suc (suc zero))) e d lt same = absurd (true≢false (sym same))
-from_first (suc (suc (suc (suc j)))) e d lt same = absurd (omega arith)
-
-from_second : (j : ℕ) (e d : Rule) → j < 4 → Differs j 1 e d
-from_second zero e d lt same = absurd (true≢false (sym same))
-from_second (suc zero) e d lt same = refl
-from_second (suc (suc zero)) e d lt same = absurd (true≢false (sym same))
-from_second (suc (suc (suc zero))) e d lt same = absurd (true≢false (sym same))
-from_second (suc (suc (suc (suc j)))) e d lt same = absurd (omega arith)
-
-from_third : (j : ℕ) (e d : Rule) → j < 4 → Differs j 2 e d
-from_third zero e d lt same = absurd (true≢false (sym same))
-from_third (suc zero) e d lt same = absurd (true≢false (sym same))
-from_third (suc (suc zero)) e d lt same = refl
-from_third (suc (suc (suc zero))) e d lt same = absurd (true≢false (sym same))
-from_third (suc (suc (suc (suc j)))) e d lt same = absurd (omega arith)
-
-from_fourth : (j : ℕ) (e d : Rule) → j < 4 → Differs j 3 e d
-from_fourth zero e d lt same = absurd (true≢false (sym same))
-from_fourth (suc zero) e d lt same = absurd (true≢false (sym same))
-from_fourth (suc (suc zero)) e d lt same = absurd (true≢false (sym same))
-from_fourth (suc (suc (suc zero))) e d lt same = refl
-from_fourth (suc (suc (suc (suc j)))) e d lt same = absurd (omega arith)
-
--- an answer that is some text, and the text
-text_of : (o : Option Text) → is_some o ≡ true → (t : Text) × (o ≡ Some t)
-text_of None h = absurd (true≢false (sym h))
-text_of (Some t) h = (t, refl)
-
-differ : (a b : Text) → bytes_eq a b ≡ false → a ≡ b → ⊥
-differ a b apart e = true≢false (sym ((bytes_eq-Decides a b).1 e) ∙ apart)
-
-head_of : {X : Type 0} (xs : List X) → 0 < length xs → X
-head_of [] lt = absurd (omega arith)
-head_of (x ∷ xs) lt = x
+use Rattle.settings.proofs.Places.{differ, head_of, is_only_at, is_own, neither, only_at, text_of}
 
 module _ (c : Command) (m : ArgMatches) (words : List Text) (is : app_of c ≡ command_line) (p : IsParsedFrom c m)
     (has : HasMatchesOf (app_of c) words m) where
@@ -82,7 +38,7 @@ module _ (c : Command) (m : ArgMatches) (words : List Text) (is : app_of c ≡ c
   rule_at : (j : ℕ) (d : Arg) → rule_of (slice_index_or (args_of c) j d) ≡ slice_index_or command_rules j (rule_of d)
   rule_at j d = sym (get_or-map rule_of (args_of c) j d) ∙ ap (λ rs. slice_index_or rs j (rule_of d)) rules_are
 
-  count : length (args_of c) ≡ 4
+  count : length (args_of c) ≡ 5
   count = sym (length-map (args_of c) rule_of) ∙ ap length rules_are
 
   -- some argument of the command
@@ -98,16 +54,16 @@ module _ (c : Command) (m : ArgMatches) (words : List Text) (is : app_of c ≡ c
   plain : IsPlain c
   plain = (plain_arg, simple.groups)
 
-  id_at : (j : ℕ) (d : Arg) → (slice_index_or (args_of c) j d).id.now ≡ (slice_index_or command_rules j (rule_of d)).id
-  id_at j d = ap (λ (r : Rule). r.id) (rule_at j d)
-
   -- the argument at a place is the only one with its id
-  unique_at : (k : ℕ) (d : Arg) → ((j : ℕ) (e d : Rule) → j < 4 → Differs j k e d) → (j : ℕ) (e : Arg) → j < length (args_of c)
+  unique_at : (k : ℕ) (d : Arg) (name : Text) → (slice_index_or (args_of c) k d).id.now ≡ name → is_only_at name k command_rules ≡ true → (j : ℕ) (e : Arg) → j < length (args_of c)
       → bytes_eq (slice_index_or (args_of c) j e).id.now (slice_index_or (args_of c) k d).id.now ≡ true → j ≡ k
-  unique_at k d differs j e lt same =
-      differs j (rule_of e) (rule_of d) (subst (λ n. j < n) count lt)
-      (subst (λ t. bytes_eq (slice_index_or command_rules j (rule_of e)).id t ≡ true) (id_at k d)
-      (subst (λ t. bytes_eq t (slice_index_or (args_of c) k d).id.now ≡ true) (id_at j e) same))
+  unique_at k d name id only j e lt same =
+      let there : bytes_eq (slice_index_or (args_of c) j e).id.now name ≡ true = subst (λ t. bytes_eq (slice_index_or (args_of c) j e).id.now t ≡ true) id same in
+      only_at name k command_rules only j (rule_of e) (subst (λ n. j < n) count lt) (subst (λ t. bytes_eq t name ≡ true) (ap (λ (r : Rule). r.id) (rule_at j e)) there)
+
+  -- the value that the parse found is the one on the words
+  pub same_value : (id : Text) → first_value (found_of m) id ≡ first_of id (matches_of command_line words)
+  same_value id = first_value-rows (found_of m) id ∙ ap (first_of id) rows
 
   first_is : (id t : Text) → first_value (found_of m) id ≡ Some t → first_of id (matches_of command_line words) ≡ Some t
   first_is id t e = ap (first_of id) (sym rows) ∙ sym (first_value-rows (found_of m) id) ∙ e
@@ -116,10 +72,10 @@ module _ (c : Command) (m : ArgMatches) (words : List Text) (is : app_of c ≡ c
   abbrev pub IsNumberText : Text → ℕ → ℕ → Text → Type 0
   IsNumberText name default most t = (one_text (found_of m) name ≡ Some t) × (chosen name default words ≡ number_of t) × IsUnsignedIn 1 most t
 
-  number_text : (k : ℕ) (d : Arg) (name v : Text) (most : ℕ) → k < 4 → ((j : ℕ) (e d : Rule) → j < 4 → Differs j k e d)
-      → slice_index_or command_rules k (rule_of d) ≡ number_rule name v most → bytes_eq name [] ≡ false → bytes_eq name (codes "help") ≡ false → bytes_eq name (codes "version") ≡ false
+  number_text : (k : ℕ) (d : Arg) (name v : Text) (most : ℕ) → k < 5 → is_only_at name k command_rules ≡ true → is_own name ≡ false
+      → slice_index_or command_rules k (rule_of d) ≡ number_rule name v most
       → (t : Text) × (one_text (found_of m) name ≡ Some t) × (first_value (found_of m) name ≡ Some t) × IsUnsignedIn 1 most t
-  number_text k d name v most below differs rule named help version =
+  number_text k d name v most below only own_name rule =
       let lt : k < length (args_of c) = subst (λ n. k < n) (sym count) below in
       let r : rule_of (slice_index_or (args_of c) k d) ≡ number_rule name v most = rule_at k d ∙ rule in
       let id : (slice_index_or (args_of c) k d).id.now ≡ name = ap (λ (x : Rule). x.id) r in
@@ -128,9 +84,11 @@ module _ (c : Command) (m : ArgMatches) (words : List Text) (is : app_of c ≡ c
       let one : length (items_of (slice_index_or (args_of c) k d).default_vals) ≡ 1 =
       sym (length-map (items_of (slice_index_or (args_of c) k d).default_vals) (λ s. s.now)) ∙ ap length (ap (λ (x : Rule). x.defaults) r) in
       let wants : WantsDefault (slice_index_or (args_of c) k d) = ((simple.args k d lt).default_ifs, omega arith) in
-      let unique = unique_at k d differs in
-      let filled : (slice_index_or (args_of c) k d).id.now ≡ [] → ⊥ = λ e. differ name [] named (sym id ∙ e) in
-      let own : IsAuto (slice_index_or (args_of c) k d) → ⊥ = λ auto. elim auto [ inl h ↦ differ name (codes "help") help (sym id ∙ h) | inr h ↦ differ name (codes "version") version (sym id ∙ h) ] in
+      let unique = unique_at k d name id only in
+      let apart = neither (bytes_eq name []) _ own_name in
+      let flags = neither (bytes_eq name (codes "help")) _ apart.1 in
+      let filled : (slice_index_or (args_of c) k d).id.now ≡ [] → ⊥ = λ e. differ name [] apart.0 (sym id ∙ e) in
+      let own : IsAuto (slice_index_or (args_of c) k d) → ⊥ = λ auto. elim auto [ inl h ↦ differ name (codes "help") flags.0 (sym id ∙ h) | inr h ↦ differ name (codes "version") flags.1 (sym id ∙ h) ] in
       let has = has_entry c m p plain simple.globals k d lt unique filled own (default_present c m p simple.globals k d lt wants) in
       let got = reads c m p plain simple.globals k d lt unique filled own (vp.Unsigned 1 most) (ap (λ (x : Rule). x.parser) r) (ap (λ (x : Rule). x.action) r)
       (simple.args k d lt).delimiter least has in (
@@ -153,36 +111,36 @@ module _ (c : Command) (m : ArgMatches) (words : List Text) (is : app_of c ≡ c
 
   pub workers : (t : Text) × IsNumberText (codes "workers") 1 64 t
   workers =
-      let g = number_text 0 first_arg (codes "workers") (codes "1") 64 (omega arith) from_first refl refl refl refl in
+      let g = number_text 0 first_arg (codes "workers") (codes "1") 64 (omega arith) refl refl refl in
       let n = number_chosen [] (drop 1 built_rules) (rule_of_place 0) (codes "workers") (codes "1") g.0 refl tt
-      (inr (codes "100000", refl, refl), (inr (codes "10000", refl, refl), (inl refl, (inl refl, (inl refl, tt))))) refl refl g.2 in
+      (inr (codes "100000", refl, refl), (inr (codes "10000", refl, refl), (inr (codes "false", refl, refl), (inl refl, (inl refl, (inl refl, tt)))))) refl refl g.2 in
       (g.0, (g.1, n, g.3))
 
   pub pairs : (t : Text) × IsNumberText (codes "max-pairs") 100000 1000000 t
   pairs =
-      let g = number_text 1 first_arg (codes "max-pairs") (codes "100000") 1000000 (omega arith) from_second refl refl refl refl in
+      let g = number_text 1 first_arg (codes "max-pairs") (codes "100000") 1000000 (omega arith) refl refl refl in
       let n = number_chosen (take 1 built_rules) (drop 2 built_rules) (rule_of_place 1) (codes "max-pairs") (codes "100000") g.0 refl
-      (inr (codes "1", refl, refl), tt) (inr (codes "10000", refl, refl), (inl refl, (inl refl, (inl refl, tt)))) refl refl g.2 in
+      (inr (codes "1", refl, refl), tt) (inr (codes "10000", refl, refl), (inr (codes "false", refl, refl), (inl refl, (inl refl, (inl refl, tt))))) refl refl g.2 in
       (g.0, (g.1, n, g.3))
 
   pub nodes : (t : Text) × IsNumberText (codes "max-nodes") 10000 100000 t
   nodes =
-      let g = number_text 2 first_arg (codes "max-nodes") (codes "10000") 100000 (omega arith) from_third refl refl refl refl in
+      let g = number_text 2 first_arg (codes "max-nodes") (codes "10000") 100000 (omega arith) refl refl refl in
       let n = number_chosen (take 2 built_rules) (drop 3 built_rules) (rule_of_place 2) (codes "max-nodes") (codes "10000") g.0 refl
-      (inr (codes "1", refl, refl), (inr (codes "100000", refl, refl), tt)) (inl refl, (inl refl, (inl refl, tt))) refl refl g.2 in
+      (inr (codes "1", refl, refl), (inr (codes "100000", refl, refl), tt)) (inr (codes "false", refl, refl), (inl refl, (inl refl, (inl refl, tt)))) refl refl g.2 in
       (g.0, (g.1, n, g.3))
 
   file_has_value : is_some (first_value (found_of m) (codes "file")) ≡ true
   file_has_value =
-      let lt : 3 < length (args_of c) = subst (λ n. 3 < n) (sym count) (omega arith) in
-      let r : rule_of (slice_index_or (args_of c) 3 first_arg) ≡ file_rule = rule_at 3 first_arg in
-      let id : (slice_index_or (args_of c) 3 first_arg).id.now ≡ codes "file" = ap (λ (x : Rule). x.id) r in
-      let least : 1 ≤ least_values (slice_index_or (args_of c) 3 first_arg) =
+      let lt : 4 < length (args_of c) = subst (λ n. 4 < n) (sym count) (omega arith) in
+      let r : rule_of (slice_index_or (args_of c) 4 first_arg) ≡ file_rule = rule_at 4 first_arg in
+      let id : (slice_index_or (args_of c) 4 first_arg).id.now ≡ codes "file" = ap (λ (x : Rule). x.id) r in
+      let least : 1 ≤ least_values (slice_index_or (args_of c) 4 first_arg) =
       subst (λ o. 1 ≤ (unwrap_or_range o).start_inclusive) (sym (ap (λ (x : Rule). x.range) r)) (omega arith) in
       subst (λ t. is_some (first_value (found_of m) t) ≡ true) id
-      (required_has_value c m p plain simple.globals (ap (λ (a : App). a.top.subcommand_negates_reqs) is) 3 first_arg lt
-      (ap (λ (x : Rule). x.required) r) (ap (λ (x : Rule). x.action) r) (simple.args 3 first_arg lt).delimiter least
-      (unique_at 3 first_arg from_fourth)
+      (required_has_value c m p plain simple.globals (ap (λ (a : App). a.top.subcommand_negates_reqs) is) 4 first_arg lt
+      (ap (λ (x : Rule). x.required) r) (ap (λ (x : Rule). x.action) r) (simple.args 4 first_arg lt).delimiter least
+      (unique_at 4 first_arg (codes "file") id refl)
       (λ e. differ (codes "file") [] refl (sym id ∙ e))
       (λ auto. elim auto [
         | inl h ↦ differ (codes "file") (codes "help") refl (sym id ∙ h)
@@ -193,5 +151,5 @@ module _ (c : Command) (m : ArgMatches) (words : List Text) (is : app_of c ≡ c
   pub file : (t : Text) × (first_value (found_of m) (codes "file") ≡ Some t) × (given (codes "file") words ≡ Some t)
   file =
       let t = text_of _ file_has_value in
-      let leaves : AllLeave (codes "file") built_rules = (inr (codes "1", refl, refl), (inr (codes "100000", refl, refl), (inr (codes "10000", refl, refl), (inl refl, (inl refl, (inl refl, tt)))))) in
+      let leaves : AllLeave (codes "file") built_rules = (inr (codes "1", refl, refl), (inr (codes "100000", refl, refl), (inr (codes "10000", refl, refl), (inr (codes "false", refl, refl), (inl refl, (inl refl, (inl refl, tt))))))) in
       (t.0, t.1, sym (given_alone (codes "file") built_rules (given_rows words) leaves) ∙ first_is (codes "file") t.0 t.1)

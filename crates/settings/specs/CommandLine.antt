@@ -3,8 +3,8 @@ use Rattle.std.specs.Prelude.{◌≡◌, ◌<◌, ◌^◌, ℕ, List, [], ◌∷
 use Rattle.std.specs.Option.{option_map_or}
 use Rattle.std.specs.Str.Parse.{IsNumeral, digits_value, without_leading_plus}
 use Rattle.clap.specs.Walk.{Row, Rule, Text, first_of, nothing_held, settled, walk}
-use Rattle.clap.specs.Simple.{App, built, new_rule, new_shape}
-use Rattle.clap.specs.declared.builder.action.ArgAction.TheVariants.{Set}
+use Rattle.clap.specs.Simple.{App, built, matches_of, new_rule, new_shape}
+use Rattle.clap.specs.declared.builder.action.ArgAction.TheVariants.{Set, SetTrue}
 use Rattle.clap.specs.declared.builder.value_parser.ValueParser.TheVariants as vp
 
 -- an option with one value, a number from 1 to `most`, which is `default` where the option is not used
@@ -17,6 +17,10 @@ number_rule name default most = record (new_rule name) {
   parser = Some (vp.Unsigned 1 most);
 }
 
+-- an option without a value of its own: `true` where the words use it, and else `false`
+abbrev pub flag_rule : Text → Rule
+flag_rule name = record (new_rule name) { long = Some name; action = Some SetTrue }
+
 -- the file, which stands for itself
 abbrev pub file_rule : Rule
 file_rule = record (new_rule (codes "file")) {
@@ -28,7 +32,9 @@ file_rule = record (new_rule (codes "file")) {
 abbrev pub command_rules : List Rule
 command_rules = number_rule (codes "workers") (codes "1") 64
     ∷ number_rule (codes "max-pairs") (codes "100000") 1000000
-    ∷ number_rule (codes "max-nodes") (codes "10000") 100000 ∷ file_rule ∷ []
+    ∷ number_rule (codes "max-nodes") (codes "10000") 100000
+    ∷ flag_rule (codes "unfold")
+    ∷ file_rule ∷ []
 
 -- the command, whose words do not begin with the program's name
 abbrev pub command_line : App
@@ -56,6 +62,10 @@ number_of text = digits_value 10 (without_leading_plus text)
 -- the number that the words give an option, or the default
 abbrev pub chosen : Text → ℕ → List Text → ℕ
 chosen id default words = option_map_or number_of (given id words) default
+
+-- the words use the flag
+abbrev pub IsUsed : Text → List Text → Type 0
+IsUsed flag words = first_of flag (matches_of command_line words) ≡ Some (codes "true")
 
 -- there is a text, of a number that a word holds
 abbrev pub IsNumeric : Option Text → Type 0

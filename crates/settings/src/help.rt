@@ -37,6 +37,9 @@ Refusals, in place of all lines, on standard error:
 `explain FILE 2`, with the same options, tells step by step why assertion 2 fails; of a script that
 is refused it shows the line, and what may be meant. `explain --help` has each refusal in words.
 
+--unfold is good for every check, but where the least trace by the letter matters: paths have fewer
+taus with it, so that of several violations another one may be the nearest.
+
 Status:
   0  every assertion holds
   1  one fails, and each has an answer

@@ -1,9 +1,9 @@
 //! What a command line asks of the program.
 
-ghost use Rattle.std.specs.Prelude.{◌≡◌, ◌≤◌, Some, [], IfOk, IfErr, codes};
+ghost use Rattle.std.specs.Prelude.{◌≡◌, ◌≤◌, ◌↔◌, Some, [], IfOk, IfErr, IsTrue, codes};
 ghost use Rattle.clap.specs.Walk.{texts};
-ghost use Rattle.clap.specs.Words.{found_of, one_text};
-ghost use Rattle.settings.specs.CommandLine.{HasNumber, IsNumeric, chosen, given};
+ghost use Rattle.clap.specs.Words.{first_value, found_of, one_text};
+ghost use Rattle.settings.specs.CommandLine.{HasNumber, IsNumeric, IsUsed, chosen, given};
 ghost use Rattle.settings.specs.Faults.{IsFaultOf, faults_of};
 
 use crate::command::command_line;
@@ -29,6 +29,8 @@ pub struct Settings<'a> {
     pub max_pairs: usize,
     /// The most nodes of a normal form, and the most states of each, 1 to 100,000.
     pub max_nodes: usize,
+    /// Whether names are unfolded at once.
+    pub at_once: bool,
     /// The name of the script's file.
     pub file: &'a str,
     pub ghost workers_in_range: { (1 ≤ workers) × (workers ≤ 64) },
@@ -46,6 +48,7 @@ pub fn read<'a>(alloc: Global, words: &'a [&'a str]) -> Result<Settings<'a>, Com
     ensures workers { IfOk result (λ s. s.workers ≡ chosen (codes "workers") 1 (texts words.entry.now)) }
     ensures pairs { IfOk result (λ s. s.max_pairs ≡ chosen (codes "max-pairs") 100000 (texts words.entry.now)) }
     ensures nodes { IfOk result (λ s. s.max_nodes ≡ chosen (codes "max-nodes") 10000 (texts words.entry.now)) }
+    ensures at_once { IfOk result (λ s. IsTrue s.at_once ↔ IsUsed (codes "unfold") (texts words.entry.now)) }
     ensures file { IfOk result (λ s. given (codes "file") (texts words.entry.now) ≡ Some s.file.now) }
     ensures fault { IfErr result (IsFaultOf (texts words.entry.now)) }
 {
@@ -57,6 +60,7 @@ pub fn read<'a>(alloc: Global, words: &'a [&'a str]) -> Result<Settings<'a>, Com
         workers: number(&matches, "workers"),
         max_pairs: number(&matches, "max-pairs"),
         max_nodes: number(&matches, "max-nodes"),
+        at_once: is_used(&matches, "unfold"),
         file: matches.get_str("file").unwrap(),
     })
 }
@@ -67,4 +71,14 @@ pub fn number(matches: &ArgMatches<'_>, name: &str) -> usize
     ensures { HasNumber (one_text (found_of matches.now) name.now) result }
 {
     matches.get_one::<usize>(name).unwrap()
+}
+
+/// Whether the words use the flag, whose value is then `true`.
+pub fn is_used(matches: &ArgMatches<'_>, flag: &str) -> bool
+    ensures { IsTrue result ↔ first_value (found_of matches.now) flag.now ≡ Some (codes "true") }
+{
+    match matches.get_str(flag) {
+        Some(value) => value == "true",
+        None => false,
+    }
 }

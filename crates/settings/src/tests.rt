@@ -4,17 +4,23 @@ use crate::{CommandLineFault, read};
 use std::alloc::Global;
 use std::test::Fail;
 
-// Words, and the workers, pairs and nodes that they ask for.
-type Taken = (&'static [&'static str], (usize, usize, usize));
+// Words, the workers, pairs and nodes that they ask for, and whether names are unfolded at once.
+type Taken = (&'static [&'static str], (usize, usize, usize, bool));
 
-static TAKEN: [Taken; 9] = [
-    (&["f"], (1, 100_000, 10_000)),
-    (&["--workers=8", "f"], (8, 100_000, 10_000)),
-    (&["--workers", "64", "f"], (64, 100_000, 10_000)),
-    (&["f", "--max-pairs", "1000000"], (1, 1_000_000, 10_000)),
-    (&["f", "--max-pairs=1"], (1, 1, 10_000)),
-    (&["--max-nodes", "03", "f"], (1, 100_000, 3)),
-    (&["--max-nodes", "100000", "f"], (1, 100_000, 100_000)),
+static TAKEN: [Taken; 11] = [
+    (&["f"], (1, 100_000, 10_000, false)),
+    (&["--workers=8", "f"], (8, 100_000, 10_000, false)),
+    (&["--workers", "64", "f"], (64, 100_000, 10_000, false)),
+    (
+        &["f", "--max-pairs", "1000000"],
+        (1, 1_000_000, 10_000, false),
+    ),
+    (&["f", "--max-pairs=1"], (1, 1, 10_000, false)),
+    (&["--max-nodes", "03", "f"], (1, 100_000, 3, false)),
+    (
+        &["--max-nodes", "100000", "f"],
+        (1, 100_000, 100_000, false),
+    ),
     (
         &[
             "--max-nodes",
@@ -25,15 +31,20 @@ static TAKEN: [Taken; 9] = [
             "4",
             "f",
         ],
-        (4, 3, 2),
+        (4, 3, 2, false),
     ),
-    (&["--max-nodes=5", "--", "--workers"], (1, 100_000, 5)),
+    (&["--unfold", "f"], (1, 100_000, 10_000, true)),
+    (&["f", "--max-pairs=7", "--unfold"], (1, 7, 10_000, true)),
+    (
+        &["--max-nodes=5", "--", "--workers"],
+        (1, 100_000, 5, false),
+    ),
 ];
 
 // Words, and the first line of what is said of them.
 type Refusal = (&'static [&'static str], &'static str);
 
-static REFUSED: [Refusal; 14] = [
+static REFUSED: [Refusal; 16] = [
     (
         &[],
         "error: the following required arguments were not provided:",
@@ -74,6 +85,14 @@ static REFUSED: [Refusal; 14] = [
         &["--workers", "8", "--workers", "9", "f"],
         "error: the argument '--workers <N>' cannot be used multiple times",
     ),
+    (
+        &["--unfold", "f", "--unfold"],
+        "error: the argument '--unfold' cannot be used multiple times",
+    ),
+    (
+        &["--unfold=yes", "f"],
+        "error: unexpected value 'yes' for '--unfold' found; no more were expected",
+    ),
     (&["f", "g"], "error: unexpected argument 'g' found"),
     (
         &["--max-rows", "1", "f"],
@@ -101,6 +120,8 @@ const HELPS: &[&str] = &[
     "--max-nodes <N>",
     "1 to 100000",
     "[default: 10000]",
+    "--unfold",
+    "the same answers from fewer states",
     "unknown pairs",
     "unknown nodes",
     "Lines, each with the number of its assertion:\n",
@@ -120,9 +141,14 @@ fn refused() -> &'static [Refusal] {
     &REFUSED
 }
 
-fn numbers(alloc: Global, words: &[&str]) -> Option<(usize, usize, usize)> {
+fn choices(alloc: Global, words: &[&str]) -> Option<(usize, usize, usize, bool)> {
     let settings = read(alloc, words).ok()?;
-    Some((settings.workers, settings.max_pairs, settings.max_nodes))
+    Some((
+        settings.workers,
+        settings.max_pairs,
+        settings.max_nodes,
+        settings.at_once,
+    ))
 }
 
 // The text for the standard output.
@@ -145,7 +171,7 @@ fn refusal(alloc: Global, words: &[&str]) -> Option<String> {
 #[test]
 fn takes_each_option(rt: HostRuntime) -> Result<(), Fail> {
     for (words, expected) in taken() {
-        assert_eq!(rt; numbers(rt.alloc(), words), Some(*expected), "at {words:?}");
+        assert_eq!(rt; choices(rt.alloc(), words), Some(*expected), "at {words:?}");
     }
     let settings = read(rt.alloc(), &["--", "--workers"])
         .ok()

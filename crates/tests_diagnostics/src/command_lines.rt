@@ -140,6 +140,14 @@ fn counts_are_asked_for(rt: HostRuntime) -> Result<(), Fail> {
 }
 
 #[test]
+fn names_at_once_are_asked_for(rt: HostRuntime) -> Result<(), Fail> {
+    assert!(rt; !read(rt.alloc(), &["a.csp"])?.at_once);
+    assert!(rt; !read(rt.alloc(), &["--count", "--", "--unfold"])?.at_once);
+    assert!(rt; read(rt.alloc(), &["a.csp", "--unfold", "3"])?.at_once);
+    Ok(())
+}
+
+#[test]
 fn wrong_command_lines_are_refused(rt: HostRuntime) -> Result<(), Fail> {
     for (words, beginning) in &REFUSED {
         match read(rt.alloc(), words) {

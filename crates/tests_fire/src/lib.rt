@@ -40,6 +40,8 @@ mod lookups;
 #[cfg(test)]
 mod memory;
 #[cfg(test)]
+mod names_at_once;
+#[cfg(test)]
 mod numbers;
 mod opened;
 #[cfg(test)]

@@ -3,7 +3,8 @@
 //!
 //! - `VALUE` and `CAUSE` of expressions, as `values` reads them. They need no term.
 //! - `PUT`, `BOUND`, `FITS` and `PAST`, as `puts` reads them, `LEADS` and `STUCK`, as `rule_steps` reads them,
-//!   `MEASURES`, as `sizes` reads it, and `HAS`, `LACKS` and `MAKES`, as `lookups` reads them.
+//!   `MEASURES`, as `sizes` reads it, `HAS`, `LACKS` and `MAKES`, as `lookups` reads them, and `SETTLED` and
+//!   `LEADS AT ONCE`, as `names_at_once` reads them.
 //! - `DOES`: the steps, in order, as prefixes with `[]` between. `tau` and `tick` are no channels, and `STOP` is no
 //!   step.
 //! - `OFFERS`: the acceptances, in order, each as prefixes before `STOP` with `[]` between, and `|~|` between two
@@ -24,7 +25,7 @@ use crate::said::{offers, steps};
 use crate::tables::Named;
 use crate::targets::target;
 use crate::texts::{Line, lines, script};
-use crate::{puts, rule_steps, sets_of_events, sizes, tables, values};
+use crate::{names_at_once, puts, rule_steps, sets_of_events, sizes, tables, values};
 use csp_fire::{Form, fire};
 use csp_term::laws::equal_scripts;
 use csp_term::{Assertion, Script, Term};
@@ -137,6 +138,7 @@ fn is_so(
         "PUT" | "BOUND" => puts::is_put(alloc, line, term, said),
         "FITS" | "PAST" => puts::is_limited(alloc, line, term),
         "LEADS" | "STUCK" => rule_steps::is_so(alloc, script, line, term, said),
+        "SETTLED" | "LEADS AT ONCE" => names_at_once::is_so(alloc, script, line, term, said),
         "MEASURES" => sizes::is_measured(alloc, term, said),
         "HAS" | "LACKS" | "MAKES" => sets_of_events::is_so(alloc, script, line, term, said),
         _ => is_shown(alloc, script, term, line, said),

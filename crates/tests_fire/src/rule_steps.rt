@@ -19,7 +19,7 @@ use std::alloc::Global;
 use std::test::Fail;
 
 /// The steps in order, with `PAST` for what is past the limits.
-fn in_order(
+pub(crate) fn in_order(
     alloc: Global,
     found: Vec<RuleStep<Global>, Global>,
 ) -> Result<Vec<Step<Global>, Global>, Memory> {

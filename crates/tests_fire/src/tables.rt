@@ -1,9 +1,9 @@
 //! The texts of rows, each with its name. They are statics that functions hand out, so that no proof looks into them.
 
 use crate::{
-    calls, choices, conditions, constructors, decisions, events_changed, faults, limits, numbers,
-    parallels, prefixes, replicated, rule_steps, sequences, sets, sets_of_events, sliding_choices,
-    substitution, successions, worked,
+    calls, choices, conditions, constructors, decisions, events_changed, faults, limits,
+    names_at_once, numbers, parallels, prefixes, replicated, rule_steps, sequences, sets,
+    sets_of_events, sliding_choices, substitution, successions, worked,
 };
 
 /// A name, and a text.
@@ -22,14 +22,15 @@ pub(crate) fn of_expressions() -> &'static [Named] {
     &EXPRESSIONS
 }
 
-static TERMS: [Named; 4] = [
+static TERMS: [Named; 5] = [
     ("substitution", substitution::TEXT),
     ("limits", limits::TEXT),
     ("sets_of_events", sets_of_events::TEXT),
     ("rule_steps", rule_steps::TEXT),
+    ("names_at_once", names_at_once::TEXT),
 ];
 
-/// The texts of values put in, measures, limits, sets of events, and steps of the rules alone.
+/// The texts of values put in, measures, limits, sets of events, steps of the rules alone, and names at once.
 pub(crate) fn of_terms() -> &'static [Named] {
     &TERMS
 }

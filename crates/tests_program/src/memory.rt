@@ -53,6 +53,16 @@ const HOLDS_BY_TWO: Run = (
     &["1 unknown memory\n"],
 );
 
+const NAMES: Run = (
+    &["--unfold", "script"],
+    (
+        "channel a, b\nP = a -> Q\nQ = b -> P\nassert P [T= P ||| STOP",
+        "1 holds\n",
+    ),
+    0,
+    &["1 unknown memory\n"],
+);
+
 const BUFFERS: Run = (
     &["script"],
     CHAIN,
@@ -139,7 +149,7 @@ fn is_answered_or_refused<R: Abort + Threads + Wait + Sync>(
 
 #[test]
 fn refused_memory_changes_no_other_answer(rt: HostRuntime) -> Result<(), Fail> {
-    for run in &[FAILS, HOLDS, FAILS_BY_TWO, HOLDS_BY_TWO] {
+    for run in &[FAILS, HOLDS, FAILS_BY_TWO, HOLDS_BY_TWO, NAMES] {
         is_answered_or_refused(&rt, rt.alloc(), run, 0, 1);
     }
     Ok(())

@@ -4,7 +4,7 @@ use Rattle.std.specs.Prelude.{IsFalse, codes}
 use Rattle.std.proofs.Common.{◌≡◌, ℕ, ◌≤◌, true, false, List, [], ◌∷◌, take, nat_lt, ◌<◌, pos, Some, None, refl, sym, ap, ◌∙◌, subst, arith}
 use Rattle.theory_syntax.specs.Value.{Value, Integer}
 use Rattle.theory_syntax.specs.Expression.{Expression, Literal, Name, Range, SequenceOf, SetOf, no_expressions, expression_and}
-use Rattle.theory_syntax.specs.Process.{Process, Call, Script, Equation}
+use Rattle.theory_syntax.specs.Process.{Process, Call, Script, Equation, ByTau}
 use Rattle.theory_syntax.specs.Types.{Types}
 use Rattle.theory_semantics.specs.Meaning.Evaluation.{numbers_from}
 use Rattle.theory_semantics.specs.Kinds.Kind.{Kind, IntKind, BoolKind, DatatypeKind, SequenceKind, SetKind, Kinds, scope_of}
@@ -190,10 +190,11 @@ growing = record {
   assertions = [];
   channel_names = [];
   constructor_names = [];
+  unfolds = ByTau;
 }
 
 growing_is : IsScriptOf growing_parameter growing
-growing_is = record { datatypes = refl; nametypes = refl; constructors = refl; channels = refl; equations = refl; assertions = refl; channel_names = refl; constructor_names = refl }
+growing_is = record { datatypes = refl; nametypes = refl; constructors = refl; channels = refl; equations = refl; assertions = refl; channel_names = refl; constructor_names = refl; unfolds = refl }
 
 no_cycle : (k : Kind) → SequenceKind k ≡ k → ⊥
 no_cycle IntKind e = cc e

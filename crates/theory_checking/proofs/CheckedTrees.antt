@@ -77,7 +77,7 @@ pub outputs_checked : IsCheckedTree outputs outputs_script
 unfolding outputs_kinds lib.Utf8.encode
 outputs_checked = record {
   names = outputs_pass;
-  script_of = record { datatypes = refl; nametypes = refl; constructors = refl; channels = refl; equations = refl; assertions = refl; channel_names = refl; constructor_names = refl };
+  script_of = record { datatypes = refl; nametypes = refl; constructors = refl; channels = refl; equations = refl; assertions = refl; channel_names = refl; constructor_names = refl; unfolds = refl };
   kinds = outputs_kinds;
   fit = record {
     sets = record { nametypes = tt; constructors = tt; channels = (((tt, tt), tt), tt) };

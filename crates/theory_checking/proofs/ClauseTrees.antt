@@ -99,7 +99,7 @@ pub sent_checked : IsCheckedTree constructor_sent constructor_sent_script
 unfolding lib.Utf8.encode
 sent_checked = record {
   names = sent_pass;
-  script_of = record { datatypes = refl; nametypes = refl; constructors = refl; channels = refl; equations = refl; assertions = refl; channel_names = refl; constructor_names = refl };
+  script_of = record { datatypes = refl; nametypes = refl; constructors = refl; channels = refl; equations = refl; assertions = refl; channel_names = refl; constructor_names = refl; unfolds = refl };
   kinds = both_kinds;
   fit = record {
     sets = record { nametypes = tt; constructors = (tt, (((tt, tt), tt), tt)); channels = (((refl, (_, refl)), tt), tt) };

@@ -108,7 +108,7 @@ one_script raw s t a b =
     let cs : s.channels ≡ t.channels = map_some s.channels t.channels (a.channels ∙ sym b.channels) in
     let es : s.equations ≡ t.equations = map_some s.equations t.equations (a.equations ∙ sym b.equations) in
     let ss : s.assertions ≡ t.assertions = map_some s.assertions t.assertions (a.assertions ∙ sym b.assertions) in
-    scripts_same s t types cs es ss (a.channel_names ∙ sym b.channel_names) (a.constructor_names ∙ sym b.constructor_names)
+    scripts_same s t types cs es ss (a.channel_names ∙ sym b.channel_names) (a.constructor_names ∙ sym b.constructor_names) (a.unfolds ∙ sym b.unfolds)
   where
     types_same : (u v : Types) → u.datatypes ≡ v.datatypes → u.nametypes ≡ v.nametypes → u.constructors ≡ v.constructors → u ≡ v
     types_same u v d n k =
@@ -116,14 +116,9 @@ one_script raw s t a b =
         ∙ ap (λ z. record { datatypes = v.datatypes; nametypes = v.nametypes; constructors = z }) k
 
     scripts_same : (u v : Script) → u.types ≡ v.types → u.channels ≡ v.channels → u.equations ≡ v.equations → u.assertions ≡ v.assertions →
-        u.channel_names ≡ v.channel_names → u.constructor_names ≡ v.constructor_names → u ≡ v
-    scripts_same u v a b c d e f =
-        ap (λ x. record { types = x; channels = u.channels; equations = u.equations; assertions = u.assertions; channel_names = u.channel_names; constructor_names = u.constructor_names }) a ∙
-        ap (λ x. record { types = v.types; channels = x; equations = u.equations; assertions = u.assertions; channel_names = u.channel_names; constructor_names = u.constructor_names }) b ∙
-        ap (λ x. record { types = v.types; channels = v.channels; equations = x; assertions = u.assertions; channel_names = u.channel_names; constructor_names = u.constructor_names }) c ∙
-        ap (λ x. record { types = v.types; channels = v.channels; equations = v.equations; assertions = x; channel_names = u.channel_names; constructor_names = u.constructor_names }) d ∙
-        ap (λ x. record { types = v.types; channels = v.channels; equations = v.equations; assertions = v.assertions; channel_names = x; constructor_names = u.constructor_names }) e ∙
-        ap (λ x. record { types = v.types; channels = v.channels; equations = v.equations; assertions = v.assertions; channel_names = v.channel_names; constructor_names = x }) f
+        u.channel_names ≡ v.channel_names → u.constructor_names ≡ v.constructor_names → u.unfolds ≡ v.unfolds → u ≡ v
+    scripts_same u v a b c d e f g =
+        λ i. record { types = a i; channels = b i; equations = c i; assertions = d i; channel_names = e i; constructor_names = f i; unfolds = g i }
 
 -- ---- refusals
 

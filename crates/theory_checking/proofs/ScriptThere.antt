@@ -5,7 +5,7 @@ use Rattle.std.proofs.Common.{◌≡◌, ℕ, List, [], ◌∷◌, ◌++◌, app
 use Rattle.std.proofs.lemmas.List.{append_assoc, map-append}
 use Rattle.theory_syntax.specs.Value.{Value}
 use Rattle.theory_syntax.specs.Expression.{Expression}
-use Rattle.theory_syntax.specs.Process.{Script}
+use Rattle.theory_syntax.specs.Process.{Script, ByTau}
 use Rattle.theory_syntax.specs.Types.{Types}
 use Rattle.theory_text.specs.Place.{Place}
 use Rattle.theory_text.specs.Raw.{RawName, RawDomain, RawClause, RawDeclaration, RawDatatype, RawNametype, RawChannels, RawEquation, RawAssertion, RawScript}
@@ -280,6 +280,7 @@ has_script raw passes =
         assertions = as_.0;
         channel_names = map encode_utf8_all (names_of ChannelName raw);
         constructor_names = map encode_utf8_all (names_of ConstructorName raw);
+        unfolds = ByTau;
       },
-      record { datatypes = refl; nametypes = ms.nametypes.1; constructors = ms.constructors.1; channels = cs.1; equations = es.1; assertions = as_.1; channel_names = refl; constructor_names = refl },
+      record { datatypes = refl; nametypes = ms.nametypes.1; constructors = ms.constructors.1; channels = cs.1; equations = es.1; assertions = as_.1; channel_names = refl; constructor_names = refl; unfolds = refl },
     )

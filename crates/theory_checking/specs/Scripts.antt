@@ -1,7 +1,7 @@
 -- The script that a tree stands for.
 use Rattle.std.specs.Prelude.{◌≡◌, List, [], ◌∷◌, map, flat_map, Option, Some}
 use Rattle.std.specs.Str.{encode_utf8_all}
-use Rattle.theory_syntax.specs.Process.{Equation, Assertion, Script}
+use Rattle.theory_syntax.specs.Process.{Equation, Assertion, Script, ByTau}
 use Rattle.theory_text.specs.Raw.{RawDeclaration, RawEquation, RawAssertion, RawScript}
 use Rattle.theory_checking.specs.Names.{ConstructorName, ChannelName, names_of, environment_of}
 use Rattle.theory_checking.specs.Resolving.{equation_of, assertion_of}
@@ -16,7 +16,7 @@ assertion_declared raw (RawAssertion place n a p) = assertion_of (environment_of
 assertion_declared raw _ = []
 
 -- The script has the tree's types, channels, equations and assertions, each in the order of the text,
--- and the spellings of channels and constructors in bytes.
+-- and the spellings of channels and constructors in bytes. Its names do a tau.
 pub record IsScriptOf (raw : RawScript) (script : Script) : Type 0 where
   pub datatypes : script.types.datatypes ≡ datatypes_of raw
   pub nametypes : map Some script.types.nametypes ≡ nametype_members raw
@@ -26,3 +26,4 @@ pub record IsScriptOf (raw : RawScript) (script : Script) : Type 0 where
   pub assertions : map Some script.assertions ≡ flat_map (assertion_declared raw) raw
   pub channel_names : script.channel_names ≡ map encode_utf8_all (names_of ChannelName raw)
   pub constructor_names : script.constructor_names ≡ map encode_utf8_all (names_of ConstructorName raw)
+  pub unfolds : script.unfolds ≡ ByTau

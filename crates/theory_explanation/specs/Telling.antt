@@ -47,10 +47,11 @@ TellsWhy style script a (Fails v) old new = IsViolation script a v × TellsViola
 TellsWhy style script a (Unknown why) old new = TellsUnknown style script a why old new
 TellsWhy style script a Denied old new = new ≡ old
 
--- The text tells of the assertion with this number and outcome: its headline, and why, by the outcome that it has but for a
--- `not`.
-abbrev pub IsTold : Style → Script → ℕ → Assertion → Outcome → List ℕ → Type 0
-IsTold style script n a o text = (found : Outcome) × (o ≡ as_written a.negated found) × TellsWhy style script a found (headline style.names n a o) text
+-- The text tells of the assertion with this number and outcome, which is written as the first one and asked as the second:
+-- the headline of the first one, and why of the second, by the outcome that it has but for a `not`.
+abbrev pub IsTold : Style → Script → ℕ → Assertion → Assertion → Outcome → List ℕ → Type 0
+IsTold style script n written a o text =
+    (found : Outcome) × (o ≡ as_written written.negated found) × TellsWhy style script a found (headline style.names n written o) text
 
 -- The text tells of the assertions with these outcomes, one behind the other, numbered from n.
 abbrev pub Tells : Style → Script → ℕ → List Assertion → List Outcome → List ℕ → Type 0
@@ -58,4 +59,4 @@ Tells style script n [] [] text = text ≡ []
 Tells style script n [] (o ∷ os) text = ⊥
 Tells style script n (a ∷ others) [] text = ⊥
 Tells style script n (a ∷ others) (o ∷ os) text =
-    (first : List ℕ) × (rest : List ℕ) × (text ≡ first ++ rest) × IsTold style script n a o first × Tells style script (suc n) others os rest
+    (first : List ℕ) × (rest : List ℕ) × (text ≡ first ++ rest) × IsTold style script n a a o first × Tells style script (suc n) others os rest

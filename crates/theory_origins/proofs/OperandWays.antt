@@ -5,6 +5,7 @@ use Rattle.theory_syntax.specs.Expression.{Expression}
 use Rattle.theory_syntax.specs.Process.{Process, Guard, If, ExternalChoice, InternalChoice, Sequential, Interrupt, SlidingChoice, Script}
 use Rattle.theory_syntax.specs.declared.process_operator.ProcessOperator.TheVariants as binary
 use Rattle.theory_semantics.specs.Meaning.Events.{condition}
+use Rattle.theory_semantics.specs.Meaning.Unfolding.{settled}
 use Rattle.theory_semantics.specs.Meaning.Transitions.{IsVisible}
 use Rattle.theory_origins.specs.Origin.{Left, Right, OnBranch, UnderGuard, SideEnds, Chooses, Slides}
 use Rattle.theory_origins.specs.Telling.{IsBody}
@@ -57,13 +58,13 @@ module _ (s : Script) (p q t : Process) where
     smaller = (omega (arith, binary_weight s binary.ExternalChoice p q), (omega (arith, binary_weight s binary.ExternalChoice p q), tt));
   }
 
-  pub left_choice_ways : t ≡ p → AreWays s (InternalChoice p q) Tau t (Here (Chooses Left) ∷ [])
+  pub left_choice_ways : t ≡ settled s p → AreWays s (InternalChoice p q) Tau t (Here (Chooses Left) ∷ [])
   left_choice_ways is = one_here s (InternalChoice p q) Tau t (Chooses Left) (chosen_left s p q t is)
 
-  pub right_choice_ways : t ≡ q → AreWays s (InternalChoice p q) Tau t (Here (Chooses Right) ∷ [])
+  pub right_choice_ways : t ≡ settled s q → AreWays s (InternalChoice p q) Tau t (Here (Chooses Right) ∷ [])
   right_choice_ways is = one_here s (InternalChoice p q) Tau t (Chooses Right) (chosen_right s p q t is)
 
-  pub no_choice_ways : ¬ (t ≡ p) → ¬ (t ≡ q) → AreWays s (InternalChoice p q) Tau t []
+  pub no_choice_ways : ¬ (t ≡ settled s p) → ¬ (t ≡ settled s q) → AreWays s (InternalChoice p q) Tau t []
   no_choice_ways not_left not_right = no_ways s (InternalChoice p q) Tau t (λ clear within. chosen_side s p q t not_left not_right)
 
   pub no_visible_choice_ways : (x : Action) → IsVisible x → AreWays s (InternalChoice p q) x t []
@@ -74,14 +75,14 @@ module _ (s : Script) (p q t : Process) where
       unseen Tick seen is = cc is
       unseen (Ev e) seen is = cc is
 
-  pub sequential_tau_ways : (ou ended : Option Process) → IsBody (λ u. Sequential u q) t ou → IsEndAt t q ended →
+  pub sequential_tau_ways : (ou ended : Option Process) → IsBody (λ u. Sequential u q) t ou → IsEndAt t (settled s q) ended →
       AreWays s (Sequential p q) Tau t (Through (OnBranch Left) (part p Tau ou) ∷ Through (SideEnds Left) (part p Tick ended) ∷ [])
   sequential_tau_ways ou ended left end = record {
     sound = (
       along s p Tau ou (OnBranch Left) (Sequential p q) Tau t (λ b h. sequential_comes s p q Tau t b tt (told_under s (λ u. Sequential u q) p Tau t ou left b h)),
-      (along s p Tick ended (SideEnds Left) (Sequential p q) Tau t (λ b h. let c = told_end s p q t ended end b h in sequential_ends s p q t b c.0 c.1), tt),
+      (along s p Tick ended (SideEnds Left) (Sequential p q) Tau t (λ b h. let c = told_end s p (settled s q) t ended end b h in sequential_ends s p q t b c.0 c.1), tt),
     );
-    complete = λ all. sequential_none s p q Tau t (none_under s (λ u. Sequential u q) p Tau t ou left (closed s p Tau ou (OnBranch Left) all.0)) (none_end s p q t ended end (closed s p Tick ended (SideEnds Left) all.1.0));
+    complete = λ all. sequential_none s p q Tau t (none_under s (λ u. Sequential u q) p Tau t ou left (closed s p Tau ou (OnBranch Left) all.0)) (none_end s p (settled s q) t ended end (closed s p Tick ended (SideEnds Left) all.1.0));
     smaller = (omega (arith, binary_weight s binary.Sequential p q), (omega (arith, binary_weight s binary.Sequential p q), tt));
   }
 
@@ -127,7 +128,7 @@ module _ (s : Script) (p q t : Process) where
     smaller = (omega (arith, binary_weight s binary.Interrupt p q), (omega (arith, binary_weight s binary.Interrupt p q), tt));
   }
 
-  pub sliding_away_ways : (ou : Option Process) → IsBody (λ u. SlidingChoice u q) t ou → t ≡ q →
+  pub sliding_away_ways : (ou : Option Process) → IsBody (λ u. SlidingChoice u q) t ou → t ≡ settled s q →
       AreWays s (SlidingChoice p q) Tau t (Through (OnBranch Left) (part p Tau ou) ∷ Here Slides ∷ [])
   sliding_away_ways ou left is = record {
     sound = (
@@ -138,7 +139,7 @@ module _ (s : Script) (p q t : Process) where
     smaller = (omega (arith, sliding_weight s p q), (omega arith, tt));
   }
 
-  pub sliding_tau_ways : (ou : Option Process) → IsBody (λ u. SlidingChoice u q) t ou → ¬ (t ≡ q) → AreWays s (SlidingChoice p q) Tau t (Through (OnBranch Left) (part p Tau ou) ∷ [])
+  pub sliding_tau_ways : (ou : Option Process) → IsBody (λ u. SlidingChoice u q) t ou → ¬ (t ≡ settled s q) → AreWays s (SlidingChoice p q) Tau t (Through (OnBranch Left) (part p Tau ou) ∷ [])
   sliding_tau_ways ou left other = record {
     sound = (along s p Tau ou (OnBranch Left) (SlidingChoice p q) Tau t (λ b h. sliding_tau_comes s p q t b (told_under s (λ u. SlidingChoice u q) p Tau t ou left b h)), tt);
     complete = λ all. sliding_no_tau s p q t (none_under s (λ u. SlidingChoice u q) p Tau t ou left (closed s p Tau ou (OnBranch Left) all.0)) other;

@@ -8,6 +8,7 @@ use Rattle.theory_semantics.specs.Meaning.Evaluation.{Cause}
 use Rattle.theory_semantics.specs.Meaning.Events.{condition}
 use Rattle.theory_semantics.specs.Meaning.Faults.{cause_in, in_branch}
 use Rattle.theory_semantics.specs.Meaning.Limits.{depth, fits, max_depth, max_size, size}
+use Rattle.theory_semantics.specs.Meaning.Unfolding.{settled}
 use Rattle.theory_semantics.specs.Meaning.Transitions.{IsNotTick, IsVisible, RuleStep, skip, prefix, call, guard, if_true, if_false, external_tau_left, external_tau_right, external_left, external_right, internal_left, internal_right, sequential, sequential_tick, interrupt_left, interrupt_tick, interrupt_tau_right, interrupt_right, sliding_tau, sliding_left, sliding_away}
 use Rattle.theory_semantics.proofs.Causes.{external_cause, if_cause, interrupt_cause, sequential_cause, sliding_cause}
 use Rattle.theory_syntax.proofs.Truths.{and_first, and_second}
@@ -76,13 +77,13 @@ module _ (s : Script) (p q : Process) where
   no_choice_but_tau x t internal_left = refl
   no_choice_but_tau x t internal_right = refl
 
-  pub chosen_left : (t : Process) → t ≡ p → ComesFrom s (InternalChoice p q) Tau t (Chooses Left)
+  pub chosen_left : (t : Process) → t ≡ settled s p → ComesFrom s (InternalChoice p q) Tau t (Chooses Left)
   chosen_left t is = to_target is (internal_left, refl)
 
-  pub chosen_right : (t : Process) → t ≡ q → ComesFrom s (InternalChoice p q) Tau t (Chooses Right)
+  pub chosen_right : (t : Process) → t ≡ settled s q → ComesFrom s (InternalChoice p q) Tau t (Chooses Right)
   chosen_right t is = to_target is (internal_right, refl)
 
-  pub chosen_side : (t : Process) → ¬ (t ≡ p) → ¬ (t ≡ q) → ¬ RuleStep s (InternalChoice p q) Tau t
+  pub chosen_side : (t : Process) → ¬ (t ≡ settled s p) → ¬ (t ≡ settled s q) → ¬ RuleStep s (InternalChoice p q) Tau t
   chosen_side t not_left not_right internal_left = not_left refl
   chosen_side t not_left not_right internal_right = not_right refl
 
@@ -90,7 +91,7 @@ module _ (s : Script) (p q : Process) where
   ended_within : (u : Process) → RuleStep s p Tick u → IsTrue (fits u)
   ended_within u step = let P : Process → Type 0 = λ w. IsTrue (fits w) in subst P (sym (ends_by_tick s p u step)) refl
 
-  pub sequential_none : (x : Action) (t : Process) → TellsUnder s (λ u. Sequential u q) p x t None → TellsUnder s (λ u. q) p Tick t None → Tells s (Sequential p q) x t None
+  pub sequential_none : (x : Action) (t : Process) → TellsUnder s (λ u. Sequential u q) p x t None → TellsUnder s (λ u. settled s q) p Tick t None → Tells s (Sequential p q) x t None
   sequential_none x t h k clear within (sequential {t = u} no_tick step) =
       h (sym (sequential_cause s p q) ∙ clear) u refl (within_by u (Sequential u q) (omega arith) (omega arith) within) step
   sequential_none x t h k clear within (sequential_tick {t = u} step) = k (sym (sequential_cause s p q) ∙ clear) u refl (ended_within u step) step
@@ -98,7 +99,7 @@ module _ (s : Script) (p q : Process) where
   pub sequential_comes : (x : Action) (t : Process) (o : Origin) → IsNotTick x → TellsUnder s (λ u. Sequential u q) p x t (Some o) → ComesFrom s (Sequential p q) x t (Below (OnBranch Left) o)
   sequential_comes x t o no_tick h = to_target h.1 (sequential no_tick h.2.0, ap (Below (OnBranch Left)) h.2.1)
 
-  pub sequential_ends : (t : Process) (o : Origin) → t ≡ q → ComesFrom s p Tick Omega o → ComesFrom s (Sequential p q) Tau t (Below (SideEnds Left) o)
+  pub sequential_ends : (t : Process) (o : Origin) → t ≡ settled s q → ComesFrom s p Tick Omega o → ComesFrom s (Sequential p q) Tau t (Below (SideEnds Left) o)
   sequential_ends t o is h = to_target is (sequential_tick h.0, ap (Below (SideEnds Left)) h.1)
 
   pub sequential_no_event : (e : Event) (t : Process) → TellsUnder s (λ u. Sequential u q) p (Ev e) t None → Tells s (Sequential p q) (Ev e) t None
@@ -141,7 +142,7 @@ module _ (s : Script) (p q : Process) where
   sliding_clear : cause_in s (SlidingChoice p q) ≡ None → cause_in s p ≡ None
   sliding_clear clear = none_first (cause_in s p) (cause_in s q) (sym (sliding_cause s p q) ∙ clear)
 
-  pub sliding_no_tau : (t : Process) → TellsUnder s (λ u. SlidingChoice u q) p Tau t None → ¬ (t ≡ q) → Tells s (SlidingChoice p q) Tau t None
+  pub sliding_no_tau : (t : Process) → TellsUnder s (λ u. SlidingChoice u q) p Tau t None → ¬ (t ≡ settled s q) → Tells s (SlidingChoice p q) Tau t None
   sliding_no_tau t h other clear within (sliding_tau {t = u} step) = h (sliding_clear clear) u refl (within_by u (SlidingChoice u q) (omega arith) (omega arith) within) step
   sliding_no_tau t h other clear within (sliding_left visible step) = absurd visible
   sliding_no_tau t h other clear within sliding_away = other refl
@@ -149,7 +150,7 @@ module _ (s : Script) (p q : Process) where
   pub sliding_tau_comes : (t : Process) (o : Origin) → TellsUnder s (λ u. SlidingChoice u q) p Tau t (Some o) → ComesFrom s (SlidingChoice p q) Tau t (Below (OnBranch Left) o)
   sliding_tau_comes t o h = to_target h.1 (sliding_tau h.2.0, ap (Below (OnBranch Left)) h.2.1)
 
-  pub slides : (t : Process) → t ≡ q → ComesFrom s (SlidingChoice p q) Tau t Slides
+  pub slides : (t : Process) → t ≡ settled s q → ComesFrom s (SlidingChoice p q) Tau t Slides
   slides t is = to_target is (sliding_away, refl)
 
   pub sliding_none_visible : (x : Action) (t : Process) → IsVisible x → Tells s p x t None → Tells s (SlidingChoice p q) x t None

@@ -2,7 +2,7 @@
 use Rattle.std.proofs.Common.{◌≡◌, [], ◌∷◌, refl, sym, inl, inr, ◌⊎◌}
 use Rattle.theory_syntax.specs.Value.{Tau}
 use Rattle.theory_syntax.specs.Expression.{no_expressions}
-use Rattle.theory_syntax.specs.Process.{Stop, Skip, Call, InternalChoice}
+use Rattle.theory_syntax.specs.Process.{Process, Stop, Skip, Call, InternalChoice}
 use Rattle.theory_syntax.proofs.Members.{contains_here}
 use Rattle.theory_semantics.specs.Meaning.Transitions.{RuleStep, prefix, call, internal_left, internal_right}
 use Rattle.theory_semantics.specs.Laws.Terms.{letters, letter, a_stop, looping}
@@ -19,8 +19,8 @@ either_side o internal_right e = inr (sym e)
 pub chosen : (o : Origin) → ComesFrom (letters []) (InternalChoice Skip Skip) Tau Skip o → (o ≡ Chooses Left) ⊎ (o ≡ Chooses Right)
 chosen o c = either_side o c.0 c.1
 
-by_equation : (o : Origin) (h : RuleStep looping (Call 0 no_expressions) Tau (Call 0 no_expressions)) → origin h ≡ o → o ≡ Unfolds 0
-by_equation o (call is) e = sym e
+by_equation : (o : Origin) (t : Process) (h : RuleStep looping (Call 0 no_expressions) Tau t) → origin h ≡ o → o ≡ Unfolds 0
+by_equation o t (call is) e = sym e
 
 pub unfolded : (o : Origin) → ComesFrom looping (Call 0 no_expressions) Tau (Call 0 no_expressions) o → o ≡ Unfolds 0
-unfolded o c = by_equation o c.0 c.1
+unfolded o c = by_equation o (Call 0 no_expressions) c.0 c.1

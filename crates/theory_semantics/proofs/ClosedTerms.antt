@@ -18,7 +18,7 @@ use Rattle.theory_semantics.proofs.Misfits.{none_differs}
 use Rattle.theory_semantics.proofs.KindedSteps.{proper_within, run_closed}
 
 -- whether all steps of a list lead to terms within the limits
-all_fit : (ss : Steps) → ((x : Action) (u : Process) → IsOneOf ss x u → IsTrue (fits u)) ⊎ ((x : Action) × (u : Process) × IsOneOf ss x u × IsFalse (fits u))
+pub all_fit : (ss : Steps) → ((x : Action) (u : Process) → IsOneOf ss x u → IsTrue (fits u)) ⊎ ((x : Action) × (u : Process) × IsOneOf ss x u × IsFalse (fits u))
 all_fit [] = inl (λ x u h. absurd h)
 all_fit (s ∷ ss) = by_first (cases_Bool (fits s.1)) (all_fit ss)
   where

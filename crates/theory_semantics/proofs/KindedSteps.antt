@@ -1,25 +1,25 @@
 -- The causes of closed terms are no misfits, and steps and runs keep terms closed.
-use Rattle.std.proofs.Common.{◌≡◌, ℕ, zero, suc, Bool, true, false, List, [], ◌∷◌, Option, None, Result, Ok, Err, subst, Contains, arith}
+use Rattle.std.proofs.Common.{ℕ, zero, suc, Bool, true, false, List, [], ◌∷◌, Option, None, Result, Ok, Err, subst, Contains, arith}
 use Rattle.std.specs.Prelude.{⊤}
 use Rattle.std.specs.Option.{option_or}
 use Rattle.std.specs.Result.{result_err}
 use Rattle.theory_syntax.specs.Value.{Value, Action}
-use Rattle.theory_syntax.specs.Expression.{Expression}
 use Rattle.theory_syntax.specs.Process.{Process, Stop, Skip, Omega, Call, Prefix, Guard, If, ExternalChoice, InternalChoice, Sequential, Interleaving, Interrupt, GeneralisedParallel, AlphabetisedParallel, Hiding, Renaming, ReplicatedExternalChoice, ReplicatedInternalChoice, ReplicatedInterleaving, SlidingChoice, Script}
 use Rattle.theory_semantics.specs.Meaning.Evaluation.{Cause}
+use Rattle.theory_semantics.specs.Meaning.Substitution.{put}
 use Rattle.theory_semantics.specs.Meaning.Events.{prefix_communications, condition, elements, event_test, renaming, called, instances}
 use Rattle.theory_semantics.specs.Meaning.Faults.{in_branch, first_cause, in_instances, in_internal_chain, cause_within}
-use Rattle.theory_semantics.specs.Meaning.Transitions.{left_grouped, chain, RuleStep, skip, prefix, call, guard, if_true, if_false, external_tau_left, external_tau_right, external_left, external_right, internal_left, internal_right, sequential, sequential_tick, interleaving_left, interleaving_right, interleaving_tick_left, interleaving_tick_right, interleaving_tick, interrupt_left, interrupt_tick, interrupt_tau_right, interrupt_right, generalised_left, generalised_right, generalised_both, generalised_tick_left, generalised_tick_right, generalised_tick, alphabetised_left, alphabetised_right, alphabetised_both, alphabetised_tick_left, alphabetised_tick_right, alphabetised_tick, hiding_tau, hiding_hidden, hiding_event, hiding_tick, renaming_tau, renaming_event, renaming_tick, replicated_external, replicated_internal, replicated_interleaving, sliding_tau, sliding_left, sliding_away}
+use Rattle.theory_semantics.specs.Meaning.Transitions.{RuleStep, skip, prefix, call, guard, if_true, if_false, external_tau_left, external_tau_right, external_left, external_right, internal_left, internal_right, sequential, sequential_tick, interleaving_left, interleaving_right, interleaving_tick_left, interleaving_tick_right, interleaving_tick, interrupt_left, interrupt_tick, interrupt_tau_right, interrupt_right, generalised_left, generalised_right, generalised_both, generalised_tick_left, generalised_tick_right, generalised_tick, alphabetised_left, alphabetised_right, alphabetised_both, alphabetised_tick_left, alphabetised_tick_right, alphabetised_tick, hiding_tau, hiding_hidden, hiding_event, hiding_tick, renaming_tau, renaming_event, renaming_tick, replicated_external, replicated_internal, replicated_interleaving, sliding_tau, sliding_left, sliding_away}
 use Rattle.theory_semantics.specs.Meaning.Runs.{Run}
-use Rattle.theory_semantics.specs.Kinds.Kind.{Kind, SetKind, Kinds, InTurn, Each}
-use Rattle.theory_semantics.specs.Kinds.Processes.{IsWellKinded, IsClosedTerm}
+use Rattle.theory_semantics.specs.Kinds.Kind.{Kinds, InTurn, Each}
+use Rattle.theory_semantics.specs.Kinds.Processes.{IsClosedTerm}
 use Rattle.theory_semantics.specs.Kinds.Events.{scope_behind}
-use Rattle.theory_semantics.specs.Kinds.Expressions.{HasKind}
 use Rattle.theory_semantics.specs.Kinds.Values.{AreMembersOf}
 use Rattle.theory_semantics.specs.Kinds.Scripts.{IsWellKindedEquation, SetsHaveKinds}
 use Rattle.theory_semantics.proofs.Misfits.{IsProperOrNone, Gives, gives_value, or_proper, err_proper}
 use Rattle.theory_semantics.proofs.KindedPutting.{put_kinded}
 use Rattle.theory_semantics.proofs.KindedTerms.{GivesAny, condition_any, elements_kind, prefix_fit, event_test_any, renaming_any, instances_closed, called_closed}
+use Rattle.theory_semantics.proofs.Settling.{chain_closed, instances_of, settled_closed}
 
 pub each_member : {A : Type 0} (P : A → Type 0) (xs : List A) (x : A) → Each P xs → Contains xs x → P x
 each_member P [] x h (k, within, e) = absurd (omega (arith, within))
@@ -88,28 +88,13 @@ module _ (script : Script) (kinds : Kinds) (sets : SetsHaveKinds script kinds) (
 
   -- ---- steps
 
-  grouped_closed : (op : Process → Process → Process) → ((p q : Process) → IsClosedTerm script kinds p → IsClosedTerm script kinds q → IsClosedTerm script kinds (op p q)) →
-      (p : Process) (ps : List Process) → IsClosedTerm script kinds p → Each (IsClosedTerm script kinds) ps → IsClosedTerm script kinds (left_grouped op p ps)
-  grouped_closed op f p [] g h = g
-  grouped_closed op f p (q ∷ qs) g h = grouped_closed op f (op p q) qs (f p q g h.0) h.1
-
-  chain_closed : (op : Process → Process → Process) → ((p q : Process) → IsClosedTerm script kinds p → IsClosedTerm script kinds q → IsClosedTerm script kinds (op p q)) →
-      (empty : Process) (ps : List Process) → IsClosedTerm script kinds empty → Each (IsClosedTerm script kinds) ps → IsClosedTerm script kinds (chain op empty ps)
-  chain_closed op f empty [] g h = g
-  chain_closed op f empty (p ∷ ps) g h = grouped_closed op f p ps h.0 h.1
-
-  instances_of : (n : ℕ) (e : Expression) (p : Process) (k : Kind) (vs : List Value) → HasKind script.types kinds [] e (SetKind k) →
-      IsWellKinded script kinds ((n, k) ∷ []) p → elements script.types e ≡ Ok vs →
-      Each (IsClosedTerm script kinds) (instances n p vs)
-  instances_of n e p k vs h g is = instances_closed script kinds sets n p k vs g
-      (gives_value (λ vs. AreMembersOf script.types kinds vs k) (elements script.types e) vs (elements_kind script kinds sets e k h) is).0
-
   pub step_closed : (t : Process) (x : Action) (u : Process) → RuleStep script t x u → IsClosedTerm script kinds t → IsClosedTerm script kinds u
   step_closed t x u skip h = tt
   step_closed t x u (prefix {c = c} {fs = fs} {p = p} all m e has) h =
       let fits = gives_value _ (prefix_communications script c fs) all (prefix_fit script kinds sets c fs h.0 h.1 h.2) e in
-      put_kinded script kinds m.bindings (scope_behind [] fs h.0) [] p (each_member _ all m fits has) h.3
-  step_closed t x u (call {n = n} {es = es} e) h = gives_value (IsClosedTerm script kinds) (called script n es) u (called_closed script kinds sets equations n es h.0 h.1 h.2) e
+      settled_closed script kinds sets equations (put m.bindings p) (put_kinded script kinds m.bindings (scope_behind [] fs h.0) [] p (each_member _ all m fits has) h.3)
+  step_closed t x u (call {n = n} {es = es} {t = body} e) h =
+      settled_closed script kinds sets equations body (gives_value (IsClosedTerm script kinds) (called script n es) body (called_closed script kinds sets equations n es h.0 h.1 h.2) e)
   step_closed t x u (guard e step) h = step_closed _ x u step h.1
   step_closed t x u (if_true e step) h = step_closed _ x u step h.1
   step_closed t x u (if_false e step) h = step_closed _ x u step h.2
@@ -117,10 +102,10 @@ module _ (script : Script) (kinds : Kinds) (sets : SetsHaveKinds script kinds) (
   step_closed t x u (external_tau_right step) h = (h.0, step_closed _ _ _ step h.1)
   step_closed t x u (external_left v step) h = step_closed _ x u step h.0
   step_closed t x u (external_right v step) h = step_closed _ x u step h.1
-  step_closed t x u internal_left h = h.0
-  step_closed t x u internal_right h = h.1
+  step_closed t x u (internal_left {p = p}) h = settled_closed script kinds sets equations p h.0
+  step_closed t x u (internal_right {q = q}) h = settled_closed script kinds sets equations q h.1
   step_closed t x u (sequential v step) h = (step_closed _ _ _ step h.0, h.1)
-  step_closed t x u (sequential_tick step) h = h.1
+  step_closed t x u (sequential_tick {q = q} step) h = settled_closed script kinds sets equations q h.1
   step_closed t x u (interleaving_left v step) h = (step_closed _ _ _ step h.0, h.1)
   step_closed t x u (interleaving_right v step) h = (h.0, step_closed _ _ _ step h.1)
   step_closed t x u (interleaving_tick_left step) h = (tt, h.1)
@@ -150,14 +135,14 @@ module _ (script : Script) (kinds : Kinds) (sets : SetsHaveKinds script kinds) (
   step_closed t x u (renaming_event v step) h = (step_closed _ _ _ step h.0, h.1)
   step_closed t x u (renaming_tick step) h = tt
   step_closed t x u (replicated_external {n = n} {e = e} {p = p} vs is step) h =
-      step_closed _ x u step (chain_closed ExternalChoice (λ p q g i. (g, i)) Stop (instances n p vs) tt (instances_of n e p h.0 vs h.1 h.2 is))
+      step_closed _ x u step (chain_closed script kinds sets equations ExternalChoice (λ p q g i. (g, i)) Stop (instances n p vs) tt (instances_of script kinds sets equations n e p h.0 vs h.1 h.2 is))
   step_closed t x u (replicated_internal {n = n} {e = e} {p = p} v vs is step) h =
-      step_closed _ x u step (chain_closed InternalChoice (λ p q g i. (g, i)) Stop (instances n p (v ∷ vs)) tt (instances_of n e p h.0 (v ∷ vs) h.1 h.2 is))
+      step_closed _ x u step (chain_closed script kinds sets equations InternalChoice (λ p q g i. (g, i)) Stop (instances n p (v ∷ vs)) tt (instances_of script kinds sets equations n e p h.0 (v ∷ vs) h.1 h.2 is))
   step_closed t x u (replicated_interleaving {n = n} {e = e} {p = p} vs is step) h =
-      step_closed _ x u step (chain_closed Interleaving (λ p q g i. (g, i)) Skip (instances n p vs) tt (instances_of n e p h.0 vs h.1 h.2 is))
+      step_closed _ x u step (chain_closed script kinds sets equations Interleaving (λ p q g i. (g, i)) Skip (instances n p vs) tt (instances_of script kinds sets equations n e p h.0 vs h.1 h.2 is))
   step_closed t x u (sliding_tau step) h = (step_closed _ _ _ step h.0, h.1)
   step_closed t x u (sliding_left v step) h = step_closed _ x u step h.0
-  step_closed t x u sliding_away h = h.1
+  step_closed t x u (sliding_away {q = q}) h = settled_closed script kinds sets equations q h.1
 
   pub run_closed : (path : List Action) (t u : Process) → Run script t path u → IsClosedTerm script kinds t → IsClosedTerm script kinds u
   run_closed [] t u e h = subst (IsClosedTerm script kinds) e h

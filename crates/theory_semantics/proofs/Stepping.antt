@@ -1,5 +1,5 @@
 -- The computed steps are exactly the rule steps.
-use Rattle.std.proofs.Common.{◌≡◌, ℕ, zero, suc, ◌≤◌, Bool, true, false, not, ◌&&◌, cond, List, [], ◌∷◌, ◌++◌, refl, sym, ap, subst, arith, inl, inr, ◌⊎◌, ⊎_elim, Contains, Result, Ok, Err, IsTrue, IsFalse}
+use Rattle.std.proofs.Common.{◌≡◌, ℕ, zero, suc, ◌≤◌, Bool, true, false, not, ◌&&◌, cond, List, [], ◌∷◌, ◌++◌, refl, sym, ◌∙◌, ap, subst, arith, inl, inr, ◌⊎◌, ⊎_elim, Contains, Result, Ok, Err, IsTrue, IsFalse}
 use Rattle.std.proofs.lemmas.Bool.{and_from, not-true, not_from_false}
 use Rattle.theory_syntax.specs.Value.{Value, Event, event_eq, Action, Tau, Tick, Ev}
 use Rattle.theory_syntax.specs.Expression.{Expression, Expressions}
@@ -8,8 +8,9 @@ use Rattle.theory_syntax.specs.Process.{Field, EventSet, RenamingPair, Process, 
 use Rattle.theory_semantics.specs.Meaning.Substitution.{put}
 use Rattle.theory_semantics.specs.Meaning.Events.{Communication, prefix_communications, condition, elements, has_event, images, called, instances}
 use Rattle.theory_semantics.specs.Meaning.Faults.{height}
+use Rattle.theory_semantics.specs.Meaning.Unfolding.{settled}
 use Rattle.theory_semantics.specs.Meaning.Transitions.{IsVisible, IsNotTick, IsOutside, IsWithinOnly, left_grouped, chain, RuleStep, skip, prefix, call, guard, if_true, if_false, external_tau_left, external_tau_right, external_left, external_right, internal_left, internal_right, sequential, sequential_tick, interleaving_left, interleaving_right, interleaving_tick_left, interleaving_tick_right, interleaving_tick, interrupt_left, interrupt_tick, interrupt_tau_right, interrupt_right, generalised_left, generalised_right, generalised_both, generalised_tick_left, generalised_tick_right, generalised_tick, alphabetised_left, alphabetised_right, alphabetised_both, alphabetised_tick_left, alphabetised_tick_right, alphabetised_tick, hiding_tau, hiding_hidden, hiding_event, hiding_tick, renaming_tau, renaming_event, renaming_tick, replicated_external, replicated_internal, replicated_interleaving, sliding_tau, sliding_left, sliding_away}
-use Rattle.theory_semantics.specs.Meaning.Stepping.{Steps, each_step, communication_steps, prefix_steps, call_steps, branch_steps, leave, stay, meet, both_ended, parallel_steps, always, never, external_steps, internal_steps, interleaving_steps, hide, image_steps, rename, grouped_steps, chain_steps, with_steps, over, steps_within, rule_steps}
+use Rattle.theory_semantics.specs.Meaning.Stepping.{Steps, each_step, communication_steps, prefix_steps, call_steps, settled_steps, branch_steps, leave, stay, meet, both_ended, parallel_steps, always, never, external_steps, internal_steps, interleaving_steps, hide, image_steps, rename, grouped_steps, chain_steps, with_steps, over, steps_within, rule_steps}
 use Rattle.theory_semantics.specs.Laws.Statements.{IsOneOf, StepsAre}
 use Rattle.theory_syntax.proofs.Equalities.{event_same, event_refl}
 use Rattle.theory_syntax.proofs.Truths.{and_first, and_second}
@@ -104,16 +105,16 @@ external_exact s p ps q qs l r x t = (
 
 -- ---- internal choice
 
-internal_of : (s : Script) (p q : Process) (x : Action) (t : Process) → RuleStep s (InternalChoice p q) x t → IsOneOf ((Tau, p) ∷ (Tau, q) ∷ []) x t
+internal_of : (s : Script) (p q : Process) (x : Action) (t : Process) → RuleStep s (InternalChoice p q) x t → IsOneOf ((Tau, settled s p) ∷ (Tau, settled s q) ∷ []) x t
 internal_of s p q x t internal_left = inl (refl, refl)
 internal_of s p q x t internal_right = inr (inl (refl, refl))
 
-internal_in : (s : Script) (p q : Process) (x : Action) (t : Process) → IsOneOf ((Tau, p) ∷ (Tau, q) ∷ []) x t → RuleStep s (InternalChoice p q) x t
+internal_in : (s : Script) (p q : Process) (x : Action) (t : Process) → IsOneOf ((Tau, settled s p) ∷ (Tau, settled s q) ∷ []) x t → RuleStep s (InternalChoice p q) x t
 internal_in s p q x t (inl e) = moved e.0 e.1 internal_left
 internal_in s p q x t (inr (inl e)) = moved e.0 e.1 internal_right
 internal_in s p q x t (inr (inr e)) = absurd e
 
-pub internal_exact : (s : Script) (p : Process) (ps : Steps) (q : Process) (qs : Steps) → StepsAre s p ps → StepsAre s q qs → StepsAre s (InternalChoice p q) (internal_steps p ps q qs)
+pub internal_exact : (s : Script) (p : Process) (ps : Steps) (q : Process) (qs : Steps) → StepsAre s p ps → StepsAre s q qs → StepsAre s (InternalChoice p q) (internal_steps s p ps q qs)
 internal_exact s p ps q qs l r x t = (internal_of s p q x t, internal_in s p q x t)
 
 -- ---- the parallel operators
@@ -366,7 +367,7 @@ stay_of under last Tau t v = inl (refl, refl)
 stay_of under last Tick t v = absurd v
 stay_of under last (Ev e) t v = inl (refl, refl)
 
-sequential_from : (s : Script) (p q : Process) (y : Action) (u : Process) (x : Action) (t : Process) → RuleStep s p y u → IsOneOf (stay always (λ v. Sequential v q) ((Tau, q) ∷ []) y u) x t →
+sequential_from : (s : Script) (p q : Process) (y : Action) (u : Process) (x : Action) (t : Process) → RuleStep s p y u → IsOneOf (stay always (λ v. Sequential v q) ((Tau, settled s q) ∷ []) y u) x t →
     RuleStep s (Sequential p q) x t
 sequential_from s p q Tau u x t h (inl e) = moved e.0 e.1 (sequential tt h)
 sequential_from s p q Tick u x t h (inl e) = moved e.0 e.1 (sequential_tick h)
@@ -376,14 +377,14 @@ sequential_from s p q Tick u x t h (inr e) = absurd e
 sequential_from s p q (Ev f) u x t h (inr e) = absurd e
 
 sequential_of : (s : Script) (p : Process) (ps : Steps) (q : Process) → StepsAre s p ps → (x : Action) (t : Process) → RuleStep s (Sequential p q) x t →
-    IsOneOf (each_step (stay always (λ v. Sequential v q) ((Tau, q) ∷ [])) ps) x t
-sequential_of s p ps q l x t (sequential {t = u} v h) = each_of (stay always (λ w. Sequential w q) ((Tau, q) ∷ [])) ps x u _ _ ((l x u).0 h) (stay_of (λ w. Sequential w q) ((Tau, q) ∷ []) x u v)
-sequential_of s p ps q l x t (sequential_tick {t = u} h) = each_of (stay always (λ w. Sequential w q) ((Tau, q) ∷ [])) ps Tick u _ _ ((l Tick u).0 h) (inl (refl, refl))
+    IsOneOf (each_step (stay always (λ v. Sequential v q) ((Tau, settled s q) ∷ [])) ps) x t
+sequential_of s p ps q l x t (sequential {t = u} v h) = each_of (stay always (λ w. Sequential w q) ((Tau, settled s q) ∷ [])) ps x u _ _ ((l x u).0 h) (stay_of (λ w. Sequential w q) ((Tau, settled s q) ∷ []) x u v)
+sequential_of s p ps q l x t (sequential_tick {t = u} h) = each_of (stay always (λ w. Sequential w q) ((Tau, settled s q) ∷ [])) ps Tick u _ _ ((l Tick u).0 h) (inl (refl, refl))
 
-sequential_exact : (s : Script) (p : Process) (ps : Steps) (q : Process) → StepsAre s p ps → StepsAre s (Sequential p q) (each_step (stay always (λ v. Sequential v q) ((Tau, q) ∷ [])) ps)
+sequential_exact : (s : Script) (p : Process) (ps : Steps) (q : Process) → StepsAre s p ps → StepsAre s (Sequential p q) (each_step (stay always (λ v. Sequential v q) ((Tau, settled s q) ∷ [])) ps)
 sequential_exact s p ps q l x t = (
   sequential_of s p ps q l x t,
-  λ h. let m = each_in (stay always (λ v. Sequential v q) ((Tau, q) ∷ [])) ps x t h in sequential_from s p q m.0 m.1 x t ((l m.0 m.1).1 m.2) m.3,
+  λ h. let m = each_in (stay always (λ v. Sequential v q) ((Tau, settled s q) ∷ [])) ps x t h in sequential_from s p q m.0 m.1 x t ((l m.0 m.1).1 m.2) m.3,
 )
 
 interrupt_left_in : (s : Script) (p q : Process) (y : Action) (u : Process) (x : Action) (t : Process) → RuleStep s p y u → IsOneOf (stay always (λ v. Interrupt v q) ((Tick, Omega) ∷ []) y u) x t →
@@ -435,25 +436,25 @@ sliding_left_in s p q Tau u x t h (inr e) = absurd e
 sliding_left_in s p q Tick u x t h (inr e) = absurd e
 sliding_left_in s p q (Ev f) u x t h (inr e) = absurd e
 
-sliding_away_in : (s : Script) (p q : Process) (x : Action) (t : Process) → IsOneOf ((Tau, q) ∷ []) x t → RuleStep s (SlidingChoice p q) x t
+sliding_away_in : (s : Script) (p q : Process) (x : Action) (t : Process) → IsOneOf ((Tau, settled s q) ∷ []) x t → RuleStep s (SlidingChoice p q) x t
 sliding_away_in s p q x t (inl e) = moved e.0 e.1 sliding_away
 sliding_away_in s p q x t (inr e) = absurd e
 
 sliding_of : (s : Script) (p : Process) (ps : Steps) (q : Process) → StepsAre s p ps → (x : Action) (t : Process) → RuleStep s (SlidingChoice p q) x t →
-    IsOneOf (each_step (leave (λ v. SlidingChoice v q)) ps ++ (Tau, q) ∷ []) x t
+    IsOneOf (each_step (leave (λ v. SlidingChoice v q)) ps ++ (Tau, settled s q) ∷ []) x t
 sliding_of s p ps q l x t (sliding_tau {t = u} h) = append_left _ _ _ _ (each_of (leave (λ v. SlidingChoice v q)) ps Tau u _ _ ((l Tau u).0 h) (inl (refl, refl)))
 sliding_of s p ps q l x t (sliding_left v h) =
     append_left _ _ _ _ (each_of (leave (λ v. SlidingChoice v q)) ps x t _ _ ((l x t).0 h) (leave_visible (λ v. SlidingChoice v q) x t v))
 sliding_of s p ps q l x t sliding_away = append_right (each_step (leave (λ v. SlidingChoice v q)) ps) _ _ _ (inl (refl, refl))
 
 sliding_exact : (s : Script) (p : Process) (ps : Steps) (q : Process) → StepsAre s p ps →
-    StepsAre s (SlidingChoice p q) (each_step (leave (λ v. SlidingChoice v q)) ps ++ (Tau, q) ∷ [])
+    StepsAre s (SlidingChoice p q) (each_step (leave (λ v. SlidingChoice v q)) ps ++ (Tau, settled s q) ∷ [])
 sliding_exact s p ps q l x t = (
   sliding_of s p ps q l x t,
   λ h. ⊎_elim
       (λ k. let m = each_in (leave (λ v. SlidingChoice v q)) ps x t k in sliding_left_in s p q m.0 m.1 x t ((l m.0 m.1).1 m.2) m.3)
       (λ k. sliding_away_in s p q x t k)
-      (append_cases (each_step (leave (λ v. SlidingChoice v q)) ps) ((Tau, q) ∷ []) x t h),
+      (append_cases (each_step (leave (λ v. SlidingChoice v q)) ps) ((Tau, settled s q) ∷ []) x t h),
 )
 
 -- ---- hiding
@@ -521,6 +522,16 @@ renaming_exact s p ps rs l x t =
 
 -- ---- prefix, call, guard and if
 
+settled_in : (s : Script) (ss : Steps) (x : Action) (t : Process) → IsOneOf (settled_steps s ss) x t → (u : Process) × IsOneOf ss x u × (t ≡ settled s u)
+settled_in s [] x t h = absurd h
+settled_in s (z ∷ ss) x t (inl e) = (z.1, inl (e.0, refl), e.1)
+settled_in s (z ∷ ss) x t (inr h) = let r = settled_in s ss x t h in (r.0, inr r.1, r.2)
+
+settled_of : (s : Script) (ss : Steps) (x : Action) (u : Process) → IsOneOf ss x u → IsOneOf (settled_steps s ss) x (settled s u)
+settled_of s [] x u h = absurd h
+settled_of s (z ∷ ss) x u (inl e) = inl (e.0, ap (settled s) e.1)
+settled_of s (z ∷ ss) x u (inr h) = inr (settled_of s ss x u h)
+
 communications_in : (c : ℕ) (p : Process) (ms : List Communication) (x : Action) (t : Process) → IsOneOf (communication_steps c p ms) x t →
     (m : Communication) × Contains ms m × (x ≡ Ev (record { channel = c; fields = m.values })) × (t ≡ put m.bindings p)
 communications_in c p [] x t h = absurd h
@@ -534,23 +545,25 @@ communications_of c p (n ∷ ms) m has =
     ⊎_elim (λ e. inl (ap (λ z. Ev (record { channel = c; fields = z.values })) (sym e), ap (λ z. put z.bindings p) (sym e))) (λ k. inr (communications_of c p ms m k)) (contains_cases n ms m has)
 
 prefix_in : (s : Script) (c : ℕ) (fs : List Field) (p : Process) (r : Result (List Communication) Cause) → prefix_communications s c fs ≡ r → (x : Action) (t : Process) →
-    IsOneOf (prefix_steps c p r) x t →
+    IsOneOf (settled_steps s (prefix_steps c p r)) x t →
     RuleStep s (Prefix c fs p) x t
-prefix_in s c fs p (Ok ms) is x t h = let m = communications_in c p ms x t h in moved m.2 m.3 (prefix ms m.0 is m.1)
+prefix_in s c fs p (Ok ms) is x t h =
+    let k = settled_in s (communication_steps c p ms) x t h in
+    let m = communications_in c p ms x k.0 k.1 in moved m.2 (k.2 ∙ ap (settled s) m.3) (prefix ms m.0 is m.1)
 prefix_in s c fs p (Err e) is x t h = absurd h
 
-prefix_of : (s : Script) (c : ℕ) (fs : List Field) (p : Process) (x : Action) (t : Process) → RuleStep s (Prefix c fs p) x t → IsOneOf (prefix_steps c p (prefix_communications s c fs)) x t
+prefix_of : (s : Script) (c : ℕ) (fs : List Field) (p : Process) (x : Action) (t : Process) → RuleStep s (Prefix c fs p) x t → IsOneOf (settled_steps s (prefix_steps c p (prefix_communications s c fs))) x t
 prefix_of s c fs p x t (prefix ms m is has) =
-    let P : Result (List Communication) Cause → Type 0 = λ r. IsOneOf (prefix_steps c p r) (Ev (record { channel = c; fields = m.values })) (put m.bindings p) in
-    subst P (sym is) (communications_of c p ms m has)
+    let P : Result (List Communication) Cause → Type 0 = λ r. IsOneOf (settled_steps s (prefix_steps c p r)) (Ev (record { channel = c; fields = m.values })) (settled s (put m.bindings p)) in
+    subst P (sym is) (settled_of s (communication_steps c p ms) (Ev (record { channel = c; fields = m.values })) (put m.bindings p) (communications_of c p ms m has))
 
-call_in : (s : Script) (n : ℕ) (es : Expressions) (r : Result Process Cause) → called s n es ≡ r → (x : Action) (t : Process) → IsOneOf (call_steps r) x t → RuleStep s (Call n es) x t
+call_in : (s : Script) (n : ℕ) (es : Expressions) (r : Result Process Cause) → called s n es ≡ r → (x : Action) (t : Process) → IsOneOf (settled_steps s (call_steps r)) x t → RuleStep s (Call n es) x t
 call_in s n es (Ok u) is x t (inl e) = moved e.0 e.1 (call is)
 call_in s n es (Ok u) is x t (inr e) = absurd e
 call_in s n es (Err c) is x t h = absurd h
 
-call_of : (s : Script) (n : ℕ) (es : Expressions) (x : Action) (t : Process) → RuleStep s (Call n es) x t → IsOneOf (call_steps (called s n es)) x t
-call_of s n es x t (call is) = let P : Result Process Cause → Type 0 = λ r. IsOneOf (call_steps r) Tau t in subst P (sym is) (inl (refl, refl))
+call_of : (s : Script) (n : ℕ) (es : Expressions) (x : Action) (t : Process) → RuleStep s (Call n es) x t → IsOneOf (settled_steps s (call_steps (called s n es))) x t
+call_of s n es x t (call {t = u} is) = let P : Result Process Cause → Type 0 = λ r. IsOneOf (settled_steps s (call_steps r)) Tau (settled s u) in subst P (sym is) (inl (refl, refl))
 
 guard_in : (s : Script) (e : Expression) (p : Process) (ps : Steps) → StepsAre s p ps → (r : Result Bool Cause) → condition s.types e ≡ r → (x : Action) (t : Process) →
     IsOneOf (branch_steps r ps []) x t →
@@ -669,9 +682,9 @@ exact_within (suc n) s (ReplicatedExternalChoice x e p) h =
     (steps_within n s) x p each Stop [] (stop_exact s) in
     λ y t. (external_chain_of s x e p f l y t, external_chain_in s x e p f l (elements s.types e) refl y t)
 exact_within (suc n) s (ReplicatedInternalChoice x e p) h =
-    let f : List Value → Steps = λ vs. chain_steps InternalChoice internal_steps [] (with_steps (steps_within n s) (instances x p vs)) in
+    let f : List Value → Steps = λ vs. chain_steps InternalChoice (internal_steps s) [] (with_steps (steps_within n s) (instances x p vs)) in
     let each : (v : Value) → StepsAre s (put ((x, v) ∷ []) p) (steps_within n s (put ((x, v) ∷ []) p)) = λ v. exact_within n s (put ((x, v) ∷ []) p) (omega (arith, height-put ((x, v) ∷ []) p)) in
-    let l : (vs : List Value) → StepsAre s (chain InternalChoice Stop (instances x p vs)) (f vs) = chain_exact s InternalChoice internal_steps (internal_exact s)
+    let l : (vs : List Value) → StepsAre s (chain InternalChoice Stop (instances x p vs)) (f vs) = chain_exact s InternalChoice (internal_steps s) (internal_exact s)
     (steps_within n s) x p each Stop [] (stop_exact s) in
     λ y t. (internal_chain_of s x e p f l y t, internal_chain_in s x e p f l (elements s.types e) refl y t)
 exact_within (suc n) s (ReplicatedInterleaving x e p) h =

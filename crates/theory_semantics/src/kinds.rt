@@ -4,7 +4,8 @@
 ghost use Rattle.std.specs.Prelude.{◌≡◌, ◌≢◌, true, List, [], ◌∷◌, Contains, Some, Err};
 ghost use Rattle.theory_syntax.specs.Value.{Value, Action, Truth, Constructor, no_values};
 ghost use Rattle.theory_syntax.specs.Expression.{Unary, Binary, Literal, SequenceOf, Datatype, ConstructorOf, no_expressions, expression_and};
-ghost use Rattle.theory_syntax.specs.Process.{Assertion, Enumeration, Productions, Process, Stop, Script};
+ghost use Rattle.theory_syntax.specs.Process.{Assertion, Enumeration, Productions, Process, Stop, Unfolding, Script};
+ghost use Rattle.theory_syntax.specs.Readings.{reading};
 ghost use Rattle.theory_syntax.specs.Types.{Types};
 ghost use Rattle.theory_semantics.specs.Meaning.Evaluation.{IllKinded, range_of};
 ghost use Rattle.theory_semantics.specs.Meaning.Substitution.{Bindings, put};
@@ -25,7 +26,7 @@ ghost use Rattle.theory_semantics.specs.Laws.Putting.{ExpressionsStayKinded, Fie
 ghost use Rattle.theory_semantics.specs.Laws.Misfits.{ConditionsAreNoMisfits, ElementsAreNoMisfits, FieldsAreNoMisfits, OpenFieldsAreNoMisfits, EventsAreNoMisfits};
 ghost use Rattle.theory_semantics.specs.Laws.Misfits.{BeginningsAreNoMisfits, EventSetsAreNoMisfits, RenamingsAreNoMisfits, ArgumentsAreNoMisfits, CallsAreNoMisfits};
 ghost use Rattle.theory_semantics.specs.Laws.ClosedTerms.{FaultsAreNoMisfits, BodiesAreClosed, InstancesAreClosed, PrefixesLeadToClosed, SidesAreTerms};
-ghost use Rattle.theory_semantics.specs.Laws.ClosedTerms.{ClosedTermsAreNoMisfits, StepsKeepTermsClosed, RunsKeepTermsClosed, ClosedTermsHaveTheirSteps};
+ghost use Rattle.theory_semantics.specs.Laws.ClosedTerms.{ClosedTermsAreNoMisfits, SettledTermsAreClosed, StepsKeepTermsClosed, RunsKeepTermsClosed, ClosedTermsHaveTheirSteps};
 
 /// `<>` is of every kind of sequences and `<1,true>` of none; 1 and 2 are the members of a set in this order alone. With
 /// `c` of `{0..1}`, `c?x -> c!x -> STOP` is a closed term, and `c!true -> STOP` and `c!x -> STOP` are not.
@@ -143,8 +144,9 @@ pub fn closed_terms_are_no_misfits()
     ensures { (script : Script) (kinds : Kinds) → IsWellKindedScript script kinds → ClosedTermsAreNoMisfits script kinds }
 {}
 
-/// The steps and runs of a closed term of a well-kinded script lead to closed terms.
+/// A closed term of a well-kinded script is closed when its names are unfolded, and its steps and runs lead to closed terms.
 pub fn steps_keep_terms_closed()
+    ensures settled { (script : Script) (kinds : Kinds) → IsWellKindedScript script kinds → SettledTermsAreClosed script kinds }
     ensures step { (script : Script) (kinds : Kinds) → IsWellKindedScript script kinds → StepsKeepTermsClosed script kinds }
     ensures run { (script : Script) (kinds : Kinds) → IsWellKindedScript script kinds → RunsKeepTermsClosed script kinds }
 {}
@@ -153,6 +155,12 @@ pub fn steps_keep_terms_closed()
 /// or is large.
 pub fn closed_terms_have_their_steps()
     ensures { (script : Script) (kinds : Kinds) → IsWellKindedScript script kinds → ClosedTermsHaveTheirSteps script kinds }
+{}
+
+/// A script is checked, and has its terms, however its names are read.
+pub fn kinds_hang_on_no_reading()
+    ensures scripts { (u : Unfolding) (script : Script) → IsCheckedScript script → IsCheckedScript (reading u script) }
+    ensures terms { (u : Unfolding) (script : Script) (t : Process) → IsTermOf script t → IsTermOf (reading u script) t }
 {}
 
 /// Both sides of an assertion of a checked script are terms of it, and steps and runs lead from its terms to others.

@@ -4,5 +4,6 @@ pub mod Types
 pub mod Process
 pub mod Operators
 pub mod Models
+pub mod Readings
 pub mod Order
 pub mod Codes

@@ -77,8 +77,13 @@ specification_of (RefinementOf model spec) = Some spec
 specification_of DeadlockFree = None
 specification_of DivergenceFree = None
 
+-- How a called name is read: it does a tau to the body of its equation, or the body stands in its place at once.
+pub data Unfolding : Type 0 where
+  ByTau : Unfolding
+  AtOnce : Unfolding
+
 -- A script: its types, the field sets of each channel, its equations and assertions, each in the order of the text,
--- and the spellings of its channels and constructors. A field set is the list of its values, rising.
+-- the spellings of its channels and constructors, and how its names are read. A field set is the list of its values, rising.
 pub record Script : Type 0 where
   pub types : Types
   pub channels : List (List (List Value))
@@ -86,3 +91,4 @@ pub record Script : Type 0 where
   pub assertions : List Assertion
   pub channel_names : List (List ℕ)
   pub constructor_names : List (List ℕ)
+  pub unfolds : Unfolding

@@ -11,6 +11,7 @@ mod event_set_operator;
 mod model;
 mod operator;
 mod process_operator;
+mod reading;
 
 ghost use Rattle.std.specs.Prelude.{◌≡◌, IsTrue};
 ghost use Rattle.theory_syntax.specs.Value.{Value, value_cmp, Event, event_eq, action_cmp};
@@ -24,6 +25,7 @@ pub use event_set_operator::EventSetOperator;
 pub use model::Model;
 pub use operator::{BinaryOperator, UnaryOperator};
 pub use process_operator::{ProcessOperator, ReplicatedOperator};
+pub use reading::Unfolding;
 
 /// Values and events that compare equal are the same.
 pub fn equal_is_same()

@@ -13,9 +13,12 @@ ghost use Rattle.csp_term.specs.Field.{fields_of};
 ghost use Rattle.csp_steps.specs.Communicating.{FindsBehind, FindsField, lent_values};
 ghost use Rattle.csp_value.specs.Fields.{sets_of};
 
-use crate::rule_step::{RuleStep, Target};
-use csp_expression::{Binding, Expr, NoValue, TypeTable};
-use csp_term::{Action, AllocHandle, Cause, ChannelId, Event, Field, Memory, Name, Term, bind};
+use crate::rule_step::RuleStep;
+use crate::rules::settled::put_in_place;
+use csp_expression::{Binding, Expr, NoValue};
+use csp_term::{
+    Action, AllocHandle, Cause, ChannelId, Event, Field, Memory, Name, ScriptParts, Term, bind,
+};
 use csp_value::{FieldSet, Value};
 use smallvec::SmallVec;
 
@@ -23,7 +26,7 @@ use smallvec::SmallVec;
 #[derive(Clone, Copy)]
 pub(crate) struct Walk<'w, A: AllocHandle> {
     pub(crate) alloc: A,
-    pub(crate) types: &'w TypeTable<A>,
+    pub(crate) script: &'w ScriptParts<A>,
     pub(crate) channel: ChannelId,
     pub(crate) body: &'w Term<A>,
 }
@@ -113,7 +116,7 @@ fn given<'v, A: AllocHandle>(
 ) -> Result<Vec<RuleStep<A>, A>, NoValue>
     ensures { FindsField walk.now front.now (Given (expression_of value.now)) set.now fields.now sets.now found result }
 {
-    let seen = (&*value).look(walk.alloc, walk.types, &front.bindings)?;
+    let seen = (&*value).look(walk.alloc, &walk.script.types, &front.bindings)?;
     if !set.contains(seen.value()) {
         return Err(NoValue::Cause(Cause::Range));
     }
@@ -157,7 +160,7 @@ fn inputs_from<'v, A: AllocHandle>(
     ensures { FindsField walk.now front.now (InputFrom name.0 (expression_of from.now)) set.now fields.now sets.now found result }
 {
     let mut found = found;
-    let seen = (&*from).look(walk.alloc, walk.types, &front.bindings)?;
+    let seen = (&*from).look(walk.alloc, &walk.script.types, &front.bindings)?;
     let Value::Set(chosen) = seen.value() else {
         return Err(NoValue::Cause(Cause::Kind));
     };
@@ -182,7 +185,7 @@ fn reach<A: AllocHandle>(
     let fields = event_fields(walk.alloc, &front.values)?;
     let channel = walk.channel;
     let action = Action::Event(Event { channel, fields });
-    let target = Target::put_in(walk.alloc, walk.body, &front.bindings)?;
+    let target = put_in_place(walk.alloc, walk.script, &front.bindings, walk.body)?;
     found.push(RuleStep { action, target })?;
     Ok(found)
 }

@@ -7,8 +7,8 @@ ghost use Rattle.csp_steps.specs.UnderBindings.{AnswersUnder};
 
 use crate::rule_step::RuleStep;
 use crate::rules;
-use crate::rules::condition::condition;
 use csp_expression::{Binding, Expr, NoValue};
+use csp_settling::condition;
 use csp_term::{AllocHandle, ScriptParts, Term};
 
 #[cycle(steps)]

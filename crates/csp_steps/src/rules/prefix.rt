@@ -26,7 +26,7 @@ pub(crate) fn steps<'v, A: AllocHandle>(
     };
     let walk = Walk {
         alloc,
-        types: &script.types,
+        script,
         channel,
         body,
     };

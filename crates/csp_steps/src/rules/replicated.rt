@@ -15,6 +15,7 @@ ghost use Rattle.csp_steps.specs.UnderBindings.{AnswersUnder};
 ghost use Rattle.csp_steps.specs.Replicating.{AnswersChoices, AreAlike, GoesOn, chosen_answers, instance_chain, instance_of, instances_of, looking_answers, looking_process};
 
 use crate::rule_step::{RuleStep, Target};
+use crate::rules::settled::settled;
 use crate::rules::{repeated, side, skip};
 use crate::side::Side;
 use crate::{choice, parallel};
@@ -152,7 +153,7 @@ impl<'v, 'b, A: AllocHandle> Instances<'v, 'b, A> {
         Ok(chain)
     }
 
-    /// A choice between the chain of the first ones and the last one.
+    /// A choice between the chain of the first ones and the last one, both settled.
     fn choose(
         &self,
         first: &'v Value<A>,
@@ -162,8 +163,10 @@ impl<'v, 'b, A: AllocHandle> Instances<'v, 'b, A> {
         ensures { IfOk result (λ steps. answers_of steps ≡ chosen_answers self.now first.now others.now last.now) }
     {
         let chain = self.choices(first, others)?;
+        let before = settled(self.alloc, self.script, chain)?;
         let instance = self.process(last)?;
-        choice::taus(self.alloc, chain, instance)
+        let behind = settled(self.alloc, self.script, instance)?;
+        choice::taus(self.alloc, before, behind)
     }
 
     /// The steps of `[]` over the values. Of none it is `STOP`. Those of one instance without a tau are those of the

@@ -5,6 +5,7 @@ ghost use Rattle.csp_term.specs.Term.{process_of};
 ghost use Rattle.csp_steps.specs.UnderBindings.{AnswersUnder};
 
 use crate::rule_step::RuleStep;
+use crate::rules::settled::put_in_place;
 use crate::rules::side;
 use crate::sliding;
 use csp_expression::{Binding, NoValue};
@@ -20,6 +21,7 @@ pub(crate) fn steps<'v, A: AllocHandle>(
 ) -> Result<Vec<RuleStep<A>, A>, NoValue>
     ensures { AnswersUnder script.now bindings.now (SlidingChoice (process_of left.now) (process_of right.now)) result }
 {
+    let away = put_in_place(alloc, script, bindings, right)?;
     let sides = side::both(alloc, script, bindings, left, right);
-    sliding::by_sides(alloc, sides)
+    sliding::by_sides(alloc, sides, away)
 }

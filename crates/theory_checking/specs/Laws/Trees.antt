@@ -1,7 +1,7 @@
 -- Small trees, for the worked rows. Each is given with the text that has it; `;;` ends a line.
 use Rattle.std.specs.Prelude.{ℕ, true, false, List, [], ◌∷◌, codes}
 use Rattle.theory_syntax.specs.Expression.{Name, no_expressions, expression_and}
-use Rattle.theory_syntax.specs.Process.{Given, Input, Stop, Call, Prefix, Traces, RefinementOf, Script}
+use Rattle.theory_syntax.specs.Process.{Given, Input, Stop, Call, Prefix, Traces, RefinementOf, Script, ByTau}
 use Rattle.theory_text.specs.Place.{Place}
 use Rattle.theory_text.specs.Raw.{RawName, RawExpression, RawNumber, RawTruth, RawUse, RawSequence, RawSet, RawRange, RawConstructor, RawExpressions, no_raw_expressions, raw_expression_and, RawGiven, RawInput, RawEvent, RawStop, RawCall, RawPrefix, RawRenaming, RawDomain, RawClause, RawDatatype, RawNametype, RawChannels, RawEquation, RawRefinementOf, RawDivergenceFree, RawAssertion, RawScript}
 use Rattle.theory_semantics.specs.Laws.Terms.{no_types, num, bits, some_bit, no_bit, bit, the_bit}
@@ -127,6 +127,7 @@ outputs_script = record {
   } ∷ [];
   channel_names = codes "c" ∷ [];
   constructor_names = [];
+  unfolds = ByTau;
 }
 
 -- ---- constructors with fields
@@ -164,4 +165,5 @@ constructor_sent_script = record {
   assertions = [];
   channel_names = codes "d" ∷ [];
   constructor_names = codes "N" ∷ codes "B" ∷ [];
+  unfolds = ByTau;
 }

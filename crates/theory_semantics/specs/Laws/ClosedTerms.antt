@@ -7,6 +7,7 @@ use Rattle.theory_semantics.specs.Meaning.Evaluation.{Cause, IllKinded}
 use Rattle.theory_semantics.specs.Meaning.Substitution.{put}
 use Rattle.theory_semantics.specs.Meaning.Events.{Communication, elements, prefix_communications, called, instances}
 use Rattle.theory_semantics.specs.Meaning.Faults.{cause_in}
+use Rattle.theory_semantics.specs.Meaning.Unfolding.{settled}
 use Rattle.theory_semantics.specs.Meaning.Transitions.{RuleStep, IsFaulty, IsLarge, IsNotStuck}
 use Rattle.theory_semantics.specs.Meaning.Runs.{Run, SomeReachable}
 use Rattle.theory_semantics.specs.Kinds.Kind.{Kind, SetKind, Kinds, Each}
@@ -43,6 +44,11 @@ PrefixesLeadToClosed script kinds =
 abbrev pub ClosedTermsAreNoMisfits : Script → Kinds → Type 0
 ClosedTermsAreNoMisfits script kinds =
     (t : Process) → IsClosedTerm script kinds t → cause_in script t ≢ Some IllKinded
+
+-- it is closed when its names are unfolded
+abbrev pub SettledTermsAreClosed : Script → Kinds → Type 0
+SettledTermsAreClosed script kinds =
+    (t : Process) → IsClosedTerm script kinds t → IsClosedTerm script kinds (settled script t)
 
 -- its steps lead to closed terms
 abbrev pub StepsKeepTermsClosed : Script → Kinds → Type 0

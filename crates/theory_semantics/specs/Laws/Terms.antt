@@ -3,7 +3,7 @@ use Rattle.std.specs.Prelude.{ℕ, true, false, List, [], ◌∷◌, pos, codes}
 use Rattle.theory_syntax.specs.Value.{Value, Integer, Truth, Constructor, no_values, value_and, Action, Tau, Ev}
 use Rattle.theory_syntax.specs.Expression.{Expression, Literal, Name, Apply, SequenceOf, SetOf, Range, ConstructorOf, Head, no_expressions, expression_and, to_expressions}
 use Rattle.theory_syntax.specs.Types.{Types}
-use Rattle.theory_syntax.specs.Process.{EventExpression, EventSet, Enumeration, RenamingPair, Given, Input, InputFrom, Process, Stop, Call, Prefix, ExternalChoice, SlidingChoice, AlphabetisedParallel, GeneralisedParallel, Guard, Hiding, Skip, Renaming, ReplicatedInternalChoice, Model, Traces, Failures, RefinementOf, DeadlockFree, DivergenceFree, Assertion, Equation, Script}
+use Rattle.theory_syntax.specs.Process.{EventExpression, EventSet, Enumeration, RenamingPair, Given, Input, InputFrom, Process, Stop, Call, Prefix, ExternalChoice, SlidingChoice, AlphabetisedParallel, GeneralisedParallel, Guard, Hiding, Skip, Renaming, ReplicatedInternalChoice, Model, Traces, Failures, RefinementOf, DeadlockFree, DivergenceFree, Assertion, Equation, ByTau, Script}
 use Rattle.theory_semantics.specs.Meaning.Stepping.{rule_steps}
 use Rattle.theory_semantics.specs.Meaning.Violations.{Evidence, Violation}
 
@@ -41,6 +41,7 @@ letters equations = record {
   assertions = [];
   channel_names = codes "a" ∷ codes "b" ∷ codes "c" ∷ [];
   constructor_names = [];
+  unfolds = ByTau;
 }
 
 -- the events a, b, c by their numbers, and a prefix over one of them
@@ -101,6 +102,7 @@ digits = record {
   assertions = [];
   channel_names = codes "c" ∷ codes "d" ∷ [];
   constructor_names = [];
+  unfolds = ByTau;
 }
 
 -- `datatype D = N | B.{0..1}`: the constructors 0 and 1
@@ -126,6 +128,7 @@ bit_script = record {
   assertions = [];
   channel_names = codes "d" ∷ [];
   constructor_names = codes "N" ∷ codes "B" ∷ [];
+  unfolds = ByTau;
 }
 
 -- the event `c.n`

@@ -6,6 +6,7 @@ use Rattle.theory_syntax.specs.Process.{Process, Stop, Skip, Omega, Call, Prefix
 use Rattle.theory_semantics.specs.Meaning.Substitution.{put}
 use Rattle.theory_semantics.specs.Meaning.Events.{Communication, prefix_communications, condition, elements, has_event, images, called, instances}
 use Rattle.theory_semantics.specs.Meaning.Faults.{height}
+use Rattle.theory_semantics.specs.Meaning.Unfolding.{settled}
 
 abbrev pub Steps : Type 0
 Steps = List (Action × Process)
@@ -27,6 +28,11 @@ prefix_steps c p (Err e) = []
 abbrev pub call_steps : Result Process Cause → Steps
 call_steps (Ok t) = (Tau, t) ∷ []
 call_steps (Err e) = []
+
+-- the same steps, to settled terms
+abbrev pub settled_steps : Script → Steps → Steps
+settled_steps script [] = []
+settled_steps script (s ∷ ss) = (s.0, settled script s.1) ∷ settled_steps script ss
 
 -- the steps of the branch that a condition picks
 abbrev pub branch_steps : Result Bool Cause → Steps → Steps → Steps
@@ -71,8 +77,8 @@ never e = false
 abbrev pub external_steps : Process → Steps → Process → Steps → Steps
 external_steps p ps q qs = each_step (leave (λ t. ExternalChoice t q)) ps ++ each_step (leave (λ u. ExternalChoice p u)) qs
 
-abbrev pub internal_steps : Process → Steps → Process → Steps → Steps
-internal_steps p ps q qs = (Tau, p) ∷ (Tau, q) ∷ []
+abbrev pub internal_steps : Script → Process → Steps → Process → Steps → Steps
+internal_steps script p ps q qs = (Tau, settled script p) ∷ (Tau, settled script q) ∷ []
 
 abbrev pub interleaving_steps : Process → Steps → Process → Steps → Steps
 interleaving_steps = parallel_steps always always never Interleaving
@@ -115,13 +121,13 @@ steps_within zero script p = []
 steps_within (suc n) script Stop = []
 steps_within (suc n) script Skip = (Tick, Omega) ∷ []
 steps_within (suc n) script Omega = []
-steps_within (suc n) script (Call k es) = call_steps (called script k es)
-steps_within (suc n) script (Prefix c fs p) = prefix_steps c p (prefix_communications script c fs)
+steps_within (suc n) script (Call k es) = settled_steps script (call_steps (called script k es))
+steps_within (suc n) script (Prefix c fs p) = settled_steps script (prefix_steps c p (prefix_communications script c fs))
 steps_within (suc n) script (Guard e p) = branch_steps (condition script.types e) (steps_within n script p) []
 steps_within (suc n) script (If e p q) = branch_steps (condition script.types e) (steps_within n script p) (steps_within n script q)
 steps_within (suc n) script (ExternalChoice p q) = external_steps p (steps_within n script p) q (steps_within n script q)
-steps_within (suc n) script (InternalChoice p q) = (Tau, p) ∷ (Tau, q) ∷ []
-steps_within (suc n) script (Sequential p q) = each_step (stay always (λ t. Sequential t q) ((Tau, q) ∷ [])) (steps_within n script p)
+steps_within (suc n) script (InternalChoice p q) = (Tau, settled script p) ∷ (Tau, settled script q) ∷ []
+steps_within (suc n) script (Sequential p q) = each_step (stay always (λ t. Sequential t q) ((Tau, settled script q) ∷ [])) (steps_within n script p)
 steps_within (suc n) script (Interleaving p q) = interleaving_steps p (steps_within n script p) q (steps_within n script q)
 steps_within (suc n) script (Interrupt p q) =
     each_step (stay always (λ t. Interrupt t q) ((Tick, Omega) ∷ [])) (steps_within n script p) ++ each_step (leave (λ u. Interrupt p u)) (steps_within n script q)
@@ -135,10 +141,10 @@ steps_within (suc n) script (Renaming p rs) = each_step (rename (images script r
 steps_within (suc n) script (ReplicatedExternalChoice x e p) =
     over (elements script.types e) (λ vs. chain_steps ExternalChoice external_steps [] (with_steps (steps_within n script) (instances x p vs)))
 steps_within (suc n) script (ReplicatedInternalChoice x e p) =
-    over (elements script.types e) (λ vs. chain_steps InternalChoice internal_steps [] (with_steps (steps_within n script) (instances x p vs)))
+    over (elements script.types e) (λ vs. chain_steps InternalChoice (internal_steps script) [] (with_steps (steps_within n script) (instances x p vs)))
 steps_within (suc n) script (ReplicatedInterleaving x e p) =
     over (elements script.types e) (λ vs. chain_steps Interleaving interleaving_steps ((Tick, Omega) ∷ []) (with_steps (steps_within n script) (instances x p vs)))
-steps_within (suc n) script (SlidingChoice p q) = each_step (leave (λ t. SlidingChoice t q)) (steps_within n script p) ++ (Tau, q) ∷ []
+steps_within (suc n) script (SlidingChoice p q) = each_step (leave (λ t. SlidingChoice t q)) (steps_within n script p) ++ (Tau, settled script q) ∷ []
 
 -- the rule steps of a term
 abbrev pub rule_steps : Script → Process → Steps

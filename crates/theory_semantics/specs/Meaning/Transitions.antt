@@ -1,5 +1,5 @@
 -- The steps of a closed term (Roscoe, operational semantics).
-use Rattle.std.specs.Prelude.{◌≡◌, ℕ, true, false, IsTrue, IsFalse, List, [], ◌∷◌, Contains, Some, None, Ok, ⊤}
+use Rattle.std.specs.Prelude.{◌≡◌, ℕ, true, false, IsTrue, IsFalse, List, ◌∷◌, Contains, Some, None, Ok, ⊤}
 use Rattle.theory_syntax.specs.Value.{Value, Event, Action, Tau, Tick, Ev}
 use Rattle.theory_syntax.specs.Expression.{Expression, Expressions}
 use Rattle.theory_semantics.specs.Meaning.Evaluation.{Cause}
@@ -7,6 +7,8 @@ use Rattle.theory_syntax.specs.Process.{Field, EventSet, RenamingPair, Process, 
 use Rattle.theory_semantics.specs.Meaning.Substitution.{put}
 use Rattle.theory_semantics.specs.Meaning.Limits.{fits}
 use Rattle.theory_semantics.specs.Meaning.Faults.{cause_in}
+use Rattle.theory_semantics.specs.Meaning.Unfolding.{settled}
+pub use Rattle.theory_semantics.specs.Meaning.Chains.{left_grouped, chain}
 use Rattle.theory_semantics.specs.Meaning.Events.{Communication, prefix_communications, condition, elements, has_event, images, called, instances}
 
 -- an event or tick; tau or an event
@@ -32,22 +34,13 @@ IsWithinOnly script own other Tau = ⊤
 IsWithinOnly script own other Tick = ⊥
 IsWithinOnly script own other (Ev e) = IsTrue (has_event script own e) × IsFalse (has_event script other e)
 
--- an operator over a list, grouped to the left, from its first process on
-abbrev pub left_grouped : (Process → Process → Process) → Process → List Process → Process
-left_grouped op p [] = p
-left_grouped op p (q ∷ qs) = left_grouped op (op p q) qs
-
--- the same, or a process of its own for the empty list
-abbrev pub chain : (Process → Process → Process) → Process → List Process → Process
-chain op empty [] = empty
-chain op empty (p ∷ ps) = left_grouped op p ps
-
--- The rules. A step of a replicated form is one of the chain of its instances.
+-- The rules. A step of a replicated form is one of the chain of its instances. Where names are unfolded at once, a step leads to
+-- a settled term; what an operator leads to is made of what its sides lead to, which are settled.
 pub data RuleStep (script : Script) : Process → Action → Process → Type 0 where
   skip : RuleStep script Skip Tick Omega
   prefix : {c : ℕ} {fs : List Field} {p : Process} (all : List Communication) (m : Communication) → prefix_communications script c fs ≡ Ok all → Contains all m →
-      RuleStep script (Prefix c fs p) (Ev (record { channel = c; fields = m.values })) (put m.bindings p)
-  call : {n : ℕ} {es : Expressions} {t : Process} → called script n es ≡ Ok t → RuleStep script (Call n es) Tau t
+      RuleStep script (Prefix c fs p) (Ev (record { channel = c; fields = m.values })) (settled script (put m.bindings p))
+  call : {n : ℕ} {es : Expressions} {t : Process} → called script n es ≡ Ok t → RuleStep script (Call n es) Tau (settled script t)
   guard : {e : Expression} {p t : Process} {x : Action} → condition script.types e ≡ Ok true → RuleStep script p x t → RuleStep script (Guard e p) x t
   if_true : {e : Expression} {p q t : Process} {x : Action} → condition script.types e ≡ Ok true → RuleStep script p x t → RuleStep script (If e p q) x t
   if_false : {e : Expression} {p q t : Process} {x : Action} → condition script.types e ≡ Ok false → RuleStep script q x t → RuleStep script (If e p q) x t
@@ -57,11 +50,11 @@ pub data RuleStep (script : Script) : Process → Action → Process → Type 0 
   external_left : {p q t : Process} {x : Action} → IsVisible x → RuleStep script p x t → RuleStep script (ExternalChoice p q) x t
   external_right : {p q t : Process} {x : Action} → IsVisible x → RuleStep script q x t → RuleStep script (ExternalChoice p q) x t
   -- `P |~| Q`
-  internal_left : {p q : Process} → RuleStep script (InternalChoice p q) Tau p
-  internal_right : {p q : Process} → RuleStep script (InternalChoice p q) Tau q
+  internal_left : {p q : Process} → RuleStep script (InternalChoice p q) Tau (settled script p)
+  internal_right : {p q : Process} → RuleStep script (InternalChoice p q) Tau (settled script q)
   -- `P ; Q`: tick of P is hidden and leads to Q
   sequential : {p q t : Process} {x : Action} → IsNotTick x → RuleStep script p x t → RuleStep script (Sequential p q) x (Sequential t q)
-  sequential_tick : {p q t : Process} → RuleStep script p Tick t → RuleStep script (Sequential p q) Tau q
+  sequential_tick : {p q t : Process} → RuleStep script p Tick t → RuleStep script (Sequential p q) Tau (settled script q)
   -- `P ||| Q`: each side alone; a side that can tick ends by tau; both ended tick
   interleaving_left : {p q t : Process} {x : Action} → IsNotTick x → RuleStep script p x t → RuleStep script (Interleaving p q) x (Interleaving t q)
   interleaving_right : {p q t : Process} {x : Action} → IsNotTick x → RuleStep script q x t → RuleStep script (Interleaving p q) x (Interleaving p t)
@@ -110,7 +103,7 @@ pub data RuleStep (script : Script) : Process → Action → Process → Type 0 
   -- `P [> Q`: tau of P keeps the choice, an event or tick of P makes it, and one more tau leads to Q
   sliding_tau : {p q t : Process} → RuleStep script p Tau t → RuleStep script (SlidingChoice p q) Tau (SlidingChoice t q)
   sliding_left : {p q t : Process} {x : Action} → IsVisible x → RuleStep script p x t → RuleStep script (SlidingChoice p q) x t
-  sliding_away : {p q : Process} → RuleStep script (SlidingChoice p q) Tau q
+  sliding_away : {p q : Process} → RuleStep script (SlidingChoice p q) Tau (settled script q)
 
 -- A term within the limits is faulty where a rule for it needs a value that does not exist.
 pub record IsFaulty (script : Script) (t : Process) (c : Cause) : Type 0 where

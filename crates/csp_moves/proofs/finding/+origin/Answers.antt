@@ -1,5 +1,5 @@
 -- What is told along the ways is told of the step.
-use Rattle.std.proofs.Common.{rules, IfOk, ◌∷◌, ◌++◌, [], take, List, map, refl, sym, ◌∙◌, ap, ap₂, subst, inl, inr, lit<, arith, Option, Some, None}
+use Rattle.std.proofs.Common.{rules, ◌≡◌, true, false, IfOk, ◌∷◌, ◌++◌, [], take, List, map, refl, sym, ◌∙◌, ap, ap₂, subst, inl, inr, lit<, arith, Option, Some, None}
 use Rattle.std.specs.List.{AllByRecursion}
 use Rattle.std.proofs.Math.Nat.{le-max_left, le-max_right}
 use Rattle.std.proofs.lemmas.List.{map-append, take_all, take_more}
@@ -20,6 +20,10 @@ use Rattle.csp_moves.proofs.Along.{contains_at, most_below, one_below, one_more,
 use Rattle.csp_moves.proofs.Found.{if_so}
 use Rattle.csp_moves.proofs.Origins.{found_along, none_along, of_below, of_chooses, of_does, of_ends, of_slides, of_together, of_unfolds}
 use Rattle.csp_moves.proofs.finding.+origin.Goals as goal
+
+pub origin_of_step-returns-then-not-fits : goal.origin_of_step-returns-then-not-fits
+origin_of_step-returns-then-not-fits g t c clear within step =
+    let e : true ≡ false = sym within ∙ sym c.fits.ensures ∙ c.if-not-fits.true in absurd (cc e)
 
 pub origin_of_step-returns : goal.origin_of_step-returns
 origin_of_step-returns g t c =

@@ -3,7 +3,7 @@ use Rattle.std.proofs.Common.{ap}
 use Rattle.theory_semantics.specs.Meaning.Evaluation.{IllKinded}
 use Rattle.theory_semantics.specs.Meaning.Events.{members_of}
 use Rattle.csp_expression.proofs.Forming.{set_is}
-use Rattle.csp_steps.proofs.Members.{no_members}
+use Rattle.csp_settling.proofs.Members.{no_members}
 use Rattle.csp_moves.proofs.replicated.members_of_value.Goals as goal
 
 pub returns-in-Set : goal.returns-in-Set

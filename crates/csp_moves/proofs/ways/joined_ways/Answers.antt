@@ -19,7 +19,7 @@ returns-in-Binary g c =
     let Q : Joint g.row.A.Denot → Type 0 = λ j. process_of c.args.term.now ≡ joined (joint_of j) (process_of w.left.now) (process_of w.right.now) in
     let is = subst Q c.in-Binary.is (joined_again (process_of c.args.term.now) (joint_of w.operator) (process_of w.left.now) (process_of w.right.now) c.in-Some.ensures) in
     let P : Process → Type 0 = λ p. IfOk c.binary_ways.result (AreFoundIn s p x t) in
-    subst P (sym is) (if_so c.binary_ways.result c.binary_ways.ensures (λ ways h. h s))
+    subst P (sym is) c.binary_ways.ensures
 
 pub returns-in-Generalised : goal.returns-in-Generalised
 returns-in-Generalised g c =
@@ -52,4 +52,4 @@ returns-in-Sliding g c =
     let Q : Joint g.row.A.Denot → Type 0 = λ j. process_of c.args.term.now ≡ joined (joint_of j) (process_of w.left.now) (process_of w.right.now) in
     let is = subst Q c.in-Sliding.is (joined_again (process_of c.args.term.now) (joint_of w.operator) (process_of w.left.now) (process_of w.right.now) c.in-Some.ensures) in
     let P : Process → Type 0 = λ p. IfOk c.sliding_ways.result (AreFoundIn s p x t) in
-    subst P (sym is) (if_so c.sliding_ways.result c.sliding_ways.ensures (λ ways h. h s))
+    subst P (sym is) c.sliding_ways.ensures

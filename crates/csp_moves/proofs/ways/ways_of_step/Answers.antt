@@ -92,40 +92,40 @@ returns-in-Replicated g c =
     let E : Process → Type 0 = λ q. IsChainIn s (unreplicated q) (chain_process c.args.made.now.chain) in
     let F : Option Form → Type 0 = λ o. IsChainIn s o (chain_process c.args.made.now.chain) in
     let P : Process → Type 0 = λ q. IfOk c.replicated_ways.result (AreFoundIn s q x t) in
-    subst P (sym is) (c.replicated_ways.ensures s op n e p (subst F (unreplicated_form op n e p) (subst E is c.requires.chain)))
+    subst P (sym is) (c.replicated_ways.ensures s op n e p (subst F (unreplicated_form op n e p) (subst E is c.requires.made.chain)))
 
 pub joined_ways-requires : goal.joined_ways-requires
 joined_ways-requires g c =
     let w = c.in-Binary in
     let is : process_of c.args.term.now ≡ binary_process w.field-0 (process_of w.field-1) (process_of w.field-2) = sym c.form.ensures ∙ ap process_of_form w.is ∙ of_binary g.row.A.Denot w.field-0 w.field-1 w.field-2 in
-    record { joined = ap (λ q. is_some (taken_apart q)) is ∙ binary_apart w.field-0 (process_of w.field-1) (process_of w.field-2); made = c.requires }
+    record { joined = ap (λ q. is_some (taken_apart q)) is ∙ binary_apart w.field-0 (process_of w.field-1) (process_of w.field-2); within = c.requires.within; made = c.requires.made }
 
 pub joined_ways-requires-in-GeneralisedParallel : goal.joined_ways-requires-in-GeneralisedParallel
 joined_ways-requires-in-GeneralisedParallel g c =
     let w = c.in-GeneralisedParallel in
     let is : process_of c.args.term.now ≡ pure.GeneralisedParallel (process_of w.field-0) (event_set_of w.field-1) (process_of w.field-2) = sym c.form.ensures ∙ ap process_of_form w.is ∙ of_generalised g.row.A.Denot w.field-0 w.field-1 w.field-2 in
-    record { joined = ap (λ q. is_some (taken_apart q)) is; made = c.requires }
+    record { joined = ap (λ q. is_some (taken_apart q)) is; within = c.requires.within; made = c.requires.made }
 
 pub joined_ways-requires-in-AlphabetisedParallel : goal.joined_ways-requires-in-AlphabetisedParallel
 joined_ways-requires-in-AlphabetisedParallel g c =
     let w = c.in-AlphabetisedParallel in
     let is : process_of c.args.term.now ≡ pure.AlphabetisedParallel (process_of w.field-0) (event_set_of w.field-1) (event_set_of w.field-2) (process_of w.field-3) = sym c.form.ensures ∙ ap process_of_form w.is ∙ of_alphabetised g.row.A.Denot w.field-0 w.field-1 w.field-2 w.field-3 in
-    record { joined = ap (λ q. is_some (taken_apart q)) is; made = c.requires }
+    record { joined = ap (λ q. is_some (taken_apart q)) is; within = c.requires.within; made = c.requires.made }
 
 pub joined_ways-requires-in-SlidingChoice : goal.joined_ways-requires-in-SlidingChoice
 joined_ways-requires-in-SlidingChoice g c =
     let w = c.in-SlidingChoice in
     let is : process_of c.args.term.now ≡ pure.SlidingChoice (process_of w.field-0) (process_of w.field-1) = sym c.form.ensures ∙ ap process_of_form w.is ∙ of_sliding g.row.A.Denot w.field-0 w.field-1 in
-    record { joined = ap (λ q. is_some (taken_apart q)) is; made = c.requires }
+    record { joined = ap (λ q. is_some (taken_apart q)) is; within = c.requires.within; made = c.requires.made }
 
 pub framed_ways-requires : goal.framed_ways-requires
 framed_ways-requires g c =
     let w = c.in-Hiding in
     let is : process_of c.args.term.now ≡ pure.Hiding (process_of w.field-0) (event_set_of w.field-1) = sym c.form.ensures ∙ ap process_of_form w.is ∙ of_hiding g.row.A.Denot w.field-0 w.field-1 in
-    record { framed = ap (λ q. is_some (unframed q)) is; made = c.requires }
+    record { framed = ap (λ q. is_some (unframed q)) is; made = c.requires.made }
 
 pub framed_ways-requires-in-Renaming : goal.framed_ways-requires-in-Renaming
 framed_ways-requires-in-Renaming g c =
     let w = c.in-Renaming in
     let is : process_of c.args.term.now ≡ pure.Renaming (process_of w.field-0) (renaming_pairs_of w.field-1.items) = sym c.form.ensures ∙ ap process_of_form w.is ∙ of_renaming g.row.A.Denot w.field-0 w.field-1 in
-    record { framed = ap (λ q. is_some (unframed q)) is; made = c.requires }
+    record { framed = ap (λ q. is_some (unframed q)) is; made = c.requires.made }

@@ -31,8 +31,9 @@ use Rattle.csp_steps.specs.declared.side.Side.{Side}
 use Rattle.csp_steps.specs.Answering.{Answers, IsAnswered, answered_of}
 use Rattle.csp_steps.specs.Composing.{AreSidesOf, IsSideOf}
 use Rattle.csp_steps.specs.Replicating.{AnswersChoices, instance_of, instances_of, looking_process}
-use Rattle.csp_steps.proofs.Members.{no_members}
-use Rattle.csp_steps.proofs.Replicating.{external_by_chain, grouped_more, instances_are, interleaving_by_chain, internal_by_chain, last_choice, mapped_more, mapped_split, no_set, seen_elements, set_stuck, stuck_at_first, stuck_behind, two_sides}
+use Rattle.csp_settling.proofs.Chaining.{seen_elements}
+use Rattle.csp_settling.proofs.Members.{no_members}
+use Rattle.csp_steps.proofs.Replicating.{external_by_chain, grouped_more, instances_are, interleaving_by_chain, internal_by_chain, last_choice, mapped_more, mapped_split, no_set, set_stuck, stuck_at_first, stuck_behind, two_sides}
 use Rattle.csp_steps.specs.declared.rules.replicated.Looking.TheVariants as looking
 use Rattle.csp_steps.specs.Repeating.{HasTau}
 use Rattle.csp_steps.proofs.Repeating.{any_number}
@@ -206,7 +207,7 @@ binary-returns-in-ExternalChoice g t c =
 pub binary-returns-in-InternalChoice : goal.binary-returns-in-InternalChoice
 binary-returns-in-InternalChoice g t c =
     let P : ProcessOperator → Type 0 = λ op. Answers (script_of_parts c.args.script.now) (put (bindings_of c.args.bindings.now) (binary_process op (process_of c.args.left.now) (process_of c.args.right.now))) c.internal.result in
-    subst P (sym c.in-InternalChoice.is) (c.internal.ensures (script_of_parts c.args.script.now))
+    subst P (sym c.in-InternalChoice.is) c.internal.ensures
 
 pub binary-returns-in-Sequential : goal.binary-returns-in-Sequential
 binary-returns-in-Sequential g t c =
@@ -544,10 +545,12 @@ interrupt::steps-returns g t c =
 pub sliding::steps-returns : goal.sliding::steps-returns
 sliding::steps-returns g t c =
     let bs = bindings_of c.args.bindings.now in
-    c.by_sides.ensures (script_of_parts c.args.script.now) (put bs (process_of c.args.left.now)) (put bs (process_of c.args.right.now)) c.both-sides.ensures
+    c.by_sides.ensures (script_of_parts c.args.script.now) (put bs (process_of c.args.left.now)) (put bs (process_of c.args.right.now)) c.both-sides.ensures c.in_ok-away.ensures
 
 pub sequential::steps-returns : goal.sequential::steps-returns
-sequential::steps-returns g t c = c.by_left.ensures (script_of_parts c.args.script.now) (put (bindings_of c.args.bindings.now) (process_of c.args.left.now)) c.steps-left.ensures
+sequential::steps-returns g t c =
+    let bs = bindings_of c.args.bindings.now in
+    c.by_left.ensures (script_of_parts c.args.script.now) (put bs (process_of c.args.left.now)) (put bs (process_of c.args.right.now)) c.steps-left.ensures c.in_ok-right.ensures c.in_ok-next.ensures
 
 pub parallel::interleaving-returns : goal.parallel::interleaving-returns
 parallel::interleaving-returns g t c =

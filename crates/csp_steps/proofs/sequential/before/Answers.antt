@@ -6,4 +6,4 @@ use Rattle.csp_steps.proofs.Collecting.{from_none}
 use Rattle.csp_steps.proofs.sequential.before.Goals as goal
 
 pub returns : goal.returns
-returns g c = from_none c.new-steps.result.items c.add-added.new.steps.items (sequential_answers (map answered_of c.args.left.items) (target_of c.args.right.now)) c.new-steps.ensures.items c.in_ok-added.ensures
+returns g c = from_none c.new-steps.result.items c.add-added.new.steps.items (sequential_answers (map answered_of c.args.left.items) (target_of c.args.right.now) (target_of c.args.next.now)) c.new-steps.ensures.items c.in_ok-added.ensures

@@ -12,7 +12,7 @@ returns g c =
     let r = target_of c.args.right.process in
     let made = composition_of c.args.composition.now in
     let from_left : Option Process → Option Process = λ t. under_both made t r in
-    let away : List Answered = (Tau, r) ∷ [] in
+    let away : List Answered = (Tau, target_of c.args.away) ∷ [] in
     both_from_none c.new-steps.result.items c.add.new.steps.items c.add_step.new.steps.items (each_answer (leave_answer from_left) (side_answers c.args.left)) away
     c.new-steps.ensures.items c.in_ok-add.ensures c.in_ok-add_step.ensures
 

@@ -4,7 +4,7 @@ use Rattle.std.proofs.Common.{subst, inl, inr, lit<}
 use Rattle.theory_search.specs.Answer.{as_written}
 use Rattle.theory_search.specs.Outcome.{Bounds}
 use Rattle.csp_term.specs.Script.{assertion_of, script_of}
-use Rattle.explore.specs.Answering.{IsRight}
+use Rattle.theory_search.specs.Truth.{IsRight}
 use Rattle.verdict.specs.Outcome.{outcome_of}
 use Rattle.explain_program.specs.Sizes.{IsSizeFor}
 use Rattle.explain_program.proofs.answering.answer.Goals as goal

@@ -1,6 +1,6 @@
 -- The assertion at the place is answered and told.
 use denote.Param.Send.{sendable}
-use Rattle.std.proofs.Common.{◌≡◌, ◌<◌, ℕ, suc, ◌+◌, List, [], ◌∷◌, length, sym, ap, subst, ◌∙◌, arith, inl, inr, lit<}
+use Rattle.std.proofs.Common.{◌≡◌, ◌<◌, Bool, ℕ, suc, ◌+◌, List, [], ◌∷◌, length, sym, ap, subst, ◌∙◌, arith, inl, inr, lit<}
 use Rattle.std.proofs.lemmas.List.{length-map}
 use Rattle.std.specs.String.{string_bytes}
 use Rattle.theory_syntax.specs.Process as pure
@@ -11,10 +11,15 @@ use Rattle.explore.proofs.Exchanging.{right_as_written}
 use Rattle.report.specs.Sending.{Breaks, Sends}
 use Rattle.verdict.specs.Outcome.{outcome_of}
 use Rattle.program.specs.Running.{outcome_status}
+use Rattle.theory_search.specs.Terms.{IsAssertionOf}
+use Rattle.theory_search.specs.Truth.{IsRightAsWritten}
+use Rattle.theory_unfolding.specs.Assertions.{settled_assertion}
+use Rattle.theory_unfolding.proofs.SettledSides.{sides_stay}
 use Rattle.program.proofs.Answering.{sides_at}
 use Rattle.program.proofs.Reporting.{status_at_most}
 use Rattle.explain_program.specs.Asking.{one_at, request_of}
 use Rattle.explain_program.specs.Giving.{AreTold, GoesOut}
+use Rattle.explain_program.specs.Sizes.{IsSizeFor}
 use Rattle.explain_program.specs.Telling.{IsToldAsAsked}
 use Rattle.explain_program.proofs.Giving.{alone_at, one_told, right_has_violation, went_out}
 use Rattle.explain_program.proofs.explaining.explain_one.Goals as goal
@@ -29,6 +34,9 @@ answer-answer-requires g c =
     let within : c.args.place < length items = omega (arith, whole, mapped, there) in
     let sides = sides_at assertion_of (HasSidesOf script) script items c.args.place c.index-assertions-place.result c.assertions-assertions.ensures.sides within c.index-assertions-place.is
     (λ b sides. record { specification = sides.0; implementation = sides.1 }) in
+    let written = assertion_of c.index-assertions-place.result in
+    let is : assertion_of c.in_ok-asked.asked ≡ settled_assertion script written = c.in_ok-asked.ensures ∙ ap (λ s. settled_assertion s written) c.parts.ensures.value in
+    let asked_sides = subst (IsAssertionOf script) (sym is) (sides_stay script written sides) in
     let sa = c.type_bounds.send-A in
     let ya = c.type_bounds.sync-A in
     let sr = c.type_bounds.sync-R in
@@ -45,7 +53,7 @@ answer-answer-requires g c =
                 | inl e ↦ rw (e.0, e.1) (lit< tt)
                 | inr e ↦ rw (e.0, e.1) (lit< tt)
               ],
-              sides,
+              asked_sides,
             ),
           ),
         ),
@@ -62,10 +70,18 @@ explanation_text-requires g c =
     let within : c.args.place < length items = omega (arith, whole, mapped, there) in
     let sides = sides_at assertion_of (HasSidesOf script) script items c.args.place c.index-assertions-place.result c.assertions-assertions.ensures.sides within c.index-assertions-place.is
     (λ b sides. record { specification = sides.0; implementation = sides.1 }) in
-    let shown = right_has_violation script (assertion_of c.index-assertions-place.result) (request_of c.args.settings.now).bounds (outcome_of c.answer-answer.result.found) c.answer-answer.ensures.right in
+    let written = assertion_of c.index-assertions-place.result in
+    let is : assertion_of c.in_ok-asked.asked ≡ settled_assertion script written = c.in_ok-asked.ensures ∙ ap (λ s. settled_assertion s written) c.parts.ensures.value in
+    let asked_sides = subst (IsAssertionOf script) (sym is) (sides_stay script written sides) in
+    let asked = assertion_of c.in_ok-asked.asked in
+    let found = outcome_of c.answer-answer.result.found in
+    let bounds = (request_of c.args.settings.now).bounds in
+    let shown = right_has_violation script asked bounds found c.answer-answer.ensures.right in
+    let Z : Bool → Type 0 = λ negated. IsSizeFor script asked bounds (as_written negated found) c.answer-answer.result.size in
+    let size = subst Z (ap (λ (a : pure.Assertion). a.negated) is) c.answer-answer.ensures.size in
     elim (g.met.A.AllocHandle g.world.𝓛 g.world.𝓜 g.world.𝓡 ((λ s x. x), (λ x. x), (λ x. x), λ x. x)).small [
-      | inl e ↦ rw (e.0, e.1) (lit< tt, (sides, (shown, (c.answer-answer.ensures.size, c.answer-answer.ensures.stop))))
-      | inr e ↦ rw (e.0, e.1) (lit< tt, (sides, (shown, (c.answer-answer.ensures.size, c.answer-answer.ensures.stop))))
+      | inl e ↦ rw (e.0, e.1) (lit< tt, (asked_sides, (shown, (size, c.answer-answer.ensures.stop))))
+      | inr e ↦ rw (e.0, e.1) (lit< tt, (asked_sides, (shown, (size, c.answer-answer.ensures.stop))))
     ]
 
 pub returns-in-Ok-clause-told : goal.returns-in-Ok-clause-told
@@ -78,7 +94,6 @@ returns-in-Ok-clause-told g c =
     let a = assertion_of c.index-assertions-place.result in
     let found = outcome_of c.answer-answer.result.found in
     let o = as_written a.negated found in
-    let right = right_as_written script a request.bounds found c.answer-answer.ensures.right in
     let whole = ap length c.assertions-assertions.ensures.value in
     let mapped = length-map items assertion_of in
     let there = c.requires.there in
@@ -86,9 +101,14 @@ returns-in-Ok-clause-told g c =
     let A : List pure.Assertion → Type 0 = λ xs. one_at place xs ≡ a ∷ [] in
     let alone = subst A c.assertions-assertions.ensures.value (alone_at assertion_of items place c.index-assertions-place.result within c.index-assertions-place.is) in
     let bytes = string_bytes c.in_ok-text.text in
-    let N : ℕ → Type 0 = λ n. IsToldAsAsked request script names n a o bytes in
+    let b = assertion_of c.in_ok-asked.asked in
+    let is : b ≡ settled_assertion script a = c.in_ok-asked.ensures ∙ ap (λ s. settled_assertion s a) c.parts.ensures.value in
+    let N : ℕ → Type 0 = λ n. IsToldAsAsked request script names n a b o bytes in
     let next : place + 1 ≡ suc place = omega arith in
-    let told = subst N next c.in_ok-text.ensures in
+    let B : pure.Assertion → Type 0 = λ x. IsToldAsAsked request script names (suc place) a x o bytes in
+    let told = subst B is (subst N next c.in_ok-text.ensures) in
+    let R : pure.Assertion → Type 0 = λ x. IsRightAsWritten script x request.bounds (as_written x.negated found) in
+    let right = subst R is (right_as_written script b request.bounds found c.answer-answer.ensures.right) in
     let old = g.O.Sink.taken c.args.out.now in
     let new = g.O.Sink.taken c.push_all.new.sink in
     let failed = g.O.Sink.has_failed c.push_all.new.sink in
@@ -111,7 +131,6 @@ returns-clause-left g c =
     let a = assertion_of c.index-assertions-place.result in
     let found = outcome_of c.answer-answer.result.found in
     let o = as_written a.negated found in
-    let right = right_as_written script a request.bounds found c.answer-answer.ensures.right in
     let whole = ap length c.assertions-assertions.ensures.value in
     let mapped = length-map items assertion_of in
     let there = c.requires.there in
@@ -119,9 +138,14 @@ returns-clause-left g c =
     let A : List pure.Assertion → Type 0 = λ xs. one_at place xs ≡ a ∷ [] in
     let alone = subst A c.assertions-assertions.ensures.value (alone_at assertion_of items place c.index-assertions-place.result within c.index-assertions-place.is) in
     let bytes = string_bytes c.in_ok-text.text in
-    let N : ℕ → Type 0 = λ n. IsToldAsAsked request script names n a o bytes in
+    let b = assertion_of c.in_ok-asked.asked in
+    let is : b ≡ settled_assertion script a = c.in_ok-asked.ensures ∙ ap (λ s. settled_assertion s a) c.parts.ensures.value in
+    let N : ℕ → Type 0 = λ n. IsToldAsAsked request script names n a b o bytes in
     let next : place + 1 ≡ suc place = omega arith in
-    let told = subst N next c.in_ok-text.ensures in
+    let B : pure.Assertion → Type 0 = λ x. IsToldAsAsked request script names (suc place) a x o bytes in
+    let told = subst B is (subst N next c.in_ok-text.ensures) in
+    let R : pure.Assertion → Type 0 = λ x. IsRightAsWritten script x request.bounds (as_written x.negated found) in
+    let right = subst R is (right_as_written script b request.bounds found c.answer-answer.ensures.right) in
     let old = g.O.Sink.taken c.args.out.now in
     let new = g.O.Sink.taken c.push_all.new.sink in
     let failed = g.O.Sink.has_failed c.push_all.new.sink in

@@ -1,5 +1,8 @@
 -- What is told of the file's script is told of the file.
 use Rattle.std.proofs.Common.{ℕ, List, subst, refl, rules}
+use Rattle.theory_syntax.specs.Process.{Script}
+use Rattle.theory_syntax.specs.Readings.{reading}
+use Rattle.theory_notation.specs.Names.{Names}
 use Rattle.csp_term.specs.Script.{script_of}
 use Rattle.csp_print.specs.Names.{names_of}
 use Rattle.program.specs.Given.{given_of, sent}
@@ -8,6 +11,7 @@ use Rattle.program.specs.Refusal.{of_file}
 use Rattle.program.specs.declared.refusal.Refusal.TheVariants as refusal
 use Rattle.program.proofs.Beginnings.{cause_of_text, too_long}
 use Rattle.explain_program.specs.Asking.{request_of}
+use Rattle.explain_program.specs.Explaining.{StopsBy, TellsAll}
 use Rattle.explain_program.specs.Naming.{IsNamedText}
 use Rattle.explain_program.specs.Refusals.{TellsRefusal}
 use Rattle.explain_program.specs.Running as running
@@ -62,11 +66,14 @@ returns-in-Ok-explain_script-clause-explained g c below =
     let script = script_of c.in-Ok-read.named.script in
     let names = names_of c.in-Ok-read.named.names in
     let named = subst (λ bs. IsNamedText bs script names) c.deref.ensures.value c.in-Ok-read.ensures.named in
+    let output = sent g.O.Sink.taken g.O.Sink.has_failed c.args.out.now c.explain_script.new.out in
+    let N : Names → Type 0 = λ ns. TellsAll request (script_of c.as_asked-named.result.script) ns output c.in-Ok-explain_script.status in
+    let R : Script → Type 0 = λ s. TellsAll request s names output c.in-Ok-explain_script.status in
     record {
       script = script;
       names = names;
       of_file = named_file (g.F.Files.may_hold c.args.files.now) request.name c.in-Ok.text.items script names c.in-Ok.ensures.holds named;
-      told = c.in-Ok-explain_script.ensures.told.1;
+      told = subst R (c.as_asked-named.ensures.script named.checked.script_of.unfolds) (subst N c.as_asked-named.ensures.names c.in-Ok-explain_script.ensures.told.1);
     }
 
 pub returns-clause-stopped : goal.returns-clause-stopped
@@ -79,7 +86,10 @@ returns-clause-stopped g c three =
     let out = c.explain_script.new.out in
     let named = subst (λ bs. IsNamedText bs script names) c.deref.ensures.value c.in-Ok-read.ensures.named in
     let file = named_file given.may_hold request.name c.in-Ok.text.items script names c.in-Ok.ensures.holds named in
-    let stops = c.in-Err-explain_script.ensures.stopped in
+    let output = sent g.O.Sink.taken g.O.Sink.has_failed c.args.out.now out in
+    let N : Names → Type 0 = λ ns. StopsBy request (script_of c.as_asked-named.result.script) ns why output in
+    let R : Script → Type 0 = λ s. StopsBy request s names why output in
+    let stops = subst R (c.as_asked-named.ensures.script named.checked.script_of.unfolds) (subst N c.as_asked-named.ensures.names c.in-Err-explain_script.ensures.stopped) in
     record {
       why = why;
       cause = stop_cause given request script names file why (sent g.O.Sink.taken g.O.Sink.has_failed c.args.out.now out) stops;

@@ -23,9 +23,10 @@ returns c =
     let one = c.in_ok-arg.ensures.shape (ap (λ (a : Arg). a.global) c.help-workers.ensures ∙ c.option.ensures.local) ∙ ap₂ with_rule named workers_is in
     let two = c.in_ok-arg-2.ensures.shape (ap (λ (a : Arg). a.global) c.help-pairs.ensures ∙ c.option-2.ensures.local) ∙ ap₂ with_rule one pairs_is in
     let three = c.in_ok-arg-3.ensures.shape (ap (λ (a : Arg). a.global) c.help-nodes.ensures ∙ c.option-3.ensures.local) ∙ ap₂ with_rule two nodes_is in
-    let four = c.in_ok-arg-4.ensures.shape width_local ∙ ap₂ with_rule three width_is in
-    let five = c.in_ok-arg-5.ensures.shape c.flag-counted.ensures.local ∙ ap₂ with_rule four c.flag-counted.ensures.rule in
-    let six = c.in_ok-arg-6.ensures.shape c.flag-events.ensures.local ∙ ap₂ with_rule five c.flag-events.ensures.rule in
-    let seven = c.in_ok-arg-7.ensures.shape c.flag-steps.ensures.local ∙ ap₂ with_rule six c.flag-steps.ensures.rule in
-    let eight = c.in_ok-arg-8.ensures.shape c.file-file.ensures.local ∙ ap₂ with_rule seven c.file-file.ensures.rule in
-    IfOk-weaker c.arg-9.result _ _ (λ x h. h.shape assertion_local ∙ ap₂ with_rule eight assertion_is) c.arg-9.ensures
+    let four = c.in_ok-arg-4.ensures.shape c.flag-unfolded.ensures.local ∙ ap₂ with_rule three c.flag-unfolded.ensures.rule in
+    let five = c.in_ok-arg-5.ensures.shape width_local ∙ ap₂ with_rule four width_is in
+    let six = c.in_ok-arg-6.ensures.shape c.flag-counted.ensures.local ∙ ap₂ with_rule five c.flag-counted.ensures.rule in
+    let seven = c.in_ok-arg-7.ensures.shape c.flag-events.ensures.local ∙ ap₂ with_rule six c.flag-events.ensures.rule in
+    let eight = c.in_ok-arg-8.ensures.shape c.flag-steps.ensures.local ∙ ap₂ with_rule seven c.flag-steps.ensures.rule in
+    let nine = c.in_ok-arg-9.ensures.shape c.file-file.ensures.local ∙ ap₂ with_rule eight c.file-file.ensures.rule in
+    IfOk-weaker c.arg-10.result _ _ (λ x h. h.shape assertion_local ∙ ap₂ with_rule nine assertion_is) c.arg-10.ensures

@@ -6,31 +6,34 @@ use Rattle.theory_checking.specs.Checked.{IsCheckedText}
 use Rattle.csp_term.specs.Script.{script_of}
 use Rattle.verdict.specs.declared.outcome.Outcome.{Outcome}
 use Rattle.verdict.specs.Outcome.{outcome_of}
-use Rattle.program.specs.Answering.{AreRight}
+use Rattle.program.specs.Answering.{AreRightSettled}
 use Rattle.program.specs.Reading.{IsRefusalOf}
-use Rattle.program.specs.Running.{limits_of, status_of}
+use Rattle.program.specs.Running.{check_of, status_of}
 use Rattle.program.specs.Given.{given_of}
+use Rattle.theory_syntax.specs.Readings.{by_tau}
+use Rattle.program.proofs.Answering.{all_right}
 use Rattle.program.proofs.Beginnings.{cause_of_text, of_file, too_long}
 use Rattle.program.proofs.Reporting.{status_at_most}
 use Rattle.program.proofs.running.answer.Goals as goal
 
 pub returns-in-Ok-clause-reported : goal.returns-in-Ok-clause-reported
 returns-in-Ok-clause-reported g c =
-    let script = script_of c.in_ok-script.script in
-    let bounds = limits_of c.args.settings.now in
+    let it = script_of c.in_ok-script.script in
+    let script = by_tau it in
+    let asked = check_of c.args.settings.now in
     let outcomes = map outcome_of c.deref-2.result.now in
-    let P : List (Outcome g.row.A.Denot) → Type 0 = λ os. AreRight script bounds script.assertions (map outcome_of os) in
-    let Q : Bounds → Type 0 = λ bs. AreRight script bs script.assertions (map outcome_of c.in_ok-outcomes.outcomes.items) in
+    let P : List (Outcome g.row.A.Denot) → Type 0 = λ os. AreRightSettled it asked.bounds it.assertions (map outcome_of os) in
+    let Q : Bounds → Type 0 = λ bs. AreRightSettled it bs it.assertions (map outcome_of c.in_ok-outcomes.outcomes.items) in
     let same : c.deref-in-Ok.result.now ≡ c.deref-2.result.now = c.deref-in-Ok.ensures.value ∙ sym c.deref-2.ensures.value in
     let told : c.status.result ≡ status_of outcomes = c.status.ensures ∙ ap (λ os. status_of (map outcome_of os)) same in
     let most = status_at_most outcomes in
-    let checked = subst (λ bytes. IsCheckedText bytes script) c.deref.ensures.value c.in_ok-script.ensures.script in (
+    let checked = subst (λ bytes. IsCheckedText bytes script) c.deref.ensures.value c.in_ok-script.ensures.script.0 in (
       omega arith,
       record {
         script = script;
         outcomes = outcomes;
         of_file = of_file (g.F.Files.may_hold c.args.files.now) c.args.settings.now.file.now c.in_ok-text.text.items script c.in_ok-text.ensures.holds checked;
-        right = subst P (sym c.deref-2.ensures.value) (subst Q c.limits-limits.ensures c.in_ok-outcomes.ensures);
+        right = all_right it asked.bounds asked.names c.in_ok-script.ensures.script.1 it.assertions outcomes (subst P (sym c.deref-2.ensures.value) (subst Q c.limits-limits.ensures c.in_ok-outcomes.ensures));
         bytes = c.in-Ok.ensures.whole;
         told = told;
       },
@@ -49,22 +52,23 @@ returns-then-not-takes-clause-cause g c =
 
 pub returns-clause-cause : goal.returns-clause-cause
 returns-clause-cause g c =
-    let script = script_of c.in_ok-script.script in
-    let checked = subst (λ bytes. IsCheckedText bytes script) c.deref.ensures.value c.in_ok-script.ensures.script in
+    let script = by_tau (script_of c.in_ok-script.script) in
+    let checked = subst (λ bytes. IsCheckedText bytes script) c.deref.ensures.value c.in_ok-script.ensures.script.0 in
     (script, of_file (g.F.Files.may_hold c.args.files.now) c.args.settings.now.file.now c.in_ok-text.text.items script c.in_ok-text.ensures.holds checked)
 
 pub returns-clause-refused : goal.returns-clause-refused
 returns-clause-refused g c =
-    let script = script_of c.in_ok-script.script in
-    let bounds = limits_of c.args.settings.now in
-    let P : List (Outcome g.row.A.Denot) → Type 0 = λ os. AreRight script bounds script.assertions (map outcome_of os) in
-    let Q : Bounds → Type 0 = λ bs. AreRight script bs script.assertions (map outcome_of c.in_ok-outcomes.outcomes.items) in
-    let checked = subst (λ bytes. IsCheckedText bytes script) c.deref.ensures.value c.in_ok-script.ensures.script in
+    let it = script_of c.in_ok-script.script in
+    let script = by_tau it in
+    let asked = check_of c.args.settings.now in
+    let P : List (Outcome g.row.A.Denot) → Type 0 = λ os. AreRightSettled it asked.bounds it.assertions (map outcome_of os) in
+    let Q : Bounds → Type 0 = λ bs. AreRightSettled it bs it.assertions (map outcome_of c.in_ok-outcomes.outcomes.items) in
+    let checked = subst (λ bytes. IsCheckedText bytes script) c.deref.ensures.value c.in_ok-script.ensures.script.0 in
     record {
       script = script;
       outcomes = map outcome_of c.deref-2.result.now;
       of_file = of_file (g.F.Files.may_hold c.args.files.now) c.args.settings.now.file.now c.in_ok-text.text.items script c.in_ok-text.ensures.holds checked;
-      right = subst P (sym c.deref-2.ensures.value) (subst Q c.limits-limits.ensures c.in_ok-outcomes.ensures);
+      right = all_right it asked.bounds asked.names c.in_ok-script.ensures.script.1 it.assertions (map outcome_of c.deref-2.result.now) (subst P (sym c.deref-2.ensures.value) (subst Q c.limits-limits.ensures c.in_ok-outcomes.ensures));
       bytes = c.in-Err.ensures.device;
     }
 

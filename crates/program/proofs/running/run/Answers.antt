@@ -1,7 +1,7 @@
 -- What a run answers, by what its words ask for.
 use Rattle.std.proofs.Common.{inl, inr, refl, subst}
 use Rattle.settings.specs.Faults.{IsFaultOf}
-use Rattle.program.specs.Running.{limits_of}
+use Rattle.program.specs.Running.{check_of}
 use Rattle.program.specs.Running as running
 use Rattle.program.proofs.Serving.{asked, zero_below}
 use Rattle.program.proofs.running.run.Goals as goal
@@ -10,13 +10,13 @@ pub returns-in-Ok-clause-served : goal.returns-in-Ok-clause-served
 returns-in-Ok-clause-served g c below =
     let says = c.in-Ok.ensures in
     let settings = c.in-Ok.settings in
-    running.checked settings.file.now (limits_of settings) (asked (running.texts_of c.args.words.now) settings says.taken says.pairs says.nodes says.file) (c.check.ensures.reported below)
+    running.checked settings.file.now (check_of settings) (asked (running.texts_of c.args.words.now) settings says.taken says.pairs says.nodes says.at_once says.file) (c.check.ensures.reported below)
 
 pub returns-in-Ok-clause-refused : goal.returns-in-Ok-clause-refused
 returns-in-Ok-clause-refused g c three =
     let says = c.in-Ok.ensures in
     let settings = c.in-Ok.settings in
-    running.of_check settings.file.now (limits_of settings) (asked (running.texts_of c.args.words.now) settings says.taken says.pairs says.nodes says.file) (c.check.ensures.refused three)
+    running.of_check settings.file.now (check_of settings) (asked (running.texts_of c.args.words.now) settings says.taken says.pairs says.nodes says.at_once says.file) (c.check.ensures.refused three)
 
 pub returns-in-Err-Help-clause-served : goal.returns-in-Err-Help-clause-served
 returns-in-Err-Help-clause-served g c below =

@@ -20,4 +20,5 @@ returns c =
     let one = c.in_ok-arg.ensures.shape (ap (λ (a : Arg). a.global) c.help-workers.ensures ∙ c.number.ensures.local) ∙ ap₂ with_rule named workers_is in
     let two = c.in_ok-arg-2.ensures.shape (ap (λ (a : Arg). a.global) c.help-pairs.ensures ∙ c.number-2.ensures.local) ∙ ap₂ with_rule one pairs_is in
     let three = c.in_ok-arg-3.ensures.shape (ap (λ (a : Arg). a.global) c.help-nodes.ensures ∙ c.number-3.ensures.local) ∙ ap₂ with_rule two nodes_is in
-    IfOk-weaker c.arg-4.result _ _ (λ x h. h.shape file_local ∙ ap₂ with_rule three file_is) c.arg-4.ensures
+    let four = c.in_ok-arg-4.ensures.shape c.flag-unfolded.ensures.local ∙ ap₂ with_rule three c.flag-unfolded.ensures.rule in
+    IfOk-weaker c.arg-5.result _ _ (λ x h. h.shape file_local ∙ ap₂ with_rule four file_is) c.arg-5.ensures

@@ -9,6 +9,7 @@ use Rattle.csp_expression.specs.Bindings.{bindings_of}
 use Rattle.csp_expression.specs.Evaluation.{table_of}
 use Rattle.csp_value.specs.Fields.{field_values, sets_of}
 use Rattle.csp_term.specs.Field.{fields_of}
+use Rattle.csp_term.specs.Script.{script_of_parts}
 use Rattle.csp_term.specs.Term.{process_of}
 use Rattle.csp_steps.specs.Communicating.{lent_values}
 use Rattle.csp_steps.proofs.Further.{FoundSoFar}
@@ -28,10 +29,10 @@ decreases-inputs_from g l = 1 + 2 * length l.fields.now
 
 abbrev pub invariant-inputs-loop-value : goal.invariant-inputs-loop-value
 invariant-inputs-loop-value g l =
-    FoundSoFar (λ v. communications (table_of l.walk.types.now) (bind l.name.0 v (bindings_of l.front.bindings.items)) (fields_of l.fields) (sets_of l.sets) and_then λ ms. Ok (with_value v ms))
-    l.walk.channel.0 (process_of l.walk.body.now) (lent_values l.front.values.items) l.fn.found (values_of (take l.value-index l.value-items)) l.found
+    FoundSoFar (λ v. communications (table_of l.walk.script.now.types) (bind l.name.0 v (bindings_of l.front.bindings.items)) (fields_of l.fields) (sets_of l.sets) and_then λ ms. Ok (with_value v ms))
+    (script_of_parts l.walk.script.now) l.walk.channel.0 (process_of l.walk.body.now) (lent_values l.front.values.items) l.fn.found (values_of (take l.value-index l.value-items)) l.found
 
 abbrev pub invariant-inputs_from-loop-value : goal.invariant-inputs_from-loop-value
 invariant-inputs_from-loop-value g l =
-    FoundSoFar (λ v. communications (table_of l.walk.types.now) (bind l.name.0 v (bindings_of l.front.bindings.items)) (fields_of l.fields) (sets_of l.sets) and_then λ ms. Ok (with_value v ms))
-    l.walk.channel.0 (process_of l.walk.body.now) (lent_values l.front.values.items) l.fn.found (filter (λ v. has_value (field_values l.set) v) (values_of (take l.value-index l.value-items))) l.found
+    FoundSoFar (λ v. communications (table_of l.walk.script.now.types) (bind l.name.0 v (bindings_of l.front.bindings.items)) (fields_of l.fields) (sets_of l.sets) and_then λ ms. Ok (with_value v ms))
+    (script_of_parts l.walk.script.now) l.walk.channel.0 (process_of l.walk.body.now) (lent_values l.front.values.items) l.fn.found (filter (λ v. has_value (field_values l.set) v) (values_of (take l.value-index l.value-items))) l.found

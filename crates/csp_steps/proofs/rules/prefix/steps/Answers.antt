@@ -38,7 +38,7 @@ returns g c =
     let channel = c.in-Some.declared.now in
     let at = get_some field_sets_of c.args.script.now.channels.items n channel (ap (λ xs. slice_get xs n) (sym c.deref.ensures.value) ∙ slice_get_read table (length table) n channel refl look.3.0 look.1) in
     let bs = bindings_of c.args.bindings.now in
-    let F : List pure.Value → Bindings → List (List pure.Value) → Type 0 = λ vs ds sets. Finds n body vs c.new.result (communications script.types ds fs sets) c.look_for.result in
+    let F : List pure.Value → Bindings → List (List pure.Value) → Type 0 = λ vs ds sets. Finds script n body vs c.new.result (communications script.types ds fs sets) c.look_for.result in
     let found : F [] bs (field_sets_of channel) =
     subst (F [] bs) (ap sets_of c.deref-2.ensures.value) (subst (λ ds. F [] ds (sets_of c.deref-2.result.now)) c.in_ok-front.ensures.bindings
     (subst (λ vs. F vs (bindings_of c.in_ok-front.front.bindings.items) (sets_of c.deref-2.result.now)) c.in_ok-front.ensures.values c.look_for.ensures)) in

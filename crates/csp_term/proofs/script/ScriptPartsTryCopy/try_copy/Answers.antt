@@ -1,6 +1,7 @@
 -- Each list of the script is copied item by item.
 use Rattle.std.proofs.Common.{◌≡◌, List, subst}
 use Rattle.std.specs.String.{string_bytes}
+use Rattle.theory_syntax.specs.Models.{unfolding_of}
 use Rattle.csp_events.specs.declared.channel.Channel.{Channel}
 use Rattle.csp_term.specs.declared.script.Constructor.{Constructor}
 use Rattle.csp_term.specs.declared.script.Equation.{Equation}
@@ -30,4 +31,4 @@ returns g c =
     let names = same_names c.in_ok-copy_all-2.field-0.items script.channels.items together in
     let bodies = copies_same equation_of script.equations.items c.in_ok-copy_all-3.field-0.items equations in
     let asks = copies_same assertion_of script.assertions.items c.in_ok-copy_all-4.field-0.items assertions in
-    λ i. record { types = types i; channels = sets i; equations = bodies i; assertions = asks i; channel_names = names i; constructor_names = spelled i }
+    λ i. record { types = types i; channels = sets i; equations = bodies i; assertions = asks i; channel_names = names i; constructor_names = spelled i; unfolds = unfolding_of script.unfolds }

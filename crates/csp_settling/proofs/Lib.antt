@@ -1,0 +1,9 @@
+pub mod Parameters
+pub mod Seeing
+pub mod Past
+pub mod Places
+pub mod Measured
+pub mod Chaining
+pub mod Calling
+pub mod Unfolding
+pub mod Members

@@ -1,0 +1,5 @@
+pub mod Unfolded
+pub mod Assertions
+pub mod Laws
+pub mod Worked
+pub mod Told
