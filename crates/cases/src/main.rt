@@ -4,7 +4,8 @@
 //!
 //! - `@@ ` with the words of a command line, `refcheck` or `explain` first, and behind it the text of the file `script`;
 //! - `@@ ` with the status, and behind it what the run gives: to its output, or, with the status 3, to its errors. `fine`
-//!   stands for any status but 3, whatever the run gives.
+//!   stands for any status but 3, whatever the run gives, and `alike` for the words that the first run of the case gives:
+//!   its lines, each up to the trace that it shows.
 //!
 //! With `--workers=*` a case is run by several numbers of workers, and with `[--unfold]` without and with this word. A
 //! case costs no proof, so that one more is some lines of text. What a table cannot show, as a memory that refuses or an
@@ -29,6 +30,9 @@ const WORKERS: [&str; 4] = ["--workers=1", "--workers=2", "--workers=8", "--work
 
 /// The word that a case is run without and with, where it says so.
 const UNFOLD: &str = "[--unfold]";
+
+/// What stands in place of a status where all runs of a case are to give the same words.
+const ALIKE: &str = "alike";
 
 /// How one run of a case reads its words.
 #[derive(Clone, Copy)]
@@ -67,7 +71,8 @@ fn run<R: Threads + Wait + Sync>(
     Ok(told_by(rt, alloc, &words, case.text.as_bytes()))
 }
 
-/// Whether each run of the case with names read so gives what it says. What is given otherwise is told.
+/// Whether each run of the case with names read so gives what it says, or the words of the first run, where it says so.
+/// What is given otherwise is told.
 fn is_as_said<R: Threads + Wait + Sync + Print>(
     rt: &R,
     alloc: Global,
@@ -76,10 +81,24 @@ fn is_as_said<R: Threads + Wait + Sync + Print>(
     unfolds: bool,
 ) -> Result<bool> {
     let mut is_as_said = true;
+    let workers = WORKERS[0];
+    let first = run(
+        rt,
+        alloc,
+        case,
+        Reading {
+            workers,
+            unfolds: false,
+        },
+    )?;
     for workers in WORKERS.iter().take(numbers_of(case)) {
         let workers = *workers;
         let told = run(rt, alloc, case, Reading { workers, unfolds })?;
-        if !told.is_as_said(case) {
+        let is_said = match case.status {
+            ALIKE => told.is_alike(&first),
+            _ => told.is_as_said(case),
+        };
+        if !is_said {
             println!(rt; "{name}: {}\n{}\n{told}", case.words, case.text)?;
             is_as_said = false;
         }

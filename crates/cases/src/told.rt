@@ -24,7 +24,30 @@ fn is_text(bytes: &[u8], text: &str) -> bool {
     }
 }
 
+// A line of a report up to the trace that it shows.
+fn word_of(line: &str) -> &str {
+    match line.split_once(" trace ") {
+        Some((word, _)) => word,
+        None => line,
+    }
+}
+
+/// Whether the lines of two reports are the same up to the traces that they show.
+fn are_alike(report: &[u8], other: &[u8]) -> bool {
+    let (Ok(report), Ok(other)) = (str::from_utf8(report), str::from_utf8(other)) else {
+        return false;
+    };
+    let mut lines = report.lines().zip(other.lines());
+    report.lines().count() == other.lines().count()
+        && lines.all(|(line, other)| word_of(line) == word_of(other))
+}
+
 impl Told {
+    /// Whether the run gave the words that another run of the same case gave, and a report.
+    pub(crate) fn is_alike(&self, other: &Told) -> bool {
+        self.status < 3 && self.status == other.status && are_alike(&self.out, &other.out)
+    }
+
     /// Whether the run gave what the case says.
     pub(crate) fn is_as_said(&self, case: &Case<'_>) -> bool {
         match (case.status, self.status) {
