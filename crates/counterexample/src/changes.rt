@@ -42,7 +42,8 @@ fn push_changed_words<A: Allocator + Copy>(
     new: &[&str],
     text: &mut String<A>,
 ) -> Result<(), AllocError>
-    ensures { Writes result text.old text.new (changed_words (texts_of old.now) (texts_of new.now)) }
+    ensures { Writes result text.old text.new
+        (changed_words (texts_of old.now) (texts_of new.now)) }
 {
     let front = same_words(old, new);
     let old_behind = reversed(alloc, &old[front..])?;

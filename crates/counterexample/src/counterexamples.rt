@@ -55,7 +55,8 @@ pub fn counterexample_of<A: AllocHandle>(
     reach: usize,
 ) -> Result<Replayed<A>, Memory>
     requires terms { IsAssertionOf (script_of script.now) (assertion_of assertion.now) }
-    ensures { IfOk result (told.TellsReplayed (script_of script.now) (assertion_of assertion.now) (violation_of shown.now) most reach) }
+    ensures { IfOk result (told.TellsReplayed (script_of script.now) (assertion_of assertion.now)
+        (violation_of shown.now) most reach) }
 {
     let start = &assertion.implementation;
     match replay_of(alloc, script, start, shown, reach)? {
@@ -79,8 +80,10 @@ fn along<A: AllocHandle>(
     lasso: Option<Lasso<A>>,
 ) -> Result<Counterexample<A>, Memory>
     requires terms { IsAssertionOf (script_of script.now) (assertion_of assertion.now) }
-    requires replay { told.IsReplayed (script_of script.now) (assertion_of assertion.now) (violation_of shown.now) (map process_of states.items) lasso }
-    ensures { IfOk result (λ found. IsCounterexample (script_of script.now) (assertion_of assertion.now) (violation_of shown.now) most (told.counterexample_of found)) }
+    requires replay { told.IsReplayed (script_of script.now) (assertion_of assertion.now)
+        (violation_of shown.now) (map process_of states.items) lasso }
+    ensures { IfOk result (λ found. IsCounterexample (script_of script.now)
+        (assertion_of assertion.now) (violation_of shown.now) most (told.counterexample_of found)) }
 {
     let origins = origins_along(alloc, script, &shown.path, &states)?;
     let specification = assertion.property.specification();

@@ -36,7 +36,9 @@ pub(crate) fn counterpart_for<A: AllocHandle>(
     most: usize,
 ) -> Result<Option<Counterpart<A>>, Memory>
     requires { IfSome (specification_in specification) (IsTermOf (script_of script.now)) }
-    ensures { IfOk result (λ found. IsCounterpartFor (script_of script.now) (specification_in specification.entry) (map action_of path.now) most (option_map counterpart_of found)) }
+    ensures { IfOk result (λ found. IsCounterpartFor (script_of script.now)
+        (specification_in specification.entry) (map action_of path.now) most
+        (option_map counterpart_of found)) }
 {
     match specification {
         Some(term) => Ok(Some(counterpart_along(alloc, script, term, path, most)?)),
@@ -53,7 +55,8 @@ fn counterpart_along<A: AllocHandle>(
     most: usize,
 ) -> Result<Counterpart<A>, Memory>
     requires { IsTermOf (script_of script.now) (process_of specification.now) }
-    ensures { IfOk result (λ found. IsCounterpart (script_of script.now) (process_of specification.now) (map action_of path.now) most (counterpart_of found)) }
+    ensures { IfOk result (λ found. IsCounterpart (script_of script.now)
+        (process_of specification.now) (map action_of path.now) most (counterpart_of found)) }
 {
     let along = states_along(alloc, script, specification, path, most)?;
     let Along::States(states) = along else {

@@ -41,7 +41,9 @@ pub(crate) fn push_doers<A: AllocHandle>(
     origin: &Origin<A>,
     text: &mut String<A>,
 ) -> Result<(), AllocError>
-    ensures { Writes result text.old text.new (doers_text (legend_of legend.now) (event_of seen.now) (pure.doers (origin_of origin.now))) }
+    ensures { Writes result text.old text.new
+        (doers_text (legend_of legend.now) (event_of seen.now)
+        (pure.doers (origin_of origin.now))) }
 {
     let all = doers_in(alloc, &[], origin)?;
     push_all(alloc, legend, seen, &all, text)
@@ -55,7 +57,8 @@ fn push_all<A: AllocHandle>(
     doers: &[Doer<'_, A>],
     text: &mut String<A>,
 ) -> Result<(), AllocError>
-    ensures { Writes result text.old text.new (doers_text (legend_of legend.now) (event_of seen.now) (doers_listed doers.now)) }
+    ensures { Writes result text.old text.new
+        (doers_text (legend_of legend.now) (event_of seen.now) (doers_listed doers.now)) }
 {
     match doers.split_first() {
         Some((first, others)) => {
@@ -73,7 +76,8 @@ fn push_doers_behind<A: AllocHandle>(
     doers: &[Doer<'_, A>],
     text: &mut String<A>,
 ) -> Result<(), AllocError>
-    ensures { Writes result text.old text.new (doers_behind (legend_of legend.now) (event_of seen.now) (doers_listed doers.now)) }
+    ensures { Writes result text.old text.new
+        (doers_behind (legend_of legend.now) (event_of seen.now) (doers_listed doers.now)) }
 {
     for doer in doers {
         push_doer(alloc, legend, seen, ", ", doer, text)?;
@@ -90,7 +94,8 @@ fn push_doer<A: AllocHandle>(
     doer: &Doer<'_, A>,
     text: &mut String<A>,
 ) -> Result<(), AllocError>
-    ensures { Writes result text.old text.new (doer_text (legend_of legend.now) (event_of seen.now) mark.now (doer_of doer.now)) }
+    ensures { Writes result text.old text.new
+        (doer_text (legend_of legend.now) (event_of seen.now) mark.now (doer_of doer.now)) }
 {
     if doer.way.is_empty() {
         return push_below(legend.names, seen, doer.event, text);
@@ -107,7 +112,8 @@ fn push_below<A: AllocHandle>(
     below: &Event<A>,
     text: &mut String<A>,
 ) -> Result<(), AllocError>
-    ensures { Writes result text.old text.new (below_text (names_of names.now) (event_of seen.now) (event_of below.now)) }
+    ensures { Writes result text.old text.new
+        (below_text (names_of names.now) (event_of seen.now) (event_of below.now)) }
 {
     if equal_events(seen, below) {
         return Ok(());
@@ -123,7 +129,8 @@ fn doers_in<'o, A: AllocHandle>(
     way: &[Side],
     origin: &'o Origin<A>,
 ) -> Result<Vec<Doer<'o, A>, A>, AllocError>
-    ensures { IfOk result (λ ds. doers_listed ds.items ≡ all_behind (map side_of way.now) (pure.doers (origin_of origin.now))) }
+    ensures { IfOk result (λ ds. doers_listed ds.items
+        ≡ all_behind (map side_of way.now) (pure.doers (origin_of origin.now))) }
 {
     match origin {
         Origin::Does(event) => by_itself(alloc, way, Some(event)),
@@ -149,7 +156,9 @@ fn doers_below<'o, A: AllocHandle>(
     passage: &Passage<A>,
     part: &'o Origin<A>,
 ) -> Result<Vec<Doer<'o, A>, A>, AllocError>
-    ensures { IfOk result (λ ds. doers_listed ds.items ≡ all_behind (map side_of way.now) (pure.doers (Below (passage_of passage.now) (origin_of part.now)))) }
+    ensures { IfOk result (λ ds. doers_listed ds.items
+        ≡ all_behind (map side_of way.now)
+        (pure.doers (Below (passage_of passage.now) (origin_of part.now)))) }
 {
     match passage {
         Passage::OnSide(side) => doers_on(alloc, way, *side, part),
@@ -171,7 +180,9 @@ fn doers_on<'o, A: AllocHandle>(
     side: Side,
     part: &'o Origin<A>,
 ) -> Result<Vec<Doer<'o, A>, A>, AllocError>
-    ensures { IfOk result (λ ds. doers_listed ds.items ≡ all_behind (map side_of way.now) (pure.all_further (side_of side) (pure.doers (origin_of part.now)))) }
+    ensures { IfOk result (λ ds. doers_listed ds.items
+        ≡ all_behind (map side_of way.now)
+        (pure.all_further (side_of side) (pure.doers (origin_of part.now)))) }
 {
     let further = longer(alloc, way, side)?;
     doers_in(alloc, &further, part)
@@ -183,7 +194,8 @@ fn by_itself<'o, A: AllocHandle>(
     way: &[Side],
     found: Option<&'o Event<A>>,
 ) -> Result<Vec<Doer<'o, A>, A>, AllocError>
-    ensures { IfOk result (λ ds. (x : value.Action) → seen_event x ≡ lent_event found.entry → doers_listed ds.items ≡ all_behind (map side_of way.now) (pure.by_itself x)) }
+    ensures { IfOk result (λ ds. (x : value.Action) → seen_event x ≡ lent_event found.entry
+        → doers_listed ds.items ≡ all_behind (map side_of way.now) (pure.by_itself x)) }
 {
     let mut all = Vec::new(alloc);
     let Some(event) = found else {
@@ -216,7 +228,8 @@ fn event_above<'o, A: AllocHandle>(
     passage: &'o Passage<A>,
     part: &'o Origin<A>,
 ) -> Option<&'o Event<A>>
-    ensures { seen_event (action.action_of (Below (passage_of passage.now) (origin_of part.now))) ≡ lent_event result }
+    ensures { seen_event (action.action_of (Below (passage_of passage.now) (origin_of part.now)))
+        ≡ lent_event result }
 {
     match passage {
         Passage::OnSide(_) => event_in(part),

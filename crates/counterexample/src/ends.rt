@@ -18,7 +18,8 @@ pub(crate) fn push_end<A: AllocHandle>(
     evidence: &Evidence<A>,
     text: &mut String<A>,
 ) -> Result<(), AllocError>
-    ensures { Writes result text.old text.new (end_text (names_of names.now) (evidence_of evidence.now)) }
+    ensures { Writes result text.old text.new
+        (end_text (names_of names.now) (evidence_of evidence.now)) }
 {
     match evidence {
         Evidence::Event(action) => {

@@ -30,7 +30,9 @@ pub(crate) fn push_events<A: AllocHandle>(
     origins: &[Option<Origin<A>>],
     text: &mut String<A>,
 ) -> Result<(), AllocError>
-    ensures { Writes result text.old text.new (events_text (names_of names.now) 1 [] (map action_of path.now) (origins_listed origins.now)) }
+    ensures { Writes result text.old text.new
+        (events_text (names_of names.now) 1 [] (map action_of path.now)
+        (origins_listed origins.now)) }
 {
     let mut parts = Vec::new(alloc);
     for (place, action) in path.iter().enumerate() {
@@ -79,7 +81,8 @@ pub(crate) fn push_last<A: AllocHandle>(
     states: &[Term<A>],
     text: &mut String<A>,
 ) -> Result<(), AllocError>
-    ensures { Writes result text.old text.new (last_line (names_of names.now) (process_of state.now) (map process_of states.now)) }
+    ensures { Writes result text.old text.new
+        (last_line (names_of names.now) (process_of state.now) (map process_of states.now)) }
 {
     let last = state_behind(states.len(), state, states);
     push_state(alloc, names, Width::Whole, last, text)

@@ -51,7 +51,8 @@ pub(crate) fn folded<A: AllocHandle>(
     telling: Telling,
     origins: &[Option<Origin<A>>],
 ) -> Result<Vec<EquationId, A>, AllocError>
-    ensures { IfOk result (λ equations. equations_listed equations.items ≡ folded (telling_of telling) (origins_listed origins.now)) }
+    ensures { IfOk result (λ equations. equations_listed equations.items
+        ≡ folded (telling_of telling) (origins_listed origins.now)) }
 {
     if folds(telling) {
         return unfoldings(alloc, origins);
@@ -64,7 +65,8 @@ fn unfoldings<A: AllocHandle>(
     alloc: A,
     origins: &[Option<Origin<A>>],
 ) -> Result<Vec<EquationId, A>, AllocError>
-    ensures { IfOk result (λ equations. equations_listed equations.items ≡ unfoldings (origins_listed origins.now)) }
+    ensures { IfOk result (λ equations. equations_listed equations.items
+        ≡ unfoldings (origins_listed origins.now)) }
 {
     let mut equations = Vec::new(alloc);
     for place in 0..origins.len() {
@@ -83,7 +85,8 @@ pub(crate) fn state_behind<'t, A: AllocHandle>(
     state: &'t Term<A>,
     states: &'t [Term<A>],
 ) -> &'t Term<A>
-    ensures { process_of result.now ≡ state_behind count (process_of state.now) (map process_of states.now) }
+    ensures { process_of result.now ≡ state_behind count (process_of state.now)
+        (map process_of states.now) }
 {
     let few = first_few(states, count);
     match few.last() {
@@ -98,7 +101,8 @@ pub(crate) fn push_then<A: AllocHandle>(
     equations: &[EquationId],
     text: &mut String<A>,
 ) -> Result<(), AllocError>
-    ensures { Writes result text.old text.new (then_text (names_of names.now) (equations_listed equations.now)) }
+    ensures { Writes result text.old text.new
+        (then_text (names_of names.now) (equations_listed equations.now)) }
 {
     match equations.split_first() {
         Some((first, others)) => {
@@ -115,7 +119,8 @@ fn push_names_behind<A: AllocHandle>(
     equations: &[EquationId],
     text: &mut String<A>,
 ) -> Result<(), AllocError>
-    ensures { Writes result text.old text.new (names_behind (names_of names.now) (equations_listed equations.now)) }
+    ensures { Writes result text.old text.new
+        (names_behind (names_of names.now) (equations_listed equations.now)) }
 {
     for equation in equations {
         push_name(names, ", ", *equation, text)?;

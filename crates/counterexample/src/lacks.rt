@@ -26,7 +26,9 @@ pub(crate) fn push_lack<A: AllocHandle>(
     acceptances: &[Vec<Action<A>, A>],
     text: &mut String<A>,
 ) -> Result<(), Memory>
-    ensures { Writes result text.old text.new (lack_text (names_of names.now) (evidence_of evidence.now) (map action_of initials.now) (offers_listed acceptances.now)) }
+    ensures { Writes result text.old text.new
+        (lack_text (names_of names.now) (evidence_of evidence.now) (map action_of initials.now)
+        (offers_listed acceptances.now)) }
 {
     match evidence {
         Evidence::Event(_) => {
@@ -45,7 +47,8 @@ fn push_initials<A: AllocHandle>(
     initials: &[Action<A>],
     text: &mut String<A>,
 ) -> Result<(), AllocError>
-    ensures { Writes result text.old text.new (initials_line (names_of names.now) (map action_of initials.now)) }
+    ensures { Writes result text.old text.new
+        (initials_line (names_of names.now) (map action_of initials.now)) }
 {
     push_mark("  there the specification can do no more than ", text)?;
     push_set(names, initials, text)?;
@@ -60,7 +63,9 @@ fn push_acceptances<A: AllocHandle>(
     acceptances: &[Vec<Action<A>, A>],
     text: &mut String<A>,
 ) -> Result<(), Memory>
-    ensures { Writes result text.old text.new (acceptances_text (names_of names.now) (map action_of offer.now) (offers_listed acceptances.now)) }
+    ensures { Writes result text.old text.new
+        (acceptances_text (names_of names.now) (map action_of offer.now)
+        (offers_listed acceptances.now)) }
 {
     if acceptances.is_empty() {
         push_mark("  there no state of the specification is stable\n", text)?;
@@ -76,7 +81,9 @@ fn push_acceptance_lines<A: AllocHandle>(
     acceptances: &[Vec<Action<A>, A>],
     text: &mut String<A>,
 ) -> Result<(), Memory>
-    ensures { Writes result text.old text.new (acceptance_lines (names_of names.now) (map action_of offer.now) (offers_listed acceptances.now)) }
+    ensures { Writes result text.old text.new
+        (acceptance_lines (names_of names.now) (map action_of offer.now)
+        (offers_listed acceptances.now)) }
 {
     for acceptance in acceptances {
         push_acceptance(alloc, names, offer, acceptance, text)?;
@@ -92,7 +99,9 @@ fn push_acceptance<A: AllocHandle>(
     acceptance: &[Action<A>],
     text: &mut String<A>,
 ) -> Result<(), Memory>
-    ensures { Writes result text.old text.new (acceptance_line (names_of names.now) (map action_of offer.now) (map action_of acceptance.now)) }
+    ensures { Writes result text.old text.new
+        (acceptance_line (names_of names.now) (map action_of offer.now)
+        (map action_of acceptance.now)) }
 {
     let lacks = lacking(alloc, offer, acceptance)?;
     push_mark("  there the specification may offer ", text)?;
@@ -109,7 +118,8 @@ pub(crate) fn lacking<A: AllocHandle>(
     offer: &[Action<A>],
     acceptance: &[Action<A>],
 ) -> Result<Vec<Action<A>, A>, Memory>
-    ensures { IfOk result (λ lacks. map action_of lacks.items ≡ lacking (map action_of offer.now) (map action_of acceptance.now)) }
+    ensures { IfOk result (λ lacks. map action_of lacks.items
+        ≡ lacking (map action_of offer.now) (map action_of acceptance.now)) }
 {
     let mut lacks = Vec::new(alloc);
     for action in acceptance {
@@ -127,7 +137,8 @@ pub(crate) fn push_set<A: AllocHandle>(
     actions: &[Action<A>],
     text: &mut String<A>,
 ) -> Result<(), AllocError>
-    ensures { Writes result text.old text.new (set_text (names_of names.now) (map action_of actions.now)) }
+    ensures { Writes result text.old text.new
+        (set_text (names_of names.now) (map action_of actions.now)) }
 {
     push_mark("{", text)?;
     push_actions(names, actions, text)?;

@@ -33,7 +33,8 @@ pub(crate) fn push_part<A: AllocHandle>(
     way: &[Side],
     text: &mut String<A>,
 ) -> Result<(), AllocError>
-    ensures { Writes result text.old text.new (part_text (legend_of legend.now) (map side_of way.now)) }
+    ensures { Writes result text.old text.new
+        (part_text (legend_of legend.now) (map side_of way.now)) }
 {
     push_way(way, text)?;
     let whole = joined(alloc, legend.way, way)?;
@@ -59,7 +60,8 @@ fn push_called<A: AllocHandle>(
     found: Option<EquationId>,
     text: &mut String<A>,
 ) -> Result<(), AllocError>
-    ensures { Writes result text.old text.new (called (names_of names.now) (option_map (λ n. n.0) found)) }
+    ensures { Writes result text.old text.new
+        (called (names_of names.now) (option_map (λ n. n.0) found)) }
 {
     let Some(equation) = found else {
         return Ok(());

@@ -53,7 +53,10 @@ fn origins_round<A: AllocHandle>(
     back: usize,
 ) -> Result<Vec<Option<Origin<A>>, A>, Memory>
     requires { back < length states.now }
-    ensures { IfOk result (λ origins. (again : Process) → slice_get (map process_of states.now) back ≡ Some again → AreOriginsAlong (script_of script.now) (replicate (length states.now) Tau) (map process_of states.now ++ again ∷ []) (origins_listed origins.items)) }
+    ensures { IfOk result (λ origins. (again : Process)
+        → slice_get (map process_of states.now) back ≡ Some again
+        → AreOriginsAlong (script_of script.now) (replicate (length states.now) Tau)
+        (map process_of states.now ++ again ∷ []) (origins_listed origins.items)) }
 {
     let parts = script.parts();
     let mut all = Vec::new(alloc);
@@ -71,7 +74,9 @@ fn origins_round<A: AllocHandle>(
 fn next_round<A: AllocHandle>(states: &[Term<A>], place: usize, back: usize) -> &Term<A>
     requires back { back < length states.now }
     requires place { place < length states.now }
-    ensures { (again : Process) → slice_get (map process_of states.now) back ≡ Some again → slice_get (map process_of states.now ++ again ∷ []) (place + 1) ≡ Some (process_of result.now) }
+    ensures { (again : Process) → slice_get (map process_of states.now) back ≡ Some again
+        → slice_get (map process_of states.now ++ again ∷ []) (place + 1)
+        ≡ Some (process_of result.now) }
 {
     match states.get(place + 1) {
         Some(next) => next,

@@ -33,7 +33,9 @@ pub(crate) fn push_loop<A: AllocHandle>(
 ) -> Result<(), AllocError>
     requires room { number < 2 ^ 63 }
     requires back { looping.now.back < length looping.now.states.items }
-    ensures { Writes result text.old text.new (loop_text (style_of style.now) (names_along [] (origins_listed before.now)) number (Some (loop_of looping.now))) }
+    ensures { Writes result text.old text.new
+        (loop_text (style_of style.now) (names_along [] (origins_listed before.now)) number
+        (Some (loop_of looping.now))) }
 {
     let count = looping.states.len();
     let told = taus_told(style.taus, &looping.states);
@@ -71,7 +73,9 @@ fn push_next<A: AllocHandle>(
     back: usize,
     text: &mut String<A>,
 ) -> Result<(), AllocError>
-    ensures { Writes result text.old text.new (next_text (style_of style.now) back (process_of state.now) (option_map (λ t. process_of t.now) next.entry)) }
+    ensures { Writes result text.old text.new
+        (next_text (style_of style.now) back (process_of state.now)
+        (option_map (λ t. process_of t.now) next.entry)) }
 {
     match next {
         Some(next) => push_behind(alloc, style.names, style.width, state, next, text),

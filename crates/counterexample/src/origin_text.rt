@@ -34,7 +34,9 @@ pub(crate) fn push_source<A: AllocHandle>(
     origin: &Option<Origin<A>>,
     text: &mut String<A>,
 ) -> Result<(), AllocError>
-    ensures { Writes result text.old text.new (source_text (legend_of legend.now) (action_of action.now) (option_map origin_of origin.now)) }
+    ensures { Writes result text.old text.new
+        (source_text (legend_of legend.now) (action_of action.now)
+        (option_map origin_of origin.now)) }
 {
     match action {
         Action::Tau => push_source_of_tau(alloc, legend, origin, text),
@@ -51,7 +53,9 @@ fn push_source_of_event<A: AllocHandle>(
     origin: &Option<Origin<A>>,
     text: &mut String<A>,
 ) -> Result<(), AllocError>
-    ensures { Writes result text.old text.new (source_text (legend_of legend.now) (Ev (event_of event.now)) (option_map origin_of origin.now)) }
+    ensures { Writes result text.old text.new
+        (source_text (legend_of legend.now) (Ev (event_of event.now))
+        (option_map origin_of origin.now)) }
 {
     match origin {
         Some(origin) => push_doers(alloc, legend, event, origin, text),
@@ -66,7 +70,8 @@ fn push_source_of_tau<A: AllocHandle>(
     origin: &Option<Origin<A>>,
     text: &mut String<A>,
 ) -> Result<(), AllocError>
-    ensures { Writes result text.old text.new (source_text (legend_of legend.now) Tau (option_map origin_of origin.now)) }
+    ensures { Writes result text.old text.new
+        (source_text (legend_of legend.now) Tau (option_map origin_of origin.now)) }
 {
     match origin {
         Some(origin) => push_origin(alloc, legend, ": ", origin, text),
@@ -83,7 +88,8 @@ fn push_origin<A: AllocHandle>(
     origin: &Origin<A>,
     text: &mut String<A>,
 ) -> Result<(), AllocError>
-    ensures { Writes result text.old text.new (origin_text (legend_of legend.now) mark.now (origin_of origin.now)) }
+    ensures { Writes result text.old text.new
+        (origin_text (legend_of legend.now) mark.now (origin_of origin.now)) }
 {
     match origin {
         Origin::Does(event) => push_seen(legend, event, text),
@@ -114,7 +120,8 @@ fn push_call<A: AllocHandle>(
     equation: EquationId,
     text: &mut String<A>,
 ) -> Result<(), AllocError>
-    ensures { Writes result text.old text.new (codes ": unfolds " ++ name_at (names_of names.now).equations equation.0) }
+    ensures { Writes result text.old text.new
+        (codes ": unfolds " ++ name_at (names_of names.now).equations equation.0) }
 {
     push_mark(": unfolds ", text)?;
     names.push_equation(equation, text)
@@ -126,7 +133,9 @@ fn push_choice<A: AllocHandle>(
     side: Side,
     text: &mut String<A>,
 ) -> Result<(), AllocError>
-    ensures { Writes result text.old text.new (name_here (legend_of legend.now) ++ (codes ": chooses its " ++ (side_text (side_of side) ++ codes " side"))) }
+    ensures { Writes result text.old text.new
+        (name_here (legend_of legend.now)
+        ++ (codes ": chooses its " ++ (side_text (side_of side) ++ codes " side"))) }
 {
     push_name_here(legend, text)?;
     push_mark(": chooses its ", text)?;
@@ -140,7 +149,9 @@ fn push_seen<A: AllocHandle>(
     event: &Event<A>,
     text: &mut String<A>,
 ) -> Result<(), AllocError>
-    ensures { Writes result text.old text.new (name_here (legend_of legend.now) ++ (codes ": " ++ event_text (legend_of legend.now).names (event_of event.now))) }
+    ensures { Writes result text.old text.new
+        (name_here (legend_of legend.now)
+        ++ (codes ": " ++ event_text (legend_of legend.now).names (event_of event.now))) }
 {
     push_name_here(legend, text)?;
     push_mark(": ", text)?;
@@ -157,7 +168,9 @@ fn push_below<A: AllocHandle>(
     part: &Origin<A>,
     text: &mut String<A>,
 ) -> Result<(), AllocError>
-    ensures { Writes result text.old text.new (origin_text (legend_of legend.now) mark.now (Below (passage_of passage.now) (origin_of part.now))) }
+    ensures { Writes result text.old text.new
+        (origin_text (legend_of legend.now) mark.now
+        (Below (passage_of passage.now) (origin_of part.now))) }
 {
     match passage {
         Passage::OnSide(side) => push_below_side(alloc, legend, mark, *side, part, text),
@@ -180,7 +193,11 @@ fn push_done<A: AllocHandle>(
     part: &Origin<A>,
     text: &mut String<A>,
 ) -> Result<(), AllocError>
-    ensures { Writes result text.old text.new (name_here (legend_of legend.now) ++ (mark.now ++ (event_text (legend_of legend.now).names (event_of event.now) ++ doers_text (legend_of legend.now) (event_of event.now) (doers (origin_of part.now))))) }
+    ensures { Writes result text.old text.new
+        (name_here (legend_of legend.now)
+        ++ (mark.now
+        ++ (event_text (legend_of legend.now).names (event_of event.now)
+        ++ doers_text (legend_of legend.now) (event_of event.now) (doers (origin_of part.now))))) }
 {
     push_name_here(legend, text)?;
     push_mark(mark, text)?;
@@ -198,7 +215,9 @@ fn push_below_side<A: AllocHandle>(
     part: &Origin<A>,
     text: &mut String<A>,
 ) -> Result<(), AllocError>
-    ensures { Writes result text.old text.new (origin_text (legend_of legend.now) mark.now (Below (OnSide (side_of side)) (origin_of part.now))) }
+    ensures { Writes result text.old text.new
+        (origin_text (legend_of legend.now) mark.now
+        (Below (OnSide (side_of side)) (origin_of part.now))) }
 {
     push_mark(mark, text)?;
     push_side(side, text)?;
@@ -221,7 +240,9 @@ fn push_below_branch<A: AllocHandle>(
     part: &Origin<A>,
     text: &mut String<A>,
 ) -> Result<(), AllocError>
-    ensures { Writes result text.old text.new (origin_text (legend_of legend.now) mark.now (Below (OnBranch (side_of side)) (origin_of part.now))) }
+    ensures { Writes result text.old text.new
+        (origin_text (legend_of legend.now) mark.now
+        (Below (OnBranch (side_of side)) (origin_of part.now))) }
 {
     push_mark(mark, text)?;
     push_side(side, text)?;

@@ -20,7 +20,8 @@ pub fn origins_along<A: AllocHandle>(
     states: &[Term<A>],
 ) -> Result<Vec<Option<Origin<A>>, A>, Memory>
     requires { length states.now ≡ suc (length path.now) }
-    ensures { IfOk result (λ origins. AreOriginsAlong (script_of script.now) (map action_of path.now) (map process_of states.now) (origins_listed origins.items)) }
+    ensures { IfOk result (λ origins. AreOriginsAlong (script_of script.now)
+        (map action_of path.now) (map process_of states.now) (origins_listed origins.items)) }
 {
     let parts = script.parts();
     let mut all = Vec::new(alloc);

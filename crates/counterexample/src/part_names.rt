@@ -25,7 +25,8 @@ pub(crate) struct PartName<A: AllocHandle> {
 
 /// The equation by which the part at the way is told, if there is one.
 pub(crate) fn name_of<A: AllocHandle>(parts: &[PartName<A>], way: &[Side]) -> Option<EquationId>
-    ensures { option_map (λ n. n.0) result ≡ name_of (part_names_listed parts.now) (map side_of way.now) }
+    ensures { option_map (λ n. n.0) result ≡ name_of (part_names_listed parts.now)
+        (map side_of way.now) }
 {
     for part in parts {
         if same_way(&part.way, way) {
@@ -40,7 +41,8 @@ pub(crate) fn names_along<A: AllocHandle>(
     alloc: A,
     origins: &[Option<Origin<A>>],
 ) -> Result<Vec<PartName<A>, A>, AllocError>
-    ensures { IfOk result (λ parts. part_names_listed parts.items ≡ names_along [] (origins_listed origins.now)) }
+    ensures { IfOk result (λ parts. part_names_listed parts.items
+        ≡ names_along [] (origins_listed origins.now)) }
 {
     let mut parts = Vec::new(alloc);
     for origin in origins {
@@ -55,7 +57,8 @@ pub(crate) fn put_unfolded<A: AllocHandle>(
     origin: &Option<Origin<A>>,
     parts: &mut Vec<PartName<A>, A>,
 ) -> Result<(), AllocError>
-    ensures { OnOk result (part_names_listed parts.new.items ≡ names_behind (part_names_listed parts.old.items) (option_map origin_of origin.now)) }
+    ensures { OnOk result (part_names_listed parts.new.items
+        ≡ names_behind (part_names_listed parts.old.items) (option_map origin_of origin.now)) }
 {
     match origin {
         Some(origin) => put_from(alloc, origin, parts),
@@ -69,7 +72,8 @@ fn put_from<A: AllocHandle>(
     origin: &Origin<A>,
     parts: &mut Vec<PartName<A>, A>,
 ) -> Result<(), AllocError>
-    ensures { OnOk result (part_names_listed parts.new.items ≡ with_name (part_names_listed parts.old.items) (unfolded (origin_of origin.now))) }
+    ensures { OnOk result (part_names_listed parts.new.items
+        ≡ with_name (part_names_listed parts.old.items) (unfolded (origin_of origin.now))) }
 {
     let found = unfolded_in(alloc, origin)?;
     match found {
@@ -83,7 +87,8 @@ fn put_name<A: AllocHandle>(
     name: PartName<A>,
     parts: &mut Vec<PartName<A>, A>,
 ) -> Result<(), AllocError>
-    ensures { OnOk result (part_names_listed parts.new.items ≡ with_name (part_names_listed parts.old.items) (Some (part_name_of name))) }
+    ensures { OnOk result (part_names_listed parts.new.items
+        ≡ with_name (part_names_listed parts.old.items) (Some (part_name_of name))) }
 {
     take_out(&name.way, parts);
     parts.push(name)?;
@@ -92,7 +97,8 @@ fn put_name<A: AllocHandle>(
 
 // Takes out the name that was told at the way.
 fn take_out<A: AllocHandle>(way: &[Side], parts: &mut Vec<PartName<A>, A>)
-    ensures { part_names_listed parts.new.items ≡ filter (λ d. not (is_at (map side_of way.now) d)) (part_names_listed parts.old.items) }
+    ensures { part_names_listed parts.new.items ≡ filter (λ d. not (is_at (map side_of way.now) d))
+        (part_names_listed parts.old.items) }
 {
     parts.retain(
         |part: &PartName<A>| -> bool

@@ -24,7 +24,9 @@ pub fn push_path<A: AllocHandle>(
     run: &Run<'_, A>,
     text: &mut String<A>,
 ) -> Result<(), AllocError>
-    ensures { Writes result text.old text.new (path_text (style_of style.now) (map action_of path.now) (map process_of run.now.states.now) (origins_listed run.now.origins.now) []) }
+    ensures { Writes result text.old text.new
+        (path_text (style_of style.now) (map action_of path.now) (map process_of run.now.states.now)
+        (origins_listed run.now.origins.now) []) }
 {
     let none: Vec<Vec<Term<A>, A>, A> = Vec::new(alloc);
     push_path_beside(alloc, style, path, run, &none, text)
@@ -39,7 +41,9 @@ pub(crate) fn push_path_beside<A: AllocHandle>(
     along: &[Vec<Term<A>, A>],
     text: &mut String<A>,
 ) -> Result<(), AllocError>
-    ensures { Writes result text.old text.new (path_text (style_of style.now) (map action_of path.now) (map process_of run.now.states.now) (origins_listed run.now.origins.now) (states_listed along.now)) }
+    ensures { Writes result text.old text.new
+        (path_text (style_of style.now) (map action_of path.now) (map process_of run.now.states.now)
+        (origins_listed run.now.origins.now) (states_listed along.now)) }
 {
     let Some((start, states)) = run.states.split_first() else {
         return Ok(());

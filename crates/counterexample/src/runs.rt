@@ -27,7 +27,9 @@ pub(crate) fn push_run<A: AllocHandle>(
     along: &[Vec<Term<A>, A>],
     text: &mut String<A>,
 ) -> Result<(), AllocError>
-    ensures { Writes result text.old text.new (run_text (style_of style.now) (violation_of shown.now) (map process_of run.now.states.now) (origins_listed run.now.origins.now) (states_listed along.now)) }
+    ensures { Writes result text.old text.new
+        (run_text (style_of style.now) (violation_of shown.now) (map process_of run.now.states.now)
+        (origins_listed run.now.origins.now) (states_listed along.now)) }
 {
     push_path_beside(alloc, style, &shown.path, run, along, text)?;
     push_end(style.names, &shown.evidence, text)
@@ -41,7 +43,9 @@ pub(crate) fn push_run_alone<A: AllocHandle>(
     run: &Run<'_, A>,
     text: &mut String<A>,
 ) -> Result<(), AllocError>
-    ensures { Writes result text.old text.new (run_text (style_of style.now) (violation_of shown.now) (map process_of run.now.states.now) (origins_listed run.now.origins.now) []) }
+    ensures { Writes result text.old text.new
+        (run_text (style_of style.now) (violation_of shown.now) (map process_of run.now.states.now)
+        (origins_listed run.now.origins.now) []) }
 {
     let none: Vec<Vec<Term<A>, A>, A> = Vec::new(alloc);
     push_run(alloc, style, shown, run, &none, text)

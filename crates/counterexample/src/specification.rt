@@ -21,7 +21,9 @@ pub(crate) fn push_specification<A: AllocHandle>(
     states: &[Term<A>],
     text: &mut String<A>,
 ) -> Result<(), AllocError>
-    ensures { Writes result text.old text.new (specification_text (names_of style.now.names.now) (width_of style.now.width) style.now.few (map process_of states.now)) }
+    ensures { Writes result text.old text.new
+        (specification_text (names_of style.now.names.now) (width_of style.now.width) style.now.few
+        (map process_of states.now)) }
 {
     let first = first_few(states, style.few);
     push_lines(alloc, style, first, text)?;
@@ -46,7 +48,9 @@ fn push_lines<A: AllocHandle>(
     states: &[Term<A>],
     text: &mut String<A>,
 ) -> Result<(), AllocError>
-    ensures { Writes result text.old text.new (specification_lines (names_of style.now.names.now) (width_of style.now.width) (map process_of states.now)) }
+    ensures { Writes result text.old text.new
+        (specification_lines (names_of style.now.names.now) (width_of style.now.width)
+        (map process_of states.now)) }
 {
     for state in states {
         push_line(alloc, style, state, text)?;
@@ -61,7 +65,9 @@ fn push_line<A: AllocHandle>(
     state: &Term<A>,
     text: &mut String<A>,
 ) -> Result<(), AllocError>
-    ensures { Writes result text.old text.new (specification_line (names_of style.now.names.now) (width_of style.now.width) (process_of state.now)) }
+    ensures { Writes result text.old text.new
+        (specification_line (names_of style.now.names.now) (width_of style.now.width)
+        (process_of state.now)) }
 {
     let mut whole = String::new(alloc);
     push_term(style.names, state, &mut whole)?;

@@ -45,7 +45,8 @@ fn standing_by<'t, A: AllocHandle>(
     left: &'t Term<A>,
     right: &'t Term<A>,
 ) -> Standing<'t, A>
-    ensures { standing_of result ≡ standing (binary_process operator (process_of left.now) (process_of right.now)) }
+    ensures { standing_of result
+        ≡ standing (binary_process operator (process_of left.now) (process_of right.now)) }
 {
     match operator {
         ProcessOperator::Interleaving => Standing::Beside(left, right),

@@ -26,7 +26,9 @@ pub(crate) fn push_state<A: AllocHandle>(
     state: &Term<A>,
     text: &mut String<A>,
 ) -> Result<(), AllocError>
-    ensures { Writes result text.old text.new (state_line (cut (width_of width) (process_text (names_of names.now) (process_of state.now)))) }
+    ensures { Writes result text.old text.new
+        (state_line (cut (width_of width)
+        (process_text (names_of names.now) (process_of state.now)))) }
 {
     let whole = term_text(alloc, names, state)?;
     push_mark("      ", text)?;
@@ -43,7 +45,9 @@ pub(crate) fn push_behind<A: AllocHandle>(
     state: &Term<A>,
     text: &mut String<A>,
 ) -> Result<(), AllocError>
-    ensures { Writes result text.old text.new (behind_line (names_of names.now) (width_of width) (process_of before.now) (process_of state.now)) }
+    ensures { Writes result text.old text.new
+        (behind_line (names_of names.now) (width_of width) (process_of before.now)
+        (process_of state.now)) }
 {
     let old = term_text(alloc, names, before)?;
     let new = term_text(alloc, names, state)?;
@@ -89,7 +93,8 @@ fn term_text<A: AllocHandle>(
     names: &Names<'_, A>,
     term: &Term<A>,
 ) -> Result<String<A>, AllocError>
-    ensures { IfOk result (λ text. string_bytes text ≡ process_text (names_of names.now) (process_of term.now)) }
+    ensures { IfOk result (λ text. string_bytes text
+        ≡ process_text (names_of names.now) (process_of term.now)) }
 {
     let mut text = String::new(alloc);
     push_term(names, term, &mut text)?;

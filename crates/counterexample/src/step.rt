@@ -43,7 +43,10 @@ pub(crate) fn push_step<A: AllocHandle>(
     step: &Step<'_, A>,
     text: &mut String<A>,
 ) -> Result<(), AllocError>
-    ensures { Writes result text.old text.new (step_line (legend (names_of names.now) (part_names_listed parts.now)) step.now.number (action_of step.now.action.now) (option_map origin_of step.now.origin.now) (equations_listed step.now.equations.now)) }
+    ensures { Writes result text.old text.new
+        (step_line (legend (names_of names.now) (part_names_listed parts.now)) step.now.number
+        (action_of step.now.action.now) (option_map origin_of step.now.origin.now)
+        (equations_listed step.now.equations.now)) }
 {
     push_mark("  ", text)?;
     push_number(step.number, text)?;

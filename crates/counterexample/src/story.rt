@@ -84,7 +84,9 @@ fn push_start<A: AllocHandle>(
     path: &[Action<A>],
     text: &mut String<A>,
 ) -> Result<(), AllocError>
-    ensures { Writes result text.old text.new (start_line (style_of style.now) (equations_listed equations.now) (process_of state.now) (map action_of path.now)) }
+    ensures { Writes result text.old text.new
+        (start_line (style_of style.now) (equations_listed equations.now) (process_of state.now)
+        (map action_of path.now)) }
 {
     push_mark("  0 start", text)?;
     push_then(style.names, equations, text)?;
@@ -101,7 +103,8 @@ fn push_steps<A: AllocHandle>(
     state: &Term<A>,
     text: &mut String<A>,
 ) -> Result<(), AllocError>
-    ensures { Writes result text.old text.new (steps_of (style_of style.now) story.now (process_of state.now)) }
+    ensures { Writes result text.old text.new
+        (steps_of (style_of style.now) story.now (process_of state.now)) }
 {
     let mut told = state;
     let mut parts = Vec::new(alloc);
@@ -136,7 +139,8 @@ fn push_steps<A: AllocHandle>(
 
 // How much is told of the state behind so many steps of the path: the last one is told whole.
 fn width_behind<A: AllocHandle>(width: Width, path: &[Action<A>], count: usize) -> Width
-    ensures { width_of result ≡ width_before (width_of width) (drop count (map action_of path.now)) }
+    ensures { width_of result ≡ width_before (width_of width)
+        (drop count (map action_of path.now)) }
 {
     if path.len() <= count {
         Width::Whole
@@ -154,7 +158,9 @@ fn push_beside<A: AllocHandle>(
     place: usize,
     text: &mut String<A>,
 ) -> Result<(), AllocError>
-    ensures { Writes result text.old text.new (beside_text (style_of style.now) (action_of action.now) (drop place (states_listed along.now))) }
+    ensures { Writes result text.old text.new
+        (beside_text (style_of style.now) (action_of action.now)
+        (drop place (states_listed along.now))) }
 {
     match action {
         Action::Tau => Ok(()),
@@ -171,7 +177,8 @@ fn push_first<A: AllocHandle>(
     place: usize,
     text: &mut String<A>,
 ) -> Result<(), AllocError>
-    ensures { Writes result text.old text.new (first_text (style_of style.now) (drop place (states_listed along.now))) }
+    ensures { Writes result text.old text.new
+        (first_text (style_of style.now) (drop place (states_listed along.now))) }
 {
     let found = along.get(place);
     let Some(states) = found else {

@@ -36,7 +36,9 @@ pub fn push_counterexample<A: AllocHandle>(
     text: &mut String<A>,
 ) -> Result<(), Memory>
     requires round { GoesRound counterexample.now.looping }
-    ensures { Writes result text.old text.new (counterexample_text (style_of style.now) (violation_of shown.now) (counterexample_of counterexample.now)) }
+    ensures { Writes result text.old text.new
+        (counterexample_text (style_of style.now) (violation_of shown.now)
+        (counterexample_of counterexample.now)) }
 {
     push_sides(alloc, style, shown, counterexample, text)?;
     let origins = &counterexample.origins;
@@ -63,7 +65,9 @@ fn push_looping<A: AllocHandle>(
 ) -> Result<(), AllocError>
     requires room { number < 2 ^ 63 }
     requires round { GoesRound looping.now }
-    ensures { Writes result text.old text.new (loop_text (style_of style.now) (names_along [] (origins_listed origins.now)) number (option_map loop_of looping.now)) }
+    ensures { Writes result text.old text.new
+        (loop_text (style_of style.now) (names_along [] (origins_listed origins.now)) number
+        (option_map loop_of looping.now)) }
 {
     match looping {
         Some(looping) => push_loop(alloc, style, origins, number, looping, text),
@@ -79,7 +83,9 @@ fn push_sides<A: AllocHandle>(
     counterexample: &Counterexample<A>,
     text: &mut String<A>,
 ) -> Result<(), Memory>
-    ensures { Writes result text.old text.new (sides_text (style_of style.now) (violation_of shown.now) (counterexample_of counterexample.now)) }
+    ensures { Writes result text.old text.new
+        (sides_text (style_of style.now) (violation_of shown.now)
+        (counterexample_of counterexample.now)) }
 {
     let run = Run {
         states: &counterexample.states,
@@ -103,7 +109,10 @@ fn push_beside<A: AllocHandle>(
     counterpart: &Counterpart<A>,
     text: &mut String<A>,
 ) -> Result<(), Memory>
-    ensures { Writes result text.old text.new (text_beside (style_of style.now) (violation_of shown.now) (map process_of run.now.states.now) (origins_listed run.now.origins.now) (Some (counterpart_of counterpart.now))) }
+    ensures { Writes result text.old text.new
+        (text_beside (style_of style.now) (violation_of shown.now)
+        (map process_of run.now.states.now) (origins_listed run.now.origins.now)
+        (Some (counterpart_of counterpart.now))) }
 {
     match counterpart {
         Counterpart::Along {

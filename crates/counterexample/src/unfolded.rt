@@ -42,7 +42,8 @@ fn name_above<A: AllocHandle>(
     passage: &Passage<A>,
     below: Option<PartName<A>>,
 ) -> Result<Option<PartName<A>>, AllocError>
-    ensures { IfOk result (λ d. option_map part_name_of d ≡ name_above (passage_of passage.now) (option_map part_name_of below)) }
+    ensures { IfOk result (λ d. option_map part_name_of d
+        ≡ name_above (passage_of passage.now) (option_map part_name_of below)) }
 {
     match passage {
         Passage::OnSide(side) => name_further(alloc, *side, below),
@@ -62,7 +63,8 @@ fn name_further<A: AllocHandle>(
     side: Side,
     below: Option<PartName<A>>,
 ) -> Result<Option<PartName<A>>, AllocError>
-    ensures { IfOk result (λ d. option_map part_name_of d ≡ option_map (name_further (side_of side)) (option_map part_name_of below)) }
+    ensures { IfOk result (λ d. option_map part_name_of d
+        ≡ option_map (name_further (side_of side)) (option_map part_name_of below)) }
 {
     let Some(name) = below else {
         return Ok(None);

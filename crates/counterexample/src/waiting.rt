@@ -38,7 +38,8 @@ pub(crate) fn waiting_at<A: AllocHandle>(
     state: &Term<A>,
 ) -> Result<Vec<Waiting<A>, A>, Memory>
     requires { IsTermOf (script_of script.now) (process_of state.now) }
-    ensures { IfOk result (λ ws. AreWaitingFor (script_of script.now) (evidence_of evidence.now) (process_of state.now) (map waiting_of ws.items)) }
+    ensures { IfOk result (λ ws. AreWaitingFor (script_of script.now) (evidence_of evidence.now)
+        (process_of state.now) (map waiting_of ws.items)) }
 {
     match evidence {
         Evidence::Event(_) => Ok(Vec::new(alloc)),
@@ -57,7 +58,9 @@ fn parts_in<A: AllocHandle>(
     term: &Term<A>,
 ) -> Result<Vec<Waiting<A>, A>, Memory>
     requires { IsTermOf (script_of script.now) (process_of term.now) }
-    ensures { IfOk result (λ ws. AreWaiting (script_of script.now) (all_placed_behind (map side_of way.now) (placed_parts (process_of term.now))) (map waiting_of ws.items)) }
+    ensures { IfOk result (λ ws. AreWaiting (script_of script.now)
+        (all_placed_behind (map side_of way.now) (placed_parts (process_of term.now)))
+        (map waiting_of ws.items)) }
 {
     match standing_in(term) {
         Standing::Beside(left, right) => parts_of_both(alloc, script, way, left, right),
@@ -77,7 +80,10 @@ fn parts_of_both<A: AllocHandle>(
 ) -> Result<Vec<Waiting<A>, A>, Memory>
     requires left { IsTermOf (script_of script.now) (process_of left.now) }
     requires right { IsTermOf (script_of script.now) (process_of right.now) }
-    ensures { IfOk result (λ ws. AreWaiting (script_of script.now) (all_placed_behind (map side_of way.now) (placed_on Left (placed_parts (process_of left.now)) ++ placed_on Right (placed_parts (process_of right.now)))) (map waiting_of ws.items)) }
+    ensures { IfOk result (λ ws. AreWaiting (script_of script.now)
+        (all_placed_behind (map side_of way.now)
+        (placed_on Left (placed_parts (process_of left.now))
+        ++ placed_on Right (placed_parts (process_of right.now)))) (map waiting_of ws.items)) }
 {
     let on_left = longer(alloc, way, Side::Left)?;
     let mut all = parts_in(alloc, script, &on_left, left)?;
@@ -95,7 +101,8 @@ fn one_part<A: AllocHandle>(
     term: &Term<A>,
 ) -> Result<Vec<Waiting<A>, A>, Memory>
     requires { IsTermOf (script_of script.now) (process_of term.now) }
-    ensures { IfOk result (λ ws. IsOnePart (script_of script.now) (map side_of way.now) (process_of term.now) (map waiting_of ws.items)) }
+    ensures { IfOk result (λ ws. IsOnePart (script_of script.now) (map side_of way.now)
+        (process_of term.now) (map waiting_of ws.items)) }
 {
     let mut alone = Vec::new(alloc);
     alone.push(term.try_copy(alloc)?)?;

@@ -27,7 +27,9 @@ pub(crate) fn push_parts<A: AllocHandle>(
     waiting: &[Waiting<A>],
     text: &mut String<A>,
 ) -> Result<(), AllocError>
-    ensures { Writes result text.old text.new (parts_text (style_of style.now) (names_along [] (origins_listed origins.now)) (map waiting_of waiting.now)) }
+    ensures { Writes result text.old text.new
+        (parts_text (style_of style.now) (names_along [] (origins_listed origins.now))
+        (map waiting_of waiting.now)) }
 {
     if waiting.len() < 2 {
         return Ok(());
@@ -43,7 +45,9 @@ fn push_all_waiting<A: AllocHandle>(
     waiting: &[Waiting<A>],
     text: &mut String<A>,
 ) -> Result<(), AllocError>
-    ensures { Writes result text.old text.new (all_waiting (style_of style.now) (part_names_listed parts.now) (map waiting_of waiting.now)) }
+    ensures { Writes result text.old text.new
+        (all_waiting (style_of style.now) (part_names_listed parts.now)
+        (map waiting_of waiting.now)) }
 {
     for part in waiting {
         push_waiting(alloc, style, parts, part, text)?;
@@ -59,7 +63,8 @@ fn push_waiting<A: AllocHandle>(
     part: &Waiting<A>,
     text: &mut String<A>,
 ) -> Result<(), AllocError>
-    ensures { Writes result text.old text.new (waiting_text (style_of style.now) (part_names_listed parts.now) (waiting_of part.now)) }
+    ensures { Writes result text.old text.new
+        (waiting_text (style_of style.now) (part_names_listed parts.now) (waiting_of part.now)) }
 {
     push_mark("  by itself ", text)?;
     let legend = Legend {

@@ -39,7 +39,8 @@ pub(crate) fn longer<A: AllocHandle>(
     way: &[Side],
     side: Side,
 ) -> Result<Vec<Side, A>, AllocError>
-    ensures { IfOk result (λ further. map side_of further.items ≡ map side_of way.now ++ side_of side ∷ []) }
+    ensures { IfOk result (λ further. map side_of further.items
+        ≡ map side_of way.now ++ side_of side ∷ []) }
 {
     let mut further = Vec::from_slice(alloc, way)?;
     further.push(side)?;
@@ -52,7 +53,8 @@ pub(crate) fn joined<A: AllocHandle>(
     way: &[Side],
     other: &[Side],
 ) -> Result<Vec<Side, A>, AllocError>
-    ensures { IfOk result (λ whole. map side_of whole.items ≡ map side_of way.now ++ map side_of other.now) }
+    ensures { IfOk result (λ whole. map side_of whole.items
+        ≡ map side_of way.now ++ map side_of other.now) }
 {
     let mut whole = Vec::from_slice(alloc, way)?;
     whole.extend_from_slice(other)?;

@@ -62,7 +62,8 @@ fn character_count(text: &str) -> usize
 
 // So many characters of the text.
 fn beginning_of<A: Allocator>(alloc: A, most: usize, text: &str) -> Result<String<A>, AllocError>
-    ensures { IfOk result (λ beginning. string_bytes beginning ≡ encode_utf8_all (take most (chars text.now))) }
+    ensures { IfOk result (λ beginning. string_bytes beginning
+        ≡ encode_utf8_all (take most (chars text.now))) }
 {
     text.chars().take(most).collect(alloc)
 }

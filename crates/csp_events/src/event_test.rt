@@ -42,7 +42,8 @@ pub fn field_sets<A: AllocHandle>(
     channels: &[Channel<A>],
     channel: ChannelId,
 ) -> Result<&[FieldSet<A>], NoValue>
-    ensures { (types : TypeTable A) → AreSetsOf result (field_sets (declaring types channels.now) channel.0) }
+    ensures { (types : TypeTable A) → AreSetsOf result
+        (field_sets (declaring types channels.now) channel.0) }
 {
     match channels.get(channel.0 as usize) {
         Some(declared) => Ok(&declared.fields),
@@ -57,7 +58,8 @@ fn given_values<A: AllocHandle>(
     fields: &[Expr<A>],
     sets: &[FieldSet<A>],
 ) -> Result<SmallVec<Value<A>, 2, A>, NoValue>
-    ensures { AreGivenBy result (given_values (table_of types.now) (to_expressions (expressions_of fields.now)) (sets_of sets.now)) }
+    ensures { AreGivenBy result (given_values (table_of types.now)
+        (to_expressions (expressions_of fields.now)) (sets_of sets.now)) }
 {
     let mut values = SmallVec::new(alloc);
     for (place, field) in fields.iter().enumerate() {
@@ -76,7 +78,8 @@ fn beginning<A: AllocHandle>(
     channels: &[Channel<A>],
     written: &EventExpression<A>,
 ) -> Result<Event<A>, NoValue>
-    ensures { IsEventOf result (beginning_of (declaring types.now channels.now) (event_expression_of written.now)) }
+    ensures { IsEventOf result (beginning_of (declaring types.now channels.now)
+        (event_expression_of written.now)) }
 {
     let channel = written.channel;
     let sets = field_sets(channels, channel)?;
@@ -91,7 +94,8 @@ pub fn whole_event<A: AllocHandle>(
     channels: &[Channel<A>],
     written: &EventExpression<A>,
 ) -> Result<Event<A>, NoValue>
-    ensures { IsEventOf result (written_event (declaring types.now channels.now) (event_expression_of written.now)) }
+    ensures { IsEventOf result (written_event (declaring types.now channels.now)
+        (event_expression_of written.now)) }
 {
     let event = beginning(alloc, types, channels, written)?;
     let sets = field_sets(channels, written.channel)?;
@@ -108,7 +112,8 @@ fn events<A: AllocHandle>(
     channels: &[Channel<A>],
     written: &[EventExpression<A>],
 ) -> Result<EventTest<A>, NoValue>
-    ensures { IsTestOf result (event_test (declaring types.now channels.now) (Enumeration (event_expressions_of written.now))) }
+    ensures { IsTestOf result (event_test (declaring types.now channels.now)
+        (Enumeration (event_expressions_of written.now))) }
 {
     let mut events = Vec::new(alloc);
     for event in written {
@@ -124,7 +129,8 @@ fn beginnings<A: AllocHandle>(
     channels: &[Channel<A>],
     written: &[EventExpression<A>],
 ) -> Result<EventTest<A>, NoValue>
-    ensures { IsTestOf result (event_test (declaring types.now channels.now) (Productions (event_expressions_of written.now))) }
+    ensures { IsTestOf result (event_test (declaring types.now channels.now)
+        (Productions (event_expressions_of written.now))) }
 {
     let mut events = Vec::new(alloc);
     for event in written {
@@ -141,7 +147,8 @@ fn boxed<A: AllocHandle>(
     channels: &[Channel<A>],
     set: &EventSet<A>,
 ) -> Result<Box<EventTest<A>, A>, NoValue>
-    ensures { IsBoxedTestOf result (event_test (declaring types.now channels.now) (event_set_of set.now)) }
+    ensures { IsBoxedTestOf result (event_test (declaring types.now channels.now)
+        (event_set_of set.now)) }
 {
     Ok(Box::new(alloc, EventTest::of(alloc, types, channels, set)?)?)
 }
@@ -175,11 +182,13 @@ fn is_beginning<A: AllocHandle>(
     fields: &[Value<A>],
 ) -> bool
     requires { IsSortedBy (λ e f. is_lt (event_cmp (event_of e) (event_of f))) beginnings.now }
-    ensures { result ≡ list_any (event_eq (event_with channel fields.now)) (map event_of beginnings.now) }
+    ensures { result ≡ list_any (event_eq (event_with channel fields.now))
+        (map event_of beginnings.now) }
 {
     let found = beginnings.binary_search_by(
         |beginning: &Event<A>| -> Ordering
-            ensures { result ≡ event_cmp (event_of beginning.now) (event_with channel fields.entry.now) }
+            ensures { result ≡ event_cmp (event_of beginning.now)
+                (event_with channel fields.entry.now) }
         { compared(beginning, channel, fields) },
     );
     found.is_ok()
@@ -210,7 +219,8 @@ impl<A: AllocHandle> EventTest<A> {
         channels: &[Channel<A>],
         set: &EventSet<A>,
     ) -> Result<EventTest<A>, NoValue>
-        ensures { IsTestOf result (event_test (declaring types.now channels.now) (event_set_of set.now)) }
+        ensures { IsTestOf result (event_test (declaring types.now channels.now)
+            (event_set_of set.now)) }
     {
         match set {
             EventSet::Enumeration(written) => events(alloc, types, channels, written),

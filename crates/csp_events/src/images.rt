@@ -35,7 +35,8 @@ fn is_bare<A: AllocHandle>(written: &EventExpression<A>) -> bool
 
 /// Whether the pair names channels, so that each event of the first is renamed.
 pub fn are_channels<A: AllocHandle>(pair: &RenamingPair<A>) -> bool
-    ensures { result ≡ is_bare (event_expression_of pair.now.from) && is_bare (event_expression_of pair.now.to) }
+    ensures { result ≡ is_bare (event_expression_of pair.now.from)
+        && is_bare (event_expression_of pair.now.to) }
 {
     is_bare(&pair.from) && is_bare(&pair.to)
 }
@@ -60,7 +61,8 @@ pub(crate) fn on_channel<A: AllocHandle>(
     pair: &(ChannelId, ChannelId),
     event: &Event<A>,
 ) -> Result<Event<A>, Memory>
-    ensures { IfOk result (λ image. event_of image ≡ record { channel = pair.now.1.0; fields = (event_of event.now).fields }) }
+    ensures { IfOk result (λ image. event_of image
+        ≡ record { channel = pair.now.1.0; fields = (event_of event.now).fields }) }
 {
     let mut image = event.try_copy(alloc)?;
     image.channel = pair.1;
@@ -96,7 +98,8 @@ impl<A: AllocHandle> Images<A> {
         channels: &[Channel<A>],
         pair: &RenamingPair<A>,
     ) -> Result<(), NoValue>
-        ensures { MakesMore self.old (event_images (declaring types.now channels.now) (event_expression_of pair.now.from) (event_expression_of pair.now.to)) result self.new }
+        ensures { MakesMore self.old (event_images (declaring types.now channels.now)
+            (event_expression_of pair.now.from) (event_expression_of pair.now.to)) result self.new }
     {
         let from = whole_event(alloc, types, channels, &pair.from)?;
         let to = whole_event(alloc, types, channels, &pair.to)?;
@@ -110,7 +113,8 @@ impl<A: AllocHandle> Images<A> {
         from: ChannelId,
         to: ChannelId,
     ) -> Result<(), NoValue>
-        ensures { (types : TypeTable A) → MakesMore self.old (channel_images (declaring types channels.now) from.0 to.0) result self.new }
+        ensures { (types : TypeTable A) → MakesMore self.old
+            (channel_images (declaring types channels.now) from.0 to.0) result self.new }
     {
         let sets = field_sets(channels, from)?;
         let others = field_sets(channels, to)?;
@@ -129,7 +133,8 @@ impl<A: AllocHandle> Images<A> {
         channels: &[Channel<A>],
         pair: &RenamingPair<A>,
     ) -> Result<(), NoValue>
-        ensures { MakesMore self.old (pair_images (declaring types.now channels.now) (renaming_pair_of pair.now)) result self.new }
+        ensures { MakesMore self.old (pair_images (declaring types.now channels.now)
+            (renaming_pair_of pair.now)) result self.new }
     {
         if are_channels(pair) {
             self.add_channels(channels, pair.from.channel, pair.to.channel)
@@ -146,7 +151,8 @@ impl<A: AllocHandle> Images<A> {
         channels: &[Channel<A>],
         pairs: &[RenamingPair<A>],
     ) -> Result<Images<A>, NoValue>
-        ensures { IsImagesOf result (renaming (declaring types.now channels.now) (renaming_pairs_of pairs.now)) }
+        ensures { IsImagesOf result (renaming (declaring types.now channels.now)
+            (renaming_pairs_of pairs.now)) }
     {
         let mut images = Images {
             channels: Vec::new(alloc),
@@ -167,7 +173,9 @@ impl<A: AllocHandle> Images<A> {
         found: &mut Vec<Event<A>, A>,
     ) -> Result<(), Memory>
         requires { ChannelsRise self.now.channels.items }
-        ensures { OnOk result (map event_of found.new.items ≡ map event_of found.old.items ++ flat_map (channel_image (event_of event.now)) self.now.channels.items) }
+        ensures { OnOk result (map event_of found.new.items
+            ≡ map event_of found.old.items ++ flat_map (channel_image (event_of event.now))
+            self.now.channels.items) }
     {
         let first = self.channels.partition_point(
             |pair: &(ChannelId, ChannelId)| -> bool
@@ -190,11 +198,14 @@ impl<A: AllocHandle> Images<A> {
         found: &mut Vec<Event<A>, A>,
     ) -> Result<(), Memory>
         requires { EventsRise self.now.events.items }
-        ensures { OnOk result (map event_of found.new.items ≡ map event_of found.old.items ++ flat_map (event_image (event_of event.now)) self.now.events.items) }
+        ensures { OnOk result (map event_of found.new.items
+            ≡ map event_of found.old.items ++ flat_map (event_image (event_of event.now))
+            self.now.events.items) }
     {
         let first = self.events.partition_point(
             |pair: &(Event<A>, Event<A>)| -> bool
-                ensures { result ≡ is_lt (event_cmp (event_of pair.now.0) (event_of event.entry.now)) }
+                ensures { result
+                    ≡ is_lt (event_cmp (event_of pair.now.0) (event_of event.entry.now)) }
             { precedes(pair, event) },
         );
         for pair in &self.events[first..] {
@@ -209,7 +220,8 @@ impl<A: AllocHandle> Images<A> {
     /// The images of the event, which is its own where no pair names it; or `Memory` where there is no room for them.
     pub fn of_event(&self, alloc: A, event: Event<A>) -> Result<Vec<Event<A>, A>, Memory>
         requires { PairsRise self.now }
-        ensures { IfOk result (λ found. map event_of found.items ≡ or_itself (event_of event) (found_images self.now (event_of event))) }
+        ensures { IfOk result (λ found. map event_of found.items
+            ≡ or_itself (event_of event) (found_images self.now (event_of event))) }
     {
         let mut found = Vec::new(alloc);
         self.add_by_channels(alloc, &event, &mut found)?;

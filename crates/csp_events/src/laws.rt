@@ -27,7 +27,8 @@ pub fn compare_event_sets<A: Allocator>(left: &EventSet<A>, right: &EventSet<A>)
 
 /// Feeds the set to the hasher, which is then as any set that stands for the same leaves it.
 pub fn hash_event_set<A: Allocator, H: Hasher>(set: &EventSet<A>, hasher: &mut H)
-    ensures { (other : EventSet A) → event_set_of other ≡ event_set_of set.now → hasher.new ≡ fold H.write hasher.old (⟦<EventSet<A> as Hash>⟧.hash_input other) }
+    ensures { (other : EventSet A) → event_set_of other ≡ event_set_of set.now
+        → hasher.new ≡ fold H.write hasher.old (⟦<EventSet<A> as Hash>⟧.hash_input other) }
 {
     set.hash(hasher);
 }

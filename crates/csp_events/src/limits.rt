@@ -14,7 +14,8 @@ use std::alloc::Allocator;
 impl<A: Allocator> EventExpression<A> {
     /// What the event leaves of the room for nodes, `None` where it has more.
     fn room_left(&self, room: u32) -> Option<u32>
-        ensures { SomeIff result (events_size (event_expression_of self.now ∷ []) ≤ room) (room - events_size (event_expression_of self.now ∷ [])) }
+        ensures { SomeIff result (events_size (event_expression_of self.now ∷ []) ≤ room)
+            (room - events_size (event_expression_of self.now ∷ [])) }
     {
         room_left_by(&self.fields, room.checked_sub(1)?)
     }
@@ -30,7 +31,8 @@ impl<A: Allocator> EventExpression<A> {
 impl<A: Allocator> RenamingPair<A> {
     /// What the pair leaves of the room for nodes, `None` where it has more.
     fn room_left(&self, room: u32) -> Option<u32>
-        ensures { SomeIff result (pairs_size (renaming_pair_of self.now ∷ []) ≤ room) (room - pairs_size (renaming_pair_of self.now ∷ [])) }
+        ensures { SomeIff result (pairs_size (renaming_pair_of self.now ∷ []) ≤ room)
+            (room - pairs_size (renaming_pair_of self.now ∷ [])) }
     {
         self.to.room_left(self.from.room_left(room)?)
     }
@@ -47,7 +49,8 @@ impl<A: Allocator> EventSet<A> {
     /// What the set leaves of the room for nodes, `None` where it has more.
     #[tactic(auto, using(crate::proofs::EventMeasures::combined_size))]
     pub fn room_left(&self, room: u32) -> Option<u32>
-        ensures { SomeIff result (event_set_size (event_set_of self.now) ≤ room) (room - event_set_size (event_set_of self.now)) }
+        ensures { SomeIff result (event_set_size (event_set_of self.now) ≤ room)
+            (room - event_set_size (event_set_of self.now)) }
     {
         let rest = room.checked_sub(1)?;
         match self {
@@ -77,7 +80,8 @@ impl<A: Allocator> EventSet<A> {
 
 /// What the events together leave of the room.
 fn room_left_by_events<A: Allocator>(events: &[EventExpression<A>], room: u32) -> Option<u32>
-    ensures { SomeIff result (events_size (event_expressions_of events.now) ≤ room) (room - events_size (event_expressions_of events.now)) }
+    ensures { SomeIff result (events_size (event_expressions_of events.now) ≤ room)
+        (room - events_size (event_expressions_of events.now)) }
 {
     let mut rest = room;
     for event in events {
@@ -100,7 +104,8 @@ fn are_events_within_depth<A: Allocator>(events: &[EventExpression<A>], most: u3
 
 /// What the pairs together leave of the room.
 pub fn room_left_by_pairs<A: Allocator>(pairs: &[RenamingPair<A>], room: u32) -> Option<u32>
-    ensures { SomeIff result (pairs_size (renaming_pairs_of pairs.now) ≤ room) (room - pairs_size (renaming_pairs_of pairs.now)) }
+    ensures { SomeIff result (pairs_size (renaming_pairs_of pairs.now) ≤ room)
+        (room - pairs_size (renaming_pairs_of pairs.now)) }
 {
     let mut rest = room;
     for pair in pairs {

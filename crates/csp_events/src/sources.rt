@@ -14,7 +14,8 @@ impl<A: AllocHandle> Images<A> {
     /// All events of which this one is an image; or `Memory` where there is no room for them.
     pub fn sources(&self, alloc: A, image: &Event<A>) -> Result<Vec<Event<A>, A>, Memory>
         requires { PairsRise self.now }
-        ensures { IfOk result (λ found. AreSources self.now (event_of image.now) (map event_of found.items)) }
+        ensures { IfOk result (λ found. AreSources self.now (event_of image.now)
+            (map event_of found.items)) }
     {
         let mut found = Vec::new(alloc);
         self.add_channel_sources(alloc, image, &mut found)?;
@@ -28,7 +29,8 @@ impl<A: AllocHandle> Images<A> {
     // Whether a pair names the event.
     fn names(&self, alloc: A, event: &Event<A>) -> Result<bool, Memory>
         requires { PairsRise self.now }
-        ensures { IfOk result (λ names. IsTrue names ↔ (found_images self.now (event_of event.now) ≢ [])) }
+        ensures { IfOk result (λ names. IsTrue names
+            ↔ (found_images self.now (event_of event.now) ≢ [])) }
     {
         let mut found = Vec::new(alloc);
         self.add_by_channels(alloc, event, &mut found)?;
@@ -43,7 +45,9 @@ impl<A: AllocHandle> Images<A> {
         image: &Event<A>,
         found: &mut Vec<Event<A>, A>,
     ) -> Result<(), Memory>
-        ensures { OnOk result (map event_of found.new.items ≡ map event_of found.old.items ++ flat_map (channel_source (event_of image.now)) self.now.channels.items) }
+        ensures { OnOk result (map event_of found.new.items
+            ≡ map event_of found.old.items ++ flat_map (channel_source (event_of image.now))
+            self.now.channels.items) }
     {
         for pair in &self.channels {
             if image.channel == pair.1 {
@@ -60,7 +64,9 @@ impl<A: AllocHandle> Images<A> {
         image: &Event<A>,
         found: &mut Vec<Event<A>, A>,
     ) -> Result<(), Memory>
-        ensures { OnOk result (map event_of found.new.items ≡ map event_of found.old.items ++ flat_map (event_source (event_of image.now)) self.now.events.items) }
+        ensures { OnOk result (map event_of found.new.items
+            ≡ map event_of found.old.items ++ flat_map (event_source (event_of image.now))
+            self.now.events.items) }
     {
         for pair in &self.events {
             if equal_events(image, &pair.1) {

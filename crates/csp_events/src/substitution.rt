@@ -20,7 +20,8 @@ impl<A: Allocator + Copy> EventExpression<A> {
         alloc: A,
         bindings: &[Binding<'_, A>],
     ) -> Result<EventExpression<A>, Memory>
-        ensures { IfOk result (λ put. event_expression_of put ≡ put_event (bindings_of bindings.now) (event_expression_of self.now)) }
+        ensures { IfOk result (λ put. event_expression_of put
+            ≡ put_event (bindings_of bindings.now) (event_expression_of self.now)) }
     {
         let fields = put_in_all(alloc, &self.fields, bindings)?;
         Ok(EventExpression {
@@ -34,7 +35,8 @@ impl<A: Allocator + Copy> RenamingPair<A> {
     /// The pair in the given allocator with each name of the list replaced by its value. `Memory` where there is no
     /// room.
     pub fn put_in(&self, alloc: A, bindings: &[Binding<'_, A>]) -> Result<RenamingPair<A>, Memory>
-        ensures { IfOk result (λ put. renaming_pair_of put ≡ put_pair (bindings_of bindings.now) (renaming_pair_of self.now)) }
+        ensures { IfOk result (λ put. renaming_pair_of put
+            ≡ put_pair (bindings_of bindings.now) (renaming_pair_of self.now)) }
     {
         let from = self.from.put_in(alloc, bindings)?;
         let to = self.to.put_in(alloc, bindings)?;
@@ -47,7 +49,8 @@ impl<A: Allocator + Copy> EventSet<A> {
     /// room.
     #[tactic(auto, using(crate::proofs::EventPutting::put_combined))]
     pub fn put_in(&self, alloc: A, bindings: &[Binding<'_, A>]) -> Result<EventSet<A>, Memory>
-        ensures { IfOk result (λ put. event_set_of put ≡ put_event_set (bindings_of bindings.now) (event_set_of self.now)) }
+        ensures { IfOk result (λ put. event_set_of put
+            ≡ put_event_set (bindings_of bindings.now) (event_set_of self.now)) }
     {
         match self {
             EventSet::Enumeration(events) => {
@@ -71,7 +74,8 @@ fn put_in_events<A: Allocator + Copy>(
     events: &[EventExpression<A>],
     bindings: &[Binding<'_, A>],
 ) -> Result<Vec<EventExpression<A>, A>, Memory>
-    ensures { IfOk result (λ all. event_expressions_of all.items ≡ put_events (bindings_of bindings.now) (event_expressions_of events.now)) }
+    ensures { IfOk result (λ all. event_expressions_of all.items
+        ≡ put_events (bindings_of bindings.now) (event_expressions_of events.now)) }
 {
     let mut all = Vec::new(alloc);
     for event in events {
@@ -86,7 +90,8 @@ pub fn put_in_pairs<A: Allocator + Copy>(
     pairs: &[RenamingPair<A>],
     bindings: &[Binding<'_, A>],
 ) -> Result<Vec<RenamingPair<A>, A>, Memory>
-    ensures { IfOk result (λ all. renaming_pairs_of all.items ≡ put_pairs (bindings_of bindings.now) (renaming_pairs_of pairs.now)) }
+    ensures { IfOk result (λ all. renaming_pairs_of all.items
+        ≡ put_pairs (bindings_of bindings.now) (renaming_pairs_of pairs.now)) }
 {
     let mut all = Vec::new(alloc);
     for pair in pairs {

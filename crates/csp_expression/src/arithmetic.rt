@@ -66,7 +66,8 @@ pub(crate) fn remainder<A: Allocator>(left: &Value<A>, right: &Value<A>) -> Resu
 
 /// The number, or `Overflow` where 32 bits do not hold it.
 fn in_range<A: Allocator>(number: Option<i32>) -> Result<Value<A>, Cause>
-    ensures { (exact : ℤ) → SomeIff number (FitsSigned w32 exact) exact → IsAnswer result (integer exact) }
+    ensures { (exact : ℤ) → SomeIff number (FitsSigned w32 exact) exact
+        → IsAnswer result (integer exact) }
 {
     match number {
         Some(number) => Ok(Value::Int(number)),

@@ -34,7 +34,8 @@ pub(crate) fn constructed<A: Allocator>(
     sets: &[FieldSet<A>],
     fields: Vec<Value<A>, A>,
 ) -> Result<Value<A>, Cause>
-    ensures { IsAnswer result (constructed constructor.0 (sets_of sets.now) (values_of fields.items)) }
+    ensures { IsAnswer result (constructed constructor.0 (sets_of sets.now)
+        (values_of fields.items)) }
 {
     if fields.len() != sets.len() {
         return Err(Cause::Kind);
@@ -77,7 +78,8 @@ fn add_all<A: Allocator + Copy>(
     sets: &[FieldSet<A>],
     members: Vec<Value<A>, A>,
 ) -> Result<Vec<Value<A>, A>, NoValue>
-    ensures { HasAll (λ all. values_of all.items) result (values_of members.items ++ with_all_fields constructor.0 (sets_of sets.now)) }
+    ensures { HasAll (λ all. values_of all.items) result
+        (values_of members.items ++ with_all_fields constructor.0 (sets_of sets.now)) }
 {
     let mut all = members;
     let lists = choices(alloc, sets)?;
@@ -130,7 +132,8 @@ fn with_each<A: Allocator + Copy>(
     set: &FieldSet<A>,
     lists: &[Vec<Value<A>, A>],
 ) -> Result<Vec<Vec<Value<A>, A>, A>, NoValue>
-    ensures { HasAll (λ all. lists_of all.items) result (with_each (field_values set.now) (lists_of lists.now)) }
+    ensures { HasAll (λ all. lists_of all.items) result
+        (with_each (field_values set.now) (lists_of lists.now)) }
 {
     let mut all = Vec::new(alloc);
     for value in set.members() {
@@ -149,7 +152,8 @@ fn add_behind<A: Allocator + Copy>(
     lists: &[Vec<Value<A>, A>],
     all: Vec<Vec<Value<A>, A>, A>,
 ) -> Result<Vec<Vec<Value<A>, A>, A>, Memory>
-    ensures { IfOk result (λ more. lists_of more.items ≡ lists_of all.items ++ with_first (value_of value.now) (lists_of lists.now)) }
+    ensures { IfOk result (λ more. lists_of more.items
+        ≡ lists_of all.items ++ with_first (value_of value.now) (lists_of lists.now)) }
 {
     let mut more = all;
     for list in lists {

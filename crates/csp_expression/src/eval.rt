@@ -62,7 +62,8 @@ impl<A: Allocator + Copy> Expr<A> {
         types: &TypeTable<A>,
         bindings: &[Binding<'e, A>],
     ) -> Result<Seen<'e, A>, NoValue>
-        ensures { Sees result (value (table_of types.now) (put_expression (bindings_of bindings.now) (expression_of self.now))) }
+        ensures { Sees result (value (table_of types.now)
+            (put_expression (bindings_of bindings.now) (expression_of self.now))) }
     {
         match self {
             Expr::Literal(value) => Ok(Seen::Lent(value)),
@@ -112,7 +113,9 @@ impl<A: Allocator + Copy> Expr<A> {
         bindings: &[Binding<'e, A>],
         set: &FieldSet<A>,
     ) -> Result<Seen<'e, A>, NoValue>
-        ensures { Sees result (given (table_of types.now) (put_expression (bindings_of bindings.now) (expression_of self.now)) (field_values set.now)) }
+        ensures { Sees result (given (table_of types.now)
+            (put_expression (bindings_of bindings.now) (expression_of self.now))
+            (field_values set.now)) }
     {
         let seen = self.look(alloc, types, bindings)?;
         within(seen, set)
@@ -126,7 +129,8 @@ impl<A: Allocator + Copy> Expr<A> {
         types: &TypeTable<A>,
         set: &FieldSet<A>,
     ) -> Result<Value<A>, NoValue>
-        ensures { Gives result (given (table_of types.now) (expression_of self.now) (field_values set.now)) }
+        ensures { Gives result (given (table_of types.now) (expression_of self.now)
+            (field_values set.now)) }
     {
         Ok(self.look_within(alloc, types, &[], set)?.into_value(alloc)?)
     }
@@ -141,7 +145,9 @@ fn look_at_constructor<'e, A: Allocator + Copy>(
     types: &TypeTable<A>,
     bindings: &[Binding<'e, A>],
 ) -> Result<Seen<'e, A>, NoValue>
-    ensures { Sees result (value (table_of types.now) (ConstructorOf constructor.0 (to_expressions (puts (bindings_of bindings.now) fields.now)))) }
+    ensures { Sees result (value (table_of types.now)
+        (ConstructorOf constructor.0
+        (to_expressions (puts (bindings_of bindings.now) fields.now)))) }
 {
     let sets = constructors::field_sets(types, constructor)?;
     let values = look_at_fields(alloc, fields, sets, types, bindings)?;
@@ -157,7 +163,8 @@ fn look_at_fields<'e, A: Allocator + Copy>(
     types: &TypeTable<A>,
     bindings: &[Binding<'e, A>],
 ) -> Result<Vec<Value<A>, A>, NoValue>
-    ensures { GivesAll result (given_values (table_of types.now) (to_expressions (puts (bindings_of bindings.now) fields.now)) (sets_of sets.now)) }
+    ensures { GivesAll result (given_values (table_of types.now)
+        (to_expressions (puts (bindings_of bindings.now) fields.now)) (sets_of sets.now)) }
 {
     let mut all = Vec::new(alloc);
     for (place, field) in fields.iter().enumerate() {
@@ -193,7 +200,8 @@ fn look_at_all<'e, A: Allocator + Copy>(
     types: &TypeTable<A>,
     bindings: &[Binding<'e, A>],
 ) -> Result<Vec<Value<A>, A>, NoValue>
-    ensures { GivesAll result (values (table_of types.now) (to_expressions (puts (bindings_of bindings.now) expressions.now))) }
+    ensures { GivesAll result (values (table_of types.now)
+        (to_expressions (puts (bindings_of bindings.now) expressions.now))) }
 {
     let mut all = Vec::new(alloc);
     for expression in expressions {
@@ -262,7 +270,8 @@ fn combine<'e, A: Allocator + Copy>(
     left: Seen<'e, A>,
     right: Seen<'e, A>,
 ) -> Result<Value<A>, NoValue>
-    ensures { Gives result (combine (binary_of operator) (seen_value left.entry) (seen_value right.entry)) }
+    ensures { Gives result (combine (binary_of operator) (seen_value left.entry)
+        (seen_value right.entry)) }
 {
     match operator {
         BinaryOperator::Concatenate => concatenation(alloc, left, right),
@@ -279,7 +288,8 @@ fn concatenation<'e, A: Allocator + Copy>(
     left: Seen<'e, A>,
     right: Seen<'e, A>,
 ) -> Result<Value<A>, NoValue>
-    ensures { Gives result (combine pure.Concatenate (seen_value left.entry) (seen_value right.entry)) }
+    ensures { Gives result (combine pure.Concatenate (seen_value left.entry)
+        (seen_value right.entry)) }
 {
     let left = left.into_value(alloc)?;
     let right = right.into_value(alloc)?;
@@ -305,7 +315,8 @@ fn intersection<'e, A: Allocator + Copy>(
     left: Seen<'e, A>,
     right: Seen<'e, A>,
 ) -> Result<Value<A>, NoValue>
-    ensures { Gives result (combine pure.Intersection (seen_value left.entry) (seen_value right.entry)) }
+    ensures { Gives result (combine pure.Intersection (seen_value left.entry)
+        (seen_value right.entry)) }
 {
     let left = left.into_value(alloc)?;
     Ok(sets::intersection(left, right.value())?)
@@ -317,7 +328,8 @@ fn difference<'e, A: Allocator + Copy>(
     left: Seen<'e, A>,
     right: Seen<'e, A>,
 ) -> Result<Value<A>, NoValue>
-    ensures { Gives result (combine pure.Difference (seen_value left.entry) (seen_value right.entry)) }
+    ensures { Gives result (combine pure.Difference (seen_value left.entry)
+        (seen_value right.entry)) }
 {
     let left = left.into_value(alloc)?;
     Ok(sets::difference(left, right.value())?)
@@ -330,7 +342,8 @@ fn read<A: Allocator + Copy>(
     right: &Value<A>,
 ) -> Result<Value<A>, Cause>
     requires { only_reads (binary_of operator) ≡ true }
-    ensures { IsAnswer result (combine (binary_of operator) (value_of left.now) (value_of right.now)) }
+    ensures { IsAnswer result (combine (binary_of operator) (value_of left.now)
+        (value_of right.now)) }
 {
     match operator {
         BinaryOperator::Add => arithmetic::add(left, right),

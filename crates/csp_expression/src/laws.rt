@@ -27,7 +27,8 @@ pub fn compare_expressions<A: Allocator>(left: &Expr<A>, right: &Expr<A>) -> Ord
 
 /// Feeds the expression to the hasher, which is then as any expression that stands for the same leaves it.
 pub fn hash_expression<A: Allocator, H: Hasher>(expression: &Expr<A>, hasher: &mut H)
-    ensures { (other : Expr A) → expression_of other ≡ expression_of expression.now → hasher.new ≡ fold H.write hasher.old (⟦<Expr<A> as Hash>⟧.hash_input other) }
+    ensures { (other : Expr A) → expression_of other ≡ expression_of expression.now
+        → hasher.new ≡ fold H.write hasher.old (⟦<Expr<A> as Hash>⟧.hash_input other) }
 {
     expression.hash(hasher);
 }

@@ -13,7 +13,8 @@ impl<A: Allocator> Expr<A> {
     /// What the expression leaves of the room for nodes, `None` where it has more of them.
     #[cycle(room)]
     pub fn room_left(&self, room: u32) -> Option<u32>
-        ensures { SomeIff result (expression_size (expression_of self.now) ≤ room) (room - expression_size (expression_of self.now)) }
+        ensures { SomeIff result (expression_size (expression_of self.now) ≤ room)
+            (room - expression_size (expression_of self.now)) }
     {
         match self {
             Expr::Literal(value) => value.room_left(room),
@@ -55,7 +56,8 @@ impl<A: Allocator> Expr<A> {
 /// What the expressions together leave of the room.
 #[cycle(room)]
 pub fn room_left_by<A: Allocator>(expressions: &[Expr<A>], room: u32) -> Option<u32>
-    ensures { SomeIff result (expressions_size (to_expressions (expressions_of expressions.now)) ≤ room) (room - expressions_size (to_expressions (expressions_of expressions.now))) }
+    ensures { SomeIff result (expressions_size (to_expressions (expressions_of expressions.now))
+        ≤ room) (room - expressions_size (to_expressions (expressions_of expressions.now))) }
 {
     let mut rest = room;
     for expression in expressions {
@@ -67,7 +69,8 @@ pub fn room_left_by<A: Allocator>(expressions: &[Expr<A>], room: u32) -> Option<
 /// Whether each of the expressions is at most so deep.
 #[cycle(depth)]
 pub fn are_within_depth<A: Allocator>(expressions: &[Expr<A>], most: u32) -> bool
-    ensures { IsTrue result ↔ (expressions_depth (to_expressions (expressions_of expressions.now)) ≤ most) }
+    ensures { IsTrue result
+        ↔ (expressions_depth (to_expressions (expressions_of expressions.now)) ≤ most) }
 {
     for expression in expressions {
         if !expression.is_within_depth(most) {

@@ -71,7 +71,8 @@ pub(crate) fn datatype<A: Allocator + Copy>(
     types: &TypeTable<A>,
     datatype: DatatypeId,
 ) -> Result<Value<A>, NoValue>
-    ensures { Gives result (datatype_set (table_of types.now) (slice_get (table_of types.now).datatypes datatype.0)) }
+    ensures { Gives result (datatype_set (table_of types.now)
+        (slice_get (table_of types.now).datatypes datatype.0)) }
 {
     match types.datatypes.get(datatype.0 as usize) {
         Some(range) => constructors::all_of(alloc, types, *range),

@@ -119,7 +119,8 @@ pub(crate) fn is_element<A: Allocator>(
     value: &Value<A>,
     sequence: &Value<A>,
 ) -> Result<Value<A>, Cause>
-    ensures { IsAnswer result (combine pure.IsElement (value_of value.now) (value_of sequence.now)) }
+    ensures { IsAnswer result (combine pure.IsElement (value_of value.now)
+        (value_of sequence.now)) }
 {
     match sequence {
         Value::Seq(items) => Ok(Value::Bool(items.contains(value))),

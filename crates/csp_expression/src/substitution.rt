@@ -43,7 +43,8 @@ fn value_or_name<A: Allocator + Copy>(
     name: Name,
     bindings: &[Binding<'_, A>],
 ) -> Result<Expr<A>, Memory>
-    ensures { IfOk result (λ put. expression_of put ≡ put_expression (bindings_of bindings.now) (pure.Name name.0)) }
+    ensures { IfOk result (λ put. expression_of put
+        ≡ put_expression (bindings_of bindings.now) (pure.Name name.0)) }
 {
     match bound(name, bindings) {
         Some(value) => Ok(Expr::Literal(value.try_copy(alloc)?)),
@@ -57,7 +58,8 @@ fn applied<A: Allocator + Copy>(
     operator: UnaryOperator,
     operand: Expr<A>,
 ) -> Result<Expr<A>, Memory>
-    ensures { IfOk result (λ made. expression_of made ≡ pure.Apply (unary_of operator) (expression_of operand)) }
+    ensures { IfOk result (λ made. expression_of made
+        ≡ pure.Apply (unary_of operator) (expression_of operand)) }
 {
     Ok(Expr::Apply(operator, Box::new(alloc, operand)?))
 }
@@ -69,7 +71,8 @@ fn combined<A: Allocator + Copy>(
     left: Expr<A>,
     right: Expr<A>,
 ) -> Result<Expr<A>, Memory>
-    ensures { IfOk result (λ made. expression_of made ≡ pure.Combine (binary_of operator) (expression_of left) (expression_of right)) }
+    ensures { IfOk result (λ made. expression_of made
+        ≡ pure.Combine (binary_of operator) (expression_of left) (expression_of right)) }
 {
     let left = Box::new(alloc, left)?;
     let right = Box::new(alloc, right)?;
@@ -78,7 +81,8 @@ fn combined<A: Allocator + Copy>(
 
 /// The range between the two.
 fn ranging<A: Allocator + Copy>(alloc: A, from: Expr<A>, to: Expr<A>) -> Result<Expr<A>, Memory>
-    ensures { IfOk result (λ made. expression_of made ≡ pure.Range (expression_of from) (expression_of to)) }
+    ensures { IfOk result (λ made. expression_of made
+        ≡ pure.Range (expression_of from) (expression_of to)) }
 {
     let from = Box::new(alloc, from)?;
     let to = Box::new(alloc, to)?;
@@ -90,7 +94,8 @@ impl<A: Allocator + Copy> Expr<A> {
     /// counts where a name is there more than once. Nothing is evaluated. `Memory` where there is no room.
     #[cycle(put)]
     pub fn put_in(&self, alloc: A, bindings: &[Binding<'_, A>]) -> Result<Expr<A>, Memory>
-        ensures { IfOk result (λ put. expression_of put ≡ put_expression (bindings_of bindings.now) (expression_of self.now)) }
+        ensures { IfOk result (λ put. expression_of put
+            ≡ put_expression (bindings_of bindings.now) (expression_of self.now)) }
     {
         match self {
             Expr::Literal(value) => Ok(Expr::Literal(value.try_copy(alloc)?)),
@@ -129,7 +134,8 @@ pub fn put_in_all<A: Allocator + Copy>(
     expressions: &[Expr<A>],
     bindings: &[Binding<'_, A>],
 ) -> Result<Vec<Expr<A>, A>, Memory>
-    ensures { IfOk result (λ all. expressions_of all.items ≡ puts (bindings_of bindings.now) expressions.now) }
+    ensures { IfOk result (λ all. expressions_of all.items
+        ≡ puts (bindings_of bindings.now) expressions.now) }
 {
     let mut all = Vec::new(alloc);
     for expression in expressions {

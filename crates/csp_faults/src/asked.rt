@@ -53,7 +53,8 @@ pub(crate) fn truth<A: Allocator + Copy>(
     types: &TypeTable<A>,
     test: &Expr<A>,
 ) -> Result<Option<bool>, Memory>
-    ensures { IfOk result (λ truth. IsPicked truth (condition (table_of types.now) (expression_of test.now))) }
+    ensures { IfOk result (λ truth. IsPicked truth
+        (condition (table_of types.now) (expression_of test.now))) }
 {
     match found_value(alloc, types, test)? {
         Some(value) => Ok(truth_of(&value)),
@@ -106,7 +107,8 @@ fn elements<A: Allocator + Copy>(
     types: &TypeTable<A>,
     set: &Expr<A>,
 ) -> Result<Option<Vec<Value<A>, A>>, Memory>
-    ensures { IfOk result (λ values. AreElements values (elements (table_of types.now) (expression_of set.now))) }
+    ensures { IfOk result (λ values. AreElements values
+        (elements (table_of types.now) (expression_of set.now))) }
 {
     match found_value(alloc, types, set)? {
         Some(value) => members_of(alloc, &value),
@@ -133,7 +135,8 @@ pub(crate) fn members<A: Allocator + Copy>(
     types: &TypeTable<A>,
     set: &Expr<A>,
 ) -> Result<Vec<Value<A>, A>, Memory>
-    ensures { IfOk result (λ values. values_of values.items ≡ members (table_of types.now) (expression_of set.now)) }
+    ensures { IfOk result (λ values. values_of values.items
+        ≡ members (table_of types.now) (expression_of set.now)) }
 {
     match elements(alloc, types, set)? {
         Some(values) => Ok(values),
@@ -148,7 +151,8 @@ pub(crate) fn no_choice<A: Allocator + Copy>(
     name: Name,
     set: &Expr<A>,
 ) -> Result<Option<Culprit<A>>, Memory>
-    ensures { Finds result (no_choice name.0 (expression_of set.now) (elements (table_of types.now) (expression_of set.now))) }
+    ensures { Finds result (no_choice name.0 (expression_of set.now)
+        (elements (table_of types.now) (expression_of set.now))) }
 {
     let Some(values) = elements(alloc, types, set)? else {
         return Ok(None);

@@ -43,7 +43,8 @@ fn enumeration_culprit<A: AllocHandle>(
     script: &ScriptParts<A>,
     events: &[EventExpression<A>],
 ) -> Result<Option<Culprit<A>>, Memory>
-    ensures { Finds result (event_set_culprit (script_of_parts script.now) (Enumeration (event_expressions_of events.now))) }
+    ensures { Finds result (event_set_culprit (script_of_parts script.now)
+        (Enumeration (event_expressions_of events.now))) }
 {
     for event in events {
         let found = event_culprit(alloc, script, event)?;
@@ -60,7 +61,8 @@ fn productions_culprit<A: AllocHandle>(
     script: &ScriptParts<A>,
     beginnings: &[EventExpression<A>],
 ) -> Result<Option<Culprit<A>>, Memory>
-    ensures { Finds result (event_set_culprit (script_of_parts script.now) (Productions (event_expressions_of beginnings.now))) }
+    ensures { Finds result (event_set_culprit (script_of_parts script.now)
+        (Productions (event_expressions_of beginnings.now))) }
 {
     for beginning in beginnings {
         let found = beginning_culprit(alloc, script, beginning)?;
@@ -77,7 +79,8 @@ pub(crate) fn event_culprit<A: AllocHandle>(
     script: &ScriptParts<A>,
     event: &EventExpression<A>,
 ) -> Result<Option<Culprit<A>>, Memory>
-    ensures { Finds result (event_culprit (script_of_parts script.now) (event_expression_of event.now)) }
+    ensures { Finds result (event_culprit (script_of_parts script.now)
+        (event_expression_of event.now)) }
 {
     let found = beginning_culprit(alloc, script, event)?;
     if found.is_some() {
@@ -92,7 +95,8 @@ fn beginning_culprit<A: AllocHandle>(
     script: &ScriptParts<A>,
     beginning: &EventExpression<A>,
 ) -> Result<Option<Culprit<A>>, Memory>
-    ensures { Finds result (beginning_culprit (script_of_parts script.now) (event_expression_of beginning.now)) }
+    ensures { Finds result (beginning_culprit (script_of_parts script.now)
+        (event_expression_of beginning.now)) }
 {
     let channel = beginning.channel;
     match channel_sets(script, channel) {
@@ -109,7 +113,9 @@ fn count_misfit<A: AllocHandle>(
     script: &ScriptParts<A>,
     event: &EventExpression<A>,
 ) -> Option<Culprit<A>>
-    ensures { found_of result ≡ over_sets (field_sets (script_of_parts script.now) event.now.channel.0) (count_misfit (event_expression_of event.now)) }
+    ensures { found_of result
+        ≡ over_sets (field_sets (script_of_parts script.now) event.now.channel.0)
+        (count_misfit (event_expression_of event.now)) }
 {
     let Some(sets) = channel_sets(script, event.channel) else {
         return Some(Culprit::Misfit);

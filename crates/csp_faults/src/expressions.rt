@@ -74,7 +74,9 @@ fn or_itself<A: Allocator + Copy>(
     cause: Cause,
     found: Option<Culprit<A>>,
 ) -> Result<Option<Culprit<A>>, Memory>
-    ensures { value (table_of types.now) (expression_of expression.now) ≡ Err (cause_of cause) → Finds result (or_itself (table_of types.now) (expression_of expression.now) (found_of found)) }
+    ensures { value (table_of types.now) (expression_of expression.now) ≡ Err (cause_of cause)
+        → Finds result (or_itself (table_of types.now) (expression_of expression.now)
+        (found_of found)) }
 {
     if found.is_some() {
         return Ok(found);
@@ -91,7 +93,8 @@ fn or_in<A: Allocator + Copy>(
     expression: &Expr<A>,
     found: Option<Culprit<A>>,
 ) -> Result<Option<Culprit<A>>, Memory>
-    ensures { Finds result (option_or (found_of found) (culprit (table_of types.now) (expression_of expression.now))) }
+    ensures { Finds result (option_or (found_of found)
+        (culprit (table_of types.now) (expression_of expression.now))) }
 {
     match found {
         Some(culprit) => Ok(Some(culprit)),
@@ -106,7 +109,8 @@ pub(crate) fn first_culprit<A: Allocator + Copy>(
     types: &TypeTable<A>,
     expressions: &[Expr<A>],
 ) -> Result<Option<Culprit<A>>, Memory>
-    ensures { Finds result (first_culprit (table_of types.now) (to_expressions (expressions_of expressions.now))) }
+    ensures { Finds result (first_culprit (table_of types.now)
+        (to_expressions (expressions_of expressions.now))) }
 {
     for expression in expressions {
         let found = expression_culprit(alloc, types, expression)?;
@@ -125,7 +129,9 @@ fn constructor_culprit<A: Allocator + Copy>(
     constructor: ConId,
     fields: &[Expr<A>],
 ) -> Result<Option<Culprit<A>>, Memory>
-    ensures { Finds result (over_sets (constructor_sets (table_of types.now) constructor.0) (λ sets. given_culprit (table_of types.now) (owner_of (Owner.Constructor constructor)) 0 (to_expressions (expressions_of fields.now)) sets)) }
+    ensures { Finds result (over_sets (constructor_sets (table_of types.now) constructor.0)
+        (λ sets. given_culprit (table_of types.now) (owner_of (Owner.Constructor constructor)) 0
+        (to_expressions (expressions_of fields.now)) sets)) }
 {
     match constructor_sets(types, constructor) {
         Some(sets) => given_culprit(alloc, types, Owner::Constructor(constructor), fields, sets),
@@ -142,7 +148,8 @@ pub(crate) fn given_culprit<A: Allocator + Copy>(
     fields: &[Expr<A>],
     sets: &[FieldSet<A>],
 ) -> Result<Option<Culprit<A>>, Memory>
-    ensures { Finds result (given_culprit (table_of types.now) (owner_of owner) 0 (to_expressions (expressions_of fields.now)) (sets_of sets.now)) }
+    ensures { Finds result (given_culprit (table_of types.now) (owner_of owner) 0
+        (to_expressions (expressions_of fields.now)) (sets_of sets.now)) }
 {
     for (before, field) in fields.iter().enumerate() {
         let Some(set) = sets.get(before) else {

@@ -43,7 +43,8 @@ pub(crate) fn prefix_culprit<A: AllocHandle>(
     channel: ChannelId,
     fields: &[Field<A>],
 ) -> Result<Option<Culprit<A>>, Memory>
-    ensures { Finds result (prefix_culprit (script_of_parts script.now) channel.0 (fields_of fields.now)) }
+    ensures { Finds result (prefix_culprit (script_of_parts script.now) channel.0
+        (fields_of fields.now)) }
 {
     match channel_sets(script, channel) {
         Some(sets) => {
@@ -70,7 +71,8 @@ impl<'w, A: AllocHandle> Walk<'w, A> {
         sets: &[FieldSet<A>],
     ) -> Result<Option<Culprit<A>>, Memory>
         requires { before + length sets.now < 2 ^ 64 }
-        ensures { Finds result (fields_culprit (table_of self.now.types.now) self.now.channel.0 before (bindings_of bindings.now) (fields_of fields.now) (sets_of sets.now)) }
+        ensures { Finds result (fields_culprit (table_of self.now.types.now) self.now.channel.0
+            before (bindings_of bindings.now) (fields_of fields.now) (sets_of sets.now)) }
     {
         match (fields.split_first(), sets.split_first()) {
             (None, None) => Ok(None),
@@ -97,7 +99,10 @@ impl<'w, A: AllocHandle> Walk<'w, A> {
         sets: &[FieldSet<A>],
     ) -> Result<Option<Culprit<A>>, Memory>
         requires { before + length sets.now < 2 ^ 64 }
-        ensures { Finds result (culprit_behind (table_of self.now.types.now) self.now.channel.0 before (bindings_behind (table_of self.now.types.now) (bindings_of bindings.now) (field_of field.now) (field_values set.now)) (fields_of fields.now) (sets_of sets.now)) }
+        ensures { Finds result (culprit_behind (table_of self.now.types.now) self.now.channel.0
+            before (bindings_behind (table_of self.now.types.now) (bindings_of bindings.now)
+            (field_of field.now) (field_values set.now)) (fields_of fields.now)
+            (sets_of sets.now)) }
     {
         let taken = self.taken(bindings, field, set)?;
         let Some(taken) = taken else {
@@ -122,7 +127,8 @@ impl<'w, A: AllocHandle> Walk<'w, A> {
         set: &FieldSet<A>,
     ) -> Result<Option<Culprit<A>>, Memory>
         requires { before + 1 < 2 ^ 64 }
-        ensures { Finds result (own_field_culprit (table_of self.now.types.now) self.now.channel.0 before (bindings_of bindings.now) (field_of field.now) (field_values set.now)) }
+        ensures { Finds result (own_field_culprit (table_of self.now.types.now) self.now.channel.0
+            before (bindings_of bindings.now) (field_of field.now) (field_values set.now)) }
     {
         match field {
             Field::Given(given) => {
@@ -147,7 +153,9 @@ impl<'w, A: AllocHandle> Walk<'w, A> {
         field: &Field<A>,
         set: &FieldSet<A>,
     ) -> Result<Option<Taken<A>>, Memory>
-        ensures { IfOk result (λ taken. behind_of (bindings_of bindings.now) taken ≡ bindings_behind (table_of self.now.types.now) (bindings_of bindings.now) (field_of field.now) (field_values set.now)) }
+        ensures { IfOk result (λ taken. behind_of (bindings_of bindings.now) taken
+            ≡ bindings_behind (table_of self.now.types.now) (bindings_of bindings.now)
+            (field_of field.now) (field_values set.now)) }
     {
         match field {
             Field::Given(_) => Ok(None),
@@ -177,7 +185,8 @@ fn within<A: AllocHandle>(
     set: &FieldSet<A>,
     values: &[Value<A>],
 ) -> Result<Vec<Value<A>, A>, Memory>
-    ensures { IfOk result (λ within. values_of within.items ≡ filter (λ v. has_value (field_values set.now) v) (values_of values.now)) }
+    ensures { IfOk result (λ within. values_of within.items
+        ≡ filter (λ v. has_value (field_values set.now) v) (values_of values.now)) }
 {
     let mut within = Vec::new(alloc);
     for value in values {

@@ -32,7 +32,9 @@ impl<'s, A: Allocator + Copy> Place<'s, A> {
         found: Option<Culprit<A>>,
     ) -> Result<Option<Culprit<A>>, Memory>
         requires { self.before + 1 < 2 ^ 64 }
-        ensures { Finds result (option_or (found_of found) (outside (owner_of self.entry.owner) self.entry.before (field_values self.entry.set.now) (value (table_of types.now) (expression_of given.now)))) }
+        ensures { Finds result (option_or (found_of found)
+            (outside (owner_of self.entry.owner) self.entry.before (field_values self.entry.set.now)
+            (value (table_of types.now) (expression_of given.now)))) }
     {
         if found.is_some() {
             return Ok(found);
@@ -48,7 +50,9 @@ impl<'s, A: Allocator + Copy> Place<'s, A> {
         given: &Expr<A>,
     ) -> Result<Option<Culprit<A>>, Memory>
         requires { self.before + 1 < 2 ^ 64 }
-        ensures { Finds result (outside (owner_of self.entry.owner) self.entry.before (field_values self.entry.set.now) (value (table_of types.now) (expression_of given.now))) }
+        ensures { Finds result (outside (owner_of self.entry.owner) self.entry.before
+            (field_values self.entry.set.now)
+            (value (table_of types.now) (expression_of given.now))) }
     {
         match given.find_value(alloc, types) {
             Ok(value) => {

@@ -60,7 +60,8 @@ fn call_culprit<A: AllocHandle>(
     equation: EquationId,
     arguments: &[Expr<A>],
 ) -> Result<Option<Culprit<A>>, Memory>
-    ensures { Finds result (own_culprit (script_of_parts script.now) (Call equation.0 (to_expressions (expressions_of arguments.now)))) }
+    ensures { Finds result (own_culprit (script_of_parts script.now)
+        (Call equation.0 (to_expressions (expressions_of arguments.now)))) }
 {
     let found = first_culprit(alloc, &script.types, arguments)?;
     if found.is_some() {
@@ -75,7 +76,8 @@ fn arguments_misfit<A: AllocHandle>(
     equation: EquationId,
     arguments: &[Expr<A>],
 ) -> Option<Culprit<A>>
-    ensures { found_of result ≡ arguments_misfit (length arguments.now) (slice_get (script_of_parts script.now).equations equation.0) }
+    ensures { found_of result ≡ arguments_misfit (length arguments.now)
+        (slice_get (script_of_parts script.now).equations equation.0) }
 {
     let Some(called) = script.equations.get(equation.0 as usize) else {
         return Some(Culprit::Misfit);
@@ -94,7 +96,9 @@ fn alphabets_culprit<A: AllocHandle>(
     own: &EventSet<A>,
     other: &EventSet<A>,
 ) -> Result<Option<Culprit<A>>, Memory>
-    ensures { (left : Process) (right : Process) → Finds result (own_culprit (script_of_parts script.now) (AlphabetisedParallel left (event_set_of own.now) (event_set_of other.now) right)) }
+    ensures { (left : Process) (right : Process) → Finds result
+        (own_culprit (script_of_parts script.now)
+        (AlphabetisedParallel left (event_set_of own.now) (event_set_of other.now) right)) }
 {
     let found = event_set_culprit(alloc, script, own)?;
     match found {
@@ -111,7 +115,9 @@ fn replicated_culprit<A: AllocHandle>(
     name: Name,
     set: &Expr<A>,
 ) -> Result<Option<Culprit<A>>, Memory>
-    ensures { (body : Process) → Finds result (own_culprit (script_of_parts script.now) (replicated_process operator name.0 (expression_of set.now) body)) }
+    ensures { (body : Process)
+        → Finds result (own_culprit (script_of_parts script.now)
+        (replicated_process operator name.0 (expression_of set.now) body)) }
 {
     let found = members_culprit(alloc, &script.types, set)?;
     if found.is_some() {

@@ -77,7 +77,9 @@ fn guarded<A: AllocHandle>(
     test: &Expr<A>,
     body: &Term<A>,
 ) -> Result<Vec<Term<A>, A>, Memory>
-    ensures { AreParts result (picked (condition (table_of script.now.types) (expression_of test.now)) (process_of body.now ∷ []) []) }
+    ensures { AreParts result (picked
+        (condition (table_of script.now.types) (expression_of test.now)) (process_of body.now ∷ [])
+        []) }
 {
     match truth(alloc, &script.types, test)? {
         Some(true) => alone(alloc, body),
@@ -94,7 +96,9 @@ fn branch<A: AllocHandle>(
     first: &Term<A>,
     second: &Term<A>,
 ) -> Result<Vec<Term<A>, A>, Memory>
-    ensures { AreParts result (picked (condition (table_of script.now.types) (expression_of test.now)) (process_of first.now ∷ []) (process_of second.now ∷ [])) }
+    ensures { AreParts result (picked
+        (condition (table_of script.now.types) (expression_of test.now)) (process_of first.now ∷ [])
+        (process_of second.now ∷ [])) }
 {
     match truth(alloc, &script.types, test)? {
         Some(true) => alone(alloc, first),
@@ -110,7 +114,8 @@ fn sides<A: AllocHandle>(
     left: &Term<A>,
     right: &Term<A>,
 ) -> Result<Vec<Term<A>, A>, Memory>
-    ensures { (script : Script) → AreParts result (looked_at script (binary_process operator (process_of left.now) (process_of right.now))) }
+    ensures { (script : Script) → AreParts result
+        (looked_at script (binary_process operator (process_of left.now) (process_of right.now))) }
 {
     match operator {
         ProcessOperator::ExternalChoice => both(alloc, left, right),
@@ -130,7 +135,8 @@ fn replicated<A: AllocHandle>(
     set: &Expr<A>,
     body: &Term<A>,
 ) -> Result<Vec<Term<A>, A>, Memory>
-    ensures { AreParts result (looked_at (script_of_parts script.now) (replicated_process operator name.0 (expression_of set.now) (process_of body.now))) }
+    ensures { AreParts result (looked_at (script_of_parts script.now)
+        (replicated_process operator name.0 (expression_of set.now) (process_of body.now))) }
 {
     let values = members(alloc, &script.types, set)?;
     match operator {
@@ -147,7 +153,8 @@ fn only_one<A: AllocHandle>(
     body: &Term<A>,
     values: &[Value<A>],
 ) -> Result<Vec<Term<A>, A>, Memory>
-    ensures { AreParts result (only_one (instances name.0 (process_of body.now) (values_of values.now))) }
+    ensures { AreParts result (only_one
+        (instances name.0 (process_of body.now) (values_of values.now))) }
 {
     if values.len() == 1 {
         instances(alloc, name, body, values)

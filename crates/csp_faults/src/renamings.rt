@@ -21,7 +21,8 @@ pub(crate) fn renaming_culprit<A: AllocHandle>(
     script: &ScriptParts<A>,
     pairs: &[RenamingPair<A>],
 ) -> Result<Option<Culprit<A>>, Memory>
-    ensures { Finds result (first_found (pair_culprit (script_of_parts script.now)) (renaming_pairs_of pairs.now)) }
+    ensures { Finds result (first_found (pair_culprit (script_of_parts script.now))
+        (renaming_pairs_of pairs.now)) }
 {
     for pair in pairs {
         let found = pair_culprit(alloc, script, pair)?;

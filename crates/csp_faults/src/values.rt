@@ -20,7 +20,8 @@ pub(crate) fn lacking<A: Allocator + Copy>(
     types: &TypeTable<A>,
     expression: &Expr<A>,
 ) -> Result<Option<Cause>, Memory>
-    ensures { IfOk result (λ why. option_map cause_of why ≡ result_err (value (table_of types.now) (expression_of expression.now))) }
+    ensures { IfOk result (λ why. option_map cause_of why
+        ≡ result_err (value (table_of types.now) (expression_of expression.now))) }
 {
     match expression.find_value(alloc, types) {
         Ok(_) => Ok(None),
@@ -35,7 +36,8 @@ fn as_value<A: Allocator + Copy>(
     types: &TypeTable<A>,
     operand: &Expr<A>,
 ) -> Result<Expr<A>, Memory>
-    ensures { IfOk result (λ made. expression_of made ≡ as_value (table_of types.now) (expression_of operand.now)) }
+    ensures { IfOk result (λ made. expression_of made
+        ≡ as_value (table_of types.now) (expression_of operand.now)) }
 {
     match operand.find_value(alloc, types) {
         Ok(value) => Ok(Expr::Literal(value)),
@@ -50,7 +52,8 @@ pub(crate) fn with_values<A: Allocator + Copy>(
     types: &TypeTable<A>,
     expression: &Expr<A>,
 ) -> Result<Expr<A>, Memory>
-    ensures { IfOk result (λ made. expression_of made ≡ with_values (table_of types.now) (expression_of expression.now)) }
+    ensures { IfOk result (λ made. expression_of made
+        ≡ with_values (table_of types.now) (expression_of expression.now)) }
 {
     match expression {
         Expr::Apply(operator, operand) => {
@@ -77,7 +80,8 @@ pub(crate) fn found_value<A: Allocator + Copy>(
     types: &TypeTable<A>,
     expression: &Expr<A>,
 ) -> Result<Option<Value<A>>, Memory>
-    ensures { IfOk result (λ found. IsFound found (value (table_of types.now) (expression_of expression.now))) }
+    ensures { IfOk result (λ found. IsFound found
+        (value (table_of types.now) (expression_of expression.now))) }
 {
     match expression.find_value(alloc, types) {
         Ok(value) => Ok(Some(value)),

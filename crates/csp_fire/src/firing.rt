@@ -43,7 +43,8 @@ fn form_of_term<A: AllocHandle>(
     term: &Term<A>,
 ) -> Result<Form<A>, Memory>
     requires closed { IsTermOf (script_of_parts script.now) (process_of term.now) }
-    ensures { IfOk result (λ f. IsFormOf (script_of_parts script.now) (process_of term.now) (form_of f)) }
+    ensures { IfOk result (λ f. IsFormOf (script_of_parts script.now) (process_of term.now)
+        (form_of f)) }
 {
     if !term.fits() {
         return Ok(Form::Large);
@@ -76,7 +77,8 @@ fn steps_within<A: AllocHandle>(
     alloc: A,
     answered: Vec<RuleStep<A>, A>,
 ) -> Result<Option<Vec<Step<A>, A>>, Memory>
-    ensures { IfOk result (λ steps. option_map (λ ss. map step_of ss.items) steps ≡ all_within (map answered_of answered.items)) }
+    ensures { IfOk result (λ steps. option_map (λ ss. map step_of ss.items) steps
+        ≡ all_within (map answered_of answered.items)) }
 {
     let mut steps = Vec::new(alloc);
     for step in answered {

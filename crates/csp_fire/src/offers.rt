@@ -15,7 +15,8 @@ pub(crate) fn offers<A: AllocHandle>(
     alloc: A,
     steps: &[Step<A>],
 ) -> Result<Vec<Vec<Action<A>, A>, A>, Memory>
-    ensures { IfOk result (λ offers. map (λ xs. map action_of xs.items) offers.items ≡ offers_of (map step_of steps.now)) }
+    ensures { IfOk result (λ offers. map (λ xs. map action_of xs.items) offers.items
+        ≡ offers_of (map step_of steps.now)) }
 {
     let ticks = has_tick(steps);
     let mut offers = Vec::new(alloc);
@@ -81,7 +82,8 @@ pub fn copy_offers<A: AllocHandle>(
     alloc: A,
     offers: &[Vec<Action<A>, A>],
 ) -> Result<Vec<Vec<Action<A>, A>, A>, Memory>
-    ensures { IfOk result (λ copies. map (λ xs. map action_of xs.items) copies.items ≡ map (λ xs. map action_of xs.items) offers.now) }
+    ensures { IfOk result (λ copies. map (λ xs. map action_of xs.items) copies.items
+        ≡ map (λ xs. map action_of xs.items) offers.now) }
 {
     let mut copies = Vec::new(alloc);
     for offer in offers {

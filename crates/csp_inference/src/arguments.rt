@@ -23,7 +23,8 @@ impl<A: Allocator + Copy> Equations<A> {
         expressions: &[Expr<A>],
         numbers: &[KindNumber],
     ) -> Result<(), Memory>
-        ensures { IfOk result (λ _. AsksQuestion self.old self.new (arguments_question types.now numbering.now names.now expressions.now numbers.now)) }
+        ensures { IfOk result (λ _. AsksQuestion self.old self.new
+            (arguments_question types.now numbering.now names.now expressions.now numbers.now)) }
     {
         if expressions.len() != numbers.len() {
             self.push_never()?;
@@ -42,7 +43,9 @@ impl<A: Allocator + Copy> Equations<A> {
         expressions: &[Expr<A>],
         numbers: &[KindNumber],
     ) -> Result<(), Memory>
-        ensures { IfOk result (λ _. AsksQuestion self.old self.new (leading_arguments_question types.now numbering.now names.now expressions.now numbers.now)) }
+        ensures { IfOk result (λ _. AsksQuestion self.old self.new
+            (leading_arguments_question types.now numbering.now names.now expressions.now
+            numbers.now)) }
     {
         if numbers.len() < expressions.len() {
             self.push_never()?;
@@ -63,7 +66,9 @@ impl<A: Allocator + Copy> Equations<A> {
         numbers: &[KindNumber],
     ) -> Result<(), Memory>
         requires { length expressions.now ≤ length numbers.now }
-        ensures { IfOk result (λ _. AsksQuestion self.old self.new (leading_arguments_question types.now numbering.now names.now expressions.now numbers.now)) }
+        ensures { IfOk result (λ _. AsksQuestion self.old self.new
+            (leading_arguments_question types.now numbering.now names.now expressions.now
+            numbers.now)) }
     {
         for (index, expression) in expressions.iter().enumerate() {
             let kind = Demand::Plain(End::Open(numbers[index]));

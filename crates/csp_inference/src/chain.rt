@@ -78,7 +78,8 @@ impl<A: Allocator + Copy> Chain<A> {
     /// room.
     #[tactic(auto, using(crate::proofs::Layers::over_append))]
     pub(crate) fn go_on(&mut self, layers: &[Layer], end: End) -> Result<(), Memory>
-        ensures { IfOk result (λ _. chain_of self.new ≡ over_all self.old.layers.items (chain_over layers.now end)) }
+        ensures { IfOk result (λ _. chain_of self.new
+            ≡ over_all self.old.layers.items (chain_over layers.now end)) }
     {
         self.layers.extend_from_slice(layers)?;
         self.end = end;
@@ -92,7 +93,8 @@ impl<A: Allocator + Copy> Chain<A> {
         layers: &[Layer],
         end: End,
     ) -> Result<(), Memory>
-        ensures { IfOk result (λ _. chain_of self.new ≡ going_on_at number layers.now end (chain_of self.old)) }
+        ensures { IfOk result (λ _. chain_of self.new
+            ≡ going_on_at number layers.now end (chain_of self.old)) }
     {
         if self.end != End::Open(number) {
             return Ok(());

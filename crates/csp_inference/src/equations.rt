@@ -60,7 +60,8 @@ impl<A: Allocator + Copy> Equations<A> {
     /// there is no room; then what is known is of no more use.
     pub fn solve(&mut self, alloc: A) -> Result<(), Misfit>
         requires { IsResolved (state_in self.old.state) }
-        ensures solved { Solved (state_in self.old.state) (equations_of self.old) (state_in self.new.state) result }
+        ensures solved { Solved (state_in self.old.state) (equations_of self.old)
+            (state_in self.new.state) result }
         ensures next { self.new.next ≡ self.old.next }
     {
         self.state.solve(alloc, self.met.as_slice())
@@ -68,7 +69,8 @@ impl<A: Allocator + Copy> Equations<A> {
 
     /// One equation more, or `Memory` where there is no room for it.
     pub(crate) fn push(&mut self, left: Demand, right: Demand) -> Result<(), Memory>
-        ensures { IfOk result (λ _. Adds self.old self.new ((demand_of left, demand_of right) ∷ []) self.old.next) }
+        ensures { IfOk result (λ _. Adds self.old self.new ((demand_of left, demand_of right) ∷ [])
+            self.old.next) }
     {
         self.met.push(KindEquation { left, right })?;
         Ok(())
@@ -102,7 +104,8 @@ impl<A: Allocator + Copy> Equations<A> {
     /// The number of a new kind, of which the given one is the sequences.
     pub(crate) fn push_sequence(&mut self, kind: Demand) -> Result<KindNumber, Memory>
         ensures number { IfOk result (λ n. n.0 ≡ self.old.next) }
-        ensures behind { IfOk result (λ _. AddsQuestion self.old self.new (sequence_kind_question kind)) }
+        ensures behind { IfOk result (λ _. AddsQuestion self.old self.new
+            (sequence_kind_question kind)) }
     {
         let number = self.fresh()?;
         self.push(Demand::SequenceOf(End::Open(number)), kind)?;
@@ -112,7 +115,8 @@ impl<A: Allocator + Copy> Equations<A> {
     /// The number of a new kind, of which the given one is the sets.
     pub(crate) fn push_set(&mut self, kind: Demand) -> Result<KindNumber, Memory>
         ensures number { IfOk result (λ n. n.0 ≡ self.old.next) }
-        ensures behind { IfOk result (λ _. AddsQuestion self.old self.new (set_kind_question kind)) }
+        ensures behind { IfOk result (λ _. AddsQuestion self.old self.new
+            (set_kind_question kind)) }
     {
         let number = self.fresh()?;
         self.push(Demand::SetOf(End::Open(number)), kind)?;

@@ -21,7 +21,8 @@ impl<A: Allocator + Copy> Equations<A> {
         names: &[NumberedName],
         event: &EventExpression<A>,
     ) -> Result<(), Memory>
-        ensures { IfOk result (λ _. AsksQuestion self.old self.new (event_question types.now numbering.now names.now event.now)) }
+        ensures { IfOk result (λ _. AsksQuestion self.old self.new
+            (event_question types.now numbering.now names.now event.now)) }
     {
         let Some(numbers) = numbering.channels.get(event.channel.0 as usize) else {
             self.push_never()?;
@@ -39,7 +40,8 @@ impl<A: Allocator + Copy> Equations<A> {
         names: &[NumberedName],
         event: &EventExpression<A>,
     ) -> Result<(), Memory>
-        ensures { IfOk result (λ _. AsksQuestion self.old self.new (beginning_question types.now numbering.now names.now event.now)) }
+        ensures { IfOk result (λ _. AsksQuestion self.old self.new
+            (beginning_question types.now numbering.now names.now event.now)) }
     {
         let Some(numbers) = numbering.channels.get(event.channel.0 as usize) else {
             self.push_never()?;
@@ -57,7 +59,8 @@ impl<A: Allocator + Copy> Equations<A> {
         names: &[NumberedName],
         events: &[EventExpression<A>],
     ) -> Result<(), Memory>
-        ensures { IfOk result (λ _. AsksQuestion self.old self.new (events_question types.now numbering.now names.now events.now)) }
+        ensures { IfOk result (λ _. AsksQuestion self.old self.new
+            (events_question types.now numbering.now names.now events.now)) }
     {
         for event in events {
             self.ask_event(types, numbering, names, event)?;
@@ -73,7 +76,8 @@ impl<A: Allocator + Copy> Equations<A> {
         names: &[NumberedName],
         events: &[EventExpression<A>],
     ) -> Result<(), Memory>
-        ensures { IfOk result (λ _. AsksQuestion self.old self.new (beginnings_question types.now numbering.now names.now events.now)) }
+        ensures { IfOk result (λ _. AsksQuestion self.old self.new
+            (beginnings_question types.now numbering.now names.now events.now)) }
     {
         for event in events {
             self.ask_beginning(types, numbering, names, event)?;
@@ -89,7 +93,8 @@ impl<A: Allocator + Copy> Equations<A> {
         names: &[NumberedName],
         set: &EventSet<A>,
     ) -> Result<(), Memory>
-        ensures { IfOk result (λ _. AsksQuestion self.old self.new (event_set_question types.now numbering.now names.now set.now)) }
+        ensures { IfOk result (λ _. AsksQuestion self.old self.new
+            (event_set_question types.now numbering.now names.now set.now)) }
     {
         match set {
             EventSet::Enumeration(events) => self.ask_events(types, numbering, names, events),

@@ -24,7 +24,8 @@ impl<A: Allocator + Copy> Equations<A> {
         expression: &Expr<A>,
         kind: Demand,
     ) -> Result<(), Memory>
-        ensures { IfOk result (λ _. AsksQuestion self.old self.new (expression_question types.now numbering.now names.now expression.now kind)) }
+        ensures { IfOk result (λ _. AsksQuestion self.old self.new
+            (expression_question types.now numbering.now names.now expression.now kind)) }
     {
         match expression {
             Expr::Literal(value) => self.ask_value(numbering, value, kind),
@@ -74,7 +75,8 @@ impl<A: Allocator + Copy> Equations<A> {
         expressions: &[Expr<A>],
         kind: Demand,
     ) -> Result<(), Memory>
-        ensures { IfOk result (λ _. AsksQuestion self.old self.new (expressions_question types.now numbering.now names.now expressions.now kind)) }
+        ensures { IfOk result (λ _. AsksQuestion self.old self.new
+            (expressions_question types.now numbering.now names.now expressions.now kind)) }
     {
         for expression in expressions {
             self.ask_expression(types, numbering, names, expression, kind)?;
@@ -93,7 +95,8 @@ impl<A: Allocator + Copy> Equations<A> {
         fields: &[Expr<A>],
         kind: Demand,
     ) -> Result<(), Memory>
-        ensures { IfOk result (λ _. AsksQuestion self.old self.new (constructed_question types.now numbering.now names.now constructor fields.now kind)) }
+        ensures { IfOk result (λ _. AsksQuestion self.old self.new
+            (constructed_question types.now numbering.now names.now constructor fields.now kind)) }
     {
         let Some(datatype) = numbering.owners.get(constructor.0 as usize) else {
             return self.push_never();
@@ -107,7 +110,8 @@ impl<A: Allocator + Copy> Equations<A> {
 
     /// Adds the equation for a bound name that is to have the kind.
     fn ask_name(&mut self, names: &[NumberedName], name: Name, kind: Demand) -> Result<(), Memory>
-        ensures { IfOk result (λ _. AddsQuestion self.old self.new (name_question names.now name kind)) }
+        ensures { IfOk result (λ _. AddsQuestion self.old self.new
+            (name_question names.now name kind)) }
     {
         match number_of_name(names, name) {
             Some(number) => self.push(Demand::Plain(End::Open(number)), kind),
@@ -122,7 +126,8 @@ impl<A: Allocator + Copy> Equations<A> {
         datatype: DatatypeId,
         kind: Demand,
     ) -> Result<(), Memory>
-        ensures { IfOk result (λ _. AddsQuestion self.old self.new (datatype_question types.now datatype kind)) }
+        ensures { IfOk result (λ _. AddsQuestion self.old self.new
+            (datatype_question types.now datatype kind)) }
     {
         match types.datatypes.get(datatype.0 as usize) {
             Some(_) => self.push(Demand::SetOf(End::Datatype(datatype)), kind),
@@ -137,7 +142,8 @@ impl<A: Allocator + Copy> Equations<A> {
         nametype: NametypeId,
         kind: Demand,
     ) -> Result<(), Memory>
-        ensures { IfOk result (λ _. AddsQuestion self.old self.new (nametype_question numbering.now nametype kind)) }
+        ensures { IfOk result (λ _. AddsQuestion self.old self.new
+            (nametype_question numbering.now nametype kind)) }
     {
         match numbering.nametypes.get(nametype.0 as usize) {
             Some(number) => self.push(Demand::SetOf(End::Open(*number)), kind),

@@ -20,7 +20,8 @@ pub(crate) fn bind_name<A: Allocator + Copy>(
     name: Name,
     number: KindNumber,
 ) -> Result<(), Memory>
-    ensures { IfOk result (λ _. names_of names.new.items ≡ (name.0, number.0) ∷ names_of names.old.items) }
+    ensures { IfOk result (λ _. names_of names.new.items
+        ≡ (name.0, number.0) ∷ names_of names.old.items) }
 {
     names.insert(0, NumberedName { name, number })?;
     Ok(())
@@ -39,8 +40,10 @@ impl<A: Allocator + Copy> Equations<A> {
         fields: &[Field<A>],
         numbers: &[KindNumber],
     ) -> Result<Vec<NumberedName, A>, Memory>
-        ensures asks { IfOk result (λ _. AsksQuestion self.old self.new (fields_question types.now numbering.now names.now fields.now numbers.now)) }
-        ensures names { IfOk result (λ inner. HasNames self.new (names_of inner.items) (names_behind_fields names.now fields.now numbers.now)) }
+        ensures asks { IfOk result (λ _. AsksQuestion self.old self.new
+            (fields_question types.now numbering.now names.now fields.now numbers.now)) }
+        ensures names { IfOk result (λ inner. HasNames self.new (names_of inner.items)
+            (names_behind_fields names.now fields.now numbers.now)) }
     {
         let mut inner = Vec::from_slice(alloc, names)?;
         if fields.len() != numbers.len() {
@@ -62,8 +65,10 @@ impl<A: Allocator + Copy> Equations<A> {
         field: &Field<A>,
         number: KindNumber,
     ) -> Result<(), Memory>
-        ensures asks { IfOk result (λ _. AsksQuestion self.old self.new (field_question types.now numbering.now names.old.items field.now number)) }
-        ensures names { IfOk result (λ _. names_of names.new.items ≡ names_behind_field names.old.items field.now number) }
+        ensures asks { IfOk result (λ _. AsksQuestion self.old self.new
+            (field_question types.now numbering.now names.old.items field.now number)) }
+        ensures names { IfOk result (λ _. names_of names.new.items
+            ≡ names_behind_field names.old.items field.now number) }
     {
         match field {
             Field::Given(value) => {

@@ -54,7 +54,8 @@ impl<A: Allocator + Copy> KnownKinds<A> {
     /// Solves the equations for an item.
     fn solve_item(&mut self, alloc: A, script: &ScriptParts<A>, item: Item) -> Result<(), Misfit>
         requires { HasResolvedKinds self.old }
-        ensures { SolvedForItem (script_of_parts script.now) (item_of item) self.old self.new result }
+        ensures { SolvedForItem (script_of_parts script.now) (item_of item) self.old self.new
+            result }
     {
         self.equations.forget();
         ask_item(&mut self.equations, alloc, script, &self.numbering, item)?;
@@ -70,7 +71,8 @@ fn ask_item<A: Allocator + Copy>(
     numbering: &Numbering<A>,
     item: Item,
 ) -> Result<(), Misfit>
-    ensures { AsksForItem (script_of_parts script.now) (numbering_of numbering.now) (item_of item) equations.old equations.new result }
+    ensures { AsksForItem (script_of_parts script.now) (numbering_of numbering.now) (item_of item)
+        equations.old equations.new result }
 {
     match item {
         Item::Equation { number, .. } => {

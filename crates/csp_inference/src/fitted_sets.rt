@@ -36,7 +36,8 @@ impl<A: Allocator + Copy> KnownKinds<A> {
         set: Option<&Expr<A>>,
     ) -> Result<(), Misfit>
         requires { HasResolvedKinds self.old }
-        ensures { FitsNametype (table_of types.now) nametype (lent_expression set.entry) self.old self.new result }
+        ensures { FitsNametype (table_of types.now) nametype (lent_expression set.entry) self.old
+            self.new result }
     {
         let Some(set) = set else {
             return Ok(());
@@ -56,7 +57,8 @@ impl<A: Allocator + Copy> KnownKinds<A> {
         members: KindNumber,
     ) -> Result<(), Misfit>
         requires { HasResolvedKinds self.old }
-        ensures { SolvedForSet (table_of types.now) (expression_of set.now) members.0 self.old self.new result }
+        ensures { SolvedForSet (table_of types.now) (expression_of set.now) members.0 self.old
+            self.new result }
     {
         self.equations.forget();
         self.equations
@@ -76,7 +78,8 @@ impl<A: Allocator + Copy> KnownKinds<A> {
         set: Option<&Expr<A>>,
     ) -> Result<(), Misfit>
         requires { HasResolvedKinds self.old }
-        ensures { FitsClauseField (table_of types.now) constructor field (lent_expression set.entry) self.old self.new result }
+        ensures { FitsClauseField (table_of types.now) constructor field (lent_expression set.entry)
+            self.old self.new result }
     {
         let Some(set) = set else {
             return Ok(());
@@ -100,7 +103,8 @@ impl<A: Allocator + Copy> KnownKinds<A> {
         set: Option<&Expr<A>>,
     ) -> Result<(), Misfit>
         requires { HasResolvedKinds self.old }
-        ensures { FitsField (table_of types.now) column (lent_expression set.entry) self.old self.new result }
+        ensures { FitsField (table_of types.now) column (lent_expression set.entry) self.old
+            self.new result }
     {
         let Some(set) = set else {
             return Ok(());
@@ -120,7 +124,8 @@ impl<A: Allocator + Copy> KnownKinds<A> {
         members: &[KindNumber],
     ) -> Result<(), Misfit>
         requires { HasResolvedKinds self.old }
-        ensures { SolvedForCopies (table_of types.now) (expression_of set.now) (row_numbers members.now) self.old self.new result }
+        ensures { SolvedForCopies (table_of types.now) (expression_of set.now)
+            (row_numbers members.now) self.old self.new result }
     {
         self.equations.forget();
         self.equations

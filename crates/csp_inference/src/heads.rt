@@ -23,7 +23,8 @@ impl<A: Allocator + Copy> Equations<A> {
         called: EquationId,
         arguments: &[Expr<A>],
     ) -> Result<(), Memory>
-        ensures { IfOk result (λ _. AsksQuestion self.old self.new (call_question types.now numbering.now names.now called arguments.now)) }
+        ensures { IfOk result (λ _. AsksQuestion self.old self.new
+            (call_question types.now numbering.now names.now called arguments.now)) }
     {
         let Some(numbers) = numbering.parameters.get(called.0 as usize) else {
             self.push_never()?;
@@ -44,8 +45,10 @@ impl<A: Allocator + Copy> Equations<A> {
         channel: ChannelId,
         fields: &[Field<A>],
     ) -> Result<Vec<NumberedName, A>, Memory>
-        ensures asks { IfOk result (λ _. AsksQuestion self.old self.new (prefix_question types.now numbering.now names.now channel fields.now)) }
-        ensures names { IfOk result (λ inner. HasNames self.new (names_of inner.items) (names_in_body numbering.now names.now channel fields.now)) }
+        ensures asks { IfOk result (λ _. AsksQuestion self.old self.new
+            (prefix_question types.now numbering.now names.now channel fields.now)) }
+        ensures names { IfOk result (λ inner. HasNames self.new (names_of inner.items)
+            (names_in_body numbering.now names.now channel fields.now)) }
     {
         let Some(numbers) = numbering.channels.get(channel.0 as usize) else {
             self.push_never()?;

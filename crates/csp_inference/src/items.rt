@@ -21,7 +21,8 @@ fn number_parameters<A: Allocator + Copy>(
     numbers: &[KindNumber],
 ) -> Result<Vec<NumberedName, A>, Memory>
     requires { length parameters.now ≡ length numbers.now }
-    ensures { IfOk result (λ names. names_of names.items ≡ numbered (map (λ x. x.0) parameters.now) (map (λ n. n.0) numbers.now)) }
+    ensures { IfOk result (λ names. names_of names.items
+        ≡ numbered (map (λ x. x.0) parameters.now) (map (λ n. n.0) numbers.now)) }
 {
     let mut names = Vec::new(alloc);
     for index in 0..parameters.len() {
@@ -43,7 +44,8 @@ impl<A: Allocator + Copy> Equations<A> {
         equation: &Equation<A>,
         numbers: &[KindNumber],
     ) -> Result<(), Memory>
-        ensures { IfOk result (λ _. AsksQuestion self.old self.new (equation_question script.now numbering.now equation.now numbers.now)) }
+        ensures { IfOk result (λ _. AsksQuestion self.old self.new
+            (equation_question script.now numbering.now equation.now numbers.now)) }
     {
         if equation.parameters.len() != numbers.len() {
             self.push_never()?;
@@ -62,7 +64,8 @@ impl<A: Allocator + Copy> Equations<A> {
         numbering: &Numbering<A>,
         assertion: &Assertion<A>,
     ) -> Result<(), Memory>
-        ensures { IfOk result (λ _. AsksQuestion self.old self.new (assertion_question script.now numbering.now assertion.now)) }
+        ensures { IfOk result (λ _. AsksQuestion self.old self.new
+            (assertion_question script.now numbering.now assertion.now)) }
     {
         self.ask_specification(alloc, script, numbering, assertion.property.specification())?;
         self.ask_process(alloc, script, numbering, &[], &assertion.implementation)?;
@@ -77,7 +80,8 @@ impl<A: Allocator + Copy> Equations<A> {
         numbering: &Numbering<A>,
         specification: Option<&Term<A>>,
     ) -> Result<(), Memory>
-        ensures { IfOk result (λ _. AsksQuestion self.old self.new (specification_question script.now numbering.now specification.entry)) }
+        ensures { IfOk result (λ _. AsksQuestion self.old self.new
+            (specification_question script.now numbering.now specification.entry)) }
     {
         match specification {
             Some(specification) => {

@@ -24,7 +24,8 @@ impl<A: Allocator + Copy> KnownKinds<A> {
     /// Each part of the tree has a number, and no set is looked at yet. `Memory` where there is no room for the
     /// numbers.
     pub fn new(alloc: A, raw: &Raw<'_, A>) -> Result<KnownKinds<A>, Memory>
-        ensures { IfOk result (λ known. NoneRefused IsRedeclared (all_declared (script_of raw.now)) → KnowsKinds (script_of raw.now) [] known) }
+        ensures { IfOk result (λ known. NoneRefused IsRedeclared (all_declared (script_of raw.now))
+            → KnowsKinds (script_of raw.now) [] known) }
     {
         let (numbering, equations) = number(alloc, raw)?;
         Ok(KnownKinds {

@@ -116,7 +116,8 @@ impl<A: Allocator + Copy> Equations<A> {
         kind: Demand,
     ) -> Result<KindNumber, Memory>
         ensures number { IfOk result (λ n. n.0 ≡ self.old.next) }
-        ensures behind { IfOk result (λ _. AddsQuestion self.old self.new (unary_question operator kind)) }
+        ensures behind { IfOk result (λ _. AddsQuestion self.old self.new
+            (unary_question operator kind)) }
     {
         let number = self.unary_number(operator)?;
         self.push(unary_value(operator, number), kind)?;
@@ -130,7 +131,8 @@ impl<A: Allocator + Copy> Equations<A> {
         kind: Demand,
     ) -> Result<KindNumber, Memory>
         ensures number { IfOk result (λ n. n.0 ≡ self.old.next) }
-        ensures behind { IfOk result (λ _. AddsQuestion self.old self.new (binary_question operator kind)) }
+        ensures behind { IfOk result (λ _. AddsQuestion self.old self.new
+            (binary_question operator kind)) }
     {
         let number = self.binary_number(operator)?;
         self.push(binary_value(operator, number), kind)?;
@@ -139,7 +141,8 @@ impl<A: Allocator + Copy> Equations<A> {
 
     fn unary_number(&mut self, operator: UnaryOperator) -> Result<KindNumber, Memory>
         ensures number { IfOk result (λ n. n.0 ≡ self.old.next) }
-        ensures behind { IfOk result (λ _. Adds self.old self.new [] (behind_unary (unary_of operator) self.old.next)) }
+        ensures behind { IfOk result (λ _. Adds self.old self.new []
+            (behind_unary (unary_of operator) self.old.next)) }
     {
         match operator {
             UnaryOperator::Negate | UnaryOperator::Not => Ok(self.next_number()),
@@ -153,7 +156,8 @@ impl<A: Allocator + Copy> Equations<A> {
 
     fn binary_number(&mut self, operator: BinaryOperator) -> Result<KindNumber, Memory>
         ensures number { IfOk result (λ n. n.0 ≡ self.old.next) }
-        ensures behind { IfOk result (λ _. Adds self.old self.new [] (behind_binary (binary_of operator) self.old.next)) }
+        ensures behind { IfOk result (λ _. Adds self.old self.new []
+            (behind_binary (binary_of operator) self.old.next)) }
     {
         match operator {
             BinaryOperator::Concatenate

@@ -23,7 +23,8 @@ impl<A: Allocator + Copy> Equations<A> {
         names: &[NumberedName],
         process: &Term<A>,
     ) -> Result<(), Memory>
-        ensures { IfOk result (λ _. AsksQuestion self.old self.new (process_question script.now numbering.now names.now process.now)) }
+        ensures { IfOk result (λ _. AsksQuestion self.old self.new
+            (process_question script.now numbering.now names.now process.now)) }
     {
         let types = &script.types;
         match process.form() {

@@ -35,7 +35,8 @@ fn have_same_sets<A: Allocator + Copy>(
     from: ChannelId,
     to: ChannelId,
 ) -> bool
-    ensures { result ≡ are_same_sets (sets_of_channel script.now from) (sets_of_channel script.now to) }
+    ensures { result ≡ are_same_sets (sets_of_channel script.now from)
+        (sets_of_channel script.now to) }
 {
     let Some(from) = script.channels.get(from.0 as usize) else {
         return false;
@@ -64,7 +65,8 @@ impl<A: Allocator + Copy> Equations<A> {
         names: &[NumberedName],
         pairs: &[RenamingPair<A>],
     ) -> Result<(), Memory>
-        ensures { IfOk result (λ _. AsksQuestion self.old self.new (pairs_question script.now numbering.now names.now pairs.now)) }
+        ensures { IfOk result (λ _. AsksQuestion self.old self.new
+            (pairs_question script.now numbering.now names.now pairs.now)) }
     {
         for pair in pairs {
             self.ask_pair(script, numbering, names, pair)?;
@@ -80,7 +82,8 @@ impl<A: Allocator + Copy> Equations<A> {
         names: &[NumberedName],
         pair: &RenamingPair<A>,
     ) -> Result<(), Memory>
-        ensures { IfOk result (λ _. AsksQuestion self.old self.new (pair_question script.now numbering.now names.now pair.now)) }
+        ensures { IfOk result (λ _. AsksQuestion self.old self.new
+            (pair_question script.now numbering.now names.now pair.now)) }
     {
         if are_bare_alike(script, pair) {
             return Ok(());

@@ -21,7 +21,8 @@ impl<A: Allocator + Copy> Equations<A> {
         set: &Expr<A>,
         members: KindNumber,
     ) -> Result<(), Memory>
-        ensures { IfOk result (λ _. AsksQuestion self.old self.new (set_question types.now numbering.now set.now members)) }
+        ensures { IfOk result (λ _. AsksQuestion self.old self.new
+            (set_question types.now numbering.now set.now members)) }
     {
         self.ask_expression(
             types,
@@ -42,7 +43,8 @@ impl<A: Allocator + Copy> Equations<A> {
         set: &Expr<A>,
         numbers: &[KindNumber],
     ) -> Result<(), Memory>
-        ensures { IfOk result (λ _. AsksQuestion self.old self.new (copies_question types.now numbering.now set.now numbers.now)) }
+        ensures { IfOk result (λ _. AsksQuestion self.old self.new
+            (copies_question types.now numbering.now set.now numbers.now)) }
     {
         for members in numbers {
             self.ask_set(types, numbering, set, *members)?;

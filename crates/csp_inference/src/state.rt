@@ -34,7 +34,8 @@ impl<A: Allocator + Copy> State<A> {
     /// the state is of no more use.
     pub(crate) fn solve(&mut self, alloc: A, equations: &[KindEquation]) -> Result<(), Misfit>
         requires { IsResolved (state_in self.old) }
-        ensures { Solved (state_in self.old) (map equation_of equations.now) (state_in self.new) result }
+        ensures { Solved (state_in self.old) (map equation_of equations.now) (state_in self.new)
+            result }
     {
         for equation in equations {
             self.unify(alloc, equation.left, equation.right)?;
@@ -54,7 +55,8 @@ impl<A: Allocator + Copy> State<A> {
 
     /// The kind that is asked for, as far as it is known.
     fn resolve(&self, alloc: A, demand: Demand) -> Result<Chain<A>, Memory>
-        ensures { IfOk result (λ chain. chain_of chain ≡ found_at (chains_of self.now) (demand_of demand)) }
+        ensures { IfOk result (λ chain. chain_of chain
+            ≡ found_at (chains_of self.now) (demand_of demand)) }
     {
         let chain = Chain::new(alloc, demand)?;
         if let End::Open(number) = chain.end {
@@ -66,7 +68,8 @@ impl<A: Allocator + Copy> State<A> {
     /// The chain that ends in the number, which goes on as what the number is bound to.
     fn look_up(&self, number: KindNumber, mut chain: Chain<A>) -> Result<Chain<A>, Memory>
         requires { chain.end ≡ End.Open number }
-        ensures { IfOk result (λ longer. chain_of longer ≡ found_at (chains_of self.now) (chain_of chain)) }
+        ensures { IfOk result (λ longer. chain_of longer
+            ≡ found_at (chains_of self.now) (chain_of chain)) }
     {
         let Some(rest) = self.bound(number) else {
             return Ok(chain);
@@ -96,7 +99,9 @@ impl<A: Allocator + Copy> State<A> {
         layers: &[Layer],
         end: End,
     ) -> Result<(), Memory>
-        ensures { IfOk result (λ _. SaysTheSame (bound_to (state_in self.old) number.0 (chain_over layers.now end)) (state_in self.new)) }
+        ensures { IfOk result (λ _. SaysTheSame
+            (bound_to (state_in self.old) number.0 (chain_over layers.now end))
+            (state_in self.new)) }
     {
         self.make_room(number)?;
         go_on_all(&mut self.chains, number, layers, end)?;
@@ -114,7 +119,8 @@ impl<A: Allocator + Copy> State<A> {
         layers: &[Layer],
         end: End,
     ) -> Result<(), Misfit>
-        ensures { Tells (bind_open (state_in self.old) number.0 (chain_over layers.now end)) (state_in self.new) result }
+        ensures { Tells (bind_open (state_in self.old) number.0 (chain_over layers.now end))
+            (state_in self.new) result }
     {
         if end != End::Open(number) {
             self.bind(alloc, number, layers, end)?;
@@ -137,7 +143,8 @@ impl<A: Allocator + Copy> State<A> {
         right_end: End,
     ) -> Result<(), Misfit>
         requires { AreUnlike left.now right.now }
-        ensures { Tells (unify_resolved (state_in self.old) (chain_over left.now left_end) (chain_over right.now right_end)) (state_in self.new) result }
+        ensures { Tells (unify_resolved (state_in self.old) (chain_over left.now left_end)
+            (chain_over right.now right_end)) (state_in self.new) result }
     {
         if let Some(number) = open_alone(left, left_end) {
             return self.bind_open(alloc, number, right, right_end);
@@ -156,7 +163,8 @@ impl<A: Allocator + Copy> State<A> {
     /// no more use.
     fn unify(&mut self, alloc: A, left: Demand, right: Demand) -> Result<(), Misfit>
         requires { IsResolved (state_in self.old) }
-        ensures { Solved (state_in self.old) ((demand_of left, demand_of right) ∷ []) (state_in self.new) result }
+        ensures { Solved (state_in self.old) ((demand_of left, demand_of right) ∷ [])
+            (state_in self.new) result }
     {
         let left = self.resolve(alloc, left)?;
         let right = self.resolve(alloc, right)?;
@@ -182,7 +190,8 @@ fn go_on_at<A: Allocator + Copy>(
     layers: &[Layer],
     end: End,
 ) -> Result<(), Memory>
-    ensures { IfOk result (λ _. option_map chain_of slot.new ≡ option_map (going_on_at number layers.now end) (option_map chain_of slot.old)) }
+    ensures { IfOk result (λ _. option_map chain_of slot.new
+        ≡ option_map (going_on_at number layers.now end) (option_map chain_of slot.old)) }
 {
     match slot {
         Some(chain) => chain.put_in(number, layers, end),
@@ -197,7 +206,8 @@ fn go_on_all<A: Allocator + Copy>(
     layers: &[Layer],
     end: End,
 ) -> Result<(), Memory>
-    ensures { IfOk result (λ _. chains_in slots.new ≡ map (option_map (going_on_at number layers.now end)) (chains_in slots.old)) }
+    ensures { IfOk result (λ _. chains_in slots.new
+        ≡ map (option_map (going_on_at number layers.now end)) (chains_in slots.old)) }
 {
     for slot in slots.iter_mut() {
         go_on_at(slot, number, layers, end)?;

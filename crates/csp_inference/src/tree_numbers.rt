@@ -26,7 +26,8 @@ pub fn number<A: Allocator + Copy>(
     alloc: A,
     raw: &Raw<'_, A>,
 ) -> Result<(Numbering<A>, Equations<A>), Memory>
-    ensures numbers { IfOk result (λ n. numbering_of n.0 ≡ numbers_of (owners_from 0 (constructor_counts (script_of raw.now))) (script_of raw.now)) }
+    ensures numbers { IfOk result (λ n. numbering_of n.0
+        ≡ numbers_of (owners_from 0 (constructor_counts (script_of raw.now))) (script_of raw.now)) }
     ensures next { IfOk result (λ n. n.1.next ≡ next_number (script_of raw.now)) }
     ensures known { IfOk result (λ n. SaysTheSame nothing_known (state_in n.1.state)) }
 {
@@ -66,8 +67,10 @@ fn numbers_in_a_row<A: Allocator + Copy>(
     equations: &mut Equations<A>,
     count: usize,
 ) -> Result<Vec<KindNumber, A>, Memory>
-    ensures numbers { IfOk result (λ row. row_numbers row.items ≡ numbers_from equations.old.next count) }
-    ensures behind { IfOk result (λ _. Adds equations.old equations.new [] (equations.old.next + count)) }
+    ensures numbers { IfOk result (λ row. row_numbers row.items
+        ≡ numbers_from equations.old.next count) }
+    ensures behind { IfOk result (λ _. Adds equations.old equations.new []
+        (equations.old.next + count)) }
 {
     let mut numbers = Vec::new(alloc);
     for _ in 0..count {
@@ -83,8 +86,10 @@ fn rows_in_a_row<A: Allocator + Copy>(
     equations: &mut Equations<A>,
     counts: &[usize],
 ) -> Result<Vec<Vec<KindNumber, A>, A>, Memory>
-    ensures rows { IfOk result (λ rows. number_rows rows.items ≡ rows_from equations.old.next counts.now) }
-    ensures behind { IfOk result (λ _. Adds equations.old equations.new [] (behind_all equations.old.next counts.now)) }
+    ensures rows { IfOk result (λ rows. number_rows rows.items
+        ≡ rows_from equations.old.next counts.now) }
+    ensures behind { IfOk result (λ _. Adds equations.old equations.new []
+        (behind_all equations.old.next counts.now)) }
 {
     let mut rows = Vec::new(alloc);
     for count in counts {

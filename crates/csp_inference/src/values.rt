@@ -19,7 +19,8 @@ impl<A: Allocator + Copy> Equations<A> {
         value: &Value<A>,
         kind: Demand,
     ) -> Result<(), Memory>
-        ensures { IfOk result (λ _. AsksQuestion self.old self.new (value_question numbering.now value.now kind)) }
+        ensures { IfOk result (λ _. AsksQuestion self.old self.new
+            (value_question numbering.now value.now kind)) }
     {
         match value {
             Value::Int(_) => self.push(Demand::Plain(End::Int), kind),
@@ -48,7 +49,8 @@ impl<A: Allocator + Copy> Equations<A> {
         values: &[Value<A>],
         kind: Demand,
     ) -> Result<(), Memory>
-        ensures { IfOk result (λ _. AsksQuestion self.old self.new (values_question numbering.now values.now kind)) }
+        ensures { IfOk result (λ _. AsksQuestion self.old self.new
+            (values_question numbering.now values.now kind)) }
     {
         for value in values {
             self.ask_value(numbering, value, kind)?;
@@ -76,7 +78,8 @@ impl<A: Allocator + Copy> Equations<A> {
         fields: &[Value<A>],
         kind: Demand,
     ) -> Result<(), Memory>
-        ensures { IfOk result (λ _. AsksQuestion self.old self.new (constructor_question numbering.now constructor fields.now kind)) }
+        ensures { IfOk result (λ _. AsksQuestion self.old self.new
+            (constructor_question numbering.now constructor fields.now kind)) }
     {
         let Some(datatype) = numbering.owners.get(constructor.0 as usize) else {
             return self.push_never();
@@ -97,7 +100,8 @@ impl<A: Allocator + Copy> Equations<A> {
         values: &[Value<A>],
         numbers: &[KindNumber],
     ) -> Result<(), Memory>
-        ensures { IfOk result (λ _. AsksQuestion self.old self.new (values_in_turn_question numbering.now values.now numbers.now)) }
+        ensures { IfOk result (λ _. AsksQuestion self.old self.new
+            (values_in_turn_question numbering.now values.now numbers.now)) }
     {
         if values.len() != numbers.len() {
             return self.push_never();

@@ -38,8 +38,10 @@ impl<A: Allocator + Copy> Channels<A> {
         names: &[RawName<'_>],
         sets: &Option<Vec<FieldSet<A>, A>>,
     ) -> Result<Option<SetFault>, Memory>
-        ensures added { OnOk result (sets_in self.new ≡ sets_in self.old ++ replicate (length names.now) (known_sets sets.now)) }
-        ensures heads { IfOk result (HasHeads (map name_of names.now) (known_sets sets.now) self.old self.new) }
+        ensures added { OnOk result (sets_in self.new ≡ sets_in self.old
+            ++ replicate (length names.now) (known_sets sets.now)) }
+        ensures heads { IfOk result (HasHeads (map name_of names.now) (known_sets sets.now) self.old
+            self.new) }
         ensures quiet { IfOk result (λ fault. known_sets sets.now ≡ None → fault_in fault ≡ None) }
     {
         let own = events_with(sets);

@@ -18,7 +18,8 @@ pub(crate) fn datatypes_of<A: Allocator + Copy>(
     alloc: A,
     declarations: &[Declaration<'_, A>],
 ) -> Result<Vec<Constructors, A>, Memory>
-    ensures { IfOk result (λ all. map constructors_of all.items ≡ rows_from 0 (constructor_counts (map declaration_of declarations.now))) }
+    ensures { IfOk result (λ all. map constructors_of all.items
+        ≡ rows_from 0 (constructor_counts (map declaration_of declarations.now))) }
 {
     let mut all = Vec::new(alloc);
     let mut next: u32 = 0;

@@ -43,7 +43,8 @@ pub(crate) fn look_at_fields<'t, A: Allocator + Copy>(
     domains: &[Domain<'t, A>],
 ) -> Result<Fields<A>, Memory>
     requires { IsNextOf above.now fit.old first channels (map domain_of domains.now) }
-    ensures { IfOk result (LooksAtFields above.now fit.old first channels (map domain_of domains.now) fit.new) }
+    ensures { IfOk result (LooksAtFields above.now fit.old first channels
+        (map domain_of domains.now) fit.new) }
 {
     let mut fields = Fields {
         sets: Vec::new(alloc),
@@ -70,7 +71,8 @@ pub(crate) fn look_at_clause<'t, A: Allocator + Copy>(
     domains: &[Domain<'t, A>],
 ) -> Result<Fields<A>, Memory>
     requires { IsNextClause above.now fit.old constructor (map domain_of domains.now) }
-    ensures { IfOk result (LooksAtClause above.now fit.old constructor (map domain_of domains.now) fit.new) }
+    ensures { IfOk result (LooksAtClause above.now fit.old constructor (map domain_of domains.now)
+        fit.new) }
 {
     let mut fields = Fields {
         sets: Vec::new(alloc),
@@ -94,7 +96,8 @@ impl<A: Allocator + Copy> Fields<A> {
         domain: &Domain<'t, A>,
     ) -> Result<(), Memory>
         requires { IsOpen fit.old }
-        ensures { OnOk result (AddsField above.now column (domain_of domain.now) self.old fit.old self.new fit.new) }
+        ensures { OnOk result (AddsField above.now column (domain_of domain.now) self.old fit.old
+            self.new fit.new) }
     {
         let looked = above.look(alloc, &domain.set)?;
         fit.add_field(alloc, &above.table.types, column, looked.expression())?;
@@ -112,7 +115,8 @@ impl<A: Allocator + Copy> Fields<A> {
         domain: &Domain<'t, A>,
     ) -> Result<(), Memory>
         requires { IsOpen fit.old }
-        ensures { OnOk result (AddsClauseField above.now constructor field (domain_of domain.now) self.old fit.old self.new fit.new) }
+        ensures { OnOk result (AddsClauseField above.now constructor field (domain_of domain.now)
+            self.old fit.old self.new fit.new) }
     {
         let looked = above.look(alloc, &domain.set)?;
         fit.add_clause_field(
@@ -142,7 +146,8 @@ impl<A: Allocator + Copy> Fields<A> {
 
     /// Adds a field with this set, if it has a member, and this fault.
     fn push(&mut self, set: Option<FieldSet<A>>, fault: Option<SetFault>) -> Result<(), Memory>
-        ensures first { OnOk result (fault_in self.new.fault ≡ option_or (fault_in self.old.fault) (fault_in fault)) }
+        ensures first { OnOk result (fault_in self.new.fault
+            ≡ option_or (fault_in self.old.fault) (fault_in fault)) }
         ensures pushed { OnOk result (Pushes set self.old self.new) }
     {
         self.fault = first_of(self.fault, fault);
@@ -170,7 +175,8 @@ fn field_set<A: Allocator + Copy>(
     alloc: A,
     looked: &LookedSet<A>,
 ) -> Result<Option<FieldSet<A>>, Memory>
-    ensures { IfOk result (λ found. option_map field_values found ≡ option_map sorted_values (option_and_then with_some (looked_members looked.now))) }
+    ensures { IfOk result (λ found. option_map field_values found
+        ≡ option_map sorted_values (option_and_then with_some (looked_members looked.now))) }
 {
     match looked {
         LookedSet::Set {
@@ -186,7 +192,8 @@ fn field_set_of<A: Allocator + Copy>(
     alloc: A,
     members: &SetOf<A>,
 ) -> Result<Option<FieldSet<A>>, Memory>
-    ensures { IfOk result (λ found. option_map field_values found ≡ option_map sorted_values (with_some (members_listed members.now))) }
+    ensures { IfOk result (λ found. option_map field_values found
+        ≡ option_map sorted_values (with_some (members_listed members.now))) }
 {
     let values = members.members();
     if values.is_empty() {

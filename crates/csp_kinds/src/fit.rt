@@ -28,7 +28,8 @@ impl<A: Allocator + Copy> Fit<A> {
         set: Option<&Expr<A>>,
     ) -> Result<(), Memory>
         requires { IsOpen self.old }
-        ensures { OnOk result (TakesNametype (table_of types.now) nametype (lent_expression set.entry) self.old self.new) }
+        ensures { OnOk result (TakesNametype (table_of types.now) nametype
+            (lent_expression set.entry) self.old self.new) }
     {
         if !self.some {
             return Ok(());
@@ -53,7 +54,8 @@ impl<A: Allocator + Copy> Fit<A> {
         set: Option<&Expr<A>>,
     ) -> Result<(), Memory>
         requires { IsOpen self.old }
-        ensures { OnOk result (TakesClauseField (table_of types.now) constructor field (lent_expression set.entry) self.old self.new) }
+        ensures { OnOk result (TakesClauseField (table_of types.now) constructor field
+            (lent_expression set.entry) self.old self.new) }
     {
         if !self.some {
             return Ok(());
@@ -80,7 +82,8 @@ impl<A: Allocator + Copy> Fit<A> {
         set: Option<&Expr<A>>,
     ) -> Result<(), Memory>
         requires { IsOpen self.old }
-        ensures { OnOk result (TakesField (table_of types.now) column (lent_expression set.entry) self.old self.new) }
+        ensures { OnOk result (TakesField (table_of types.now) column (lent_expression set.entry)
+            self.old self.new) }
     {
         if !self.some {
             return Ok(());

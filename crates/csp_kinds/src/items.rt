@@ -56,7 +56,8 @@ impl<A: Allocator + Copy> Items<A> {
         bound: &mut BoundNames<'t, A>,
         declaration: &Declaration<'t, A>,
     ) -> Result<(), Refused>
-        ensures { AddsItem scope.now bound.old bound.new (declaration_of declaration.now) self.old self.new result }
+        ensures { AddsItem scope.now bound.old bound.new (declaration_of declaration.now) self.old
+            self.new result }
     {
         match declaration {
             Declaration::Equation {

@@ -109,7 +109,8 @@ impl<A: Allocator> LookedSet<A> {
     /// The fault of the set whose first token is at the place: of a name in it, or that no kinds fit, or that it has no
     /// members that count.
     pub(crate) fn fault(&self, place: Place, fits: bool, counts: bool) -> Option<SetFault>
-        ensures { fault_in result ≡ fault_of_set (looked_refusal self.now) (place_of place) fits counts }
+        ensures { fault_in result ≡ fault_of_set (looked_refusal self.now) (place_of place) fits
+            counts }
     {
         match self {
             LookedSet::Refused(fault) => Some(*fault),

@@ -13,7 +13,8 @@ pub(crate) fn channel_names<'t, A: Allocator + Copy>(
     alloc: A,
     raw: &Raw<'t, A>,
 ) -> Result<Vec<Name<'t>, A>, AllocError>
-    ensures { IfOk result (λ names. map name_of names.items ≡ flat_map (declared_as ChannelName) (script_of raw.now)) }
+    ensures { IfOk result (λ names. map name_of names.items
+        ≡ flat_map (declared_as ChannelName) (script_of raw.now)) }
 {
     let mut all = Vec::new(alloc);
     for declaration in &raw.declarations {
@@ -29,7 +30,8 @@ pub(crate) fn constructor_names<'t, A: Allocator + Copy>(
     alloc: A,
     raw: &Raw<'t, A>,
 ) -> Result<Vec<Name<'t>, A>, AllocError>
-    ensures { IfOk result (λ names. map name_of names.items ≡ flat_map (declared_as ConstructorName) (script_of raw.now)) }
+    ensures { IfOk result (λ names. map name_of names.items
+        ≡ flat_map (declared_as ConstructorName) (script_of raw.now)) }
 {
     let mut all = Vec::new(alloc);
     for declaration in &raw.declarations {
@@ -45,7 +47,8 @@ fn add_clauses<'t, A: Allocator + Copy>(
     all: &mut Vec<Name<'t>, A>,
     clauses: &[Clause<'t, A>],
 ) -> Result<(), AllocError>
-    ensures { OnOk result (map name_of all.new.items ≡ map name_of all.old.items ++ clause_names (map clause_of clauses.now)) }
+    ensures { OnOk result (map name_of all.new.items
+        ≡ map name_of all.old.items ++ clause_names (map clause_of clauses.now)) }
 {
     for clause in clauses {
         all.push(clause.name)?;

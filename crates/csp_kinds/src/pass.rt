@@ -92,7 +92,8 @@ impl<A: Allocator + Copy> SetsSoFar<A> {
         clauses: &[Clause<'t, A>],
     ) -> Result<(), Memory>
         requires { HasNextDatatype at.now self.old (map clause_of clauses.now) }
-        ensures { OnOk result ((name : RawName) → TakesUp at.now (RawDatatype name (map clause_of clauses.now)) self.old self.new) }
+        ensures { OnOk result ((name : RawName) → TakesUp at.now
+            (RawDatatype name (map clause_of clauses.now)) self.old self.new) }
     {
         let above = Above {
             names: at.names,
@@ -112,7 +113,8 @@ impl<A: Allocator + Copy> SetsSoFar<A> {
         domain: &Domain<'t, A>,
     ) -> Result<(), Memory>
         requires { IsOpen self.old.fit }
-        ensures { OnOk result ((name : RawName) → TakesUp at.now (RawNametype name (domain_of domain.now)) self.old self.new) }
+        ensures { OnOk result ((name : RawName) → TakesUp at.now
+            (RawNametype name (domain_of domain.now)) self.old self.new) }
     {
         let above = Above {
             names: at.names,
@@ -136,8 +138,10 @@ impl<A: Allocator + Copy> SetsSoFar<A> {
         names: &[Name<'t>],
         domains: &[Domain<'t, A>],
     ) -> Result<(), Memory>
-        requires { HasNext at.now self.old (RawChannels (map name_of names.now) (map domain_of domains.now)) }
-        ensures { OnOk result (TakesUp at.now (RawChannels (map name_of names.now) (map domain_of domains.now)) self.old self.new) }
+        requires { HasNext at.now self.old
+            (RawChannels (map name_of names.now) (map domain_of domains.now)) }
+        ensures { OnOk result (TakesUp at.now
+            (RawChannels (map name_of names.now) (map domain_of domains.now)) self.old self.new) }
     {
         let above = Above {
             names: at.names,

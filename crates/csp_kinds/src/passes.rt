@@ -21,7 +21,8 @@ use std::alloc::Allocator;
 /// third over the equations and assertions, whose kinds have to fit. The first refusal of the first pass that has one
 /// is answered. `Refused::Memory` comes where there was no room, and says nothing of the tree.
 pub fn check<A: Allocator + Copy>(alloc: A, raw: &Raw<'_, A>) -> Result<Script<A>, Refused>
-    ensures script { IfOk result (λ script. IsCheckedTree (tree.script_of raw.now) (script_of script)) }
+    ensures script { IfOk result (λ script. IsCheckedTree (tree.script_of raw.now)
+        (script_of script)) }
     ensures refusal { IfErr result (IsRefusalOf (tree.script_of raw.now)) }
 {
     let names = names_of(alloc, raw)?;

@@ -22,8 +22,10 @@ pub(crate) fn channels<A: Allocator + Copy>(
 ) -> Result<Vec<Channel<A>, A>, AllocError>
     requires as_many { length field_sets.items ≡ length names.now }
     requires known { All IsSome field_sets.items }
-    ensures spellings { IfOk result (λ channels. channel_spellings channels.items ≡ encoded names.now) }
-    ensures sets { IfOk result (λ channels. sets_listed channels.items ≡ map known_sets field_sets.items) }
+    ensures spellings { IfOk result (λ channels. channel_spellings channels.items
+        ≡ encoded names.now) }
+    ensures sets { IfOk result (λ channels. sets_listed channels.items
+        ≡ map known_sets field_sets.items) }
 {
     let mut channels = Vec::new(alloc);
     for (name, fields) in names.iter().zip(field_sets) {
@@ -39,7 +41,8 @@ pub(crate) fn constructors<A: Allocator + Copy>(
     alloc: A,
     names: &[Name<'_>],
 ) -> Result<Vec<Constructor<A>, A>, AllocError>
-    ensures { IfOk result (λ constructors. constructor_spellings constructors.items ≡ encoded names.now) }
+    ensures { IfOk result (λ constructors. constructor_spellings constructors.items
+        ≡ encoded names.now) }
 {
     let mut constructors = Vec::new(alloc);
     for name in names {
@@ -51,7 +54,8 @@ pub(crate) fn constructors<A: Allocator + Copy>(
 
 /// A name's spelling.
 fn spelling_of<A: Allocator + Copy>(alloc: A, name: Name<'_>) -> Result<String<A>, AllocError>
-    ensures { IfOk result (λ spelling. string_bytes spelling ≡ encode_utf8_all (name_of name.entry).spelling) }
+    ensures { IfOk result (λ spelling. string_bytes spelling
+        ≡ encode_utf8_all (name_of name.entry).spelling) }
 {
     String::from_str(alloc, name.text)
 }

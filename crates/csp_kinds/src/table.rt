@@ -58,7 +58,8 @@ impl<A: Allocator + Copy> Table<A> {
         alloc: A,
         constructors: Vec<Option<Vec<FieldSet<A>, A>>, A>,
     ) -> Result<(), Memory>
-        ensures { OnOk result (AddsConstructors self.old (map known_sets constructors.items) self.new) }
+        ensures { OnOk result (AddsConstructors self.old (map known_sets constructors.items)
+            self.new) }
     {
         for constructor in constructors {
             self.push_constructor(alloc, constructor)?;
@@ -90,7 +91,8 @@ fn members_of<A: Allocator + Copy>(
     types: &TypeTable<A>,
     set: &Expr<A>,
 ) -> Result<Option<SetOf<A>>, Memory>
-    ensures { IfOk result (λ found. listed_members found ≡ result_ok (elements (table_of types.now) (expression_of set.now))) }
+    ensures { IfOk result (λ found. listed_members found
+        ≡ result_ok (elements (table_of types.now) (expression_of set.now))) }
 {
     match set.find_value(alloc, types) {
         Ok(Value::Set(members)) => Ok(Some(members)),

@@ -53,7 +53,8 @@ impl<A: Allocator + Copy> Table<A> {
     /// Whether each constructor of the value has values for its fields.
     #[cycle(constructors)]
     fn has_constructors_of(&self, value: &Value<A>) -> bool
-        ensures { result ≡ list_all (is_valued self.now.filled.items) (constructors_of (value_of value.now)) }
+        ensures { result ≡ list_all (is_valued self.now.filled.items)
+            (constructors_of (value_of value.now)) }
     {
         match value {
             Value::Int(_) | Value::Bool(_) => true,
@@ -68,7 +69,8 @@ impl<A: Allocator + Copy> Table<A> {
     /// Whether each constructor of each of the values does.
     #[cycle(constructors)]
     fn has_constructors_of_all(&self, values: &[Value<A>]) -> bool
-        ensures { result ≡ list_all (is_valued self.now.filled.items) (constructors_of_all (to_values (values_of values.now))) }
+        ensures { result ≡ list_all (is_valued self.now.filled.items)
+            (constructors_of_all (to_values (values_of values.now))) }
     {
         for value in values {
             if !self.has_constructors_of(value) {

@@ -16,9 +16,11 @@ use std::alloc::Allocator;
 /// The tokens of a text, piece by piece.
 pub(crate) fn divide<'a, A: Allocator>(alloc: A, text: &'a str) -> Result<TokenList<'a, A>, Refused>
     requires { length text.now ≤ longest_text }
-    ensures tokens { IfOk result (λ list. AreTokens text.now (map placed_token list.tokens.items) (place_of list.end)) }
+    ensures tokens { IfOk result (λ list. AreTokens text.now (map placed_token list.tokens.items)
+        (place_of list.end)) }
     ensures slices { IfOk result (λ list. AreSlices text.now list.tokens.items) }
-    ensures spans { IfOk result (λ list. RiseBetween 0 (length text.now) (map placed_token list.tokens.items)) }
+    ensures spans { IfOk result (λ list. RiseBetween 0 (length text.now)
+        (map placed_token list.tokens.items)) }
     ensures numbers { IfOk result (λ list. AreInRange (map placed_token list.tokens.items)) }
     ensures refused { IfErr result (λ refused. IsRefusalOf text.now refused) }
 {

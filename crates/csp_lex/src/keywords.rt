@@ -100,7 +100,8 @@ impl Keyword {
 
     /// The keyword that is written so, if there is one.
     pub fn from_spelling(text: &str) -> Option<Keyword>
-        ensures found { IfSome result (λ keyword. chars text.now ≡ keyword_spelling (keyword_of keyword)) }
+        ensures found { IfSome result (λ keyword. chars text.now
+            ≡ keyword_spelling (keyword_of keyword)) }
         ensures none { IfNone result (IsFalse (is_keyword (chars text.now))) }
     {
         for keyword in Keyword::ALL {

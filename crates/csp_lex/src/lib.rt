@@ -45,9 +45,11 @@ pub use texts::LONGEST_TEXT;
 /// first, then bytes that are not UTF-8, then the first of the others in the text. `Refused::Memory`
 /// comes where the list could not grow, and says nothing of the text.
 pub fn tokens<'a, A: Allocator>(alloc: A, bytes: &'a [u8]) -> Result<TokenList<'a, A>, Refused>
-    ensures tokens { IfOk result (λ list. AreTokens bytes.now (map placed_token list.tokens.items) (place_of list.end)) }
+    ensures tokens { IfOk result (λ list. AreTokens bytes.now (map placed_token list.tokens.items)
+        (place_of list.end)) }
     ensures slices { IfOk result (λ list. AreSlices bytes.now list.tokens.items) }
-    ensures spans { IfOk result (λ list. RiseBetween 0 (length bytes.now) (map placed_token list.tokens.items)) }
+    ensures spans { IfOk result (λ list. RiseBetween 0 (length bytes.now)
+        (map placed_token list.tokens.items)) }
     ensures numbers { IfOk result (λ list. AreInRange (map placed_token list.tokens.items)) }
     ensures refused { IfErr result (λ refused. IsRefusalOf bytes.now refused) }
 {

@@ -36,7 +36,8 @@ fn read_marked<'a>(cursor: Cursor<'a>) -> Result<Piece<'a>, TextFault>
     requires some { 0 < length (left_of cursor) }
     requires plain { StartsPlainly (left_of cursor) }
     ensures piece { IfOk result (λ p. ReadsPiece cursor.entry p.kind p.end) }
-    ensures refused { IfErr result (λ fault. IsRefusedHere (left_of cursor.entry) (fault_of fault)) }
+    ensures refused { IfErr result (λ fault. IsRefusedHere (left_of cursor.entry)
+        (fault_of fault)) }
 {
     let Some((mark, end)) = read_mark(cursor) else {
         return Err(TextFault::NoToken);
@@ -65,7 +66,8 @@ fn read_marked<'a>(cursor: Cursor<'a>) -> Result<Piece<'a>, TextFault>
 pub(crate) fn read_piece<'a>(cursor: Cursor<'a>) -> Result<Option<Piece<'a>>, TextFault>
     ensures end { IfOk result (λ o. IfNone o (left_of cursor.entry ≡ [])) }
     ensures piece { IfOk result (λ o. IfSome o (λ p. ReadsPiece cursor.entry p.kind p.end)) }
-    ensures refused { IfErr result (λ fault. IsRefusedHere (left_of cursor.entry) (fault_of fault)) }
+    ensures refused { IfErr result (λ fault. IsRefusedHere (left_of cursor.entry)
+        (fault_of fault)) }
 {
     let Some((first, behind)) = cursor.next() else {
         return Ok(None);

@@ -37,7 +37,9 @@ fn freedom_of<A: AllocHandle>(
 ) -> Freedom
     requires own { AreSorted (listed_in own.now) }
     requires other { AreSorted (listed_in other.now) }
-    ensures { IsFreedom (λ e. test_of own.now e && not (test_of other.now e)) (λ e. test_of other.now e && not (test_of own.now e)) (λ e. test_of own.now e && test_of other.now e) (lent_action action.entry) result }
+    ensures { IsFreedom (λ e. test_of own.now e && not (test_of other.now e))
+        (λ e. test_of other.now e && not (test_of own.now e))
+        (λ e. test_of own.now e && test_of other.now e) (lent_action action.entry) result }
 {
     match action {
         LentAction::Tau => Freedom::none(),
@@ -63,7 +65,10 @@ pub fn alphabetised_ways<'t, A: AllocHandle>(
     action: LentAction<'t, A>,
     target: &'t Term<A>,
 ) -> Result<Vec<Way<'t, A>, A>, Memory>
-    ensures { IfOk result (AreFoundIn (script_of_parts script.now) (AlphabetisedParallel (process_of process.entry.left.now) (event_set_of process.entry.own.now) (event_set_of process.entry.other.now) (process_of process.entry.right.now)) (lent_action action.entry) (process_of target.now)) }
+    ensures { IfOk result (AreFoundIn (script_of_parts script.now)
+        (AlphabetisedParallel (process_of process.entry.left.now)
+        (event_set_of process.entry.own.now) (event_set_of process.entry.other.now)
+        (process_of process.entry.right.now)) (lent_action action.entry) (process_of target.now)) }
 {
     let first = test_of_set(alloc, script, process.own)?;
     let Some(own) = first else {

@@ -48,7 +48,8 @@ fn truth<A: AllocHandle>(
     types: &TypeTable<A>,
     test: &Expr<A>,
 ) -> Result<Option<bool>, Memory>
-    ensures { IfOk result (λ truth. IsTruthOf truth (condition (table_of types.now) (expression_of test.now))) }
+    ensures { IfOk result (λ truth. IsTruthOf truth
+        (condition (table_of types.now) (expression_of test.now))) }
 {
     match condition(alloc, types, test) {
         Ok(holds) => Ok(Some(holds)),
@@ -66,7 +67,12 @@ fn to_branch<'t, A: AllocHandle>(
     action: LentAction<'t, A>,
     target: &'t Term<A>,
 ) -> Result<Vec<Way<'t, A>, A>, Memory>
-    ensures { IfOk result (λ ways. ways_of ways ≡ cond holds (Through (OnBranch Left) (part (process_of first.now) (lent_action action.entry) (Some (process_of target.now))) ∷ []) (Through (OnBranch Right) (part (process_of second.now) (lent_action action.entry) (Some (process_of target.now))) ∷ [])) }
+    ensures { IfOk result (λ ways. ways_of ways ≡ cond holds
+        (Through (OnBranch Left)
+        (part (process_of first.now) (lent_action action.entry) (Some (process_of target.now)))
+        ∷ []) (Through (OnBranch Right)
+        (part (process_of second.now) (lent_action action.entry) (Some (process_of target.now)))
+        ∷ [])) }
 {
     if holds {
         return one_way(
@@ -88,7 +94,9 @@ fn to_body<'t, A: AllocHandle>(
     action: LentAction<'t, A>,
     target: &'t Term<A>,
 ) -> Result<Vec<Way<'t, A>, A>, Memory>
-    ensures { IfOk result (λ ways. ways_of ways ≡ cond holds (Through UnderGuard (part (process_of body.now) (lent_action action.entry) (Some (process_of target.now))) ∷ []) []) }
+    ensures { IfOk result (λ ways. ways_of ways ≡ cond holds
+        (Through UnderGuard (part (process_of body.now) (lent_action action.entry)
+        (Some (process_of target.now))) ∷ []) []) }
 {
     if holds {
         let part = Part {
@@ -120,7 +128,9 @@ pub fn conditional_ways<'t, A: AllocHandle>(
     action: LentAction<'t, A>,
     target: &'t Term<A>,
 ) -> Result<Vec<Way<'t, A>, A>, Memory>
-    ensures { IfOk result (AreFoundIn (script_of_parts script.now) (If (expression_of process.entry.test.now) (process_of process.entry.first.now) (process_of process.entry.second.now)) (lent_action action.entry) (process_of target.now)) }
+    ensures { IfOk result (AreFoundIn (script_of_parts script.now)
+        (If (expression_of process.entry.test.now) (process_of process.entry.first.now)
+        (process_of process.entry.second.now)) (lent_action action.entry) (process_of target.now)) }
 {
     let found = truth(alloc, &script.types, process.test)?;
     let Some(holds) = found else {
@@ -138,7 +148,9 @@ pub fn guard_ways<'t, A: AllocHandle>(
     action: LentAction<'t, A>,
     target: &'t Term<A>,
 ) -> Result<Vec<Way<'t, A>, A>, Memory>
-    ensures { IfOk result (AreFoundIn (script_of_parts script.now) (Guard (expression_of test.now) (process_of body.now)) (lent_action action.entry) (process_of target.now)) }
+    ensures { IfOk result (AreFoundIn (script_of_parts script.now)
+        (Guard (expression_of test.now) (process_of body.now)) (lent_action action.entry)
+        (process_of target.now)) }
 {
     let found = truth(alloc, &script.types, test)?;
     let Some(holds) = found else {

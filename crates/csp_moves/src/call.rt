@@ -20,7 +20,8 @@ pub fn call_ways<'t, A: AllocHandle>(
     target: &'t Term<A>,
 ) -> Result<Vec<Way<'t, A>, A>, Memory>
     requires { IsCallOf equation.0 (process_of term.now) }
-    ensures { IfOk result (AreFoundIn (script_of_parts script.now) (process_of term.now) (lent_action action.entry) (process_of target.now)) }
+    ensures { IfOk result (AreFoundIn (script_of_parts script.now) (process_of term.now)
+        (lent_action action.entry) (process_of target.now)) }
 {
     let is_step = does(alloc, script, term, action, target)?;
     if is_step {

@@ -26,7 +26,8 @@ pub fn external_ways<'t, A: AllocHandle>(
     action: LentAction<'t, A>,
     target: &'t Term<A>,
 ) -> Result<Vec<Way<'t, A>, A>, Memory>
-    ensures { IfOk result (AreFound (ExternalChoice (process_of left.now) (process_of right.now)) (lent_action action.entry) (process_of target.now)) }
+    ensures { IfOk result (AreFound (ExternalChoice (process_of left.now) (process_of right.now))
+        (lent_action action.entry) (process_of target.now)) }
 {
     match action {
         LentAction::Tau => external_by_tau(alloc, left, right, target),
@@ -42,7 +43,8 @@ fn external_by_tau<'t, A: AllocHandle>(
     right: &'t Term<A>,
     target: &'t Term<A>,
 ) -> Result<Vec<Way<'t, A>, A>, Memory>
-    ensures { IfOk result (AreFound (ExternalChoice (process_of left.now) (process_of right.now)) Tau (process_of target.now)) }
+    ensures { IfOk result (AreFound (ExternalChoice (process_of left.now) (process_of right.now))
+        Tau (process_of target.now)) }
 {
     let operator = Joint::Binary(ProcessOperator::ExternalChoice);
     let left_target = left_of(&operator, right, target);
@@ -61,7 +63,8 @@ fn external_by_visible<'t, A: AllocHandle>(
     target: &'t Term<A>,
 ) -> Result<Vec<Way<'t, A>, A>, Memory>
     requires { IsVisible (lent_action action) }
-    ensures { IfOk result (AreFound (ExternalChoice (process_of left.now) (process_of right.now)) (lent_action action.entry) (process_of target.now)) }
+    ensures { IfOk result (AreFound (ExternalChoice (process_of left.now) (process_of right.now))
+        (lent_action action.entry) (process_of target.now)) }
 {
     let by_left = through_branch(Side::Left, left, action, Some(target));
     let by_right = through_branch(Side::Right, right, action, Some(target));
@@ -78,7 +81,9 @@ pub fn internal_ways<'t, A: AllocHandle>(
     target: &'t Term<A>,
 ) -> Result<Vec<Way<'t, A>, A>, Memory>
     requires { IsTrue (fits (process_of target.now)) }
-    ensures { IfOk result (AreFoundIn (script_of_parts script.now) (InternalChoice (process_of left.now) (process_of right.now)) (lent_action action.entry) (process_of target.now)) }
+    ensures { IfOk result (AreFoundIn (script_of_parts script.now)
+        (InternalChoice (process_of left.now) (process_of right.now)) (lent_action action.entry)
+        (process_of target.now)) }
 {
     match action {
         LentAction::Tau => internal_by_tau(alloc, script, left, right, target),
@@ -96,7 +101,8 @@ fn chosen_side<A: AllocHandle>(
     target: &Term<A>,
 ) -> Result<Option<Side>, Memory>
     requires { IsTrue (fits (process_of target.now)) }
-    ensures { IfOk result (IsChosen (settled (script_of_parts script.now) (process_of left.now)) (settled (script_of_parts script.now) (process_of right.now)) (process_of target.now)) }
+    ensures { IfOk result (IsChosen (settled (script_of_parts script.now) (process_of left.now))
+        (settled (script_of_parts script.now) (process_of right.now)) (process_of target.now)) }
 {
     if leads_to(alloc, script, left, target)? {
         return Ok(Some(Side::Left));
@@ -116,7 +122,8 @@ fn internal_by_tau<'t, A: AllocHandle>(
     target: &'t Term<A>,
 ) -> Result<Vec<Way<'t, A>, A>, Memory>
     requires { IsTrue (fits (process_of target.now)) }
-    ensures { IfOk result (AreFoundIn (script_of_parts script.now) (InternalChoice (process_of left.now) (process_of right.now)) Tau (process_of target.now)) }
+    ensures { IfOk result (AreFoundIn (script_of_parts script.now)
+        (InternalChoice (process_of left.now) (process_of right.now)) Tau (process_of target.now)) }
 {
     let chosen = chosen_side(alloc, script, left, right, target)?;
     match chosen {
@@ -127,7 +134,8 @@ fn internal_by_tau<'t, A: AllocHandle>(
 
 /// It does nothing that is seen.
 fn internal_by_visible<'t, A: AllocHandle>(alloc: A) -> Result<Vec<Way<'t, A>, A>, Memory>
-    ensures { (s : Script) (p q : Process) (x : pure.Action) (t : Process) → IsVisible x → IfOk result (AreFoundIn s (InternalChoice p q) x t) }
+    ensures { (s : Script) (p q : Process) (x : pure.Action) (t : Process) → IsVisible x
+        → IfOk result (AreFoundIn s (InternalChoice p q) x t) }
 {
     no_ways(alloc)
 }

@@ -49,7 +49,9 @@ pub(crate) fn leads_to<A: AllocHandle>(target: &Target<A>, term: &Term<A>) -> bo
 
 /// Whether this is the step to the target, by the action.
 fn is_step<A: AllocHandle>(step: &RuleStep<A>, action: LentAction<'_, A>, target: &Term<A>) -> bool
-    ensures { IsTrue result ↔ ((action_of step.now.action ≡ lent_action action.entry) × (target_of step.now.target ≡ Some (process_of target.now))) }
+    ensures { IsTrue result
+        ↔ ((action_of step.now.action ≡ lent_action action.entry)
+        × (target_of step.now.target ≡ Some (process_of target.now))) }
 {
     is_action(&step.action, action) && leads_to(&step.target, target)
 }
@@ -60,7 +62,8 @@ fn has_step<A: AllocHandle>(
     action: LentAction<'_, A>,
     target: &Term<A>,
 ) -> bool
-    ensures { IsTrue result ↔ Contains (map answered_of steps.now) (lent_action action.entry, Some (process_of target.now)) }
+    ensures { IsTrue result ↔ Contains (map answered_of steps.now)
+        (lent_action action.entry, Some (process_of target.now)) }
 {
     for step in steps {
         if is_step(step, action, target) {
@@ -78,7 +81,8 @@ pub(crate) fn does<A: AllocHandle>(
     action: LentAction<'_, A>,
     target: &Term<A>,
 ) -> Result<bool, Memory>
-    ensures { IfOk result (IsDecided (script_of_parts script.now) (process_of term.now) (lent_action action.entry) (process_of target.now)) }
+    ensures { IfOk result (IsDecided (script_of_parts script.now) (process_of term.now)
+        (lent_action action.entry) (process_of target.now)) }
 {
     match steps(alloc, script, &[], term) {
         Ok(steps) => Ok(has_step(&steps, action, target)),

@@ -28,7 +28,8 @@ pub fn origin_of_step<A: AllocHandle>(
     action: LentAction<'_, A>,
     target: &Term<A>,
 ) -> Result<Option<Origin<A>>, Memory>
-    ensures { IfOk result (λ found. Tells (script_of_parts script.now) (process_of term.now) (lent_action action.entry) (process_of target.now) (origin_found found)) }
+    ensures { IfOk result (λ found. Tells (script_of_parts script.now) (process_of term.now)
+        (lent_action action.entry) (process_of target.now) (origin_found found)) }
 {
     // Past the limits there is no step to tell of.
     if !target.fits() {
@@ -49,7 +50,8 @@ fn first_along<A: AllocHandle>(
     script: &ScriptParts<A>,
     ways: &[Way<'_, A>],
 ) -> Result<Option<Origin<A>>, Memory>
-    ensures { IfOk result (λ found. TellsAlong (script_of_parts script.now) (map way_of ways.now) (origin_found found)) }
+    ensures { IfOk result (λ found. TellsAlong (script_of_parts script.now) (map way_of ways.now)
+        (origin_found found)) }
 {
     for way in ways {
         let found = along(alloc, script, *way)?;
@@ -67,7 +69,8 @@ fn along<A: AllocHandle>(
     script: &ScriptParts<A>,
     way: Way<'_, A>,
 ) -> Result<Option<Origin<A>>, Memory>
-    ensures { IfOk result (λ found. TellsBy (script_of_parts script.now) (way_of way.entry) (origin_found found)) }
+    ensures { IfOk result (λ found. TellsBy (script_of_parts script.now) (way_of way.entry)
+        (origin_found found)) }
 {
     match way {
         Way::Does(event) => Ok(Some(Origin::Does(event.try_copy(alloc)?))),
@@ -88,7 +91,8 @@ fn through<A: AllocHandle>(
     passage: LentPassage<'_, A>,
     part: Part<'_, A>,
 ) -> Result<Option<Origin<A>>, Memory>
-    ensures { IfOk result (λ found. TellsBy (script_of_parts script.now) (Through (lent_passage passage.entry) (part_of part.entry)) (origin_found found)) }
+    ensures { IfOk result (λ found. TellsBy (script_of_parts script.now)
+        (Through (lent_passage passage.entry) (part_of part.entry)) (origin_found found)) }
 {
     let found = of_part(alloc, script, part)?;
     let Some(origin) = found else {
@@ -106,7 +110,8 @@ fn of_both<A: AllocHandle>(
     left: Part<'_, A>,
     right: Part<'_, A>,
 ) -> Result<Option<Origin<A>>, Memory>
-    ensures { IfOk result (λ found. TellsBy (script_of_parts script.now) (Both (part_of left.entry) (part_of right.entry)) (origin_found found)) }
+    ensures { IfOk result (λ found. TellsBy (script_of_parts script.now)
+        (Both (part_of left.entry) (part_of right.entry)) (origin_found found)) }
 {
     let first = of_part(alloc, script, left)?;
     let Some(left_origin) = first else {
@@ -128,7 +133,8 @@ fn of_part<A: AllocHandle>(
     script: &ScriptParts<A>,
     part: Part<'_, A>,
 ) -> Result<Option<Origin<A>>, Memory>
-    ensures { IfOk result (λ found. TellsOf (script_of_parts script.now) (part_of part.entry) (origin_found found)) }
+    ensures { IfOk result (λ found. TellsOf (script_of_parts script.now) (part_of part.entry)
+        (origin_found found)) }
 {
     let Some(target) = part.target else {
         return Ok(None);

@@ -63,7 +63,8 @@ fn equal_pairs<A: AllocHandle>(
     pairs: &Vec<RenamingPair<A>, A>,
     others: &Vec<RenamingPair<A>, A>,
 ) -> bool
-    ensures { IsTrue result ↔ (renaming_pairs_of pairs.now.items ≡ renaming_pairs_of others.now.items) }
+    ensures { IsTrue result
+        ↔ (renaming_pairs_of pairs.now.items ≡ renaming_pairs_of others.now.items) }
 {
     let left = pairs.as_slice();
     let right = others.as_slice();
@@ -90,7 +91,8 @@ fn is_hiding<A: AllocHandle>(hidden: &EventSet<A>, other: &Frame<'_, A>) -> bool
 }
 
 fn is_renaming<A: AllocHandle>(pairs: &Vec<RenamingPair<A>, A>, other: &Frame<'_, A>) -> bool
-    ensures { IsTrue result ↔ (OfRenaming (renaming_pairs_of pairs.now.items) ≡ frame_of other.now) }
+    ensures { IsTrue result
+        ↔ (OfRenaming (renaming_pairs_of pairs.now.items) ≡ frame_of other.now) }
 {
     match other {
         Frame::Renaming(other) => equal_pairs(pairs, other),
@@ -120,7 +122,9 @@ pub(crate) fn to_body<'t, A: AllocHandle>(
     action: LentAction<'t, A>,
     target: Option<&'t Term<A>>,
 ) -> Way<'t, A>
-    ensures { way_of result ≡ Through InBody (part (process_of process.now) (lent_action action.entry) (lent_process target.entry)) }
+    ensures { way_of result
+        ≡ Through InBody (part (process_of process.now) (lent_action action.entry)
+        (lent_process target.entry)) }
 {
     let part = Part {
         process,

@@ -30,7 +30,8 @@ pub struct Generalised<'t, A: AllocHandle> {
 /// What each side may do of the action, where the events that this test passes are shared.
 fn freedom_of<A: AllocHandle>(test: &EventTest<A>, action: LentAction<'_, A>) -> Freedom
     requires { AreSorted (listed_in test.now) }
-    ensures { IsFreedom (λ e. not (test_of test.now e)) (λ e. not (test_of test.now e)) (test_of test.now) (lent_action action.entry) result }
+    ensures { IsFreedom (λ e. not (test_of test.now e)) (λ e. not (test_of test.now e))
+        (test_of test.now) (lent_action action.entry) result }
 {
     match action {
         LentAction::Tau => Freedom::none(),
@@ -55,7 +56,10 @@ pub fn generalised_ways<'t, A: AllocHandle>(
     action: LentAction<'t, A>,
     target: &'t Term<A>,
 ) -> Result<Vec<Way<'t, A>, A>, Memory>
-    ensures { IfOk result (AreFoundIn (script_of_parts script.now) (GeneralisedParallel (process_of process.entry.left.now) (event_set_of process.entry.shared.now) (process_of process.entry.right.now)) (lent_action action.entry) (process_of target.now)) }
+    ensures { IfOk result (AreFoundIn (script_of_parts script.now)
+        (GeneralisedParallel (process_of process.entry.left.now)
+        (event_set_of process.entry.shared.now) (process_of process.entry.right.now))
+        (lent_action action.entry) (process_of target.now)) }
 {
     let found = test_of_set(alloc, script, process.shared)?;
     let Some(test) = found else {

@@ -37,7 +37,9 @@ pub fn hidden_events<A: AllocHandle>(
     action: LentAction<'_, A>,
     target: &Term<A>,
 ) -> Result<Vec<Event<A>, A>, Memory>
-    ensures { IfOk result (λ events. AreHiddenEvents (script_of_parts script.now) (process_of process.entry.body.now) (event_set_of process.entry.events.now) (lent_action action.entry) (process_of target.now) (map event_of events.items)) }
+    ensures { IfOk result (λ events. AreHiddenEvents (script_of_parts script.now)
+        (process_of process.entry.body.now) (event_set_of process.entry.events.now)
+        (lent_action action.entry) (process_of target.now) (map event_of events.items)) }
 {
     match action {
         LentAction::Tau => hidden_to(alloc, script, process, target),
@@ -52,7 +54,9 @@ fn hidden_to<A: AllocHandle>(
     process: Hidden<'_, A>,
     target: &Term<A>,
 ) -> Result<Vec<Event<A>, A>, Memory>
-    ensures { IfOk result (λ events. AreHiddenEvents (script_of_parts script.now) (process_of process.entry.body.now) (event_set_of process.entry.events.now) Tau (process_of target.now) (map event_of events.items)) }
+    ensures { IfOk result (λ events. AreHiddenEvents (script_of_parts script.now)
+        (process_of process.entry.body.now) (event_set_of process.entry.events.now) Tau
+        (process_of target.now) (map event_of events.items)) }
 {
     let frame = Frame::Hiding(process.events);
     let Some(body_target) = body_of(&frame, target) else {
@@ -78,8 +82,12 @@ pub fn hiding_ways<'t, A: AllocHandle>(
     action: LentAction<'t, A>,
     target: &'t Term<A>,
 ) -> Result<Vec<Way<'t, A>, A>, Memory>
-    requires { AreHiddenEvents (script_of_parts script.now) (process_of process.body.now) (event_set_of process.events.now) (lent_action action) (process_of target.now) (map event_of events.now) }
-    ensures { IfOk result (AreFoundIn (script_of_parts script.now) (Hiding (process_of process.entry.body.now) (event_set_of process.entry.events.now)) (lent_action action.entry) (process_of target.now)) }
+    requires { AreHiddenEvents (script_of_parts script.now) (process_of process.body.now)
+        (event_set_of process.events.now) (lent_action action) (process_of target.now)
+        (map event_of events.now) }
+    ensures { IfOk result (AreFoundIn (script_of_parts script.now)
+        (Hiding (process_of process.entry.body.now) (event_set_of process.entry.events.now))
+        (lent_action action.entry) (process_of target.now)) }
 {
     match action {
         LentAction::Tau => by_tau(alloc, script, process, events, target),
@@ -96,8 +104,11 @@ fn by_tau<'t, A: AllocHandle>(
     events: &'t [Event<A>],
     target: &'t Term<A>,
 ) -> Result<Vec<Way<'t, A>, A>, Memory>
-    requires { AreHiddenEvents (script_of_parts script.now) (process_of process.body.now) (event_set_of process.events.now) Tau (process_of target.now) (map event_of events.now) }
-    ensures { IfOk result (AreFoundIn (script_of_parts script.now) (Hiding (process_of process.entry.body.now) (event_set_of process.entry.events.now)) Tau (process_of target.now)) }
+    requires { AreHiddenEvents (script_of_parts script.now) (process_of process.body.now)
+        (event_set_of process.events.now) Tau (process_of target.now) (map event_of events.now) }
+    ensures { IfOk result (AreFoundIn (script_of_parts script.now)
+        (Hiding (process_of process.entry.body.now) (event_set_of process.entry.events.now)) Tau
+        (process_of target.now)) }
 {
     let found = test_of_set(alloc, script, process.events)?;
     let Some(test) = found else {
@@ -118,7 +129,11 @@ fn through_hidden<'t, A: AllocHandle>(
     events: &'t [Event<A>],
     target: &'t Term<A>,
 ) -> Result<Vec<Way<'t, A>, A>, Memory>
-    ensures { IfOk result (λ ways. ways_of ways ≡ Through InBody (part (process_of body.now) Tau (Some (process_of target.now))) ∷ map (λ e. Through (Hides e) (part (process_of body.now) (Ev e) (Some (process_of target.now)))) (map event_of events.now)) }
+    ensures { IfOk result (λ ways. ways_of ways ≡ Through InBody
+        (part (process_of body.now) Tau (Some (process_of target.now)))
+        ∷ map (λ e. Through (Hides e)
+        (part (process_of body.now) (Ev e) (Some (process_of target.now))))
+        (map event_of events.now)) }
 {
     let mut ways = one_way(alloc, to_body(body, LentAction::Tau, Some(target)))?;
     for event in events {
@@ -138,7 +153,8 @@ fn by_tick<'t, A: AllocHandle>(
     process: Hidden<'t, A>,
     target: &'t Term<A>,
 ) -> Result<Vec<Way<'t, A>, A>, Memory>
-    ensures { IfOk result (AreFound (Hiding (process_of process.entry.body.now) (event_set_of process.entry.events.now)) Tick (process_of target.now)) }
+    ensures { IfOk result (AreFound (Hiding (process_of process.entry.body.now)
+        (event_set_of process.entry.events.now)) Tick (process_of target.now)) }
 {
     one_way(alloc, to_body(process.body, LentAction::Tick, Some(target)))
 }
@@ -151,7 +167,9 @@ fn by_event<'t, A: AllocHandle>(
     event: &'t Event<A>,
     target: &'t Term<A>,
 ) -> Result<Vec<Way<'t, A>, A>, Memory>
-    ensures { IfOk result (AreFoundIn (script_of_parts script.now) (Hiding (process_of process.entry.body.now) (event_set_of process.entry.events.now)) (Ev (event_of event.now)) (process_of target.now)) }
+    ensures { IfOk result (AreFoundIn (script_of_parts script.now)
+        (Hiding (process_of process.entry.body.now) (event_set_of process.entry.events.now))
+        (Ev (event_of event.now)) (process_of target.now)) }
 {
     let found = test_of_set(alloc, script, process.events)?;
     let Some(test) = found else {

@@ -18,7 +18,8 @@ pub fn interleaving_ways<'t, A: AllocHandle>(
     action: LentAction<'t, A>,
     target: &'t Term<A>,
 ) -> Result<Vec<Way<'t, A>, A>, Memory>
-    ensures { IfOk result (AreFound (Interleaving (process_of left.now) (process_of right.now)) (lent_action action.entry) (process_of target.now)) }
+    ensures { IfOk result (AreFound (Interleaving (process_of left.now) (process_of right.now))
+        (lent_action action.entry) (process_of target.now)) }
 {
     let sides = Sides {
         operator: Joint::Binary(ProcessOperator::Interleaving),

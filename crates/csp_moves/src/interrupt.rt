@@ -20,7 +20,8 @@ pub fn interrupt_ways<'t, A: AllocHandle>(
     action: LentAction<'t, A>,
     target: &'t Term<A>,
 ) -> Result<Vec<Way<'t, A>, A>, Memory>
-    ensures { IfOk result (AreFound (Interrupt (process_of left.now) (process_of right.now)) (lent_action action.entry) (process_of target.now)) }
+    ensures { IfOk result (AreFound (Interrupt (process_of left.now) (process_of right.now))
+        (lent_action action.entry) (process_of target.now)) }
 {
     match action {
         LentAction::Tau => by_tau(alloc, left, right, target),
@@ -36,7 +37,8 @@ fn by_tau<'t, A: AllocHandle>(
     right: &'t Term<A>,
     target: &'t Term<A>,
 ) -> Result<Vec<Way<'t, A>, A>, Memory>
-    ensures { IfOk result (AreFound (Interrupt (process_of left.now) (process_of right.now)) Tau (process_of target.now)) }
+    ensures { IfOk result (AreFound (Interrupt (process_of left.now) (process_of right.now)) Tau
+        (process_of target.now)) }
 {
     let operator = Joint::Binary(ProcessOperator::Interrupt);
     let left_target = left_of(&operator, right, target);
@@ -54,7 +56,8 @@ fn by_event<'t, A: AllocHandle>(
     event: &'t Event<A>,
     target: &'t Term<A>,
 ) -> Result<Vec<Way<'t, A>, A>, Memory>
-    ensures { IfOk result (AreFound (Interrupt (process_of left.now) (process_of right.now)) (Ev (event_of event.now)) (process_of target.now)) }
+    ensures { IfOk result (AreFound (Interrupt (process_of left.now) (process_of right.now))
+        (Ev (event_of event.now)) (process_of target.now)) }
 {
     let operator = Joint::Binary(ProcessOperator::Interrupt);
     let action = LentAction::Event(event);
@@ -70,7 +73,8 @@ fn by_tick<'t, A: AllocHandle>(
     right: &'t Term<A>,
     target: &'t Term<A>,
 ) -> Result<Vec<Way<'t, A>, A>, Memory>
-    ensures { IfOk result (AreFound (Interrupt (process_of left.now) (process_of right.now)) Tick (process_of target.now)) }
+    ensures { IfOk result (AreFound (Interrupt (process_of left.now) (process_of right.now)) Tick
+        (process_of target.now)) }
 {
     let by_left = through_branch(Side::Left, left, LentAction::Tick, Some(target));
     let by_right = through_branch(Side::Right, right, LentAction::Tick, Some(target));

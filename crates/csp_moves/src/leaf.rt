@@ -21,7 +21,8 @@ pub fn idle_ways<'t, A: AllocHandle>(alloc: A) -> Result<Vec<Way<'t, A>, A>, Mem
 
 /// Whether the step is that of `SKIP`.
 fn ends<A: AllocHandle>(action: LentAction<'_, A>, target: &Term<A>) -> bool
-    ensures { IsTrue result ↔ ((lent_action action.entry ≡ Tick) × (process_of target.now ≡ Omega)) }
+    ensures { IsTrue result
+        ↔ ((lent_action action.entry ≡ Tick) × (process_of target.now ≡ Omega)) }
 {
     match action {
         LentAction::Tick => target.is_omega(),

@@ -35,7 +35,9 @@ fn events_of_step<A: AllocHandle>(
     action: LentAction<'_, A>,
     target: &Term<A>,
 ) -> Result<Vec<Event<A>, A>, Memory>
-    ensures { IfOk result (λ events. AreEventsOf (script_of_parts script.now) (unframed (process_of term.now)) (lent_action action.entry) (process_of target.now) (map event_of events.items)) }
+    ensures { IfOk result (λ events. AreEventsOf (script_of_parts script.now)
+        (unframed (process_of term.now)) (lent_action action.entry) (process_of target.now)
+        (map event_of events.items)) }
 {
     let Some(found) = framed_of(term) else {
         return Ok(Vec::new(alloc));
@@ -84,7 +86,8 @@ fn chain_of_term<A: AllocHandle>(
     script: &ScriptParts<A>,
     term: &Term<A>,
 ) -> Result<Option<Term<A>>, Memory>
-    ensures { IfOk result (λ chain. IsChainIn (script_of_parts script.now) (unreplicated (process_of term.now)) (chain_process chain)) }
+    ensures { IfOk result (λ chain. IsChainIn (script_of_parts script.now)
+        (unreplicated (process_of term.now)) (chain_process chain)) }
 {
     let Some(found) = replicated_of(term) else {
         return Ok(None);
@@ -100,7 +103,8 @@ pub(crate) fn made_for<A: AllocHandle>(
     action: LentAction<'_, A>,
     target: &Term<A>,
 ) -> Result<Made<A>, Memory>
-    ensures { IfOk result (IsMade (script_of_parts script.now) (process_of term.now) (lent_action action.entry) (process_of target.now)) }
+    ensures { IfOk result (IsMade (script_of_parts script.now) (process_of term.now)
+        (lent_action action.entry) (process_of target.now)) }
 {
     let ended = Term::new(alloc, TermForm::Omega)?;
     let events = events_of_step(alloc, script, term, action, target)?;

@@ -110,7 +110,8 @@ fn is_alphabetised<A: AllocHandle>(
     second: &EventSet<A>,
     other: &Joint<'_, A>,
 ) -> bool
-    ensures { IsTrue result ↔ (OfAlphabetised (event_set_of first.now) (event_set_of second.now) ≡ joint_of other.now) }
+    ensures { IsTrue result
+        ↔ (OfAlphabetised (event_set_of first.now) (event_set_of second.now) ≡ joint_of other.now) }
 {
     match other {
         Joint::Alphabetised(own, other) => {
@@ -140,7 +141,9 @@ fn are_same<A: AllocHandle>(
     other_operator: &Joint<'_, A>,
     other: &Term<A>,
 ) -> bool
-    ensures { IsTrue result ↔ ((joint_of operator.now ≡ joint_of other_operator.now) × (process_of term.now ≡ process_of other.now)) }
+    ensures { IsTrue result
+        ↔ ((joint_of operator.now ≡ joint_of other_operator.now)
+        × (process_of term.now ≡ process_of other.now)) }
 {
     is_same(operator, other_operator) && equal_terms(term, other)
 }
@@ -151,7 +154,8 @@ pub(crate) fn left_of<'t, A: AllocHandle>(
     right: &Term<A>,
     target: &'t Term<A>,
 ) -> Option<&'t Term<A>>
-    ensures { IsBody (λ u. joined (joint_of operator.now) u (process_of right.now)) (process_of target.now) (lent_process result) }
+    ensures { IsBody (λ u. joined (joint_of operator.now) u (process_of right.now))
+        (process_of target.now) (lent_process result) }
 {
     let Some(sides) = sides_of(target) else {
         return None;
@@ -168,7 +172,8 @@ pub(crate) fn right_of<'t, A: AllocHandle>(
     left: &Term<A>,
     target: &'t Term<A>,
 ) -> Option<&'t Term<A>>
-    ensures { IsBody (λ v. joined (joint_of operator.now) (process_of left.now) v) (process_of target.now) (lent_process result) }
+    ensures { IsBody (λ v. joined (joint_of operator.now) (process_of left.now) v)
+        (process_of target.now) (lent_process result) }
 {
     let Some(sides) = sides_of(target) else {
         return None;
@@ -184,7 +189,8 @@ pub(crate) fn both_of<'t, A: AllocHandle>(
     operator: &Joint<'_, A>,
     target: &'t Term<A>,
 ) -> Option<Sides<'t, A>>
-    ensures { IsSplit (joined (joint_of operator.now)) (process_of target.now) (sides_split result) }
+    ensures { IsSplit (joined (joint_of operator.now)) (process_of target.now)
+        (sides_split result) }
 {
     let Some(sides) = sides_of(target) else {
         return None;

@@ -47,7 +47,9 @@ fn is_image<A: AllocHandle>(
     event: &Event<A>,
 ) -> Result<bool, Memory>
     requires { PairsRise images.now }
-    ensures { IfOk result (λ told. IsTrue told ↔ Contains (or_itself (event_of event.now) (found_images images.now (event_of event.now))) (event_of image.now)) }
+    ensures { IfOk result (λ told. IsTrue told ↔ Contains
+        (or_itself (event_of event.now) (found_images images.now (event_of event.now)))
+        (event_of image.now)) }
 {
     let copy = event.try_copy(alloc)?;
     let found = images.of_event(alloc, copy)?;
@@ -70,7 +72,8 @@ impl<'t, A: AllocHandle> Passing<'t, A> {
 
 /// The event of the step, where it leads to the target.
 fn event_to<'s, A: AllocHandle>(step: &'s RuleStep<A>, target: &Term<A>) -> Option<&'s Event<A>>
-    ensures { IsEventTo (process_of target.now) (answered_of step.now) (option_map (λ e. event_of e.now) result) }
+    ensures { IsEventTo (process_of target.now) (answered_of step.now)
+        (option_map (λ e. event_of e.now) result) }
 {
     if !leads_to(&step.target, target) {
         return None;
@@ -88,7 +91,8 @@ fn add_copy<A: AllocHandle>(
     event: &Event<A>,
     events: &mut Vec<Event<A>, A>,
 ) -> Result<(), Memory>
-    ensures { OnOk result (map event_of events.new.items ≡ map event_of events.old.items ++ event_of event.now ∷ []) }
+    ensures { OnOk result (map event_of events.new.items
+        ≡ map event_of events.old.items ++ event_of event.now ∷ []) }
 {
     let copy = event.try_copy(alloc)?;
     events.push(copy)?;
@@ -104,7 +108,8 @@ fn add_passing<A: AllocHandle>(
     events: &mut Vec<Event<A>, A>,
 ) -> Result<(), Memory>
     requires { IsSearchable passing.now }
-    ensures { OnOk result (AddsPassing (process_of target.now) (IsPassing passing.now) (answered_of step.now) (map event_of events.old.items) (map event_of events.new.items)) }
+    ensures { OnOk result (AddsPassing (process_of target.now) (IsPassing passing.now)
+        (answered_of step.now) (map event_of events.old.items) (map event_of events.new.items)) }
 {
     let Some(event) = event_to(step, target) else {
         return Ok(());
@@ -125,7 +130,8 @@ fn all_passing<A: AllocHandle>(
     target: &Term<A>,
 ) -> Result<Vec<Event<A>, A>, Memory>
     requires { IsSearchable passing.now }
-    ensures { IfOk result (λ events. ArePassing (process_of target.now) (IsPassing passing.now) (map answered_of steps.now) (map event_of events.items)) }
+    ensures { IfOk result (λ events. ArePassing (process_of target.now) (IsPassing passing.now)
+        (map answered_of steps.now) (map event_of events.items)) }
 {
     let mut events = Vec::new(alloc);
     for step in steps {
@@ -144,7 +150,8 @@ pub(crate) fn events_to<A: AllocHandle>(
     target: &Term<A>,
 ) -> Result<Vec<Event<A>, A>, Memory>
     requires { IsSearchable passing.now }
-    ensures { IfOk result (λ events. AreEventsTo (script_of_parts script.now) (process_of body.now) (process_of target.now) (IsPassing passing.now) (map event_of events.items)) }
+    ensures { IfOk result (λ events. AreEventsTo (script_of_parts script.now) (process_of body.now)
+        (process_of target.now) (IsPassing passing.now) (map event_of events.items)) }
 {
     match steps(alloc, script, &[], body) {
         Ok(steps) => all_passing(alloc, passing, &steps, target),

@@ -22,7 +22,8 @@ pub fn prefix_ways<'t, A: AllocHandle>(
     target: &'t Term<A>,
 ) -> Result<Vec<Way<'t, A>, A>, Memory>
     requires { IsPrefix (process_of term.now) }
-    ensures { IfOk result (AreFoundIn (script_of_parts script.now) (process_of term.now) (lent_action action.entry) (process_of target.now)) }
+    ensures { IfOk result (AreFoundIn (script_of_parts script.now) (process_of term.now)
+        (lent_action action.entry) (process_of target.now)) }
 {
     match action {
         LentAction::Tau => by_no_event(alloc),
@@ -47,7 +48,8 @@ fn by_event<'t, A: AllocHandle>(
     target: &'t Term<A>,
 ) -> Result<Vec<Way<'t, A>, A>, Memory>
     requires { IsPrefix (process_of term.now) }
-    ensures { IfOk result (AreFoundIn (script_of_parts script.now) (process_of term.now) (Ev (event_of event.now)) (process_of target.now)) }
+    ensures { IfOk result (AreFoundIn (script_of_parts script.now) (process_of term.now)
+        (Ev (event_of event.now)) (process_of target.now)) }
 {
     let is_step = does(alloc, script, term, LentAction::Event(event), target)?;
     if is_step {

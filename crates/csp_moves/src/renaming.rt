@@ -37,7 +37,8 @@ fn images_of_pairs<A: AllocHandle>(
     script: &ScriptParts<A>,
     pairs: &[RenamingPair<A>],
 ) -> Result<Option<Images<A>>, Memory>
-    ensures { IfOk result (λ found. AreImagesIfAny found (renaming (script_of_parts script.now) (renaming_pairs_of pairs.now))) }
+    ensures { IfOk result (λ found. AreImagesIfAny found
+        (renaming (script_of_parts script.now) (renaming_pairs_of pairs.now))) }
 {
     match script.images(alloc, pairs) {
         Ok(images) => Ok(Some(images)),
@@ -55,7 +56,9 @@ pub fn renamed_events<A: AllocHandle>(
     action: LentAction<'_, A>,
     target: &Term<A>,
 ) -> Result<Vec<Event<A>, A>, Memory>
-    ensures { IfOk result (λ events. AreRenamedEvents (script_of_parts script.now) (process_of process.entry.body.now) (renaming_pairs_of process.entry.pairs.now.items) (lent_action action.entry) (process_of target.now) (map event_of events.items)) }
+    ensures { IfOk result (λ events. AreRenamedEvents (script_of_parts script.now)
+        (process_of process.entry.body.now) (renaming_pairs_of process.entry.pairs.now.items)
+        (lent_action action.entry) (process_of target.now) (map event_of events.items)) }
 {
     match action {
         LentAction::Tau => Ok(Vec::new(alloc)),
@@ -71,7 +74,9 @@ fn renamed_to<A: AllocHandle>(
     event: &Event<A>,
     target: &Term<A>,
 ) -> Result<Vec<Event<A>, A>, Memory>
-    ensures { IfOk result (λ events. AreRenamedEvents (script_of_parts script.now) (process_of process.entry.body.now) (renaming_pairs_of process.entry.pairs.now.items) (Ev (event_of event.now)) (process_of target.now) (map event_of events.items)) }
+    ensures { IfOk result (λ events. AreRenamedEvents (script_of_parts script.now)
+        (process_of process.entry.body.now) (renaming_pairs_of process.entry.pairs.now.items)
+        (Ev (event_of event.now)) (process_of target.now) (map event_of events.items)) }
 {
     let frame = Frame::Renaming(process.pairs);
     let Some(body_target) = body_of(&frame, target) else {
@@ -96,7 +101,9 @@ fn renamed_from<A: AllocHandle>(
     target: &Term<A>,
 ) -> Result<Vec<Event<A>, A>, Memory>
     requires { PairsRise images }
-    ensures { IfOk result (λ events. AreEventsTo (script_of_parts script.now) (process_of body.now) (process_of target.now) (HasImage images (event_of image.now)) (map event_of events.items)) }
+    ensures { IfOk result (λ events. AreEventsTo (script_of_parts script.now) (process_of body.now)
+        (process_of target.now) (HasImage images (event_of image.now))
+        (map event_of events.items)) }
 {
     let sources = images.sources(alloc, image)?;
     if sources.len() <= 1 {
@@ -118,7 +125,13 @@ pub fn renaming_ways<'t, A: AllocHandle>(
     action: LentAction<'t, A>,
     target: &'t Term<A>,
 ) -> Result<Vec<Way<'t, A>, A>, Memory>
-    ensures { (s : Script) → AreRenamedEvents s (process_of process.entry.body.now) (renaming_pairs_of process.entry.pairs.now.items) (lent_action action.entry) (process_of target.now) (map event_of events.now) → IfOk result (AreFoundIn s (Renaming (process_of process.entry.body.now) (renaming_pairs_of process.entry.pairs.now.items)) (lent_action action.entry) (process_of target.now)) }
+    ensures { (s : Script) → AreRenamedEvents s (process_of process.entry.body.now)
+        (renaming_pairs_of process.entry.pairs.now.items) (lent_action action.entry)
+        (process_of target.now) (map event_of events.now)
+        → IfOk result (AreFoundIn s
+        (Renaming (process_of process.entry.body.now)
+        (renaming_pairs_of process.entry.pairs.now.items)) (lent_action action.entry)
+        (process_of target.now)) }
 {
     match action {
         LentAction::Tau => by_tau(alloc, process, target),
@@ -133,7 +146,8 @@ fn by_tau<'t, A: AllocHandle>(
     process: Renamed<'t, A>,
     target: &'t Term<A>,
 ) -> Result<Vec<Way<'t, A>, A>, Memory>
-    ensures { IfOk result (AreFound (Renaming (process_of process.entry.body.now) (renaming_pairs_of process.entry.pairs.now.items)) Tau (process_of target.now)) }
+    ensures { IfOk result (AreFound (Renaming (process_of process.entry.body.now)
+        (renaming_pairs_of process.entry.pairs.now.items)) Tau (process_of target.now)) }
 {
     let frame = Frame::Renaming(process.pairs);
     let body_target = body_of(&frame, target);
@@ -146,7 +160,8 @@ fn by_tick<'t, A: AllocHandle>(
     process: Renamed<'t, A>,
     target: &'t Term<A>,
 ) -> Result<Vec<Way<'t, A>, A>, Memory>
-    ensures { IfOk result (AreFound (Renaming (process_of process.entry.body.now) (renaming_pairs_of process.entry.pairs.now.items)) Tick (process_of target.now)) }
+    ensures { IfOk result (AreFound (Renaming (process_of process.entry.body.now)
+        (renaming_pairs_of process.entry.pairs.now.items)) Tick (process_of target.now)) }
 {
     one_way(alloc, to_body(process.body, LentAction::Tick, Some(target)))
 }
@@ -159,7 +174,13 @@ fn by_event<'t, A: AllocHandle>(
     event: &'t Event<A>,
     target: &'t Term<A>,
 ) -> Result<Vec<Way<'t, A>, A>, Memory>
-    ensures { (s : Script) → AreRenamedEvents s (process_of process.entry.body.now) (renaming_pairs_of process.entry.pairs.now.items) (Ev (event_of event.now)) (process_of target.now) (map event_of events.now) → IfOk result (AreFoundIn s (Renaming (process_of process.entry.body.now) (renaming_pairs_of process.entry.pairs.now.items)) (Ev (event_of event.now)) (process_of target.now)) }
+    ensures { (s : Script) → AreRenamedEvents s (process_of process.entry.body.now)
+        (renaming_pairs_of process.entry.pairs.now.items) (Ev (event_of event.now))
+        (process_of target.now) (map event_of events.now)
+        → IfOk result (AreFoundIn s
+        (Renaming (process_of process.entry.body.now)
+        (renaming_pairs_of process.entry.pairs.now.items)) (Ev (event_of event.now))
+        (process_of target.now)) }
 {
     let frame = Frame::Renaming(process.pairs);
     let Some(body_target) = body_of(&frame, target) else {
@@ -176,7 +197,10 @@ fn through_renamed<'t, A: AllocHandle>(
     image: &'t Event<A>,
     target: &'t Term<A>,
 ) -> Result<Vec<Way<'t, A>, A>, Memory>
-    ensures { IfOk result (λ ways. ways_of ways ≡ map (λ e. Through (Renames e (event_of image.now)) (part (process_of body.now) (Ev e) (Some (process_of target.now)))) (map event_of events.now)) }
+    ensures { IfOk result (λ ways. ways_of ways ≡ map
+        (λ e. Through (Renames e (event_of image.now))
+        (part (process_of body.now) (Ev e) (Some (process_of target.now))))
+        (map event_of events.now)) }
 {
     let mut ways = no_ways(alloc)?;
     for event in events {

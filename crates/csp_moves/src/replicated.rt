@@ -51,7 +51,8 @@ fn members_if_any<A: AllocHandle>(
     types: &TypeTable<A>,
     set: &Expr<A>,
 ) -> Result<Option<SetOf<A>>, Memory>
-    ensures { IfOk result (λ found. AreMembersIfAny found (elements (table_of types.now) (expression_of set.now))) }
+    ensures { IfOk result (λ found. AreMembersIfAny found
+        (elements (table_of types.now) (expression_of set.now))) }
 {
     match set.find_value(alloc, types) {
         Ok(value) => Ok(members_of_value(value)),
@@ -88,7 +89,8 @@ fn instance<A: AllocHandle>(
     process: Replicated<'_, A>,
     value: &Value<A>,
 ) -> Result<Term<A>, Memory>
-    ensures { IfOk result (λ t. process_of t ≡ put ((process.entry.name.0, value_of value.now) ∷ []) (process_of process.entry.body.now)) }
+    ensures { IfOk result (λ t. process_of t ≡ put ((process.entry.name.0, value_of value.now) ∷ [])
+        (process_of process.entry.body.now)) }
 {
     let name = process.name;
     process.body.put_in(alloc, &[Binding { name, value }])
@@ -101,7 +103,9 @@ fn chain<A: AllocHandle>(
     first: &Value<A>,
     others: &[Value<A>],
 ) -> Result<Term<A>, Memory>
-    ensures { IfOk result (λ t. process_of t ≡ instance_chain process.entry.operator (instances process.entry.name.0 (process_of process.entry.body.now) (value_of first.now ∷ values_of others.now))) }
+    ensures { IfOk result (λ t. process_of t ≡ instance_chain process.entry.operator
+        (instances process.entry.name.0 (process_of process.entry.body.now)
+        (value_of first.now ∷ values_of others.now))) }
 {
     let operator = between(process.operator);
     let mut chain = instance(alloc, process, first)?;
@@ -117,7 +121,9 @@ fn chain_of_values<A: AllocHandle>(
     process: Replicated<'_, A>,
     values: &[Value<A>],
 ) -> Result<Term<A>, Memory>
-    ensures { IfOk result (λ t. process_of t ≡ instance_chain process.entry.operator (instances process.entry.name.0 (process_of process.entry.body.now) (values_of values.now))) }
+    ensures { IfOk result (λ t. process_of t ≡ instance_chain process.entry.operator
+        (instances process.entry.name.0 (process_of process.entry.body.now)
+        (values_of values.now))) }
 {
     match values.split_first() {
         None => empty_chain(alloc, process.operator),
@@ -131,7 +137,10 @@ pub fn chain_of<A: AllocHandle>(
     script: &ScriptParts<A>,
     process: Replicated<'_, A>,
 ) -> Result<Option<Term<A>>, Memory>
-    ensures { IfOk result (λ chain. IsChainOf process.entry.operator process.entry.name.0 (process_of process.entry.body.now) (elements (table_of script.now.types) (expression_of process.entry.set.now)) (chain_process chain)) }
+    ensures { IfOk result (λ chain. IsChainOf process.entry.operator process.entry.name.0
+        (process_of process.entry.body.now)
+        (elements (table_of script.now.types) (expression_of process.entry.set.now))
+        (chain_process chain)) }
 {
     let found = members_if_any(alloc, &script.types, process.set)?;
     let Some(members) = found else {
@@ -148,7 +157,10 @@ pub fn replicated_ways<'t, A: AllocHandle>(
     action: LentAction<'t, A>,
     target: &'t Term<A>,
 ) -> Result<Vec<Way<'t, A>, A>, Memory>
-    ensures { (s : Script) (op : ReplicatedOperator) (n : ℕ) (e : Expression) (p : Process) → IsChainOf op n p (elements s.types e) (chain_process chain.now) → IfOk result (AreFoundIn s (replicated_process op n e p) (lent_action action.entry) (process_of target.now)) }
+    ensures { (s : Script) (op : ReplicatedOperator) (n : ℕ) (e : Expression) (p : Process)
+        → IsChainOf op n p (elements s.types e) (chain_process chain.now)
+        → IfOk result (AreFoundIn s (replicated_process op n e p) (lent_action action.entry)
+        (process_of target.now)) }
 {
     let Some(term) = chain else {
         return no_ways(alloc);

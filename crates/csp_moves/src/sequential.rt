@@ -30,7 +30,9 @@ pub fn sequential_ways<'t, A: AllocHandle>(
 ) -> Result<Vec<Way<'t, A>, A>, Memory>
     requires ended { process_of ended.now ≡ Omega }
     requires within { IsTrue (fits (process_of target.now)) }
-    ensures { IfOk result (AreFoundIn (script_of_parts script.now) (Sequential (process_of left.now) (process_of right.now)) (lent_action action.entry) (process_of target.now)) }
+    ensures { IfOk result (AreFoundIn (script_of_parts script.now)
+        (Sequential (process_of left.now) (process_of right.now)) (lent_action action.entry)
+        (process_of target.now)) }
 {
     match action {
         LentAction::Tau => by_tau(alloc, script, left, right, ended, target),
@@ -49,7 +51,8 @@ fn end_at<'t, A: AllocHandle>(
 ) -> Result<Option<&'t Term<A>>, Memory>
     requires ended { process_of ended.now ≡ Omega }
     requires within { IsTrue (fits (process_of target.now)) }
-    ensures { IfOk result (λ end. IsEndAt (process_of target.now) (settled (script_of_parts script.now) (process_of right.now)) (lent_process end)) }
+    ensures { IfOk result (λ end. IsEndAt (process_of target.now)
+        (settled (script_of_parts script.now) (process_of right.now)) (lent_process end)) }
 {
     if leads_to(alloc, script, right, target)? {
         return Ok(Some(ended));
@@ -67,7 +70,8 @@ fn by_tau<'t, A: AllocHandle>(
 ) -> Result<Vec<Way<'t, A>, A>, Memory>
     requires ended { process_of ended.now ≡ Omega }
     requires within { IsTrue (fits (process_of target.now)) }
-    ensures { IfOk result (AreFoundIn (script_of_parts script.now) (Sequential (process_of left.now) (process_of right.now)) Tau (process_of target.now)) }
+    ensures { IfOk result (AreFoundIn (script_of_parts script.now)
+        (Sequential (process_of left.now) (process_of right.now)) Tau (process_of target.now)) }
 {
     let operator = Joint::Binary(ProcessOperator::Sequential);
     let by_left = through_branch(
@@ -93,7 +97,9 @@ fn by_event<'t, A: AllocHandle>(
     event: &'t Event<A>,
     target: &'t Term<A>,
 ) -> Result<Vec<Way<'t, A>, A>, Memory>
-    ensures { (s : Script) → IfOk result (AreFoundIn s (Sequential (process_of left.now) (process_of right.now)) (Ev (event_of event.now)) (process_of target.now)) }
+    ensures { (s : Script)
+        → IfOk result (AreFoundIn s (Sequential (process_of left.now) (process_of right.now))
+        (Ev (event_of event.now)) (process_of target.now)) }
 {
     let operator = Joint::Binary(ProcessOperator::Sequential);
     let left_target = left_of(&operator, right, target);

@@ -18,7 +18,8 @@ pub(crate) fn leads_to<A: AllocHandle>(
     target: &Term<A>,
 ) -> Result<bool, Memory>
     requires { IsTrue (fits (process_of target.now)) }
-    ensures { IfOk result (λ leads. IsTrue leads ↔ (process_of target.now ≡ settled (script_of_parts script.now) (process_of process.now))) }
+    ensures { IfOk result (λ leads. IsTrue leads
+        ↔ (process_of target.now ≡ settled (script_of_parts script.now) (process_of process.now))) }
 {
     let unfolded = settle(alloc, script, process)?;
     match unfolded {

@@ -25,7 +25,9 @@ pub fn sliding_ways<'t, A: AllocHandle>(
     target: &'t Term<A>,
 ) -> Result<Vec<Way<'t, A>, A>, Memory>
     requires { IsTrue (fits (process_of target.now)) }
-    ensures { IfOk result (AreFoundIn (script_of_parts script.now) (SlidingChoice (process_of left.now) (process_of right.now)) (lent_action action.entry) (process_of target.now)) }
+    ensures { IfOk result (AreFoundIn (script_of_parts script.now)
+        (SlidingChoice (process_of left.now) (process_of right.now)) (lent_action action.entry)
+        (process_of target.now)) }
 {
     match action {
         LentAction::Tau => by_tau(alloc, script, left, right, target),
@@ -43,7 +45,8 @@ fn by_tau<'t, A: AllocHandle>(
     target: &'t Term<A>,
 ) -> Result<Vec<Way<'t, A>, A>, Memory>
     requires { IsTrue (fits (process_of target.now)) }
-    ensures { IfOk result (AreFoundIn (script_of_parts script.now) (SlidingChoice (process_of left.now) (process_of right.now)) Tau (process_of target.now)) }
+    ensures { IfOk result (AreFoundIn (script_of_parts script.now)
+        (SlidingChoice (process_of left.now) (process_of right.now)) Tau (process_of target.now)) }
 {
     let operator = Joint::Sliding;
     let by_left = through_branch(
@@ -67,7 +70,9 @@ fn by_visible<'t, A: AllocHandle>(
     target: &'t Term<A>,
 ) -> Result<Vec<Way<'t, A>, A>, Memory>
     requires { IsVisible (lent_action action) }
-    ensures { (s : Script) → IfOk result (AreFoundIn s (SlidingChoice (process_of left.now) (process_of right.now)) (lent_action action.entry) (process_of target.now)) }
+    ensures { (s : Script)
+        → IfOk result (AreFoundIn s (SlidingChoice (process_of left.now) (process_of right.now))
+        (lent_action action.entry) (process_of target.now)) }
 {
     one_way(
         alloc,

@@ -16,7 +16,8 @@ pub(crate) fn test_of_set<A: AllocHandle>(
     script: &ScriptParts<A>,
     set: &EventSet<A>,
 ) -> Result<Option<EventTest<A>>, Memory>
-    ensures { IfOk result (λ found. IsTestIfAny found (event_test (script_of_parts script.now) (event_set_of set.now))) }
+    ensures { IfOk result (λ found. IsTestIfAny found
+        (event_test (script_of_parts script.now) (event_set_of set.now))) }
 {
     match script.event_test(alloc, set) {
         Ok(test) => Ok(Some(test)),

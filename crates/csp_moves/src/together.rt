@@ -42,7 +42,8 @@ fn left_where<'t, A: AllocHandle>(
     right: &Term<A>,
     target: &'t Term<A>,
 ) -> Option<&'t Term<A>>
-    ensures { IsBodyWhere free (λ u. joined (joint_of operator.now) u (process_of right.now)) (process_of target.now) (lent_process result) }
+    ensures { IsBodyWhere free (λ u. joined (joint_of operator.now) u (process_of right.now))
+        (process_of target.now) (lent_process result) }
 {
     if free {
         return left_of(operator, right, target);
@@ -57,7 +58,8 @@ fn right_where<'t, A: AllocHandle>(
     left: &Term<A>,
     target: &'t Term<A>,
 ) -> Option<&'t Term<A>>
-    ensures { IsBodyWhere free (λ v. joined (joint_of operator.now) (process_of left.now) v) (process_of target.now) (lent_process result) }
+    ensures { IsBodyWhere free (λ v. joined (joint_of operator.now) (process_of left.now) v)
+        (process_of target.now) (lent_process result) }
 {
     if free {
         return right_of(operator, left, target);
@@ -71,7 +73,8 @@ fn both_where<'t, A: AllocHandle>(
     operator: &Joint<'_, A>,
     target: &'t Term<A>,
 ) -> Option<Sides<'t, A>>
-    ensures { IsSplitWhere shared (joined (joint_of operator.now)) (process_of target.now) (sides_split result) }
+    ensures { IsSplitWhere shared (joined (joint_of operator.now)) (process_of target.now)
+        (sides_split result) }
 {
     if shared {
         return both_of(operator, target);
@@ -86,7 +89,11 @@ fn by_both<'t, A: AllocHandle>(
     event: &'t Event<A>,
     target: Option<Sides<'t, A>>,
 ) -> Way<'t, A>
-    ensures { way_of result ≡ Both (part (process_of left.now) (Ev (event_of event.now)) (first_of (sides_split target.entry))) (part (process_of right.now) (Ev (event_of event.now)) (second_of (sides_split target.entry))) }
+    ensures { way_of result
+        ≡ Both (part (process_of left.now) (Ev (event_of event.now))
+        (first_of (sides_split target.entry)))
+        (part (process_of right.now) (Ev (event_of event.now))
+        (second_of (sides_split target.entry))) }
 {
     let action = LentAction::Event(event);
     match target {
@@ -123,7 +130,9 @@ fn by_tau<'t, A: AllocHandle>(
     sides: Sides<'t, A>,
     target: &'t Term<A>,
 ) -> Result<Vec<Way<'t, A>, A>, Memory>
-    ensures { IfOk result (λ ways. AreTauWays (joined (joint_of sides.entry.operator)) (process_of sides.entry.left.now) (process_of sides.entry.right.now) (process_of target.now) (ways_of ways)) }
+    ensures { IfOk result (λ ways. AreTauWays (joined (joint_of sides.entry.operator))
+        (process_of sides.entry.left.now) (process_of sides.entry.right.now) (process_of target.now)
+        (ways_of ways)) }
 {
     let left = left_of(&sides.operator, sides.right, target);
     let right = right_of(&sides.operator, sides.left, target);
@@ -152,7 +161,9 @@ fn by_event<'t, A: AllocHandle>(
     event: &'t Event<A>,
     target: &'t Term<A>,
 ) -> Result<Vec<Way<'t, A>, A>, Memory>
-    ensures { IfOk result (λ ways. AreEventWays (joined (joint_of sides.entry.operator)) freedom (process_of sides.entry.left.now) (process_of sides.entry.right.now) (event_of event.now) (process_of target.now) (ways_of ways)) }
+    ensures { IfOk result (λ ways. AreEventWays (joined (joint_of sides.entry.operator)) freedom
+        (process_of sides.entry.left.now) (process_of sides.entry.right.now) (event_of event.now)
+        (process_of target.now) (ways_of ways)) }
 {
     let action = LentAction::Event(event);
     let left = left_where(freedom.left, &sides.operator, sides.right, target);
@@ -166,7 +177,8 @@ fn by_event<'t, A: AllocHandle>(
 
 /// Whether both sides have ended, and the target too.
 fn have_ended<A: AllocHandle>(left: &Term<A>, right: &Term<A>, target: &Term<A>) -> bool
-    ensures { IsTrue result ↔ HaveEnded (process_of left.now) (process_of right.now) (process_of target.now) }
+    ensures { IsTrue result ↔ HaveEnded (process_of left.now) (process_of right.now)
+        (process_of target.now) }
 {
     left.is_omega() && right.is_omega() && target.is_omega()
 }
@@ -177,7 +189,8 @@ fn by_tick<'t, A: AllocHandle>(
     sides: Sides<'t, A>,
     target: &'t Term<A>,
 ) -> Result<Vec<Way<'t, A>, A>, Memory>
-    ensures { IfOk result (λ ways. AreTickWays (process_of sides.entry.left.now) (process_of sides.entry.right.now) (process_of target.now) (ways_of ways)) }
+    ensures { IfOk result (λ ways. AreTickWays (process_of sides.entry.left.now)
+        (process_of sides.entry.right.now) (process_of target.now) (ways_of ways)) }
 {
     if have_ended(sides.left, sides.right, target) {
         return one_way(alloc, Way::Ends);
@@ -193,7 +206,9 @@ pub(crate) fn parallel_ways<'t, A: AllocHandle>(
     action: LentAction<'t, A>,
     target: &'t Term<A>,
 ) -> Result<Vec<Way<'t, A>, A>, Memory>
-    ensures { IfOk result (λ ways. AreParallelWays (joined (joint_of sides.entry.operator)) freedom (process_of sides.entry.left.now) (process_of sides.entry.right.now) (lent_action action.entry) (process_of target.now) (ways_of ways)) }
+    ensures { IfOk result (λ ways. AreParallelWays (joined (joint_of sides.entry.operator)) freedom
+        (process_of sides.entry.left.now) (process_of sides.entry.right.now)
+        (lent_action action.entry) (process_of target.now) (ways_of ways)) }
 {
     match action {
         LentAction::Tau => by_tau(alloc, sides, target),

@@ -79,7 +79,8 @@ pub(crate) fn to_side<'t, A: AllocHandle>(
     action: LentAction<'t, A>,
     target: Option<&'t Term<A>>,
 ) -> Way<'t, A>
-    ensures { way_of result ≡ Through (OnSide (side_of side)) (part (process_of process.now) (lent_action action.entry) (lent_process target.entry)) }
+    ensures { way_of result ≡ Through (OnSide (side_of side))
+        (part (process_of process.now) (lent_action action.entry) (lent_process target.entry)) }
 {
     let part = Part {
         process,
@@ -96,7 +97,8 @@ pub(crate) fn through_branch<'t, A: AllocHandle>(
     action: LentAction<'t, A>,
     target: Option<&'t Term<A>>,
 ) -> Way<'t, A>
-    ensures { way_of result ≡ Through (OnBranch (side_of side)) (part (process_of process.now) (lent_action action.entry) (lent_process target.entry)) }
+    ensures { way_of result ≡ Through (OnBranch (side_of side))
+        (part (process_of process.now) (lent_action action.entry) (lent_process target.entry)) }
 {
     let part = Part {
         process,
@@ -145,7 +147,8 @@ pub(crate) fn three_ways<'t, A: AllocHandle>(
     second: Way<'t, A>,
     third: Way<'t, A>,
 ) -> Result<Vec<Way<'t, A>, A>, Memory>
-    ensures { IfOk result (λ ways. ways_of ways ≡ way_of first.entry ∷ way_of second.entry ∷ way_of third.entry ∷ []) }
+    ensures { IfOk result (λ ways. ways_of ways ≡ way_of first.entry ∷ way_of second.entry
+        ∷ way_of third.entry ∷ []) }
 {
     let mut ways = two_ways(alloc, first, second)?;
     ways.push(third)?;
@@ -160,7 +163,8 @@ pub(crate) fn four_ways<'t, A: AllocHandle>(
     third: Way<'t, A>,
     fourth: Way<'t, A>,
 ) -> Result<Vec<Way<'t, A>, A>, Memory>
-    ensures { IfOk result (λ ways. ways_of ways ≡ way_of first.entry ∷ way_of second.entry ∷ way_of third.entry ∷ way_of fourth.entry ∷ []) }
+    ensures { IfOk result (λ ways. ways_of ways ≡ way_of first.entry ∷ way_of second.entry
+        ∷ way_of third.entry ∷ way_of fourth.entry ∷ []) }
 {
     let mut ways = three_ways(alloc, first, second, third)?;
     ways.push(fourth)?;

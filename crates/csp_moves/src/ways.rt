@@ -43,7 +43,9 @@ fn binary_ways<'t, A: AllocHandle>(
 ) -> Result<Vec<Way<'t, A>, A>, Memory>
     requires ended { process_of ended.now ≡ Omega }
     requires within { IsTrue (fits (process_of target.now)) }
-    ensures { IfOk result (AreFoundIn (script_of_parts script.now) (binary_process operator (process_of sides.entry.left.now) (process_of sides.entry.right.now)) (lent_action action.entry) (process_of target.now)) }
+    ensures { IfOk result (AreFoundIn (script_of_parts script.now)
+        (binary_process operator (process_of sides.entry.left.now)
+        (process_of sides.entry.right.now)) (lent_action action.entry) (process_of target.now)) }
 {
     let left = sides.left;
     let right = sides.right;
@@ -71,8 +73,10 @@ fn joined_ways<'t, A: AllocHandle>(
 ) -> Result<Vec<Way<'t, A>, A>, Memory>
     requires joined { IsSome (taken_apart (process_of term.now)) }
     requires within { IsTrue (fits (process_of target.now)) }
-    requires made { IsMade (script_of_parts script.now) (process_of term.now) (lent_action action) (process_of target.now) made.now }
-    ensures { IfOk result (AreFoundIn (script_of_parts script.now) (process_of term.now) (lent_action action.entry) (process_of target.now)) }
+    requires made { IsMade (script_of_parts script.now) (process_of term.now) (lent_action action)
+        (process_of target.now) made.now }
+    ensures { IfOk result (AreFoundIn (script_of_parts script.now) (process_of term.now)
+        (lent_action action.entry) (process_of target.now)) }
 {
     let Some(sides) = sides_of(term) else {
         return no_ways(alloc);
@@ -112,8 +116,10 @@ fn framed_ways<'t, A: AllocHandle>(
     target: &'t Term<A>,
 ) -> Result<Vec<Way<'t, A>, A>, Memory>
     requires framed { IsSome (unframed (process_of term.now)) }
-    requires made { IsMade (script_of_parts script.now) (process_of term.now) (lent_action action) (process_of target.now) made.now }
-    ensures { IfOk result (AreFoundIn (script_of_parts script.now) (process_of term.now) (lent_action action.entry) (process_of target.now)) }
+    requires made { IsMade (script_of_parts script.now) (process_of term.now) (lent_action action)
+        (process_of target.now) made.now }
+    ensures { IfOk result (AreFoundIn (script_of_parts script.now) (process_of term.now)
+        (lent_action action.entry) (process_of target.now)) }
 {
     let Some(found) = framed_of(term) else {
         return no_ways(alloc);
@@ -141,8 +147,10 @@ pub(crate) fn ways_of_step<'t, A: AllocHandle>(
     target: &'t Term<A>,
 ) -> Result<Vec<Way<'t, A>, A>, Memory>
     requires within { IsTrue (fits (process_of target.now)) }
-    requires made { IsMade (script_of_parts script.now) (process_of term.now) (lent_action action) (process_of target.now) made.now }
-    ensures { IfOk result (AreFoundIn (script_of_parts script.now) (process_of term.now) (lent_action action.entry) (process_of target.now)) }
+    requires made { IsMade (script_of_parts script.now) (process_of term.now) (lent_action action)
+        (process_of target.now) made.now }
+    ensures { IfOk result (AreFoundIn (script_of_parts script.now) (process_of term.now)
+        (lent_action action.entry) (process_of target.now)) }
 {
     match term.form() {
         TermForm::Stop => idle_ways(alloc),

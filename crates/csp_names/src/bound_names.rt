@@ -42,7 +42,9 @@ impl<'t, A: Allocator + Copy> BoundNames<'t, A> {
 
     /// The name that is bound here, if it is.
     pub(crate) fn find(&self, name: RawName<'t>) -> Option<Name>
-        ensures { IsInOrder self.now → option_map (λ n. n.0) result ≡ cond (nat_lt 0 (times_at self.now (chars name.entry.text.now))) (number_at self.now (chars name.entry.text.now)) None }
+        ensures { IsInOrder self.now → option_map (λ n. n.0) result
+            ≡ cond (nat_lt 0 (times_at self.now (chars name.entry.text.now)))
+            (number_at self.now (chars name.entry.text.now)) None }
     {
         match self.row(name.text.as_bytes()) {
             Some(row) if row.times > 0 => Some(row.name),
@@ -52,7 +54,8 @@ impl<'t, A: Allocator + Copy> BoundNames<'t, A> {
 
     /// Whether the name is bound here.
     pub(crate) fn is_bound(&self, name: RawName<'t>) -> bool
-        ensures { IsInOrder self.now → result ≡ nat_lt 0 (times_at self.now (chars name.entry.text.now)) }
+        ensures { IsInOrder self.now → result ≡ nat_lt 0
+            (times_at self.now (chars name.entry.text.now)) }
     {
         match self.row(name.text.as_bytes()) {
             Some(row) => row.times > 0,
@@ -62,8 +65,11 @@ impl<'t, A: Allocator + Copy> BoundNames<'t, A> {
 
     /// Binds the name, once more where it is bound here. It is `Memory` where there is no room for it.
     pub(crate) fn bind(&mut self, name: RawName<'t>) -> Result<Name, Refused>
-        ensures number { IfOk result (λ n. IsInOrder self.old → number_in (bound_spellings self.new) (chars name.entry.text.now) ≡ Some n.0) }
-        ensures binds { OnOk result (IsInOrder self.old → Binds self.old self.new (chars name.entry.text.now ∷ []) (chars name.entry.text.now ∷ [])) }
+        ensures number { IfOk result (λ n. IsInOrder self.old
+            → number_in (bound_spellings self.new) (chars name.entry.text.now) ≡ Some n.0) }
+        ensures binds { OnOk result (IsInOrder self.old
+            → Binds self.old self.new (chars name.entry.text.now ∷ [])
+            (chars name.entry.text.now ∷ [])) }
         ensures stops { IfErr result (λ refused. refused ≡ no_room) }
     {
         let text = name.text.as_bytes();
@@ -79,7 +85,8 @@ impl<'t, A: Allocator + Copy> BoundNames<'t, A> {
 
     /// Ends one binding of the name. It is `Memory` where there is no room for the table.
     pub(crate) fn release(&mut self, name: RawName<'t>) -> Result<(), Refused>
-        ensures releases { OnOk result (IsInOrder self.old → Releases self.old self.new (chars name.entry.text.now ∷ [])) }
+        ensures releases { OnOk result (IsInOrder self.old
+            → Releases self.old self.new (chars name.entry.text.now ∷ [])) }
         ensures stops { IfErr result (λ refused. refused ≡ no_room) }
     {
         let text = name.text.as_bytes();
@@ -95,7 +102,8 @@ impl<'t, A: Allocator + Copy> BoundNames<'t, A> {
 
     /// The row of the bytes.
     fn row(&self, text: &'t [u8]) -> Option<BoundName>
-        ensures { IsUtf8 text.entry.now → AreTexts self.now.table.entries → result ≡ row_at (bound_rows self.now) (chars text.entry.now) }
+        ensures { IsUtf8 text.entry.now → AreTexts self.now.table.entries
+            → result ≡ row_at (bound_rows self.now) (chars text.entry.now) }
     {
         self.table.get(text).copied()
     }
@@ -117,7 +125,8 @@ impl<'t, A: Allocator + Copy> BoundNames<'t, A> {
 
     /// Puts a row in the place of that of the bytes, or behind the others.
     fn put(&mut self, text: &'t [u8], row: BoundName) -> Result<(), Refused>
-        ensures puts { OnOk result (IsUtf8 text.entry.now → AreTexts self.old.table.entries → IsPut self.old self.new (chars text.entry.now) row) }
+        ensures puts { OnOk result (IsUtf8 text.entry.now → AreTexts self.old.table.entries
+            → IsPut self.old self.new (chars text.entry.now) row) }
         ensures stops { IfErr result (λ refused. refused ≡ no_room) }
     {
         self.table.insert(text, row)?;

@@ -59,7 +59,8 @@ impl<'n, 't, A: Allocator + Copy> Scope<'n, 't, A> {
         name: RawName<'t>,
         fields: usize,
     ) -> Result<ChannelId, Refused>
-        ensures { ResolvesChannel self.now bound.now (AsProductions fields) (name_of name.entry) result }
+        ensures { ResolvesChannel self.now bound.now (AsProductions fields) (name_of name.entry)
+            result }
     {
         let channel = self.channel(bound, name)?;
         if count_suffices(self.names.field_count(channel), fields) {

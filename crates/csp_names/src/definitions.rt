@@ -26,7 +26,8 @@ impl<'n, 't, A: Allocator + Copy> Scope<'n, 't, A> {
         parameters: &[RawName<'t>],
         body: &RawProcess<'t, A>,
     ) -> Result<Equation<A>, Refused>
-        ensures { ResolvesDefinition self.now bound.old bound.new (map name_of parameters.now) (process_of body.now) result }
+        ensures { ResolvesDefinition self.now bound.old bound.new (map name_of parameters.now)
+            (process_of body.now) result }
     {
         let names = self.resolve_parameters(alloc, bound, parameters)?;
         let body = self.resolve_process(alloc, bound, body)?;
@@ -46,7 +47,8 @@ impl<'n, 't, A: Allocator + Copy> Scope<'n, 't, A> {
         property: &RawProperty<'t, A>,
         implementation: &RawProcess<'t, A>,
     ) -> Result<Assertion<A>, Refused>
-        ensures { ResolvesAssertion self.now bound.old bound.new negated (property_of property.now) (process_of implementation.now) result }
+        ensures { ResolvesAssertion self.now bound.old bound.new negated (property_of property.now)
+            (process_of implementation.now) result }
     {
         let property = self.resolve_property(alloc, bound, property)?;
         let implementation = self.resolve_process(alloc, bound, implementation)?;
@@ -119,7 +121,8 @@ fn release_parameters<'t, A: Allocator + Copy>(
     bound: &mut BoundNames<'t, A>,
     parameters: &[RawName<'t>],
 ) -> Result<(), Refused>
-    ensures releases { OnOk result (IsInOrder bound.old → Releases bound.old bound.new (spellings (map name_of parameters.now))) }
+    ensures releases { OnOk result (IsInOrder bound.old
+        → Releases bound.old bound.new (spellings (map name_of parameters.now))) }
     ensures stops { IfErr result (λ refused. refused ≡ no_room) }
 {
     for parameter in parameters {

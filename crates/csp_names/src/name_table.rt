@@ -97,7 +97,8 @@ impl<'t, A: Allocator + Copy> NameTable<'t, A> {
 impl<'t, A: Allocator + Copy> Names<'t, A> {
     /// Adds a name, which may not be there yet.
     fn add(&mut self, name: RawName<'t>, declared: Declared) -> Result<(), Refused>
-        ensures { AddsNames self.old self.new (row_of (name_of name.entry) declared ∷ []) (name_of name.entry ∷ []) [] [] [] result }
+        ensures { AddsNames self.old self.new (row_of (name_of name.entry) declared ∷ [])
+            (name_of name.entry ∷ []) [] [] [] result }
     {
         let text = name.text.as_bytes();
         if self.table.contains_key(text) {
@@ -109,7 +110,10 @@ impl<'t, A: Allocator + Copy> Names<'t, A> {
 
     /// Adds the constructors of a datatype, with their numbers of fields.
     fn add_constructors(&mut self, clauses: &[RawClause<'t, A>]) -> Result<(), Refused>
-        ensures { AddsNames self.old self.new (numbered_rows ConstructorName (length self.old.constructors.items) (clause_names (map clause_of clauses.now))) (clause_names (map clause_of clauses.now)) [] (clause_counts (map clause_of clauses.now)) [] result }
+        ensures { AddsNames self.old self.new
+            (numbered_rows ConstructorName (length self.old.constructors.items)
+            (clause_names (map clause_of clauses.now))) (clause_names (map clause_of clauses.now))
+            [] (clause_counts (map clause_of clauses.now)) [] result }
     {
         for clause in clauses {
             let number = number_of(self.constructors.len())?;
@@ -121,7 +125,9 @@ impl<'t, A: Allocator + Copy> Names<'t, A> {
 
     /// Adds channels, each of so many fields.
     fn add_channels(&mut self, channels: &[RawName<'t>], fields: usize) -> Result<(), Refused>
-        ensures { AddsNames self.old self.new (numbered_rows ChannelName (length self.old.fields.items) (map name_of channels.now)) (map name_of channels.now) [] [] (replicate (length channels.now) fields) result }
+        ensures { AddsNames self.old self.new
+            (numbered_rows ChannelName (length self.old.fields.items) (map name_of channels.now))
+            (map name_of channels.now) [] [] (replicate (length channels.now) fields) result }
     {
         for name in channels {
             let number = number_of(self.fields.len())?;
@@ -133,7 +139,9 @@ impl<'t, A: Allocator + Copy> Names<'t, A> {
 
     /// Adds an equation of so many parameters.
     fn add_equation(&mut self, name: RawName<'t>, parameters: usize) -> Result<(), Refused>
-        ensures { AddsNames self.old self.new (numbered_rows EquationName (length self.old.parameters.items) (name_of name.entry ∷ [])) (name_of name.entry ∷ []) (parameters ∷ []) [] [] result }
+        ensures { AddsNames self.old self.new
+            (numbered_rows EquationName (length self.old.parameters.items)
+            (name_of name.entry ∷ [])) (name_of name.entry ∷ []) (parameters ∷ []) [] [] result }
     {
         let number = number_of(self.parameters.len())?;
         self.add(name, Declared::Equation(EquationId(number)))?;

@@ -37,7 +37,9 @@ impl<'t, A: Allocator> Names<'t, A> {
 
     /// What the name is declared as, if it is among so many first names.
     pub(crate) fn find(&self, name: RawName<'t>, visible: usize) -> Option<Declared>
-        ensures { AreTexts self.now.table.entries → option_map declared_of result ≡ option_map declared_of (row_at (take visible (spelled self.now.table.entries)) (chars name.entry.text.now)) }
+        ensures { AreTexts self.now.table.entries → option_map declared_of result
+            ≡ option_map declared_of
+            (row_at (take visible (spelled self.now.table.entries)) (chars name.entry.text.now)) }
     {
         match self.table.get_full(name.text.as_bytes()) {
             Some((place, _, declared)) if place < visible => Some(*declared),

@@ -89,7 +89,8 @@ pub(crate) fn release_fields<'t, A: Allocator + Copy>(
     bound: &mut BoundNames<'t, A>,
     fields: &[RawField<'t, A>],
 ) -> Result<(), Refused>
-    ensures releases { OnOk result (IsInOrder bound.old → Releases bound.old bound.new (spellings (bound_by_fields (map field_of fields.now)))) }
+    ensures releases { OnOk result (IsInOrder bound.old
+        → Releases bound.old bound.new (spellings (bound_by_fields (map field_of fields.now)))) }
     ensures stops { IfErr result (λ refused. refused ≡ no_room) }
 {
     for field in fields {
@@ -102,7 +103,8 @@ fn release_field<'t, A: Allocator + Copy>(
     bound: &mut BoundNames<'t, A>,
     field: &RawField<'t, A>,
 ) -> Result<(), Refused>
-    ensures releases { OnOk result (IsInOrder bound.old → Releases bound.old bound.new (spellings (bound_by_fields (field_of field.now ∷ [])))) }
+    ensures releases { OnOk result (IsInOrder bound.old
+        → Releases bound.old bound.new (spellings (bound_by_fields (field_of field.now ∷ [])))) }
     ensures stops { IfErr result (λ refused. refused ≡ no_room) }
 {
     match field {

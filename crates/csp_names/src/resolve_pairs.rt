@@ -59,7 +59,8 @@ impl<'n, 't, A: Allocator + Copy> Scope<'n, 't, A> {
         from: RawName<'t>,
         to: RawName<'t>,
     ) -> Result<RenamingPair<A>, Refused>
-        ensures { ResolvesBarePair self.now bound.now (name_of from.entry) (name_of to.entry) result }
+        ensures { ResolvesBarePair self.now bound.now (name_of from.entry) (name_of to.entry)
+            result }
     {
         let left = self.resolve_bare_left(bound, from, to)?;
         let right = self.resolve_bare_right(bound, to, from, left)?;
@@ -81,7 +82,8 @@ impl<'n, 't, A: Allocator + Copy> Scope<'n, 't, A> {
         name: RawName<'t>,
         other: RawName<'t>,
     ) -> Result<ChannelId, Refused>
-        ensures { ResolvesChannel self.now bound.now (AsBareLeft (name_of other.entry)) (name_of name.entry) result }
+        ensures { ResolvesChannel self.now bound.now (AsBareLeft (name_of other.entry))
+            (name_of name.entry) result }
     {
         let channel = self.channel(bound, name)?;
         if self.agree_in_fields(bound, name, other) {
@@ -98,7 +100,8 @@ impl<'n, 't, A: Allocator + Copy> Scope<'n, 't, A> {
         other: RawName<'t>,
         left: ChannelId,
     ) -> Result<ChannelId, Refused>
-        ensures { ResolvesBareRight self.now bound.now left (name_of other.entry) (name_of name.entry) result }
+        ensures { ResolvesBareRight self.now bound.now left (name_of other.entry)
+            (name_of name.entry) result }
     {
         let channel = self.channel(bound, name)?;
         if !self.agree_in_fields(bound, name, other) {
@@ -117,7 +120,8 @@ impl<'n, 't, A: Allocator + Copy> Scope<'n, 't, A> {
         name: RawName<'t>,
         other: RawName<'t>,
     ) -> bool
-        ensures { AgreesInFields self.now bound.now (name_of name.entry) (name_of other.entry) result }
+        ensures { AgreesInFields self.now bound.now (name_of name.entry) (name_of other.entry)
+            result }
     {
         match self.field_count(bound, name) {
             Some(count) => count == 0 || self.field_count(bound, other) == Some(count),
@@ -137,7 +141,8 @@ impl<'n, 't, A: Allocator + Copy> Scope<'n, 't, A> {
 
     /// The field sets of the channel, if they are known.
     fn known_sets(&self, channel: ChannelId) -> Option<&[FieldSet<A>]>
-        ensures { option_map (λ sets. map field_values sets.now) result ≡ sets_at self.now channel.0 }
+        ensures { option_map (λ sets. map field_values sets.now) result
+            ≡ sets_at self.now channel.0 }
     {
         match self.field_sets.get(channel.0 as usize) {
             Some(Some(sets)) => Some(sets),
@@ -155,7 +160,8 @@ fn is_bare<'t, A: Allocator>(event: &RawEvent<'t, A>) -> bool
 
 /// Whether both are as many, and not equal in turn.
 fn are_unlike<A: Allocator + Copy>(left: &[FieldSet<A>], right: &[FieldSet<A>]) -> bool
-    ensures { IsTrue result ↔ AreUnlike (Some (map field_values left.now)) (Some (map field_values right.now)) }
+    ensures { IsTrue result ↔ AreUnlike (Some (map field_values left.now))
+        (Some (map field_values right.now)) }
 {
     left.len() == right.len() && left != right
 }

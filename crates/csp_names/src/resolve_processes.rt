@@ -69,7 +69,8 @@ impl<'n, 't, A: Allocator + Copy> Scope<'n, 't, A> {
         name: RawName<'t>,
         arguments: &[RawExpression<'t, A>],
     ) -> Result<Term<A>, Refused>
-        ensures { ResolvesProcess self.now bound.old bound.new (RawCall (name_of name.entry) (expressions_of arguments.now)) result }
+        ensures { ResolvesProcess self.now bound.old bound.new
+            (RawCall (name_of name.entry) (expressions_of arguments.now)) result }
     {
         let equation = self.resolve_equation(bound, name, arguments.len())?;
         let arguments = self.resolve_expressions(alloc, bound, arguments)?;
@@ -86,7 +87,9 @@ impl<'n, 't, A: Allocator + Copy> Scope<'n, 't, A> {
         fields: &[RawField<'t, A>],
         body: &RawProcess<'t, A>,
     ) -> Result<Term<A>, Refused>
-        ensures { ResolvesProcess self.now bound.old bound.new (RawPrefix (name_of channel.entry) (map field_of fields.now) (process_of body.now)) result }
+        ensures { ResolvesProcess self.now bound.old bound.new
+            (RawPrefix (name_of channel.entry) (map field_of fields.now) (process_of body.now))
+            result }
     {
         let channel = self.resolve_channel(bound, channel, fields.len())?;
         let resolved = self.resolve_fields(alloc, bound, fields)?;
@@ -104,7 +107,8 @@ impl<'n, 't, A: Allocator + Copy> Scope<'n, 't, A> {
         condition: &RawExpression<'t, A>,
         body: &RawProcess<'t, A>,
     ) -> Result<Term<A>, Refused>
-        ensures { ResolvesProcess self.now bound.old bound.new (RawGuard (expression_of condition.now) (process_of body.now)) result }
+        ensures { ResolvesProcess self.now bound.old bound.new
+            (RawGuard (expression_of condition.now) (process_of body.now)) result }
     {
         let condition = self.resolve_expression(alloc, bound, condition)?;
         let body = self.resolve_process(alloc, bound, body)?;
@@ -121,7 +125,9 @@ impl<'n, 't, A: Allocator + Copy> Scope<'n, 't, A> {
         first: &RawProcess<'t, A>,
         second: &RawProcess<'t, A>,
     ) -> Result<Term<A>, Refused>
-        ensures { ResolvesProcess self.now bound.old bound.new (RawIf (expression_of condition.now) (process_of first.now) (process_of second.now)) result }
+        ensures { ResolvesProcess self.now bound.old bound.new
+            (RawIf (expression_of condition.now) (process_of first.now) (process_of second.now))
+            result }
     {
         let condition = self.resolve_expression(alloc, bound, condition)?;
         let first = self.resolve_process(alloc, bound, first)?;
@@ -139,7 +145,8 @@ impl<'n, 't, A: Allocator + Copy> Scope<'n, 't, A> {
         left: &RawProcess<'t, A>,
         right: &RawProcess<'t, A>,
     ) -> Result<Term<A>, Refused>
-        ensures { ResolvesProcess self.now bound.old bound.new (RawInfix (infix_of operator) (process_of left.now) (process_of right.now)) result }
+        ensures { ResolvesProcess self.now bound.old bound.new
+            (RawInfix (infix_of operator) (process_of left.now) (process_of right.now)) result }
     {
         let left = self.resolve_process(alloc, bound, left)?;
         let right = self.resolve_process(alloc, bound, right)?;
@@ -156,7 +163,9 @@ impl<'n, 't, A: Allocator + Copy> Scope<'n, 't, A> {
         shared: &RawEventSet<'t, A>,
         right: &RawProcess<'t, A>,
     ) -> Result<Term<A>, Refused>
-        ensures { ResolvesProcess self.now bound.old bound.new (RawGeneralisedParallel (process_of left.now) (event_set_of shared.now) (process_of right.now)) result }
+        ensures { ResolvesProcess self.now bound.old bound.new
+            (RawGeneralisedParallel (process_of left.now) (event_set_of shared.now)
+            (process_of right.now)) result }
     {
         let left = self.resolve_process(alloc, bound, left)?;
         let shared = self.resolve_event_set(alloc, bound, shared)?;
@@ -175,7 +184,9 @@ impl<'n, 't, A: Allocator + Copy> Scope<'n, 't, A> {
         other: &RawEventSet<'t, A>,
         right: &RawProcess<'t, A>,
     ) -> Result<Term<A>, Refused>
-        ensures { ResolvesProcess self.now bound.old bound.new (RawAlphabetisedParallel (process_of left.now) (event_set_of own.now) (event_set_of other.now) (process_of right.now)) result }
+        ensures { ResolvesProcess self.now bound.old bound.new
+            (RawAlphabetisedParallel (process_of left.now) (event_set_of own.now)
+            (event_set_of other.now) (process_of right.now)) result }
     {
         let left = self.resolve_process(alloc, bound, left)?;
         let own = self.resolve_event_set(alloc, bound, own)?;
@@ -196,7 +207,8 @@ impl<'n, 't, A: Allocator + Copy> Scope<'n, 't, A> {
         body: &RawProcess<'t, A>,
         hidden: &RawEventSet<'t, A>,
     ) -> Result<Term<A>, Refused>
-        ensures { ResolvesProcess self.now bound.old bound.new (RawHiding (process_of body.now) (event_set_of hidden.now)) result }
+        ensures { ResolvesProcess self.now bound.old bound.new
+            (RawHiding (process_of body.now) (event_set_of hidden.now)) result }
     {
         let body = self.resolve_process(alloc, bound, body)?;
         let hidden = self.resolve_event_set(alloc, bound, hidden)?;
@@ -212,7 +224,8 @@ impl<'n, 't, A: Allocator + Copy> Scope<'n, 't, A> {
         body: &RawProcess<'t, A>,
         pairs: &[RawPair<'t, A>],
     ) -> Result<Term<A>, Refused>
-        ensures { ResolvesProcess self.now bound.old bound.new (RawRenaming (process_of body.now) (map pair_of pairs.now)) result }
+        ensures { ResolvesProcess self.now bound.old bound.new
+            (RawRenaming (process_of body.now) (map pair_of pairs.now)) result }
     {
         let body = self.resolve_process(alloc, bound, body)?;
         let pairs = self.resolve_pairs(alloc, bound, pairs)?;
@@ -230,7 +243,9 @@ impl<'n, 't, A: Allocator + Copy> Scope<'n, 't, A> {
         set: &RawExpression<'t, A>,
         body: &RawProcess<'t, A>,
     ) -> Result<Term<A>, Refused>
-        ensures { ResolvesProcess self.now bound.old bound.new (RawReplicated (replicator_of operator) (name_of name.entry) (expression_of set.now) (process_of body.now)) result }
+        ensures { ResolvesProcess self.now bound.old bound.new
+            (RawReplicated (replicator_of operator) (name_of name.entry) (expression_of set.now)
+            (process_of body.now)) result }
     {
         self.check_undeclared(name)?;
         let set = self.resolve_expression(alloc, bound, set)?;

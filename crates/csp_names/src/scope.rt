@@ -47,7 +47,8 @@ impl<'n, 't, A: Allocator + Copy> Scope<'n, 't, A> {
 
     /// What the name means here, if anything. A bound name hides a declared one.
     pub(crate) fn meaning(&self, bound: &BoundNames<'t, A>, name: RawName<'t>) -> Option<Meaning>
-        ensures { (env : Environment) → StandsFor self.now bound.now env → meaning env (name_of name.entry) ≡ option_map meaning_of result }
+        ensures { (env : Environment) → StandsFor self.now bound.now env
+            → meaning env (name_of name.entry) ≡ option_map meaning_of result }
     {
         match bound.find(name) {
             Some(bound) => Some(Meaning::Bound(bound)),
@@ -57,7 +58,9 @@ impl<'n, 't, A: Allocator + Copy> Scope<'n, 't, A> {
 
     /// What the name means as a declared one, if anything.
     fn declared(&self, name: RawName<'t>) -> Option<Meaning>
-        ensures { AreTexts self.now.names.now.table.entries → option_map meaning_of result ≡ declared_at self.now.names.now self.now.visible (chars name.entry.text.now) }
+        ensures { AreTexts self.now.names.now.table.entries
+            → option_map meaning_of result ≡ declared_at self.now.names.now self.now.visible
+            (chars name.entry.text.now) }
     {
         match self.names.find(name, self.visible) {
             Some(declared) => Some(Meaning::Declared(declared)),

@@ -44,7 +44,8 @@ pub(crate) fn apply<A: Allocator + Copy>(
     operator: UnaryOperator,
     operand: Expr<A>,
 ) -> Result<Expr<A>, Refused>
-    ensures makes { IfOk result (λ e. expression_of e ≡ pure.Apply (unary_of operator) (expression_of operand)) }
+    ensures makes { IfOk result (λ e. expression_of e
+        ≡ pure.Apply (unary_of operator) (expression_of operand)) }
     ensures stops { IfErr result (λ refused. refused ≡ no_room) }
 {
     let operand = Box::new(alloc, operand)?;
@@ -58,7 +59,8 @@ pub(crate) fn combine<A: Allocator + Copy>(
     left: Expr<A>,
     right: Expr<A>,
 ) -> Result<Expr<A>, Refused>
-    ensures makes { IfOk result (λ e. expression_of e ≡ pure.Combine (binary_of operator) (expression_of left) (expression_of right)) }
+    ensures makes { IfOk result (λ e. expression_of e
+        ≡ pure.Combine (binary_of operator) (expression_of left) (expression_of right)) }
     ensures stops { IfErr result (λ refused. refused ≡ no_room) }
 {
     let left = Box::new(alloc, left)?;
@@ -72,7 +74,8 @@ pub(crate) fn range<A: Allocator + Copy>(
     from: Expr<A>,
     to: Expr<A>,
 ) -> Result<Expr<A>, Refused>
-    ensures makes { IfOk result (λ e. expression_of e ≡ pure.Range (expression_of from) (expression_of to)) }
+    ensures makes { IfOk result (λ e. expression_of e
+        ≡ pure.Range (expression_of from) (expression_of to)) }
     ensures stops { IfErr result (λ refused. refused ≡ no_room) }
 {
     let from = Box::new(alloc, from)?;
@@ -87,7 +90,8 @@ pub(crate) fn combine_sets<A: Allocator + Copy>(
     left: EventSet<A>,
     right: EventSet<A>,
 ) -> Result<EventSet<A>, Refused>
-    ensures makes { IfOk result (λ s. event_set_of s ≡ combined operator (event_set_of left) (event_set_of right)) }
+    ensures makes { IfOk result (λ s. event_set_of s
+        ≡ combined operator (event_set_of left) (event_set_of right)) }
     ensures stops { IfErr result (λ refused. refused ≡ no_room) }
 {
     let left = Box::new(alloc, left)?;
@@ -97,7 +101,8 @@ pub(crate) fn combine_sets<A: Allocator + Copy>(
 
 /// The form of two terms with an operator between.
 pub(crate) fn joined<A: Allocator>(operator: Infix, left: Term<A>, right: Term<A>) -> TermForm<A>
-    ensures { process_of_form result ≡ infix_process (infix_of operator) (process_of left) (process_of right) }
+    ensures { process_of_form result ≡ infix_process (infix_of operator) (process_of left)
+        (process_of right) }
 {
     match operator {
         Infix::Operator(operator) => TermForm::Binary(operator, left, right),

@@ -102,7 +102,8 @@ impl<A: AllocHandle> Alphabet<A> {
     {
         let found = self.events.binary_search_by(
             |event: &Event<A>| -> Ordering
-                ensures { result ≡ event_cmp (event_of event.now) (event_with channel fields.entry.now) }
+                ensures { result ≡ event_cmp (event_of event.now)
+                    (event_with channel fields.entry.now) }
             { compared(event, channel, fields) },
         );
         match found {

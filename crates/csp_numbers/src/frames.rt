@@ -22,7 +22,8 @@ pub fn hidden<A: AllocHandle>(
     script: &ScriptParts<A>,
     set: &EventSet<A>,
 ) -> Result<Frame<A>, NoValue>
-    ensures { AnswersFrame alphabet.now (script_of_parts script.now) (Hidden (event_set_of set.now)) result }
+    ensures { AnswersFrame alphabet.now (script_of_parts script.now) (Hidden (event_set_of set.now))
+        result }
 {
     let test = script.event_test(alloc, set)?;
     Ok(Frame::Hidden(bits_of(alloc, alphabet, &test)?))
@@ -36,7 +37,8 @@ pub fn renamed<A: AllocHandle>(
     pairs: &[RenamingPair<A>],
 ) -> Result<Frame<A>, NoValue>
     requires { alphabet.now ≡ events_of_script (script_of_parts script.now) }
-    ensures { AnswersFrame alphabet.now (script_of_parts script.now) (Renamed (renaming_pairs_of pairs.now)) result }
+    ensures { AnswersFrame alphabet.now (script_of_parts script.now)
+        (Renamed (renaming_pairs_of pairs.now)) result }
 {
     let images = images_of(alloc, alphabet, script, pairs)?;
     Ok(Frame::Renamed(images))

@@ -46,7 +46,8 @@ fn of_binary<'t, A: Allocator>(
     left: &'t Term<A>,
     right: &'t Term<A>,
 ) -> Head<'t, A>
-    ensures { IsHeadOf result (binary_process operator (process_of left.now) (process_of right.now)) }
+    ensures { IsHeadOf result (binary_process operator (process_of left.now)
+        (process_of right.now)) }
 {
     match operator {
         ProcessOperator::Interleaving => Head::Composed(Composition::Interleaved, left, right),

@@ -27,7 +27,8 @@ fn pairs_of<A: AllocHandle>(
     pairs: &[RenamingPair<A>],
 ) -> Result<Vec<Pair, A>, NoValue>
     requires { alphabet.now ≡ events_of_script (script_of_parts script.now) }
-    ensures { ArePairsOf alphabet.now result (renaming (script_of_parts script.now) (renaming_pairs_of pairs.now)) }
+    ensures { ArePairsOf alphabet.now result
+        (renaming (script_of_parts script.now) (renaming_pairs_of pairs.now)) }
 {
     let mut all = Vec::new(alloc);
     for pair in pairs {
@@ -61,7 +62,9 @@ fn images_of_event<A: AllocHandle>(
     requires rising { RisesBy event_cmp alphabet.now }
     requires numbered { slice_get alphabet.now number.0 ≡ Some (event_of event.now) }
     requires placed { ArePlaced alphabet.now pairs.now }
-    ensures { IfOk result (λ found. AreNumbersOf alphabet.now (or_itself (event_of event.now) (made_by alphabet.now pairs.now (event_of event.now))) found.items) }
+    ensures { IfOk result (λ found. AreNumbersOf alphabet.now
+        (or_itself (event_of event.now) (made_by alphabet.now pairs.now (event_of event.now)))
+        found.items) }
 {
     let mut images = Vec::new(alloc);
     for pair in pairs {
@@ -102,7 +105,8 @@ pub(crate) fn images_of<A: AllocHandle>(
     pairs: &[RenamingPair<A>],
 ) -> Result<Images<A>, NoValue>
     requires { alphabet.now ≡ events_of_script (script_of_parts script.now) }
-    ensures { AnswersImages alphabet.now (script_of_parts script.now) (renaming_pairs_of pairs.now) result }
+    ensures { AnswersImages alphabet.now (script_of_parts script.now) (renaming_pairs_of pairs.now)
+        result }
 {
     let pairs = pairs_of(alloc, alphabet, script, pairs)?;
     let images = images_by(alloc, alphabet, &pairs)?;

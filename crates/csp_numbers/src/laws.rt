@@ -18,15 +18,18 @@ pub fn events_are_numbered_by_their_places()
 
 /// What a test says of each event are the bits of the test.
 pub fn tested_events_are_bits()
-    ensures { (es : List Event) (z : Numbering) (test : Event → Bool) → NumbersEvents es z → AreBitsOf z test (map test es) }
+    ensures { (es : List Event) (z : Numbering) (test : Event → Bool) → NumbersEvents es z
+        → AreBitsOf z test (map test es) }
 {}
 
 /// The sets of a composition have values exactly where there is no cause for which they have none.
 pub fn compositions_have_values_without_a_cause()
-    ensures { (script : Script) (c : Composition) → CompositionHasValues script c ↔ (cause_in_composition script c ≡ None) }
+    ensures { (script : Script) (c : Composition)
+        → CompositionHasValues script c ↔ (cause_in_composition script c ≡ None) }
 {}
 
 /// What a frame has has a value exactly where there is no cause for which it has none.
 pub fn frames_have_values_without_a_cause()
-    ensures { (script : Script) (f : Frame) → FrameHasValues script f ↔ (cause_in_frame script f ≡ None) }
+    ensures { (script : Script) (f : Frame) → FrameHasValues script f
+        ↔ (cause_in_frame script f ≡ None) }
 {}

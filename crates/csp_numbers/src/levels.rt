@@ -18,7 +18,8 @@ fn push_levels<A: Allocator>(
     all: &mut Vec<u32, A>,
 ) -> Result<(), Memory>
     requires { level + size (process_of term.now) < 2 ^ 32 }
-    ensures { OnOk result (all.new.items ≡ all.old.items ++ map (λ k. level + k) (levels (shape_of (process_of term.now)))) }
+    ensures { OnOk result (all.new.items ≡ all.old.items
+        ++ map (λ k. level + k) (levels (shape_of (process_of term.now)))) }
 {
     match Head::of(term) {
         Head::Part => Ok(all.push(level)?),

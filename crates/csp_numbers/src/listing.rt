@@ -19,7 +19,8 @@ fn add_events<A: AllocHandle>(
     count: usize,
 ) -> Result<(), Memory>
     requires { count ≡ length (field_lists (sets_of sets.now)) }
-    ensures { OnOk result (events_of events.new.items ≡ events_of events.old.items ++ with_fields channel.0 (field_lists (sets_of sets.now))) }
+    ensures { OnOk result (events_of events.new.items
+        ≡ events_of events.old.items ++ with_fields channel.0 (field_lists (sets_of sets.now))) }
 {
     for number in 0..count {
         let fields = list_of_number(alloc, sets, number, count)?;

@@ -41,7 +41,8 @@ pub(crate) fn list_of_number<A: AllocHandle>(
 ) -> Result<SmallVec<Value<A>, 2, A>, Memory>
     requires counted { count ≡ length (field_lists (sets_of sets.now)) }
     requires within { number < count }
-    ensures { IfOk result (λ list. slice_get (field_lists (sets_of sets.now)) number ≡ Some (values_of list.items)) }
+    ensures { IfOk result (λ list. slice_get (field_lists (sets_of sets.now)) number
+        ≡ Some (values_of list.items)) }
 {
     let mut list = SmallVec::new(alloc);
     let mut number = number;

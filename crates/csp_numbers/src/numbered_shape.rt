@@ -59,7 +59,8 @@ pub(crate) fn shape_from<A: AllocHandle>(
 ) -> Result<Shape<A>, NoValue>
     requires whole { alphabet.now ≡ events_of_script (script_of_parts script.now) }
     requires few { next.old + size (process_of term.now) < 2 ^ 32 }
-    ensures { AnswersShape alphabet.now (script_of_parts script.now) next.old (shape_of (process_of term.now)) next.new result }
+    ensures { AnswersShape alphabet.now (script_of_parts script.now) next.old
+        (shape_of (process_of term.now)) next.new result }
 {
     match Head::of(term) {
         Head::Part => Ok(hole(next)),

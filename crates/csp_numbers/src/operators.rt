@@ -21,7 +21,8 @@ impl<A: AllocHandle> Composition<'_, A> {
         alphabet: &Alphabet<A>,
         script: &ScriptParts<A>,
     ) -> Result<SideBits<A>, NoValue>
-        ensures { AnswersSides alphabet.now (script_of_parts script.now) (composition_of self.now) result }
+        ensures { AnswersSides alphabet.now (script_of_parts script.now) (composition_of self.now)
+            result }
     {
         match self {
             Composition::Interleaved => Ok(crate::sides::interleaved(alloc, alphabet)?),
@@ -44,7 +45,8 @@ impl<A: AllocHandle> Frame<'_, A> {
         script: &ScriptParts<A>,
     ) -> Result<csp_rows::Frame<A>, NoValue>
         requires { alphabet.now ≡ events_of_script (script_of_parts script.now) }
-        ensures { AnswersFrame alphabet.now (script_of_parts script.now) (frame_of self.now) result }
+        ensures { AnswersFrame alphabet.now (script_of_parts script.now) (frame_of self.now)
+            result }
     {
         match self {
             Frame::Hidden(set) => crate::frames::hidden(alloc, alphabet, script, set),

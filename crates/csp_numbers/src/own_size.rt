@@ -19,7 +19,8 @@ const MAX_SIZE: u32 = 2000;
 impl<A: Allocator> Composition<'_, A> {
     /// What its sets leave of the room for nodes, `None` where they have more.
     fn room_left(&self, room: u32) -> Option<u32>
-        ensures { SomeIff result (composition_size (composition_of self.now) ≤ room) (room - composition_size (composition_of self.now)) }
+        ensures { SomeIff result (composition_size (composition_of self.now) ≤ room)
+            (room - composition_size (composition_of self.now)) }
     {
         match self {
             Composition::Interleaved => Some(room),
@@ -32,7 +33,8 @@ impl<A: Allocator> Composition<'_, A> {
 impl<A: Allocator> Frame<'_, A> {
     /// What its set or its pairs leave of the room for nodes, `None` where they have more.
     fn room_left(&self, room: u32) -> Option<u32>
-        ensures { SomeIff result (frame_size (frame_of self.now) ≤ room) (room - frame_size (frame_of self.now)) }
+        ensures { SomeIff result (frame_size (frame_of self.now) ≤ room)
+            (room - frame_size (frame_of self.now)) }
     {
         match self {
             Frame::Hidden(hidden) => hidden.room_left(room),
@@ -43,7 +45,8 @@ impl<A: Allocator> Frame<'_, A> {
 
 /// What the operators of the term leave of the room for nodes, `None` where they have more.
 fn room_left<A: Allocator>(term: &Term<A>, room: u32) -> Option<u32>
-    ensures { SomeIff result (own_size (shape_of (process_of term.now)) ≤ room) (room - own_size (shape_of (process_of term.now))) }
+    ensures { SomeIff result (own_size (shape_of (process_of term.now)) ≤ room)
+        (room - own_size (shape_of (process_of term.now))) }
 {
     match Head::of(term) {
         Head::Part => Some(room),

@@ -32,7 +32,8 @@ fn pair_of_channels<A: AllocHandle>(
     from: ChannelId,
     to: ChannelId,
 ) -> Result<Pair, NoValue>
-    ensures { IsPairOf (events_of_script (script_of_parts script.now)) result (channel_images (script_of_parts script.now) from.0 to.0) }
+    ensures { IsPairOf (events_of_script (script_of_parts script.now)) result
+        (channel_images (script_of_parts script.now) from.0 to.0) }
 {
     let sets = script.field_sets(from)?;
     let others = script.field_sets(to)?;
@@ -51,7 +52,9 @@ fn pair_of_events<A: AllocHandle>(
     pair: &RenamingPair<A>,
 ) -> Result<Pair, NoValue>
     requires { alphabet.now ≡ events_of_script (script_of_parts script.now) }
-    ensures { IsPairOf alphabet.now result (event_images (script_of_parts script.now) (event_expression_of pair.now.from) (event_expression_of pair.now.to)) }
+    ensures { IsPairOf alphabet.now result
+        (event_images (script_of_parts script.now) (event_expression_of pair.now.from)
+        (event_expression_of pair.now.to)) }
 {
     let from = number_of(alloc, alphabet, script, &pair.from)?;
     let to = number_of(alloc, alphabet, script, &pair.to)?;
@@ -66,7 +69,8 @@ pub(crate) fn pair_of<A: AllocHandle>(
     pair: &RenamingPair<A>,
 ) -> Result<Pair, NoValue>
     requires { alphabet.now ≡ events_of_script (script_of_parts script.now) }
-    ensures { IsPairOf alphabet.now result (pair_images (script_of_parts script.now) (renaming_pair_of pair.now)) }
+    ensures { IsPairOf alphabet.now result
+        (pair_images (script_of_parts script.now) (renaming_pair_of pair.now)) }
 {
     if are_channels(pair) {
         pair_of_channels(script, pair.from.channel, pair.to.channel)

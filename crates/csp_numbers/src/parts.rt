@@ -14,7 +14,8 @@ fn push_parts<'t, A: Allocator>(
     term: &'t Term<A>,
     parts: &mut Vec<&'t Term<A>, A>,
 ) -> Result<(), Memory>
-    ensures { OnOk result (processes_of parts.new.items ≡ processes_of parts.old.items ++ parts_of (process_of term.now)) }
+    ensures { OnOk result (processes_of parts.new.items
+        ≡ processes_of parts.old.items ++ parts_of (process_of term.now)) }
 {
     match Head::of(term) {
         Head::Part => Ok(parts.push(term)?),

@@ -34,7 +34,8 @@ fn push_places<A: Allocator + Copy>(
 ) -> Result<(), Memory>
     requires packable { IsPackable (process_of term.now) }
     requires spelled { place.end ≡ place.start + length (spelling (process_of term.now)) }
-    ensures { OnOk result (places.new.items ≡ places.old.items ++ places_in place.start (process_of term.now)) }
+    ensures { OnOk result (places.new.items ≡ places.old.items
+        ++ places_in place.start (process_of term.now)) }
 {
     match Head::of(term) {
         Head::Part => Ok(places.push(place)?),
@@ -58,8 +59,10 @@ fn push_places<A: Allocator + Copy>(
 /// find that. No list of the term has 2^32 items or more.
 pub fn places_of<A: Allocator + Copy>(alloc: A, term: &Term<A>) -> Result<Vec<Place, A>, Memory>
     requires { IsPackable (process_of term.now) }
-    ensures count { IfOk result (λ places. length places.items ≡ holes (shape_of (process_of term.now))) }
-    ensures runs { IfOk result (λ places. AreRunsOf (shape_of (process_of term.now)) (parts_of (process_of term.now)) places.items) }
+    ensures count { IfOk result (λ places. length places.items
+        ≡ holes (shape_of (process_of term.now))) }
+    ensures runs { IfOk result (λ places. AreRunsOf (shape_of (process_of term.now))
+        (parts_of (process_of term.now)) places.items) }
 {
     let mut places = Vec::new(alloc);
     let start = 0;

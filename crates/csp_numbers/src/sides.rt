@@ -51,7 +51,8 @@ fn add_event<A: AllocHandle>(
 
 /// The bits of two sides that do each event alone.
 pub fn interleaved<A: AllocHandle>(alloc: A, alphabet: &Alphabet<A>) -> Result<SideBits<A>, Memory>
-    ensures { IfOk result (λ bits. (script : Script) → AreSides alphabet.now script Interleaved bits) }
+    ensures { IfOk result (λ bits. (script : Script)
+        → AreSides alphabet.now script Interleaved bits) }
 {
     let left_free = same_bits(alloc, alphabet, true)?;
     let right_free = same_bits(alloc, alphabet, true)?;
@@ -70,7 +71,8 @@ fn by_shared<A: AllocHandle>(
     shared: &EventTest<A>,
 ) -> Result<SideBits<A>, Memory>
     requires { AreSorted (listed_in shared.now) }
-    ensures { IfOk result (AreMarksBy alphabet.now (λ e. not (test_of shared.now e)) (λ e. not (test_of shared.now e)) (test_of shared.now)) }
+    ensures { IfOk result (AreMarksBy alphabet.now (λ e. not (test_of shared.now e))
+        (λ e. not (test_of shared.now e)) (test_of shared.now)) }
 {
     let mut bits = no_bits(alloc);
     let events = alphabet.events();
@@ -89,7 +91,8 @@ pub fn generalised<A: AllocHandle>(
     script: &ScriptParts<A>,
     shared: &EventSet<A>,
 ) -> Result<SideBits<A>, NoValue>
-    ensures { AnswersSides alphabet.now (script_of_parts script.now) (Generalised (event_set_of shared.now)) result }
+    ensures { AnswersSides alphabet.now (script_of_parts script.now)
+        (Generalised (event_set_of shared.now)) result }
 {
     let test = script.event_test(alloc, shared)?;
     let bits = by_shared(alloc, alphabet, &test)?;
@@ -144,7 +147,8 @@ pub fn alphabetised<A: AllocHandle>(
     left: &EventSet<A>,
     right: &EventSet<A>,
 ) -> Result<SideBits<A>, NoValue>
-    ensures { AnswersSides alphabet.now (script_of_parts script.now) (Alphabetised (event_set_of left.now) (event_set_of right.now)) result }
+    ensures { AnswersSides alphabet.now (script_of_parts script.now)
+        (Alphabetised (event_set_of left.now) (event_set_of right.now)) result }
 {
     let on_left = script.event_test(alloc, left)?;
     let on_right = script.event_test(alloc, right)?;

@@ -21,7 +21,8 @@ pub(crate) fn number_of<A: AllocHandle>(
     written: &EventExpression<A>,
 ) -> Result<EventId, NoValue>
     requires { alphabet.now ≡ events_of_script (script_of_parts script.now) }
-    ensures { IsNumberIn alphabet.now result (written_event (script_of_parts script.now) (event_expression_of written.now)) }
+    ensures { IsNumberIn alphabet.now result
+        (written_event (script_of_parts script.now) (event_expression_of written.now)) }
 {
     let event = script.whole_event(alloc, written)?;
     match alphabet.number(&event) {

@@ -46,7 +46,8 @@ impl Level {
 
     /// The operator of this level's chains that a token is, if it is one.
     pub(crate) fn operator(self, kind: TokenKind) -> Option<BinaryOperator>
-        ensures { option_map binary_of result ≡ operator_at (level_of self) (Some (seen_kind kind)) }
+        ensures { option_map binary_of result ≡ operator_at (level_of self)
+            (Some (seen_kind kind)) }
     {
         match (self, kind) {
             (Level::Disjunction, TokenKind::Keyword(Keyword::Or)) => Some(BinaryOperator::Or),

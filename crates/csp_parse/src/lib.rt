@@ -58,9 +58,11 @@ pub fn parse<'a, A: Allocator + Copy, B: Allocator>(
     alloc: A,
     list: &TokenList<'a, B>,
 ) -> Result<Raw<'a, A>, Refused>
-    ensures tree { IfOk result (λ raw. IsScript (map placed_token list.now.tokens.items) (script_of raw)) }
+    ensures tree { IfOk result (λ raw. IsScript (map placed_token list.now.tokens.items)
+        (script_of raw)) }
     ensures low { IfOk result (λ _. HasNoneTooHigh (map placed_token list.now.tokens.items)) }
-    ensures refusal { IfErr result (λ refused. IsRefusalOf (map placed_token list.now.tokens.items) (place_of list.now.end) refused) }
+    ensures refusal { IfErr result (λ refused. IsRefusalOf (map placed_token list.now.tokens.items)
+        (place_of list.now.end) refused) }
 {
     let mut parser = parsers::Parser::new(alloc, list);
     match parser.script() {

@@ -116,13 +116,15 @@ impl Group {
 
     /// The height of the group, if a `u32` holds it.
     fn height(self) -> u32
-        ensures { group_height (group_of self) < 4294967296 → result ≡ group_height (group_of self) }
+        ensures { group_height (group_of self) < 4294967296
+            → result ≡ group_height (group_of self) }
     {
         self.direct.saturating_add(self.deepest)
     }
 
     fn one_more(self) -> Group
-        ensures { group_height (group_of self) ≤ greatest_height → group_of result ≡ height.one_more (group_of self) }
+        ensures { group_height (group_of self) ≤ greatest_height
+            → group_of result ≡ height.one_more (group_of self) }
     {
         Group {
             square: self.square,
@@ -133,7 +135,8 @@ impl Group {
 
     /// This group with another in it.
     fn with_group(self, inner: Group) -> Group
-        ensures { group_height (group_of inner) < 4294967296 → group_of result ≡ height.with_group (group_of self) (group_of inner) }
+        ensures { group_height (group_of inner) < 4294967296
+            → group_of result ≡ height.with_group (group_of self) (group_of inner) }
     {
         Group {
             square: self.square,
@@ -172,7 +175,8 @@ impl<A: Allocator> Nest<A> {
 
     /// Counts one more token.
     pub(crate) fn count(&mut self, nesting: Nesting) -> Result<(), AllocFailed<Group>>
-        ensures counts { IfOk result (λ _. nest_height (nest_of self.old) ≤ greatest_height → nest_of self.new ≡ after_token (nesting_is nesting) (nest_of self.old)) }
+        ensures counts { IfOk result (λ _. nest_height (nest_of self.old) ≤ greatest_height
+            → nest_of self.new ≡ after_token (nesting_is nesting) (nest_of self.old)) }
         ensures stays { IfErr result (λ _. nest_of self.new ≡ nest_of self.old) }
     {
         match nesting {
@@ -188,7 +192,8 @@ impl<A: Allocator> Nest<A> {
 
     /// Opens a group, and counts its bracket in the one around it.
     fn open(&mut self, square: bool) -> Result<(), AllocFailed<Group>>
-        ensures opens { IfOk result (λ _. nest_height (nest_of self.old) ≤ greatest_height → nest_of self.new ≡ opened square (nest_of self.old)) }
+        ensures opens { IfOk result (λ _. nest_height (nest_of self.old) ≤ greatest_height
+            → nest_of self.new ≡ opened square (nest_of self.old)) }
         ensures stays { IfErr result (λ _. nest_of self.new ≡ nest_of self.old) }
     {
         self.around.push(self.current.one_more())?;
@@ -198,7 +203,8 @@ impl<A: Allocator> Nest<A> {
 
     /// Closes the innermost group, where one is open.
     fn close(&mut self)
-        ensures { nest_height (nest_of self.old) ≤ greatest_height → nest_of self.new ≡ closed (nest_of self.old).current (nest_of self.old).around }
+        ensures { nest_height (nest_of self.old) ≤ greatest_height
+            → nest_of self.new ≡ closed (nest_of self.old).current (nest_of self.old).around }
     {
         if let Some(around) = self.around.pop() {
             self.current = around.with_group(self.current);
@@ -207,7 +213,8 @@ impl<A: Allocator> Nest<A> {
 
     /// Closes the innermost group, and where `[` opened it the one around it too.
     fn close_double(&mut self)
-        ensures { nest_height (nest_of self.old) ≤ greatest_height → nest_of self.new ≡ closed_double (nest_of self.old) }
+        ensures { nest_height (nest_of self.old) ≤ greatest_height
+            → nest_of self.new ≡ closed_double (nest_of self.old) }
     {
         let square = self.current.square;
         self.close();
@@ -218,7 +225,8 @@ impl<A: Allocator> Nest<A> {
 
     /// The height of the tokens so far.
     pub(crate) fn height(&self) -> u32
-        ensures { nest_height (nest_of self.now) < 4294967296 → result ≡ nest_height (nest_of self.now) }
+        ensures { nest_height (nest_of self.now) < 4294967296
+            → result ≡ nest_height (nest_of self.now) }
     {
         let mut group = self.current;
         for around in self.around.iter().rev() {

@@ -150,7 +150,8 @@ impl<'t, 'a, A: Allocator + Copy> Parser<'t, 'a, A> {
 
     /// Counts the next token in its declaration, and refuses it where it is too high.
     fn count_next(&mut self) -> Result<(), Stopped>
-        ensures reads { Gives (count (nest_of self.old.nest) (left_of self.old)) (λ _. tt) result self.new }
+        ensures reads { Gives (count (nest_of self.old.nest) (left_of self.old)) (λ _. tt) result
+            self.new }
         ensures same { left_of self.new ≡ left_of self.old }
     {
         let Some(token) = self.next() else {

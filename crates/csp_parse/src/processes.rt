@@ -134,7 +134,8 @@ impl<'a, A: Allocator + Copy> Process<'a, A> {
         name: Name<'a>,
         arguments: Vec<Expression<'a, A>, A>,
     ) -> Result<Box<Process<'a, A>, A>, Stopped>
-        ensures makes { IfOk result (λ p. process_in p ≡ RawCall (name_of name.entry) (expressions_of arguments.entry.items)) }
+        ensures makes { IfOk result (λ p. process_in p ≡ RawCall (name_of name.entry)
+            (expressions_of arguments.entry.items)) }
         ensures stops { IfErr result (λ stopped. stopped ≡ Memory) }
     {
         Process::Call(name, arguments).boxed(alloc)
@@ -147,7 +148,8 @@ impl<'a, A: Allocator + Copy> Process<'a, A> {
         fields: Vec<Field<'a, A>, A>,
         body: Box<Process<'a, A>, A>,
     ) -> Result<Box<Process<'a, A>, A>, Stopped>
-        ensures makes { IfOk result (λ p. process_in p ≡ RawPrefix (name_of channel.entry) (map field_of fields.entry.items) (process_in body.entry)) }
+        ensures makes { IfOk result (λ p. process_in p ≡ RawPrefix (name_of channel.entry)
+            (map field_of fields.entry.items) (process_in body.entry)) }
         ensures stops { IfErr result (λ stopped. stopped ≡ Memory) }
     {
         Process::Prefix(channel, fields, body).boxed(alloc)
@@ -159,7 +161,8 @@ impl<'a, A: Allocator + Copy> Process<'a, A> {
         condition: Expression<'a, A>,
         body: Box<Process<'a, A>, A>,
     ) -> Result<Box<Process<'a, A>, A>, Stopped>
-        ensures makes { IfOk result (λ p. process_in p ≡ RawGuard (expression_of condition.entry) (process_in body.entry)) }
+        ensures makes { IfOk result (λ p. process_in p ≡ RawGuard (expression_of condition.entry)
+            (process_in body.entry)) }
         ensures stops { IfErr result (λ stopped. stopped ≡ Memory) }
     {
         Process::Guard(condition, body).boxed(alloc)
@@ -172,7 +175,8 @@ impl<'a, A: Allocator + Copy> Process<'a, A> {
         first: Box<Process<'a, A>, A>,
         second: Box<Process<'a, A>, A>,
     ) -> Result<Box<Process<'a, A>, A>, Stopped>
-        ensures makes { IfOk result (λ p. process_in p ≡ RawIf (expression_of condition.entry) (process_in first.entry) (process_in second.entry)) }
+        ensures makes { IfOk result (λ p. process_in p ≡ RawIf (expression_of condition.entry)
+            (process_in first.entry) (process_in second.entry)) }
         ensures stops { IfErr result (λ stopped. stopped ≡ Memory) }
     {
         Process::If(condition, first, second).boxed(alloc)
@@ -185,7 +189,8 @@ impl<'a, A: Allocator + Copy> Process<'a, A> {
         left: Box<Process<'a, A>, A>,
         right: Box<Process<'a, A>, A>,
     ) -> Result<Box<Process<'a, A>, A>, Stopped>
-        ensures makes { IfOk result (λ p. process_in p ≡ RawInfix (infix_of operator) (process_in left.entry) (process_in right.entry)) }
+        ensures makes { IfOk result (λ p. process_in p ≡ RawInfix (infix_of operator)
+            (process_in left.entry) (process_in right.entry)) }
         ensures stops { IfErr result (λ stopped. stopped ≡ Memory) }
     {
         Process::Infix(operator, left, right).boxed(alloc)
@@ -198,7 +203,8 @@ impl<'a, A: Allocator + Copy> Process<'a, A> {
         shared: EventSet<'a, A>,
         right: Box<Process<'a, A>, A>,
     ) -> Result<Box<Process<'a, A>, A>, Stopped>
-        ensures makes { IfOk result (λ p. process_in p ≡ RawGeneralisedParallel (process_in left.entry) (event_set_of shared.entry) (process_in right.entry)) }
+        ensures makes { IfOk result (λ p. process_in p ≡ RawGeneralisedParallel
+            (process_in left.entry) (event_set_of shared.entry) (process_in right.entry)) }
         ensures stops { IfErr result (λ stopped. stopped ≡ Memory) }
     {
         Process::GeneralisedParallel(left, shared, right).boxed(alloc)
@@ -212,7 +218,9 @@ impl<'a, A: Allocator + Copy> Process<'a, A> {
         of_right: EventSet<'a, A>,
         right: Box<Process<'a, A>, A>,
     ) -> Result<Box<Process<'a, A>, A>, Stopped>
-        ensures makes { IfOk result (λ p. process_in p ≡ RawAlphabetisedParallel (process_in left.entry) (event_set_of of_left.entry) (event_set_of of_right.entry) (process_in right.entry)) }
+        ensures makes { IfOk result (λ p. process_in p ≡ RawAlphabetisedParallel
+            (process_in left.entry) (event_set_of of_left.entry) (event_set_of of_right.entry)
+            (process_in right.entry)) }
         ensures stops { IfErr result (λ stopped. stopped ≡ Memory) }
     {
         Process::AlphabetisedParallel(left, of_left, of_right, right).boxed(alloc)
@@ -224,7 +232,8 @@ impl<'a, A: Allocator + Copy> Process<'a, A> {
         body: Box<Process<'a, A>, A>,
         hidden: EventSet<'a, A>,
     ) -> Result<Box<Process<'a, A>, A>, Stopped>
-        ensures makes { IfOk result (λ p. process_in p ≡ RawHiding (process_in body.entry) (event_set_of hidden.entry)) }
+        ensures makes { IfOk result (λ p. process_in p ≡ RawHiding (process_in body.entry)
+            (event_set_of hidden.entry)) }
         ensures stops { IfErr result (λ stopped. stopped ≡ Memory) }
     {
         Process::Hiding(body, hidden).boxed(alloc)
@@ -236,7 +245,8 @@ impl<'a, A: Allocator + Copy> Process<'a, A> {
         body: Box<Process<'a, A>, A>,
         pairs: Vec<Pair<'a, A>, A>,
     ) -> Result<Box<Process<'a, A>, A>, Stopped>
-        ensures makes { IfOk result (λ p. process_in p ≡ RawRenaming (process_in body.entry) (map pair_of pairs.entry.items)) }
+        ensures makes { IfOk result (λ p. process_in p ≡ RawRenaming (process_in body.entry)
+            (map pair_of pairs.entry.items)) }
         ensures stops { IfErr result (λ stopped. stopped ≡ Memory) }
     {
         Process::Renaming(body, pairs).boxed(alloc)
@@ -250,7 +260,8 @@ impl<'a, A: Allocator + Copy> Process<'a, A> {
         set: Expression<'a, A>,
         body: Box<Process<'a, A>, A>,
     ) -> Result<Box<Process<'a, A>, A>, Stopped>
-        ensures makes { IfOk result (λ p. process_in p ≡ RawReplicated (replicator_of operator) (name_of name.entry) (expression_of set.entry) (process_in body.entry)) }
+        ensures makes { IfOk result (λ p. process_in p ≡ RawReplicated (replicator_of operator)
+            (name_of name.entry) (expression_of set.entry) (process_in body.entry)) }
         ensures stops { IfErr result (λ stopped. stopped ≡ Memory) }
     {
         Process::Replicated(operator, name, set, body).boxed(alloc)

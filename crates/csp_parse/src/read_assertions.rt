@@ -51,7 +51,8 @@ impl<'t, 'a, A: Allocator + Copy> Parser<'t, 'a, A> {
 
     /// Whether the assertion is negated, and its first process.
     fn first_side(&mut self) -> Result<(bool, Box<Process<'a, A>, A>), Stopped>
-        ensures reads { Reads form.OfFirstSide (λ r. (r.0, process_in r.1)) self.old result self.new }
+        ensures reads { Reads form.OfFirstSide (λ r. (r.0, process_in r.1)) self.old result
+            self.new }
         ensures shorter { Shortens self.old result self.new }
     {
         if self.is_at_word(Keyword::Not) {

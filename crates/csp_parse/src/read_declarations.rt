@@ -147,7 +147,8 @@ impl<'t, 'a, A: Allocator + Copy> Parser<'t, 'a, A> {
 
     /// The rest of an equation, behind its name, whose parameters are next.
     fn equation_with(&mut self, name: Name<'a>) -> Result<Declaration<'a, A>, Stopped>
-        ensures reads { Reads (form.EquationWith (name_of name.entry)) declaration_of self.old result self.new }
+        ensures reads { Reads (form.EquationWith (name_of name.entry)) declaration_of self.old
+            result self.new }
         ensures shorter { Shortens self.old result self.new }
     {
         self.sign(Sign::OpenRound)?;

@@ -97,7 +97,8 @@ impl<'t, 'a, A: Allocator + Copy> Parser<'t, 'a, A> {
     /// This sign, and a set of events behind it.
     #[cycle(event_set)]
     pub(crate) fn event_set_behind(&mut self, sign: Sign) -> Result<EventSet<'a, A>, Stopped>
-        ensures reads { Reads (form.EventSetBehind (sign_of sign)) event_set_of self.old result self.new }
+        ensures reads { Reads (form.EventSetBehind (sign_of sign)) event_set_of self.old result
+            self.new }
         ensures shorter { Shortens self.old result self.new }
     {
         self.sign(sign)?;
@@ -133,7 +134,8 @@ impl<'t, 'a, A: Allocator + Copy> Parser<'t, 'a, A> {
     /// Two sets of events that this keyword joins.
     #[cycle(event_set)]
     fn combined_set(&mut self, keyword: Keyword) -> Result<EventSet<'a, A>, Stopped>
-        ensures reads { Reads (form.CombinedSet (keyword_of keyword)) event_set_of self.old result self.new }
+        ensures reads { Reads (form.CombinedSet (keyword_of keyword)) event_set_of self.old result
+            self.new }
         ensures shorter { Shortens self.old result self.new }
     {
         let Some(operator) = set_operator(keyword) else {
@@ -154,7 +156,8 @@ fn joined<'a, A: Allocator + Copy>(
     left: EventSet<'a, A>,
     right: EventSet<'a, A>,
 ) -> Result<EventSet<'a, A>, Stopped>
-    ensures makes { IfOk result (λ s. event_set_of s ≡ operator_of operator (event_set_of left.entry) (event_set_of right.entry)) }
+    ensures makes { IfOk result (λ s. event_set_of s
+        ≡ operator_of operator (event_set_of left.entry) (event_set_of right.entry)) }
     ensures stops { IfErr result (λ stopped. stopped ≡ Memory) }
 {
     let left = Box::new(alloc, left)?;

@@ -24,7 +24,8 @@ impl<'t, 'a, A: Allocator + Copy> Parser<'t, 'a, A> {
     /// An expression of a level.
     #[cycle(expression)]
     pub(crate) fn expression(&mut self, level: Level) -> Result<Expression<'a, A>, Stopped>
-        ensures reads { Reads (form.AtLevel (level_of level)) expression_of self.old result self.new }
+        ensures reads { Reads (form.AtLevel (level_of level)) expression_of self.old result
+            self.new }
         ensures shorter { Shortens self.old result self.new }
     {
         match level {
@@ -48,7 +49,8 @@ impl<'t, 'a, A: Allocator + Copy> Parser<'t, 'a, A> {
         sign: Sign,
         level: Level,
     ) -> Result<Expression<'a, A>, Stopped>
-        ensures reads { Reads (form.Behind (sign_of sign) (level_of level)) expression_of self.old result self.new }
+        ensures reads { Reads (form.Behind (sign_of sign) (level_of level)) expression_of self.old
+            result self.new }
         ensures shorter { Shortens self.old result self.new }
     {
         self.sign(sign)?;
@@ -58,7 +60,8 @@ impl<'t, 'a, A: Allocator + Copy> Parser<'t, 'a, A> {
     /// A chain of a level, whose operands are of the next stronger one.
     #[cycle(expression)]
     fn chain_of(&mut self, level: Level, operands: Level) -> Result<Expression<'a, A>, Stopped>
-        ensures reads { Reads (form.ChainOf (level_of level) (level_of operands)) expression_of self.old result self.new }
+        ensures reads { Reads (form.ChainOf (level_of level) (level_of operands)) expression_of
+            self.old result self.new }
         ensures shorter { Shortens self.old result self.new }
     {
         let first = self.expression(operands)?;
@@ -72,7 +75,8 @@ impl<'t, 'a, A: Allocator + Copy> Parser<'t, 'a, A> {
         level: Level,
         first: Expression<'a, A>,
     ) -> Result<Expression<'a, A>, Stopped>
-        ensures reads { Reads (form.Chained (level_of level) (expression_of first.entry)) expression_of self.old result self.new }
+        ensures reads { Reads (form.Chained (level_of level) (expression_of first.entry))
+            expression_of self.old result self.new }
         ensures shorter { Keeps self.old result self.new }
     {
         let mut chain = first;
@@ -91,7 +95,8 @@ impl<'t, 'a, A: Allocator + Copy> Parser<'t, 'a, A> {
         &mut self,
         first: Expression<'a, A>,
     ) -> Result<Expression<'a, A>, Stopped>
-        ensures reads { Reads (form.Compared (expression_of first.entry)) expression_of self.old result self.new }
+        ensures reads { Reads (form.Compared (expression_of first.entry)) expression_of self.old
+            result self.new }
         ensures shorter { Keeps self.old result self.new }
     {
         let Some(kind) = self.kind() else {
@@ -111,7 +116,8 @@ impl<'t, 'a, A: Allocator + Copy> Parser<'t, 'a, A> {
         first: Expression<'a, A>,
         level: Level,
     ) -> Result<Expression<'a, A>, Stopped>
-        ensures reads { Reads (form.Operation (binary_of operator) (expression_of first.entry) (level_of level)) expression_of self.old result self.new }
+        ensures reads { Reads (form.Operation (binary_of operator) (expression_of first.entry)
+            (level_of level)) expression_of self.old result self.new }
         ensures shorter { Shortens self.old result self.new }
     {
         self.pass()?;
@@ -159,7 +165,8 @@ impl<'t, 'a, A: Allocator + Copy> Parser<'t, 'a, A> {
     /// The atom that begins with this keyword.
     #[cycle(expression)]
     fn atom_of_word(&mut self, keyword: Keyword) -> Result<Expression<'a, A>, Stopped>
-        ensures reads { Reads (form.AtomOfWord (keyword_of keyword)) expression_of self.old result self.new }
+        ensures reads { Reads (form.AtomOfWord (keyword_of keyword)) expression_of self.old result
+            self.new }
         ensures shorter { Shortens self.old result self.new }
     {
         if let Some(operator) = unary_function(keyword) {
@@ -177,7 +184,8 @@ impl<'t, 'a, A: Allocator + Copy> Parser<'t, 'a, A> {
 
     /// The constant that this keyword is.
     fn constant(&mut self, keyword: Keyword) -> Result<Expression<'a, A>, Stopped>
-        ensures reads { Reads (form.Constant (keyword_of keyword)) expression_of self.old result self.new }
+        ensures reads { Reads (form.Constant (keyword_of keyword)) expression_of self.old result
+            self.new }
         ensures shorter { Shortens self.old result self.new }
     {
         match keyword {
@@ -240,7 +248,8 @@ impl<'t, 'a, A: Allocator + Copy> Parser<'t, 'a, A> {
     /// Atoms with a dot before each.
     #[cycle(expression)]
     pub(crate) fn dotted(&mut self) -> Result<Vec<Expression<'a, A>, A>, Stopped>
-        ensures reads { Reads (form.Dotted []) (λ r. expressions_in r.items) self.old result self.new }
+        ensures reads { Reads (form.Dotted []) (λ r. expressions_in r.items) self.old result
+            self.new }
         ensures shorter { Keeps self.old result self.new }
     {
         let mut fields = Vec::new(self.alloc);
@@ -254,7 +263,8 @@ impl<'t, 'a, A: Allocator + Copy> Parser<'t, 'a, A> {
     /// Two expressions in brackets.
     #[cycle(expression)]
     fn two_arguments(&mut self) -> Result<(Expression<'a, A>, Expression<'a, A>), Stopped>
-        ensures reads { Reads form.TwoArguments (λ r. (expression_of r.0, expression_of r.1)) self.old result self.new }
+        ensures reads { Reads form.TwoArguments (λ r. (expression_of r.0, expression_of r.1))
+            self.old result self.new }
         ensures shorter { Shortens self.old result self.new }
     {
         let first = self.expression_behind(Sign::OpenRound, Level::Disjunction)?;
@@ -266,7 +276,8 @@ impl<'t, 'a, A: Allocator + Copy> Parser<'t, 'a, A> {
     /// The atom that begins with this sign.
     #[cycle(expression)]
     fn atom_of_sign(&mut self, sign: Sign) -> Result<Expression<'a, A>, Stopped>
-        ensures reads { Reads (form.AtomOfSign (sign_of sign)) expression_of self.old result self.new }
+        ensures reads { Reads (form.AtomOfSign (sign_of sign)) expression_of self.old result
+            self.new }
         ensures shorter { Shortens self.old result self.new }
     {
         match sign {
@@ -282,7 +293,8 @@ impl<'t, 'a, A: Allocator + Copy> Parser<'t, 'a, A> {
     /// This sign, and an atom behind it that the sign's operator is applied to.
     #[cycle(expression)]
     fn signed(&mut self, sign: Sign, operator: UnaryOperator) -> Result<Expression<'a, A>, Stopped>
-        ensures reads { Reads (form.Signed (sign_of sign) (unary_of operator)) expression_of self.old result self.new }
+        ensures reads { Reads (form.Signed (sign_of sign) (unary_of operator)) expression_of
+            self.old result self.new }
         ensures shorter { Shortens self.old result self.new }
     {
         let operand = self.expression_behind(sign, Level::Atom)?;
@@ -338,7 +350,8 @@ impl<'t, 'a, A: Allocator + Copy> Parser<'t, 'a, A> {
     /// The rest of a set from one number to another, behind the first one.
     #[cycle(expression)]
     fn range(&mut self, first: Expression<'a, A>) -> Result<Expression<'a, A>, Stopped>
-        ensures reads { Reads (form.Range (expression_of first.entry)) expression_of self.old result self.new }
+        ensures reads { Reads (form.Range (expression_of first.entry)) expression_of self.old result
+            self.new }
         ensures shorter { Shortens self.old result self.new }
     {
         let last = self.expression_behind(Sign::Range, Level::Disjunction)?;
@@ -353,7 +366,8 @@ impl<'t, 'a, A: Allocator + Copy> Parser<'t, 'a, A> {
         level: Level,
         first: Expression<'a, A>,
     ) -> Result<Vec<Expression<'a, A>, A>, Stopped>
-        ensures reads { Reads (form.Listed (level_of level) (expression_of first.entry ∷ [])) (λ r. expressions_in r.items) self.old result self.new }
+        ensures reads { Reads (form.Listed (level_of level) (expression_of first.entry ∷ []))
+            (λ r. expressions_in r.items) self.old result self.new }
         ensures shorter { Keeps self.old result self.new }
     {
         let mut items = Vec::new(self.alloc);
@@ -371,7 +385,8 @@ impl<'t, 'a, A: Allocator + Copy> Parser<'t, 'a, A> {
         &mut self,
         atom: Expression<'a, A>,
     ) -> Result<Expression<'a, A>, Stopped>
-        ensures reads { Reads (form.ExpressionFrom (expression_of atom.entry)) expression_of self.old result self.new }
+        ensures reads { Reads (form.ExpressionFrom (expression_of atom.entry)) expression_of
+            self.old result self.new }
         ensures shorter { Keeps self.old result self.new }
     {
         let product = self.chained(Level::Product, atom)?;
@@ -388,7 +403,8 @@ fn applied<'a, A: Allocator>(
     operator: UnaryOperator,
     operand: Expression<'a, A>,
 ) -> Result<Expression<'a, A>, Stopped>
-    ensures makes { IfOk result (λ e. expression_of e ≡ RawApply (unary_of operator) (expression_of operand.entry)) }
+    ensures makes { IfOk result (λ e. expression_of e
+        ≡ RawApply (unary_of operator) (expression_of operand.entry)) }
     ensures stops { IfErr result (λ stopped. stopped ≡ Memory) }
 {
     let operand = Box::new(alloc, operand)?;
@@ -402,7 +418,8 @@ fn combined<'a, A: Allocator + Copy>(
     left: Expression<'a, A>,
     right: Expression<'a, A>,
 ) -> Result<Expression<'a, A>, Stopped>
-    ensures makes { IfOk result (λ e. expression_of e ≡ RawCombine (binary_of operator) (expression_of left.entry) (expression_of right.entry)) }
+    ensures makes { IfOk result (λ e. expression_of e
+        ≡ RawCombine (binary_of operator) (expression_of left.entry) (expression_of right.entry)) }
     ensures stops { IfErr result (λ stopped. stopped ≡ Memory) }
 {
     let left = Box::new(alloc, left)?;
@@ -416,7 +433,8 @@ fn ranged<'a, A: Allocator + Copy>(
     from: Expression<'a, A>,
     to: Expression<'a, A>,
 ) -> Result<Expression<'a, A>, Stopped>
-    ensures makes { IfOk result (λ e. expression_of e ≡ RawRange (expression_of from.entry) (expression_of to.entry)) }
+    ensures makes { IfOk result (λ e. expression_of e
+        ≡ RawRange (expression_of from.entry) (expression_of to.entry)) }
     ensures stops { IfErr result (λ stopped. stopped ≡ Memory) }
 {
     let from = Box::new(alloc, from)?;

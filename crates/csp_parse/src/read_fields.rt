@@ -21,7 +21,8 @@ impl<'t, 'a, A: Allocator + Copy> Parser<'t, 'a, A> {
         &mut self,
         values: Vec<Expression<'a, A>, A>,
     ) -> Result<Vec<Field<'a, A>, A>, Stopped>
-        ensures reads { Reads (form.FieldsBehind (fields_given values.entry.items)) (λ fs. map field_of fs.items) self.old result self.new }
+        ensures reads { Reads (form.FieldsBehind (fields_given values.entry.items))
+            (λ fs. map field_of fs.items) self.old result self.new }
         ensures shorter { Keeps self.old result self.new }
     {
         let mut fields = given(self.alloc, values)?;

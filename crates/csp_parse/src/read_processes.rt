@@ -63,7 +63,8 @@ impl<'t, 'a, A: Allocator + Copy> Parser<'t, 'a, A> {
     /// This keyword, and a process behind it.
     #[cycle(process)]
     fn process_behind_word(&mut self, keyword: Keyword) -> Result<Box<Process<'a, A>, A>, Stopped>
-        ensures reads { Reads (form.ProcessBehindWord (keyword_of keyword)) process_in self.old result self.new }
+        ensures reads { Reads (form.ProcessBehindWord (keyword_of keyword)) process_in self.old
+            result self.new }
         ensures shorter { Shortens self.old result self.new }
     {
         self.word(keyword)?;
@@ -73,7 +74,8 @@ impl<'t, 'a, A: Allocator + Copy> Parser<'t, 'a, A> {
     /// This sign, and a process behind it.
     #[cycle(process)]
     pub(crate) fn process_behind(&mut self, sign: Sign) -> Result<Box<Process<'a, A>, A>, Stopped>
-        ensures reads { Reads (form.ProcessBehind (sign_of sign)) process_in self.old result self.new }
+        ensures reads { Reads (form.ProcessBehind (sign_of sign)) process_in self.old result
+            self.new }
         ensures shorter { Shortens self.old result self.new }
     {
         self.sign(sign)?;
@@ -86,7 +88,8 @@ impl<'t, 'a, A: Allocator + Copy> Parser<'t, 'a, A> {
         &mut self,
         replicator: ReplicatedOperator,
     ) -> Result<Box<Process<'a, A>, A>, Stopped>
-        ensures reads { Reads (form.ReplicatedOver (replicator_of replicator)) process_in self.old result self.new }
+        ensures reads { Reads (form.ReplicatedOver (replicator_of replicator)) process_in self.old
+            result self.new }
         ensures shorter { Shortens self.old result self.new }
     {
         let written = replicated_sign(replicator);
@@ -102,7 +105,8 @@ impl<'t, 'a, A: Allocator + Copy> Parser<'t, 'a, A> {
         &mut self,
         start: Start<'a, A>,
     ) -> Result<Box<Process<'a, A>, A>, Stopped>
-        ensures reads { Reads (form.ProcessFrom (start_of start.entry)) process_in self.old result self.new }
+        ensures reads { Reads (form.ProcessFrom (start_of start.entry)) process_in self.old result
+            self.new }
         ensures shorter { Keeps self.old result self.new }
     {
         match start {
@@ -122,7 +126,8 @@ impl<'t, 'a, A: Allocator + Copy> Parser<'t, 'a, A> {
         &mut self,
         base: Box<Process<'a, A>, A>,
     ) -> Result<Box<Process<'a, A>, A>, Stopped>
-        ensures reads { Reads (form.FromBase (process_in base.entry)) process_in self.old result self.new }
+        ensures reads { Reads (form.FromBase (process_in base.entry)) process_in self.old result
+            self.new }
         ensures shorter { Keeps self.old result self.new }
     {
         if self.is_at_suffix() {
@@ -134,7 +139,8 @@ impl<'t, 'a, A: Allocator + Copy> Parser<'t, 'a, A> {
 
     /// The renamings of a process.
     fn renamed(&mut self, base: Box<Process<'a, A>, A>) -> Result<Box<Process<'a, A>, A>, Stopped>
-        ensures reads { Reads (form.RenamedFrom (process_in base.entry)) process_in self.old result self.new }
+        ensures reads { Reads (form.RenamedFrom (process_in base.entry)) process_in self.old result
+            self.new }
         ensures shorter { Keeps self.old result self.new }
     {
         let mut process = base;
@@ -149,7 +155,8 @@ impl<'t, 'a, A: Allocator + Copy> Parser<'t, 'a, A> {
 
     /// The hidings of a process.
     fn hidden(&mut self, renamed: Box<Process<'a, A>, A>) -> Result<Box<Process<'a, A>, A>, Stopped>
-        ensures reads { Reads (form.HiddenFrom (process_in renamed.entry)) process_in self.old result self.new }
+        ensures reads { Reads (form.HiddenFrom (process_in renamed.entry)) process_in self.old
+            result self.new }
         ensures shorter { Keeps self.old result self.new }
     {
         let mut process = renamed;
@@ -166,7 +173,8 @@ impl<'t, 'a, A: Allocator + Copy> Parser<'t, 'a, A> {
         &mut self,
         first: Box<Process<'a, A>, A>,
     ) -> Result<Box<Process<'a, A>, A>, Stopped>
-        ensures reads { Reads (form.FromOperand (process_in first.entry)) process_in self.old result self.new }
+        ensures reads { Reads (form.FromOperand (process_in first.entry)) process_in self.old result
+            self.new }
         ensures shorter { Keeps self.old result self.new }
     {
         if let Some(operator) = self.next_infix() {
@@ -187,7 +195,8 @@ impl<'t, 'a, A: Allocator + Copy> Parser<'t, 'a, A> {
         &mut self,
         left: Box<Process<'a, A>, A>,
     ) -> Result<Box<Process<'a, A>, A>, Stopped>
-        ensures reads { Reads (form.GeneralisedFrom (process_in left.entry)) process_in self.old result self.new }
+        ensures reads { Reads (form.GeneralisedFrom (process_in left.entry)) process_in self.old
+            result self.new }
         ensures shorter { Keeps self.old result self.new }
     {
         let shared = self.event_set_behind(Sign::OpenShared)?;
@@ -201,7 +210,8 @@ impl<'t, 'a, A: Allocator + Copy> Parser<'t, 'a, A> {
         &mut self,
         left: Box<Process<'a, A>, A>,
     ) -> Result<Box<Process<'a, A>, A>, Stopped>
-        ensures reads { Reads (form.AlphabetisedFrom (process_in left.entry)) process_in self.old result self.new }
+        ensures reads { Reads (form.AlphabetisedFrom (process_in left.entry)) process_in self.old
+            result self.new }
         ensures shorter { Keeps self.old result self.new }
     {
         let of_left = self.event_set_behind(Sign::OpenSquare)?;
@@ -217,7 +227,8 @@ impl<'t, 'a, A: Allocator + Copy> Parser<'t, 'a, A> {
         operator: Infix,
         first: Box<Process<'a, A>, A>,
     ) -> Result<Box<Process<'a, A>, A>, Stopped>
-        ensures reads { Reads (form.ChainOver (infix_of operator) (process_in first.entry)) process_in self.old result self.new }
+        ensures reads { Reads (form.ChainOver (infix_of operator) (process_in first.entry))
+            process_in self.old result self.new }
         ensures shorter { Keeps self.old result self.new }
     {
         let written = infix_sign(operator);
@@ -247,7 +258,8 @@ impl<'t, 'a, A: Allocator + Copy> Parser<'t, 'a, A> {
     /// This sign, and an operand behind it.
     #[cycle(process)]
     pub(crate) fn operand_behind(&mut self, sign: Sign) -> Result<Box<Process<'a, A>, A>, Stopped>
-        ensures reads { Reads (form.OperandBehind (sign_of sign)) process_in self.old result self.new }
+        ensures reads { Reads (form.OperandBehind (sign_of sign)) process_in self.old result
+            self.new }
         ensures shorter { Shortens self.old result self.new }
     {
         self.sign(sign)?;

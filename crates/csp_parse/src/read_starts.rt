@@ -85,7 +85,8 @@ impl<'t, 'a, A: Allocator + Copy> Parser<'t, 'a, A> {
     /// What begins with a name, behind it.
     #[cycle(process)]
     fn start_behind_name(&mut self, name: Name<'a>) -> Result<Start<'a, A>, Stopped>
-        ensures reads { Reads (form.StartBehindName (name_of name.entry)) start_of self.old result self.new }
+        ensures reads { Reads (form.StartBehindName (name_of name.entry)) start_of self.old result
+            self.new }
         ensures shorter { Keeps self.old result self.new }
     {
         if self.is_at(Sign::OpenRound) {
@@ -110,7 +111,8 @@ impl<'t, 'a, A: Allocator + Copy> Parser<'t, 'a, A> {
     /// The prefix of this channel, whose fields are next.
     #[cycle(process)]
     fn prefix_of(&mut self, channel: Name<'a>) -> Result<Start<'a, A>, Stopped>
-        ensures reads { Reads (form.PrefixOf (name_of channel.entry)) start_of self.old result self.new }
+        ensures reads { Reads (form.PrefixOf (name_of channel.entry)) start_of self.old result
+            self.new }
         ensures shorter { Shortens self.old result self.new }
     {
         let values = self.dotted()?;
@@ -124,7 +126,8 @@ impl<'t, 'a, A: Allocator + Copy> Parser<'t, 'a, A> {
         channel: Name<'a>,
         values: Vec<Expression<'a, A>, A>,
     ) -> Result<Start<'a, A>, Stopped>
-        ensures reads { Reads (form.PrefixBehind (name_of channel.entry) (expressions_in values.entry.items)) start_of self.old result self.new }
+        ensures reads { Reads (form.PrefixBehind (name_of channel.entry)
+            (expressions_in values.entry.items)) start_of self.old result self.new }
         ensures shorter { Shortens self.old result self.new }
     {
         let fields = self.fields_behind(values)?;
@@ -134,7 +137,8 @@ impl<'t, 'a, A: Allocator + Copy> Parser<'t, 'a, A> {
 
     /// The arguments of a call, in brackets.
     fn arguments(&mut self) -> Result<Vec<Expression<'a, A>, A>, Stopped>
-        ensures reads { Reads form.Arguments (λ r. expressions_in r.items) self.old result self.new }
+        ensures reads { Reads form.Arguments (λ r. expressions_in r.items) self.old result
+            self.new }
         ensures shorter { Shortens self.old result self.new }
     {
         let first = self.expression_behind(Sign::OpenRound, Level::Disjunction)?;
@@ -146,7 +150,8 @@ impl<'t, 'a, A: Allocator + Copy> Parser<'t, 'a, A> {
     /// What begins with a name, perhaps in brackets, that is no call with arguments and no channel.
     #[cycle(process)]
     fn start_from_name(&mut self, name: Name<'a>) -> Result<Start<'a, A>, Stopped>
-        ensures reads { Reads (form.StartFromName (name_of name.entry)) start_of self.old result self.new }
+        ensures reads { Reads (form.StartFromName (name_of name.entry)) start_of self.old result
+            self.new }
         ensures shorter { Keeps self.old result self.new }
     {
         if !self.is_at_operator() && !self.is_at(Sign::Guard) {
@@ -158,7 +163,8 @@ impl<'t, 'a, A: Allocator + Copy> Parser<'t, 'a, A> {
 
     /// The expression that begins with a name, perhaps in brackets.
     fn expression_of_name(&mut self, name: Name<'a>) -> Result<Expression<'a, A>, Stopped>
-        ensures reads { Reads (form.ExpressionFrom (RawUse (name_of name.entry))) expression_of self.old result self.new }
+        ensures reads { Reads (form.ExpressionFrom (RawUse (name_of name.entry))) expression_of
+            self.old result self.new }
         ensures shorter { Keeps self.old result self.new }
     {
         self.expression_from(Expression::Use(name))
@@ -193,7 +199,8 @@ impl<'t, 'a, A: Allocator + Copy> Parser<'t, 'a, A> {
     /// What begins with an atom.
     #[cycle(process)]
     fn start_from_atom(&mut self, atom: Expression<'a, A>) -> Result<Start<'a, A>, Stopped>
-        ensures reads { Reads (form.StartFromAtom (expression_of atom.entry)) start_of self.old result self.new }
+        ensures reads { Reads (form.StartFromAtom (expression_of atom.entry)) start_of self.old
+            result self.new }
         ensures shorter { Keeps self.old result self.new }
     {
         let expression = self.expression_from(atom)?;
@@ -235,7 +242,8 @@ impl<'t, 'a, A: Allocator + Copy> Parser<'t, 'a, A> {
     /// fields, or a process that begins with a prefix.
     #[cycle(process)]
     fn inner_of_dotted(&mut self, name: Name<'a>) -> Result<Inner<'a, A>, Stopped>
-        ensures reads { Reads (form.InnerOfDotted (name_of name.entry)) inner_of self.old result self.new }
+        ensures reads { Reads (form.InnerOfDotted (name_of name.entry)) inner_of self.old result
+            self.new }
         ensures shorter { Keeps self.old result self.new }
     {
         let values = self.dotted()?;
@@ -249,7 +257,8 @@ impl<'t, 'a, A: Allocator + Copy> Parser<'t, 'a, A> {
     /// What stands behind an opening bracket and begins so.
     #[cycle(process)]
     fn inner_from(&mut self, start: Start<'a, A>) -> Result<Inner<'a, A>, Stopped>
-        ensures reads { Reads (form.InnerFrom (start_of start.entry)) inner_of self.old result self.new }
+        ensures reads { Reads (form.InnerFrom (start_of start.entry)) inner_of self.old result
+            self.new }
         ensures shorter { Keeps self.old result self.new }
     {
         match start {
@@ -263,7 +272,8 @@ impl<'t, 'a, A: Allocator + Copy> Parser<'t, 'a, A> {
     /// The process behind an opening bracket that begins so.
     #[cycle(process)]
     fn inner_process(&mut self, start: Start<'a, A>) -> Result<Inner<'a, A>, Stopped>
-        ensures reads { Reads (form.InnerFromStart (start_of start.entry)) inner_of self.old result self.new }
+        ensures reads { Reads (form.InnerFromStart (start_of start.entry)) inner_of self.old result
+            self.new }
         ensures shorter { Keeps self.old result self.new }
     {
         let process = self.process_from(start)?;
@@ -273,7 +283,8 @@ impl<'t, 'a, A: Allocator + Copy> Parser<'t, 'a, A> {
     /// What stands behind an opening bracket and begins with a name, perhaps in brackets.
     #[cycle(process)]
     fn inner_from_name(&mut self, name: Name<'a>) -> Result<Inner<'a, A>, Stopped>
-        ensures reads { Reads (form.InnerFromName (name_of name.entry)) inner_of self.old result self.new }
+        ensures reads { Reads (form.InnerFromName (name_of name.entry)) inner_of self.old result
+            self.new }
         ensures shorter { Keeps self.old result self.new }
     {
         if self.is_at(Sign::CloseRound) {
@@ -285,7 +296,8 @@ impl<'t, 'a, A: Allocator + Copy> Parser<'t, 'a, A> {
     /// An expression, or with `&` behind it the process that it guards.
     #[cycle(process)]
     fn guarded(&mut self, expression: Expression<'a, A>) -> Result<Start<'a, A>, Stopped>
-        ensures reads { Reads (form.GuardOf (expression_of expression.entry)) start_of self.old result self.new }
+        ensures reads { Reads (form.GuardOf (expression_of expression.entry)) start_of self.old
+            result self.new }
         ensures shorter { Keeps self.old result self.new }
     {
         if !self.is_at(Sign::Guard) {

@@ -36,7 +36,9 @@ impl<'a, A: Allocator + Copy> Start<'a, A> {
         fields: Vec<Field<'a, A>, A>,
         body: Box<Process<'a, A>, A>,
     ) -> Result<Start<'a, A>, Stopped>
-        ensures makes { IfOk result (λ s. start_of s ≡ StartOperand (RawPrefix (name_of channel.entry) (map field_of fields.entry.items) (process_in body.entry))) }
+        ensures makes { IfOk result (λ s. start_of s ≡ StartOperand
+            (RawPrefix (name_of channel.entry) (map field_of fields.entry.items)
+            (process_in body.entry))) }
         ensures stops { IfErr result (λ stopped. stopped ≡ Memory) }
     {
         let prefix = Process::prefix(alloc, channel, fields, body)?;
@@ -49,7 +51,8 @@ impl<'a, A: Allocator + Copy> Start<'a, A> {
         condition: Expression<'a, A>,
         body: Box<Process<'a, A>, A>,
     ) -> Result<Start<'a, A>, Stopped>
-        ensures makes { IfOk result (λ s. start_of s ≡ StartOperand (RawGuard (expression_of condition.entry) (process_in body.entry))) }
+        ensures makes { IfOk result (λ s. start_of s ≡ StartOperand
+            (RawGuard (expression_of condition.entry) (process_in body.entry))) }
         ensures stops { IfErr result (λ stopped. stopped ≡ Memory) }
     {
         let guard = Process::guard(alloc, condition, body)?;

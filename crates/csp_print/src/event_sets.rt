@@ -22,7 +22,8 @@ pub fn push_event_set<A: Allocator + Copy>(
     set: &EventSet<A>,
     text: &mut String<A>,
 ) -> Result<(), AllocError>
-    ensures { Writes result text.old text.new (event_set_text (names_of names.now) (event_set_of set.now)) }
+    ensures { Writes result text.old text.new
+        (event_set_text (names_of names.now) (event_set_of set.now)) }
 {
     match set {
         EventSet::Enumeration(events) => {
@@ -49,7 +50,9 @@ fn push_combined<A: Allocator + Copy>(
     right: &EventSet<A>,
     text: &mut String<A>,
 ) -> Result<(), AllocError>
-    ensures { Writes result text.old text.new (event_set_text (names_of names.now) (combined operator (event_set_of left.now) (event_set_of right.now))) }
+    ensures { Writes result text.old text.new
+        (event_set_text (names_of names.now)
+        (combined operator (event_set_of left.now) (event_set_of right.now))) }
 {
     push_mark(text_before(operator), text)?;
     push_event_set(names, left, text)?;
@@ -75,7 +78,8 @@ fn push_event<A: Allocator + Copy>(
     event: &EventExpression<A>,
     text: &mut String<A>,
 ) -> Result<(), AllocError>
-    ensures { Writes result text.old text.new (event_text (names_of names.now) (event_expression_of event.now)) }
+    ensures { Writes result text.old text.new
+        (event_text (names_of names.now) (event_expression_of event.now)) }
 {
     names.push_channel(event.channel, text)?;
     push_told_behind(names, ".", ATOM, event.fields.as_slice(), text)
@@ -87,7 +91,8 @@ fn push_events<A: Allocator + Copy>(
     events: &[EventExpression<A>],
     text: &mut String<A>,
 ) -> Result<(), AllocError>
-    ensures { Writes result text.old text.new (events_text (names_of names.now) (event_expressions_of events.now)) }
+    ensures { Writes result text.old text.new
+        (events_text (names_of names.now) (event_expressions_of events.now)) }
 {
     match events.split_first() {
         Some((first, others)) => {
@@ -104,7 +109,8 @@ fn push_events_behind<A: Allocator + Copy>(
     events: &[EventExpression<A>],
     text: &mut String<A>,
 ) -> Result<(), AllocError>
-    ensures { Writes result text.old text.new (events_behind (names_of names.now) (event_expressions_of events.now)) }
+    ensures { Writes result text.old text.new
+        (events_behind (names_of names.now) (event_expressions_of events.now)) }
 {
     for event in events {
         push_mark(", ", text)?;
@@ -119,7 +125,8 @@ pub(crate) fn push_pairs<A: Allocator + Copy>(
     pairs: &[RenamingPair<A>],
     text: &mut String<A>,
 ) -> Result<(), AllocError>
-    ensures { Writes result text.old text.new (pairs_text (names_of names.now) (renaming_pairs_of pairs.now)) }
+    ensures { Writes result text.old text.new
+        (pairs_text (names_of names.now) (renaming_pairs_of pairs.now)) }
 {
     match pairs.split_first() {
         Some((first, others)) => {
@@ -136,7 +143,8 @@ fn push_pairs_behind<A: Allocator + Copy>(
     pairs: &[RenamingPair<A>],
     text: &mut String<A>,
 ) -> Result<(), AllocError>
-    ensures { Writes result text.old text.new (pairs_behind (names_of names.now) (renaming_pairs_of pairs.now)) }
+    ensures { Writes result text.old text.new
+        (pairs_behind (names_of names.now) (renaming_pairs_of pairs.now)) }
 {
     for pair in pairs {
         push_mark(", ", text)?;
@@ -150,7 +158,8 @@ fn push_pair<A: Allocator + Copy>(
     pair: &RenamingPair<A>,
     text: &mut String<A>,
 ) -> Result<(), AllocError>
-    ensures { Writes result text.old text.new (pair_text (names_of names.now) (renaming_pair_of pair.now)) }
+    ensures { Writes result text.old text.new
+        (pair_text (names_of names.now) (renaming_pair_of pair.now)) }
 {
     push_event(names, &pair.from, text)?;
     push_mark(" <- ", text)?;

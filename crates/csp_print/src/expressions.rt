@@ -27,7 +27,8 @@ pub fn push_expression<A: Allocator>(
     expression: &Expr<A>,
     text: &mut String<A>,
 ) -> Result<(), AllocError>
-    ensures { Writes result text.old text.new (expression_text (names_of names.now) (expression_of expression.now)) }
+    ensures { Writes result text.old text.new
+        (expression_text (names_of names.now) (expression_of expression.now)) }
 {
     match expression {
         Expr::Literal(value) => push_value(names, value, text),
@@ -54,7 +55,8 @@ pub(crate) fn push_operand<A: Allocator>(
     operand: &Expr<A>,
     text: &mut String<A>,
 ) -> Result<(), AllocError>
-    ensures { Writes result text.old text.new (operand_text (names_of names.now) least (expression_of operand.now)) }
+    ensures { Writes result text.old text.new
+        (operand_text (names_of names.now) least (expression_of operand.now)) }
 {
     if is_bare(least, operand) {
         return push_expression(names, operand, text);
@@ -71,7 +73,9 @@ fn push_applied<A: Allocator>(
     operand: &Expr<A>,
     text: &mut String<A>,
 ) -> Result<(), AllocError>
-    ensures { Writes result text.old text.new (expression_text (names_of names.now) (Apply (unary_of operator) (expression_of operand.now))) }
+    ensures { Writes result text.old text.new
+        (expression_text (names_of names.now)
+        (Apply (unary_of operator) (expression_of operand.now))) }
 {
     push_mark(text_before_operand(operator), text)?;
     push_gap(keeps_apart(operator, operand), text)?;
@@ -87,7 +91,9 @@ fn push_combined<A: Allocator>(
     right: &Expr<A>,
     text: &mut String<A>,
 ) -> Result<(), AllocError>
-    ensures { Writes result text.old text.new (expression_text (names_of names.now) (Combine (binary_of operator) (expression_of left.now) (expression_of right.now))) }
+    ensures { Writes result text.old text.new
+        (expression_text (names_of names.now)
+        (Combine (binary_of operator) (expression_of left.now) (expression_of right.now))) }
 {
     push_mark(text_before(operator), text)?;
     push_operand(names, left_rank(operator), left, text)?;
@@ -103,7 +109,9 @@ fn push_sequence<A: Allocator>(
     items: &[Expr<A>],
     text: &mut String<A>,
 ) -> Result<(), AllocError>
-    ensures { Writes result text.old text.new (expression_text (names_of names.now) (SequenceOf (to_expressions (expressions_of items.now)))) }
+    ensures { Writes result text.old text.new
+        (expression_text (names_of names.now)
+        (SequenceOf (to_expressions (expressions_of items.now)))) }
 {
     push_mark("<", text)?;
     push_items(names, SUM, items, text)?;
@@ -116,7 +124,9 @@ fn push_set<A: Allocator>(
     members: &[Expr<A>],
     text: &mut String<A>,
 ) -> Result<(), AllocError>
-    ensures { Writes result text.old text.new (expression_text (names_of names.now) (SetOf (to_expressions (expressions_of members.now)))) }
+    ensures { Writes result text.old text.new
+        (expression_text (names_of names.now)
+        (SetOf (to_expressions (expressions_of members.now)))) }
 {
     push_mark("{", text)?;
     push_items(names, DISJUNCTION, members, text)?;
@@ -130,7 +140,9 @@ fn push_range<A: Allocator>(
     to: &Expr<A>,
     text: &mut String<A>,
 ) -> Result<(), AllocError>
-    ensures { Writes result text.old text.new (expression_text (names_of names.now) (Range (expression_of from.now) (expression_of to.now))) }
+    ensures { Writes result text.old text.new
+        (expression_text (names_of names.now)
+        (Range (expression_of from.now) (expression_of to.now))) }
 {
     push_mark("{", text)?;
     push_gap(begins_with_minus(from), text)?;
@@ -148,7 +160,9 @@ fn push_constructor<A: Allocator>(
     fields: &[Expr<A>],
     text: &mut String<A>,
 ) -> Result<(), AllocError>
-    ensures { Writes result text.old text.new (expression_text (names_of names.now) (ConstructorOf constructor.0 (to_expressions (expressions_of fields.now)))) }
+    ensures { Writes result text.old text.new
+        (expression_text (names_of names.now)
+        (ConstructorOf constructor.0 (to_expressions (expressions_of fields.now)))) }
 {
     if fields.is_empty() {
         return names.push_constructor(constructor, text);
@@ -167,7 +181,8 @@ fn push_items<A: Allocator>(
     items: &[Expr<A>],
     text: &mut String<A>,
 ) -> Result<(), AllocError>
-    ensures { Writes result text.old text.new (items_text (names_of names.now) least (to_expressions (expressions_of items.now))) }
+    ensures { Writes result text.old text.new
+        (items_text (names_of names.now) least (to_expressions (expressions_of items.now))) }
 {
     match items.split_first() {
         Some((first, others)) => {
@@ -188,7 +203,9 @@ fn push_expressions_behind<A: Allocator>(
     expressions: &[Expr<A>],
     text: &mut String<A>,
 ) -> Result<(), AllocError>
-    ensures { Writes result text.old text.new (expressions_behind (names_of names.now) mark.now least (to_expressions (expressions_of expressions.now))) }
+    ensures { Writes result text.old text.new
+        (expressions_behind (names_of names.now) mark.now least
+        (to_expressions (expressions_of expressions.now))) }
 {
     for expression in expressions {
         push_mark(mark, text)?;

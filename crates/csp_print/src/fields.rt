@@ -21,7 +21,8 @@ pub(crate) fn push_fields<A: Allocator + Copy>(
     fields: &[Field<A>],
     text: &mut String<A>,
 ) -> Result<(), AllocError>
-    ensures { Writes result text.old text.new (fields_text (names_of names.now) false (fields_of fields.now)) }
+    ensures { Writes result text.old text.new
+        (fields_text (names_of names.now) false (fields_of fields.now)) }
 {
     let mut behind_input = false;
     for field in fields {
@@ -61,7 +62,8 @@ fn push_field<A: Allocator + Copy>(
     field: &Field<A>,
     text: &mut String<A>,
 ) -> Result<(), AllocError>
-    ensures { Writes result text.old text.new (field_text (names_of names.now) behind_input (field_of field.now)) }
+    ensures { Writes result text.old text.new
+        (field_text (names_of names.now) behind_input (field_of field.now)) }
 {
     match field {
         Field::Given(value) => {

@@ -56,7 +56,8 @@ impl<A: Allocator> Names<'_, A> {
         constructor: ConId,
         text: &mut String<A>,
     ) -> Result<(), AllocError>
-        ensures { Writes result text.old text.new (name_at (names_of self.now).constructors constructor.0) }
+        ensures { Writes result text.old text.new
+            (name_at (names_of self.now).constructors constructor.0) }
     {
         push_spelling(&self.constructors, constructor.0, text)
     }
@@ -67,7 +68,8 @@ impl<A: Allocator> Names<'_, A> {
         datatype: DatatypeId,
         text: &mut String<A>,
     ) -> Result<(), AllocError>
-        ensures { Writes result text.old text.new (name_at (names_of self.now).datatypes datatype.0) }
+        ensures { Writes result text.old text.new
+            (name_at (names_of self.now).datatypes datatype.0) }
     {
         push_spelling(&self.datatypes, datatype.0, text)
     }
@@ -78,7 +80,8 @@ impl<A: Allocator> Names<'_, A> {
         nametype: NametypeId,
         text: &mut String<A>,
     ) -> Result<(), AllocError>
-        ensures { Writes result text.old text.new (name_at (names_of self.now).nametypes nametype.0) }
+        ensures { Writes result text.old text.new
+            (name_at (names_of self.now).nametypes nametype.0) }
     {
         push_spelling(&self.nametypes, nametype.0, text)
     }
@@ -89,7 +92,8 @@ impl<A: Allocator> Names<'_, A> {
         equation: EquationId,
         text: &mut String<A>,
     ) -> Result<(), AllocError>
-        ensures { Writes result text.old text.new (name_at (names_of self.now).equations equation.0) }
+        ensures { Writes result text.old text.new
+            (name_at (names_of self.now).equations equation.0) }
     {
         push_spelling(&self.equations, equation.0, text)
     }

@@ -35,7 +35,8 @@ pub fn push_term<A: Allocator + Copy>(
     term: &Term<A>,
     text: &mut String<A>,
 ) -> Result<(), AllocError>
-    ensures { Writes result text.old text.new (process_text (names_of names.now) (process_of term.now)) }
+    ensures { Writes result text.old text.new
+        (process_text (names_of names.now) (process_of term.now)) }
 {
     match term.form() {
         TermForm::Stop => push_mark("STOP", text),
@@ -77,7 +78,8 @@ fn push_at<A: Allocator + Copy>(
     term: &Term<A>,
     text: &mut String<A>,
 ) -> Result<(), AllocError>
-    ensures { Writes result text.old text.new (text_at (position_of position) (names_of names.now) (process_of term.now)) }
+    ensures { Writes result text.old text.new
+        (text_at (position_of position) (names_of names.now) (process_of term.now)) }
 {
     if stands_bare(position, head_shape(term)) {
         return push_term(names, term, text);
@@ -93,7 +95,9 @@ fn push_call<A: Allocator + Copy>(
     arguments: &[Expr<A>],
     text: &mut String<A>,
 ) -> Result<(), AllocError>
-    ensures { Writes result text.old text.new (call_text (names_of names.now) equation.0 (all_told (names_of names.now) (to_expressions (expressions_of arguments.now)))) }
+    ensures { Writes result text.old text.new
+        (call_text (names_of names.now) equation.0
+        (all_told (names_of names.now) (to_expressions (expressions_of arguments.now)))) }
 {
     match arguments.split_first() {
         Some((first, others)) => {
@@ -115,7 +119,9 @@ fn push_prefix<A: Allocator + Copy>(
     body: &Term<A>,
     text: &mut String<A>,
 ) -> Result<(), AllocError>
-    ensures { Writes result text.old text.new (process_text (names_of names.now) (Prefix channel.0 (fields_of fields.now) (process_of body.now))) }
+    ensures { Writes result text.old text.new
+        (process_text (names_of names.now)
+        (Prefix channel.0 (fields_of fields.now) (process_of body.now))) }
 {
     names.push_channel(channel, text)?;
     push_fields(names, fields, text)?;
@@ -130,7 +136,9 @@ fn push_guard<A: Allocator + Copy>(
     body: &Term<A>,
     text: &mut String<A>,
 ) -> Result<(), AllocError>
-    ensures { Writes result text.old text.new (process_text (names_of names.now) (Guard (expression_of condition.now) (process_of body.now))) }
+    ensures { Writes result text.old text.new
+        (process_text (names_of names.now)
+        (Guard (expression_of condition.now) (process_of body.now))) }
 {
     push_told_whole(names, condition, text)?;
     push_mark(" & ", text)?;
@@ -145,7 +153,9 @@ fn push_if<A: Allocator + Copy>(
     second: &Term<A>,
     text: &mut String<A>,
 ) -> Result<(), AllocError>
-    ensures { Writes result text.old text.new (process_text (names_of names.now) (If (expression_of condition.now) (process_of first.now) (process_of second.now))) }
+    ensures { Writes result text.old text.new
+        (process_text (names_of names.now)
+        (If (expression_of condition.now) (process_of first.now) (process_of second.now))) }
 {
     push_mark("if ", text)?;
     push_told_whole(names, condition, text)?;
@@ -164,7 +174,11 @@ fn push_chain<A: Allocator + Copy>(
     right: &Term<A>,
     text: &mut String<A>,
 ) -> Result<(), AllocError>
-    ensures { Writes result text.old text.new (chain_text (infix_of operator) (notation.shape (process_of left.now)) (process_text (names_of names.now) (process_of left.now)) (notation.shape (process_of right.now)) (process_text (names_of names.now) (process_of right.now))) }
+    ensures { Writes result text.old text.new
+        (chain_text (infix_of operator) (notation.shape (process_of left.now))
+        (process_text (names_of names.now) (process_of left.now))
+        (notation.shape (process_of right.now))
+        (process_text (names_of names.now) (process_of right.now))) }
 {
     push_at(names, Position::LeftOf(operator), left, text)?;
     push_mark(infix_text(operator), text)?;
@@ -179,7 +193,10 @@ fn push_generalised<A: Allocator + Copy>(
     right: &Term<A>,
     text: &mut String<A>,
 ) -> Result<(), AllocError>
-    ensures { Writes result text.old text.new (process_text (names_of names.now) (GeneralisedParallel (process_of left.now) (event_set_of shared.now) (process_of right.now))) }
+    ensures { Writes result text.old text.new
+        (process_text (names_of names.now)
+        (GeneralisedParallel (process_of left.now) (event_set_of shared.now)
+        (process_of right.now))) }
 {
     push_at(names, Position::Operand, left, text)?;
     push_mark(" [| ", text)?;
@@ -197,7 +214,10 @@ fn push_alphabetised<A: Allocator + Copy>(
     right: &Term<A>,
     text: &mut String<A>,
 ) -> Result<(), AllocError>
-    ensures { Writes result text.old text.new (process_text (names_of names.now) (AlphabetisedParallel (process_of left.now) (event_set_of own.now) (event_set_of other.now) (process_of right.now))) }
+    ensures { Writes result text.old text.new
+        (process_text (names_of names.now)
+        (AlphabetisedParallel (process_of left.now) (event_set_of own.now) (event_set_of other.now)
+        (process_of right.now))) }
 {
     push_at(names, Position::Operand, left, text)?;
     push_mark(" [", text)?;
@@ -215,7 +235,9 @@ fn push_hiding<A: Allocator + Copy>(
     hidden: &EventSet<A>,
     text: &mut String<A>,
 ) -> Result<(), AllocError>
-    ensures { Writes result text.old text.new (process_text (names_of names.now) (Hiding (process_of body.now) (event_set_of hidden.now))) }
+    ensures { Writes result text.old text.new
+        (process_text (names_of names.now)
+        (Hiding (process_of body.now) (event_set_of hidden.now))) }
 {
     push_at(names, Position::BeforeHiding, body, text)?;
     push_mark(" \\ ", text)?;
@@ -229,7 +251,9 @@ fn push_renaming<A: Allocator + Copy>(
     pairs: &[RenamingPair<A>],
     text: &mut String<A>,
 ) -> Result<(), AllocError>
-    ensures { Writes result text.old text.new (process_text (names_of names.now) (Renaming (process_of body.now) (renaming_pairs_of pairs.now))) }
+    ensures { Writes result text.old text.new
+        (process_text (names_of names.now)
+        (Renaming (process_of body.now) (renaming_pairs_of pairs.now))) }
 {
     push_at(names, Position::BeforeRenaming, body, text)?;
     push_mark("[[", text)?;
@@ -246,7 +270,9 @@ fn push_replicated<A: Allocator + Copy>(
     body: &Term<A>,
     text: &mut String<A>,
 ) -> Result<(), AllocError>
-    ensures { Writes result text.old text.new (process_text (names_of names.now) (replicated_process operator name.0 (expression_of set.now) (process_of body.now))) }
+    ensures { Writes result text.old text.new
+        (process_text (names_of names.now)
+        (replicated_process operator name.0 (expression_of set.now) (process_of body.now))) }
 {
     push_mark(replicated_text(operator), text)?;
     names.push_bound(name, text)?;

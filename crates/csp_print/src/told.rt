@@ -29,7 +29,9 @@ pub(crate) fn push_told<A: Allocator + Copy>(
     text: &mut String<A>,
 ) -> Result<(), AllocError>
     requires { least ≤ 6 }
-    ensures { Writes result text.old text.new (operand_text (names_of names.now) least (told (names_of names.now) (expression_of expression.now))) }
+    ensures { Writes result text.old text.new
+        (operand_text (names_of names.now) least
+        (told (names_of names.now) (expression_of expression.now))) }
 {
     match &names.types {
         Some(types) => push_evaluated(names, types, least, expression, text),
@@ -43,7 +45,9 @@ pub(crate) fn push_told_whole<A: Allocator + Copy>(
     expression: &Expr<A>,
     text: &mut String<A>,
 ) -> Result<(), AllocError>
-    ensures { Writes result text.old text.new (expression_text (names_of names.now) (told (names_of names.now) (expression_of expression.now))) }
+    ensures { Writes result text.old text.new
+        (expression_text (names_of names.now)
+        (told (names_of names.now) (expression_of expression.now))) }
 {
     push_told(names, DISJUNCTION, expression, text)
 }
@@ -57,7 +61,9 @@ pub(crate) fn push_told_behind<A: Allocator + Copy>(
     text: &mut String<A>,
 ) -> Result<(), AllocError>
     requires { least ≤ 6 }
-    ensures { Writes result text.old text.new (expressions_behind (names_of names.now) mark.now least (all_told (names_of names.now) (to_expressions (expressions_of expressions.now)))) }
+    ensures { Writes result text.old text.new
+        (expressions_behind (names_of names.now) mark.now least
+        (all_told (names_of names.now) (to_expressions (expressions_of expressions.now)))) }
 {
     for expression in expressions {
         push_mark(mark, text)?;
@@ -76,7 +82,10 @@ fn push_evaluated<A: Allocator + Copy>(
     text: &mut String<A>,
 ) -> Result<(), AllocError>
     requires { least ≤ 6 }
-    ensures { Writes result text.old text.new (operand_text (names_of names.now) least (told_as (expression_of expression.now) (value (table_of types.now) (expression_of expression.now)))) }
+    ensures { Writes result text.old text.new
+        (operand_text (names_of names.now) least
+        (told_as (expression_of expression.now)
+        (value (table_of types.now) (expression_of expression.now)))) }
 {
     let alloc = *names.channels.allocator();
     match expression.look(alloc, types, &[]) {
@@ -95,7 +104,9 @@ fn push_seen<A: Allocator>(
     text: &mut String<A>,
 ) -> Result<(), AllocError>
     requires { least ≤ 6 }
-    ensures { Writes result text.old text.new (operand_text (names_of names.now) least (told_as (expression_of expression.now) (Ok (value_of value.now)))) }
+    ensures { Writes result text.old text.new
+        (operand_text (names_of names.now) least
+        (told_as (expression_of expression.now) (Ok (value_of value.now)))) }
 {
     if is_set(value) {
         return push_operand(names, least, expression, text);

@@ -21,7 +21,8 @@ pub fn push_value<A: Allocator>(
     value: &Value<A>,
     text: &mut String<A>,
 ) -> Result<(), AllocError>
-    ensures { Writes result text.old text.new (value_text (names_of names.now) (value_of value.now)) }
+    ensures { Writes result text.old text.new
+        (value_text (names_of names.now) (value_of value.now)) }
 {
     match value {
         Value::Int(number) => push_integer(*number, text),
@@ -70,7 +71,9 @@ fn push_constructor<A: Allocator>(
     fields: &[Value<A>],
     text: &mut String<A>,
 ) -> Result<(), AllocError>
-    ensures { Writes result text.old text.new (value_text (names_of names.now) (Constructor constructor.0 (to_values (values_of fields.now)))) }
+    ensures { Writes result text.old text.new
+        (value_text (names_of names.now)
+        (Constructor constructor.0 (to_values (values_of fields.now)))) }
 {
     if fields.is_empty() {
         return names.push_constructor(constructor, text);
@@ -88,7 +91,8 @@ fn push_values<A: Allocator>(
     values: &[Value<A>],
     text: &mut String<A>,
 ) -> Result<(), AllocError>
-    ensures { Writes result text.old text.new (values_text (names_of names.now) (to_values (values_of values.now))) }
+    ensures { Writes result text.old text.new
+        (values_text (names_of names.now) (to_values (values_of values.now))) }
 {
     match values.split_first() {
         Some((first, others)) => {
@@ -108,7 +112,8 @@ fn push_values_behind<A: Allocator>(
     values: &[Value<A>],
     text: &mut String<A>,
 ) -> Result<(), AllocError>
-    ensures { Writes result text.old text.new (values_behind (names_of names.now) mark.now (to_values (values_of values.now))) }
+    ensures { Writes result text.old text.new
+        (values_behind (names_of names.now) mark.now (to_values (values_of values.now))) }
 {
     for value in values {
         push_mark(mark, text)?;

@@ -27,7 +27,8 @@ pub fn least_acceptances_of<A: AllocHandle>(
     states: &[Term<A>],
 ) -> Result<Offers<A>, Memory>
     requires closed { AreTermsOf (script_of script.now) (map process_of states.now) }
-    ensures { IfOk result (λ offers. AreLeastAcceptances (script_of script.now) (map process_of states.now) (offers_listed offers.items)) }
+    ensures { IfOk result (λ offers. AreLeastAcceptances (script_of script.now)
+        (map process_of states.now) (offers_listed offers.items)) }
 {
     let all = offers_of_states(alloc, script, states)?;
     let least = least_of(alloc, &all)?;
@@ -41,7 +42,9 @@ fn offers_of_states<A: AllocHandle>(
     states: &[Term<A>],
 ) -> Result<Offers<A>, Memory>
     requires { AreTermsOf (script_of script.now) (map process_of states.now) }
-    ensures { IfOk result (λ all. Gathers [] (IsAcceptanceOfSome (script_of script.now) (map process_of states.now)) (offers_listed all.items)) }
+    ensures { IfOk result (λ all. Gathers []
+        (IsAcceptanceOfSome (script_of script.now) (map process_of states.now))
+        (offers_listed all.items)) }
 {
     let mut all = Vec::new(alloc);
     for state in states {
@@ -54,7 +57,8 @@ fn offers_of_states<A: AllocHandle>(
 /// The acceptances in order, each once.
 fn sorted_once<A: AllocHandle>(mut offers: Offers<A>) -> Offers<A>
     ensures rising { RisesBy offers_cmp (offers_listed result.items) }
-    ensures same { (xs : List pure.Action) → Contains (offers_listed offers.items) xs ↔ Contains (offers_listed result.items) xs }
+    ensures same { (xs : List pure.Action) → Contains (offers_listed offers.items) xs
+        ↔ Contains (offers_listed result.items) xs }
 {
     offers.sort_unstable();
     offers.dedup();

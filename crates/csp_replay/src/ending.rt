@@ -37,7 +37,8 @@ pub(crate) fn ending_of<A: AllocHandle>(
     reach: usize,
 ) -> Result<Ending<A>, Memory>
     requires { AreTermsOf (script_of script.now) (terms_of layer.now) }
-    ensures { IfOk result (TellsEnding (script_of script.now) (terms_of layer.now) (evidence_of evidence.now) reach) }
+    ensures { IfOk result (TellsEnding (script_of script.now) (terms_of layer.now)
+        (evidence_of evidence.now) reach) }
 {
     if let Evidence::Divergence = evidence {
         return diverging(alloc, script, layer, reach);
@@ -57,7 +58,8 @@ fn diverging<A: AllocHandle>(
     reach: usize,
 ) -> Result<Ending<A>, Memory>
     requires { AreTermsOf (script_of script.now) (terms_of layer.now) }
-    ensures { IfOk result (TellsEnding (script_of script.now) (terms_of layer.now) ByDivergence reach) }
+    ensures { IfOk result (TellsEnding (script_of script.now) (terms_of layer.now) ByDivergence
+        reach) }
 {
     let seeds = seeds_of(alloc, layer)?;
     let found = tau_closure(alloc, script, seeds, reach)?;

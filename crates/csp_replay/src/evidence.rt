@@ -28,7 +28,8 @@ pub(crate) fn end_of<A: AllocHandle>(
 ) -> Result<Option<usize>, Memory>
     requires closed { AreTermsOf (script_of script.now) (terms_of layer.now) }
     requires ends { evidence_of evidence.now ≢ ByDivergence }
-    ensures { IfOk result (IsEndAt (script_of script.now) (terms_of layer.now) (evidence_of evidence.now)) }
+    ensures { IfOk result (IsEndAt (script_of script.now) (terms_of layer.now)
+        (evidence_of evidence.now)) }
 {
     for place in 0..layer.len() {
         let expansion = fire(alloc, script, layer.term(place))?;
@@ -42,7 +43,8 @@ pub(crate) fn end_of<A: AllocHandle>(
 /// Whether the term that was fired shows the evidence.
 fn shows<A: AllocHandle>(expansion: &Expansion<'_, A>, evidence: &Evidence<A>) -> bool
     requires { evidence_of evidence.now ≢ ByDivergence }
-    ensures { IsTrue result ↔ Shows expansion.now.script expansion.now.term (evidence_of evidence.now) }
+    ensures { IsTrue result ↔ Shows expansion.now.script expansion.now.term
+        (evidence_of evidence.now) }
 {
     match expansion.form() {
         Form::Steps(steps, offers) => match evidence {
@@ -80,7 +82,8 @@ fn has_step_by<A: AllocHandle>(steps: &[Step<A>], action: &Action<A>) -> bool
 
 /// Whether the actions are one of the offers.
 fn has_offer<A: AllocHandle>(offers: &[Vec<Action<A>, A>], actions: &[Action<A>]) -> bool
-    ensures { IsTrue result ↔ Contains (map (λ offer. map action_of offer.items) offers.now) (map action_of actions.now) }
+    ensures { IsTrue result ↔ Contains (map (λ offer. map action_of offer.items) offers.now)
+        (map action_of actions.now) }
 {
     for offer in offers {
         if offer.as_slice() == actions {

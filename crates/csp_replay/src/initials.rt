@@ -21,7 +21,8 @@ pub fn initials_of<A: AllocHandle>(
     states: &[Term<A>],
 ) -> Result<Vec<Action<A>, A>, Memory>
     requires closed { AreTermsOf (script_of script.now) (map process_of states.now) }
-    ensures { IfOk result (λ xs. AreInitials (script_of script.now) (map process_of states.now) (map action_of xs.items)) }
+    ensures { IfOk result (λ xs. AreInitials (script_of script.now) (map process_of states.now)
+        (map action_of xs.items)) }
 {
     let mut initials = Vec::new(alloc);
     for state in states {
@@ -39,7 +40,8 @@ fn add_initials<A: AllocHandle>(
     initials: &mut Vec<Action<A>, A>,
     steps: &[Step<A>],
 ) -> Result<(), Memory>
-    ensures { OnOk result (Gathers (map action_of initials.old.items) (IsInitialBy (map step_of steps.now)) (map action_of initials.new.items)) }
+    ensures { OnOk result (Gathers (map action_of initials.old.items)
+        (IsInitialBy (map step_of steps.now)) (map action_of initials.new.items)) }
 {
     for step in steps {
         if let Action::Tau = step.action {

@@ -15,7 +15,8 @@ pub(crate) fn least_of<A: AllocHandle>(
     alloc: A,
     offers: &[Vec<Action<A>, A>],
 ) -> Result<Offers<A>, Memory>
-    ensures { IfOk result (λ least. Gathers [] (IsLeastAmong (offers_listed offers.now)) (offers_listed least.items)) }
+    ensures { IfOk result (λ least. Gathers [] (IsLeastAmong (offers_listed offers.now))
+        (offers_listed least.items)) }
 {
     let mut least = Vec::new(alloc);
     for offer in offers {

@@ -21,7 +21,8 @@ pub(crate) fn look_at<A: AllocHandle>(
     hindrance: Hindrance,
 ) -> Result<Option<Vec<Step<A>, A>>, Memory>
     requires closed { IsTermOf (script_of script.now) (process_of term.now) }
-    ensures { IfOk result (IsSeen (script_of script.now) (process_of term.now) (hindrance_of hindrance)) }
+    ensures { IfOk result (IsSeen (script_of script.now) (process_of term.now)
+        (hindrance_of hindrance)) }
 {
     let form = fire(alloc, script, term)?.into_form();
     if hindrance.is_shown_by(&form) {

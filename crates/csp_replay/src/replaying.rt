@@ -36,7 +36,8 @@ pub fn replay_of<A: AllocHandle>(
     reach: usize,
 ) -> Result<Replay<A>, Memory>
     requires closed { IsTermOf (script_of script.now) (process_of start.now) }
-    ensures { IfOk result (TellsReplay (script_of script.now) (process_of start.now) (violation_of shown.now) reach) }
+    ensures { IfOk result (TellsReplay (script_of script.now) (process_of start.now)
+        (violation_of shown.now) reach) }
 {
     let layers = layers_of(alloc, script, start, &shown.path)?;
     match ending_of(alloc, script, &layers.last, &shown.evidence, reach)? {

@@ -29,7 +29,8 @@ pub fn actions_of<A: Allocator>(alloc: A, steps: &[Step]) -> Result<Vec<ActionId
     let mut actions = each_action(alloc, steps)?;
     actions.dedup_by(
         |action, last| -> bool
-            ensures { (result ≡ is_eq (number_cmp action.entry.now last.entry.now)) × ((action.exit.now ≡ action.entry.now) × (last.exit.now ≡ last.entry.now)) }
+            ensures { (result ≡ is_eq (number_cmp action.entry.now last.entry.now))
+                × ((action.exit.now ≡ action.entry.now) × (last.exit.now ≡ last.entry.now)) }
         { compare_actions(*action, *last).is_eq() },
     );
     Ok(actions)

@@ -16,7 +16,8 @@ fn add_one<A: Allocator>(
     ended: Option<Run>,
     free: &Bits<A>,
 ) -> Result<(), AllocError>
-    ensures { OnOk result (AddsOne free.now.marks.items ended step steps.old.items steps.new.items) }
+    ensures { OnOk result (AddsOne free.now.marks.items ended step steps.old.items
+        steps.new.items) }
 {
     match step.action {
         ActionId::Tau => steps.push(step)?,
@@ -41,7 +42,8 @@ pub(crate) fn add_alone<A: Allocator>(
     ended: Option<Run>,
     free: &Bits<A>,
 ) -> Result<(), AllocError>
-    ensures { OnOk result (AddsAlone free.now.marks.items ended side.now steps.old.items steps.new.items) }
+    ensures { OnOk result (AddsAlone free.now.marks.items ended side.now steps.old.items
+        steps.new.items) }
 {
     for step in side {
         add_one(steps, *step, ended, free)?;

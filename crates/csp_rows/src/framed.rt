@@ -95,7 +95,8 @@ fn add_renamed<A: Allocator>(
     step: Step,
     images: &Images<A>,
 ) -> Result<(), AllocError>
-    ensures { OnOk result (all.new.items ≡ all.old.items ++ renamed_step images.now.images.items step) }
+    ensures { OnOk result (all.new.items ≡ all.old.items
+        ++ renamed_step images.now.images.items step) }
 {
     match step.action {
         ActionId::Tau => {

@@ -30,7 +30,8 @@ fn add_known<A: Allocator>(
     known: &[PartStep],
 ) -> Result<(), AllocError>
     requires { AreToldIn (length pool.now.items) steps.now.items }
-    ensures { OnOk result (AddsKnown hole known.now pool.old.items steps.old.items pool.new.items steps.new.items) }
+    ensures { OnOk result (AddsKnown hole known.now pool.old.items steps.old.items pool.new.items
+        steps.new.items) }
 {
     for step in known {
         let part = step.target;
@@ -49,7 +50,8 @@ pub(crate) fn hole_side<A: Allocator>(
     parts: &[Part<A>],
     pool: &mut Vec<Change, A>,
 ) -> Result<Side<A>, AllocError>
-    ensures { IfOk result (IsHoleSide hole row.now (steps_at parts.now row.now hole) pool.old.items pool.new.items) }
+    ensures { IfOk result (IsHoleSide hole row.now (steps_at parts.now row.now hole) pool.old.items
+        pool.new.items) }
 {
     let known = known_steps(row, parts, hole);
     let mut steps = Vec::with_capacity(alloc, known.len())?;

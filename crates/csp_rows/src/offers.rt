@@ -24,7 +24,8 @@ fn offers_beside_tau<A: Allocator + Copy>(
     alloc: A,
     actions: &[ActionId],
 ) -> Result<Vec<Vec<ActionId, A>, A>, AllocError>
-    ensures { IfOk result (λ offers. map (λ xs. xs.items) offers.items ≡ orders.offers_beside_tau actions.now) }
+    ensures { IfOk result (λ offers. map (λ xs. xs.items) offers.items
+        ≡ orders.offers_beside_tau actions.now) }
 {
     match actions {
         [ActionId::Tick, ..] => one_offer(alloc, &[ActionId::Tick]),
@@ -37,7 +38,8 @@ pub fn offers_of<A: Allocator + Copy>(
     alloc: A,
     actions: &[ActionId],
 ) -> Result<Vec<Vec<ActionId, A>, A>, AllocError>
-    ensures { IfOk result (λ offers. map (λ xs. xs.items) offers.items ≡ orders.offers_of actions.now) }
+    ensures { IfOk result (λ offers. map (λ xs. xs.items) offers.items
+        ≡ orders.offers_of actions.now) }
 {
     match actions {
         [ActionId::Tau, others @ ..] => offers_beside_tau(alloc, others),
@@ -51,7 +53,8 @@ fn tick_and_all<A: Allocator + Copy>(
     alloc: A,
     actions: &[ActionId],
 ) -> Result<Vec<Vec<ActionId, A>, A>, AllocError>
-    ensures { IfOk result (λ offers. map (λ xs. xs.items) offers.items ≡ (by_number.Tick ∷ []) ∷ actions.now ∷ []) }
+    ensures { IfOk result (λ offers. map (λ xs. xs.items) offers.items
+        ≡ (by_number.Tick ∷ []) ∷ actions.now ∷ []) }
 {
     let mut offers = one_offer(alloc, &[ActionId::Tick])?;
     offers.push(Vec::from_slice(alloc, actions)?)?;

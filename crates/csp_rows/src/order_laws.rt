@@ -27,7 +27,8 @@ ghost use Rattle.csp_rows.specs.OrderedTargets.{changing_cmp, parts_cmp, targets
 
 /// Of two terms that are one shape with parts in its holes, the first parts that differ decide, from the left.
 pub fn filled_shapes_are_ordered_by_parts()
-    ensures { (s : Shape) (ps qs : List Process) → length ps ≡ holes s → length qs ≡ holes s → process_cmp (fill s ps) (fill s qs) ≡ parts_cmp ps qs }
+    ensures { (s : Shape) (ps qs : List Process) → length ps ≡ holes s → length qs ≡ holes s
+        → process_cmp (fill s ps) (fill s qs) ≡ parts_cmp ps qs }
 {}
 
 /// So of two targets of a shape, the first changes decide: a part that comes in stands against the one that comes in there
@@ -54,15 +55,18 @@ pub fn steps_are_ordered_by_changes()
 
 /// Where events that rise have their places for numbers, they have the order of these.
 pub fn events_are_ordered_by_places()
-    ensures { (z : Numbering) (es : List Event) → RisesBy event_cmp es → z.events ≡ length es → ((n : ℕ) → n < length es → slice_get es n ≡ Some (z.event n)) → EventsRise z }
+    ensures { (z : Numbering) (es : List Event) → RisesBy event_cmp es → z.events ≡ length es
+        → ((n : ℕ) → n < length es → slice_get es n ≡ Some (z.event n)) → EventsRise z }
 {}
 
 /// And so have actions, lists of them, and lists of such lists.
 pub fn actions_are_ordered_by_numbers()
-    ensures two { (z : Numbering) (x y : ActionId) → EventsRise z → IsNumbered z.events x → IsNumbered z.events y → action_cmp (action_at z x) (action_at z y) ≡ number_cmp x y }
+    ensures two { (z : Numbering) (x y : ActionId) → EventsRise z → IsNumbered z.events x
+        → IsNumbered z.events y → action_cmp (action_at z x) (action_at z y) ≡ number_cmp x y }
     ensures lists { (z : Numbering) (xs ys : List ActionId) → EventsRise z → AreAllNumbered z.events xs → AreAllNumbered z.events ys
         → offers_cmp (map (action_at z) xs) (map (action_at z) ys) ≡ slice_cmp number_cmp xs ys }
-    ensures rise { (z : Numbering) (xs : List ActionId) → EventsRise z → AreAllNumbered z.events xs → RisesBy number_cmp xs → IsRising (map (action_at z) xs) }
+    ensures rise { (z : Numbering) (xs : List ActionId) → EventsRise z → AreAllNumbered z.events xs
+        → RisesBy number_cmp xs → IsRising (map (action_at z) xs) }
     ensures offers { (z : Numbering) (offers : List (List ActionId)) → EventsRise z → AllByRecursion (AreAllNumbered z.events) offers
         → RisesBy (slice_cmp number_cmp) offers → RisesBy offers_cmp (offers_in z offers) }
 {}

@@ -58,8 +58,10 @@ pub fn target<A: Allocator>(
     parts: &[Part<A>],
 ) -> Result<Vec<u8, A>, AllocError>
     requires { RiseUpTo 0 (length bytes.now) (edits_of places.now parts.now changes.now) }
-    ensures edited { IfOk result (λ target. target.items ≡ edited bytes.now 0 (edits_of places.now parts.now changes.now)) }
-    ensures spelled { IfOk result (λ target. IsTargetOf bytes.now places.now changes.now parts.now target.items) }
+    ensures edited { IfOk result (λ target. target.items
+        ≡ edited bytes.now 0 (edits_of places.now parts.now changes.now)) }
+    ensures spelled { IfOk result (λ target. IsTargetOf bytes.now places.now changes.now parts.now
+        target.items) }
 {
     let mut target = Vec::with_capacity(alloc, room_for(bytes, places, changes, parts))?;
     let mut copied = 0usize;

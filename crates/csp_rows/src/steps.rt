@@ -61,17 +61,22 @@ pub fn put_in_order<A: Allocator, O: PartOrder>(
     row: &[PartId],
     parts: &O,
 )
-    ensures order { ArePutInOrder (O.order parts.now) row.now pool.now steps.old.items steps.new.items }
+    ensures order { ArePutInOrder (O.order parts.now) row.now pool.now steps.old.items
+        steps.new.items }
     ensures actions { NeverFall steps.new.items }
 {
     steps.sort_unstable_by(
         |step, other| -> Ordering
-            ensures { result ≡ step_order (O.order parts.entry.now) row.entry.now pool.entry.now step.now other.now }
+            ensures { result ≡ step_order (O.order parts.entry.now) row.entry.now pool.entry.now
+                step.now other.now }
         { compare_steps(step, other, pool, row, parts) },
     );
     steps.dedup_by(
         |step, last| -> bool
-            ensures { (result ≡ is_eq (step_order (O.order parts.entry.now) row.entry.now pool.entry.now step.entry.now last.entry.now)) × ((step.exit.now ≡ step.entry.now) × (last.exit.now ≡ last.entry.now)) }
+            ensures { (result
+                ≡ is_eq (step_order (O.order parts.entry.now) row.entry.now pool.entry.now
+                step.entry.now last.entry.now))
+                × ((step.exit.now ≡ step.entry.now) × (last.exit.now ≡ last.entry.now)) }
         { compare_steps(step, last, pool, row, parts).is_eq() },
     );
 }

@@ -42,7 +42,8 @@ fn compare_in_hole<O: PartOrder>(
     hole: usize,
 ) -> Ordering
     requires { hole < length row.now }
-    ensures { (d : part_id.PartId) → result ≡ O.order parts.now (get_or (row_after left.now row.now) hole d) (get_or (row_after right.now row.now) hole d) }
+    ensures { (d : part_id.PartId) → result ≡ O.order parts.now
+        (get_or (row_after left.now row.now) hole d) (get_or (row_after right.now row.now) hole d) }
 {
     let left = part_after(left, row, hole);
     let right = part_after(right, row, hole);
@@ -66,7 +67,8 @@ fn nearer(hole: usize, from: usize, next: usize) -> usize
 fn next_changed(changes: &[Change], from: usize, end: usize) -> usize
     ensures before { result ≤ end }
     ensures behind { from ≤ end → from ≤ result }
-    ensures unchanged { (i : ℕ) → from ≤ i → i < result → AllByRecursion (λ c. c.hole ≡ i → ⊥) changes.now }
+    ensures unchanged { (i : ℕ) → from ≤ i → i < result
+        → AllByRecursion (λ c. c.hole ≡ i → ⊥) changes.now }
 {
     let mut next = end;
     for change in changes {

@@ -21,7 +21,9 @@ pub fn argument_values<'e, A: Allocator + Copy>(
     bindings: &[Binding<'e, A>],
     arguments: &'e [Expr<A>],
 ) -> Result<Vec<Seen<'e, A>, A>, NoValue>
-    ensures { SeesAll result (values (table_of types.now) (put_expressions (bindings_of bindings.now) (to_expressions (expressions_of arguments.now)))) }
+    ensures { SeesAll result (values (table_of types.now)
+        (put_expressions (bindings_of bindings.now)
+        (to_expressions (expressions_of arguments.now)))) }
 {
     let mut values = Vec::new(alloc);
     for argument in arguments {
@@ -36,7 +38,8 @@ pub fn parameter_bindings<'v, A: Allocator + Copy>(
     parameters: &[Name],
     values: &'v [Seen<'v, A>],
 ) -> Result<Vec<Binding<'v, A>, A>, NoValue>
-    ensures { Binds result (parameter_bindings (map (λ n. n.0) parameters.now) (seen_values values.now)) }
+    ensures { Binds result (parameter_bindings (map (λ n. n.0) parameters.now)
+        (seen_values values.now)) }
 {
     if parameters.len() != values.len() {
         return Err(NoValue::Cause(Cause::Kind));

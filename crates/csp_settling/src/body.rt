@@ -26,7 +26,9 @@ pub fn called<A: Allocator + Copy>(
     arguments: &[Expr<A>],
 ) -> Result<Option<Term<A>>, NoValue>
     ensures within { IfOk result (λ body. IfSome body (λ t. IsTrue (fits (process_of t)))) }
-    ensures body { IsCalled result (called (script_of_parts script.now) equation.0 (put_expressions (bindings_of bindings.now) (to_expressions (expressions_of arguments.now)))) }
+    ensures body { IsCalled result (called (script_of_parts script.now) equation.0
+        (put_expressions (bindings_of bindings.now)
+        (to_expressions (expressions_of arguments.now)))) }
 {
     let values = argument_values(alloc, &script.types, bindings, arguments)?;
     let Some(called) = script.equations.get(equation.0 as usize) else {

@@ -43,7 +43,9 @@ pub(crate) fn unfold<A: Allocator + Copy>(
     within: Option<&Term<A>>,
     term: &Term<A>,
 ) -> Result<Unfolded<A>, Memory>
-    ensures { IfOk result (TellsUnfolded (process_of term.now) (settled_within most (script_of_parts script.now) (call_of within.entry) (process_of term.now))) }
+    ensures { IfOk result (TellsUnfolded (process_of term.now)
+        (settled_within most (script_of_parts script.now) (call_of within.entry)
+        (process_of term.now))) }
 {
     if most == 0 {
         return Ok(Unfolded::Same);
@@ -60,7 +62,8 @@ fn unfold_calls<A: Allocator + Copy>(
     within: Option<&Term<A>>,
     term: &Term<A>,
 ) -> Result<Unfolded<A>, Memory>
-    ensures { IfOk result (TellsUnfolded (process_of term.now) (calls_unfolded script.now more within.entry (process_of term.now))) }
+    ensures { IfOk result (TellsUnfolded (process_of term.now)
+        (calls_unfolded script.now more within.entry (process_of term.now))) }
 {
     match term.form() {
         TermForm::Stop => Ok(Unfolded::Same),
@@ -115,7 +118,9 @@ fn sides<A: Allocator + Copy>(
     left: &Term<A>,
     right: &Term<A>,
 ) -> Result<Sides<A>, Memory>
-    ensures { IfOk result (TellsSides (process_of left.now) (calls_unfolded script.now more within.entry (process_of left.now)) (process_of right.now) (calls_unfolded script.now more within.entry (process_of right.now))) }
+    ensures { IfOk result (TellsSides (process_of left.now)
+        (calls_unfolded script.now more within.entry (process_of left.now)) (process_of right.now)
+        (calls_unfolded script.now more within.entry (process_of right.now))) }
 {
     let first = unfold_calls(alloc, script, more, within, left)?;
     if first.is_past() {
@@ -136,7 +141,10 @@ fn binary<A: Allocator + Copy>(
     left: &Term<A>,
     right: &Term<A>,
 ) -> Result<Unfolded<A>, Memory>
-    ensures { IfOk result (TellsUnfolded (binary_process operator (process_of left.now) (process_of right.now)) (calls_unfolded script.now more within.entry (binary_process operator (process_of left.now) (process_of right.now)))) }
+    ensures { IfOk result (TellsUnfolded
+        (binary_process operator (process_of left.now) (process_of right.now))
+        (calls_unfolded script.now more within.entry
+        (binary_process operator (process_of left.now) (process_of right.now)))) }
 {
     match operator {
         ProcessOperator::InternalChoice => Ok(Unfolded::Same),

@@ -26,7 +26,8 @@ pub(crate) fn chain<A: Allocator + Copy>(
     set: &Expr<A>,
     body: &Term<A>,
 ) -> Result<Option<Term<A>>, Memory>
-    ensures { IfOk result (IsChain (binary_process operator) name.0 (process_of body.now) (elements (table_of types.now) (expression_of set.now))) }
+    ensures { IfOk result (IsChain (binary_process operator) name.0 (process_of body.now)
+        (elements (table_of types.now) (expression_of set.now))) }
 {
     let seen = match set.look(alloc, types, &[]) {
         Ok(seen) => seen,
@@ -47,7 +48,8 @@ fn chain_of<A: Allocator + Copy>(
     values: &[Value<A>],
     body: &Term<A>,
 ) -> Result<Option<Term<A>>, Memory>
-    ensures { IfOk result (IsChain (binary_process operator) name.0 (process_of body.now) (Ok (values_of values.now))) }
+    ensures { IfOk result (IsChain (binary_process operator) name.0 (process_of body.now)
+        (Ok (values_of values.now))) }
 {
     let Some((first, others)) = values.split_first() else {
         return Ok(None);
@@ -66,7 +68,8 @@ fn chain_behind<A: Allocator + Copy>(
     others: &[Value<A>],
     body: &Term<A>,
 ) -> Result<Term<A>, Memory>
-    ensures { IfOk result (λ t. process_of t ≡ left_grouped (binary_process operator) (process_of first) (instances name.0 (process_of body.now) (values_of others.now))) }
+    ensures { IfOk result (λ t. process_of t ≡ left_grouped (binary_process operator)
+        (process_of first) (instances name.0 (process_of body.now) (values_of others.now))) }
 {
     let mut chain = first;
     for value in others {
@@ -83,7 +86,8 @@ fn instance<A: Allocator + Copy>(
     value: &Value<A>,
     body: &Term<A>,
 ) -> Result<Term<A>, Memory>
-    ensures { IfOk result (λ t. process_of t ≡ put ((name.0, value_of value.now) ∷ []) (process_of body.now)) }
+    ensures { IfOk result (λ t. process_of t ≡ put ((name.0, value_of value.now) ∷ [])
+        (process_of body.now)) }
 {
     let bindings = bind(alloc, name, value, &[])?;
     body.put_in(alloc, &bindings)

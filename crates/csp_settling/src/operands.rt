@@ -25,7 +25,8 @@ pub(crate) fn in_binary<A: Allocator + Copy>(
     operator: ProcessOperator,
     sides: Sides<A>,
 ) -> Result<Unfolded<A>, Memory>
-    ensures { (p v q w : Process) → TellsSides p v q w sides → IfOk result (TellsUnfolded (binary_process operator p q) (binary_process operator v w)) }
+    ensures { (p v q w : Process) → TellsSides p v q w sides
+        → IfOk result (TellsUnfolded (binary_process operator p q) (binary_process operator v w)) }
 {
     match sides {
         Sides::Same => Ok(Unfolded::Same),
@@ -83,7 +84,9 @@ pub(crate) fn in_sequence<A: Allocator + Copy>(
     left: Unfolded<A>,
     right: &Term<A>,
 ) -> Result<Unfolded<A>, Memory>
-    ensures { (p v : Process) → TellsUnfolded p v left → IfOk result (TellsUnfolded (Sequential p (process_of right.now)) (Sequential v (process_of right.now))) }
+    ensures { (p v : Process) → TellsUnfolded p v left
+        → IfOk result (TellsUnfolded (Sequential p (process_of right.now))
+        (Sequential v (process_of right.now))) }
 {
     match left {
         Unfolded::Same => Ok(Unfolded::Same),
@@ -104,7 +107,9 @@ pub(crate) fn in_sliding<A: Allocator + Copy>(
     left: Unfolded<A>,
     right: &Term<A>,
 ) -> Result<Unfolded<A>, Memory>
-    ensures { (p v : Process) → TellsUnfolded p v left → IfOk result (TellsUnfolded (SlidingChoice p (process_of right.now)) (SlidingChoice v (process_of right.now))) }
+    ensures { (p v : Process) → TellsUnfolded p v left
+        → IfOk result (TellsUnfolded (SlidingChoice p (process_of right.now))
+        (SlidingChoice v (process_of right.now))) }
 {
     match left {
         Unfolded::Same => Ok(Unfolded::Same),
@@ -122,7 +127,9 @@ pub(crate) fn in_hiding<A: Allocator + Copy>(
     body: Unfolded<A>,
     hidden: &EventSet<A>,
 ) -> Result<Unfolded<A>, Memory>
-    ensures { (p v : Process) → TellsUnfolded p v body → IfOk result (TellsUnfolded (Hiding p (event_set_of hidden.now)) (Hiding v (event_set_of hidden.now))) }
+    ensures { (p v : Process) → TellsUnfolded p v body
+        → IfOk result (TellsUnfolded (Hiding p (event_set_of hidden.now))
+        (Hiding v (event_set_of hidden.now))) }
 {
     match body {
         Unfolded::Same => Ok(Unfolded::Same),
@@ -140,7 +147,9 @@ pub(crate) fn in_renaming<A: Allocator + Copy>(
     body: Unfolded<A>,
     pairs: &[RenamingPair<A>],
 ) -> Result<Unfolded<A>, Memory>
-    ensures { (p v : Process) → TellsUnfolded p v body → IfOk result (TellsUnfolded (Renaming p (renaming_pairs_of pairs.now)) (Renaming v (renaming_pairs_of pairs.now))) }
+    ensures { (p v : Process) → TellsUnfolded p v body
+        → IfOk result (TellsUnfolded (Renaming p (renaming_pairs_of pairs.now))
+        (Renaming v (renaming_pairs_of pairs.now))) }
 {
     match body {
         Unfolded::Same => Ok(Unfolded::Same),

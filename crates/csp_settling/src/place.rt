@@ -40,7 +40,8 @@ fn is_so_deep<A: Allocator + Copy>(term: &Term<A>, least: u32) -> bool
 
 /// Whether the term is the call in whose body it stands.
 pub(crate) fn is_call<A: Allocator + Copy>(within: Option<&Term<A>>, term: &Term<A>) -> bool
-    ensures { (p : Process) → unless_called (call_of within.entry) (process_of term.now) p ≡ cond result (process_of term.now) p }
+    ensures { (p : Process) → unless_called (call_of within.entry) (process_of term.now) p
+        ≡ cond result (process_of term.now) p }
 {
     match within {
         Some(call) => equal_terms(call, term),
@@ -50,7 +51,8 @@ pub(crate) fn is_call<A: Allocator + Copy>(within: Option<&Term<A>>, term: &Term
 
 /// What stands in the place of the term that is unfolded to the other one.
 pub(crate) fn in_place_of<A: Allocator + Copy>(term: &Term<A>, other: Term<A>) -> Unfolded<A>
-    ensures { TellsUnfolded (process_of term.now) (in_place_of (process_of term.now) (process_of other)) result }
+    ensures { TellsUnfolded (process_of term.now)
+        (in_place_of (process_of term.now) (process_of other)) result }
 {
     if !other.fits() {
         return Unfolded::Past;

@@ -22,7 +22,8 @@ pub fn settle<A: Allocator + Copy>(
     script: &ScriptParts<A>,
     term: &Term<A>,
 ) -> Result<Unfolded<A>, Memory>
-    ensures { IfOk result (TellsUnfolded (process_of term.now) (settled (script_of_parts script.now) (process_of term.now))) }
+    ensures { IfOk result (TellsUnfolded (process_of term.now)
+        (settled (script_of_parts script.now) (process_of term.now))) }
 {
     match script.unfolds {
         Unfolding::ByTau => Ok(Unfolded::Same),
@@ -36,7 +37,8 @@ pub fn settled_assertion<A: Allocator + Copy>(
     script: &ScriptParts<A>,
     assertion: &Assertion<A>,
 ) -> Result<Assertion<A>, Memory>
-    ensures { IfOk result (λ settled. assertion_of settled ≡ settled_assertion (script_of_parts script.now) (assertion_of assertion.now)) }
+    ensures { IfOk result (λ settled. assertion_of settled
+        ≡ settled_assertion (script_of_parts script.now) (assertion_of assertion.now)) }
 {
     let property = settled_property(alloc, script, &assertion.property)?;
     let implementation = settled_side(alloc, script, &assertion.implementation)?;
@@ -53,7 +55,8 @@ fn settled_property<A: Allocator + Copy>(
     script: &ScriptParts<A>,
     property: &Property<A>,
 ) -> Result<Property<A>, Memory>
-    ensures { IfOk result (λ settled. property_of settled ≡ settled_property (script_of_parts script.now) (property_of property.now)) }
+    ensures { IfOk result (λ settled. property_of settled
+        ≡ settled_property (script_of_parts script.now) (property_of property.now)) }
 {
     match property {
         Property::Refinement {
@@ -77,7 +80,8 @@ fn settled_side<A: Allocator + Copy>(
     script: &ScriptParts<A>,
     side: &Term<A>,
 ) -> Result<Term<A>, Memory>
-    ensures { IfOk result (λ t. process_of t ≡ settled_side (script_of_parts script.now) (process_of side.now)) }
+    ensures { IfOk result (λ t. process_of t ≡ settled_side (script_of_parts script.now)
+        (process_of side.now)) }
 {
     match settle(alloc, script, side)? {
         Unfolded::Same => side.try_copy(alloc),

@@ -22,7 +22,8 @@ pub fn condition<'e, A: Allocator + Copy>(
     bindings: &[Binding<'e, A>],
     test: &'e Expr<A>,
 ) -> Result<bool, NoValue>
-    ensures { Decides result (condition (table_of types.now) (put_expression (bindings_of bindings.now) (expression_of test.now))) }
+    ensures { Decides result (condition (table_of types.now)
+        (put_expression (bindings_of bindings.now) (expression_of test.now))) }
 {
     let seen = test.look(alloc, types, bindings)?;
     truth_of(seen.value())

@@ -40,7 +40,8 @@ impl<A: Allocator + Copy> Unfolded<A> {
 
     /// What the term before is unfolded to, where this is what the term that it is unfolded to is.
     pub(crate) fn behind(self, term: Term<A>) -> Unfolded<A>
-        ensures { (p v : Process) → TellsUnfolded (process_of term) v self → TellsUnfolded p v result }
+        ensures { (p v : Process) → TellsUnfolded (process_of term) v self
+            → TellsUnfolded p v result }
     {
         match self {
             Unfolded::Same => Unfolded::To(term),

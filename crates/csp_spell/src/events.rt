@@ -20,7 +20,8 @@ fn push_event<A: Allocator>(
     bytes: &mut Vec<u8, A>,
 ) -> Result<(), Memory>
     requires { IsPackableEvent (event_expression_of event.now) }
-    ensures spelled { OnOk result (bytes.new.items ≡ bytes.old.items ++ event_spelling (event_expression_of event.now)) }
+    ensures spelled { OnOk result (bytes.new.items ≡ bytes.old.items
+        ++ event_spelling (event_expression_of event.now)) }
     ensures range { OnOk result (IsInRangeEvent (event_expression_of event.now)) }
 {
     push_number(event.channel.0, bytes)?;
@@ -33,7 +34,8 @@ fn push_events<A: Allocator>(
     bytes: &mut Vec<u8, A>,
 ) -> Result<(), Memory>
     requires { IsPackableList IsPackableEvent (event_expressions_of events.now) }
-    ensures spelled { OnOk result (bytes.new.items ≡ bytes.old.items ++ list_spelling event_spelling (event_expressions_of events.now)) }
+    ensures spelled { OnOk result (bytes.new.items ≡ bytes.old.items
+        ++ list_spelling event_spelling (event_expressions_of events.now)) }
     ensures range { OnOk result (AllByRecursion IsInRangeEvent (event_expressions_of events.now)) }
 {
     push_length(events.len(), bytes)?;
@@ -49,7 +51,8 @@ pub(crate) fn push_event_set<A: Allocator>(
     bytes: &mut Vec<u8, A>,
 ) -> Result<(), Memory>
     requires { IsPackableEventSet (event_set_of set.now) }
-    ensures spelled { OnOk result (bytes.new.items ≡ bytes.old.items ++ event_set_spelling (event_set_of set.now)) }
+    ensures spelled { OnOk result (bytes.new.items ≡ bytes.old.items
+        ++ event_set_spelling (event_set_of set.now)) }
     ensures range { OnOk result (IsInRangeEventSet (event_set_of set.now)) }
 {
     match set {
@@ -83,7 +86,8 @@ fn event_set_tag(operator: EventSetOperator) -> u8
 /// Puts the spellings of both sides of the pair at the end.
 fn push_pair<A: Allocator>(pair: &RenamingPair<A>, bytes: &mut Vec<u8, A>) -> Result<(), Memory>
     requires { IsPackablePair (renaming_pair_of pair.now) }
-    ensures spelled { OnOk result (bytes.new.items ≡ bytes.old.items ++ pair_spelling (renaming_pair_of pair.now)) }
+    ensures spelled { OnOk result (bytes.new.items ≡ bytes.old.items
+        ++ pair_spelling (renaming_pair_of pair.now)) }
     ensures range { OnOk result (IsInRangePair (renaming_pair_of pair.now)) }
 {
     push_event(&pair.from, bytes)?;
@@ -96,7 +100,8 @@ pub(crate) fn push_pairs<A: Allocator>(
     bytes: &mut Vec<u8, A>,
 ) -> Result<(), Memory>
     requires { IsPackableList IsPackablePair (renaming_pairs_of pairs.now) }
-    ensures spelled { OnOk result (bytes.new.items ≡ bytes.old.items ++ list_spelling pair_spelling (renaming_pairs_of pairs.now)) }
+    ensures spelled { OnOk result (bytes.new.items ≡ bytes.old.items
+        ++ list_spelling pair_spelling (renaming_pairs_of pairs.now)) }
     ensures range { OnOk result (AllByRecursion IsInRangePair (renaming_pairs_of pairs.now)) }
 {
     push_length(pairs.len(), bytes)?;

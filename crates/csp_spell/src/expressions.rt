@@ -21,7 +21,8 @@ pub(crate) fn push_expression<A: Allocator>(
     bytes: &mut Vec<u8, A>,
 ) -> Result<(), Memory>
     requires { IsPackableExpression (expression_of expression.now) }
-    ensures spelled { OnOk result (bytes.new.items ≡ bytes.old.items ++ expression_spelling (expression_of expression.now)) }
+    ensures spelled { OnOk result (bytes.new.items ≡ bytes.old.items
+        ++ expression_spelling (expression_of expression.now)) }
     ensures range { OnOk result (IsInRangeExpression (expression_of expression.now)) }
 {
     match expression {
@@ -70,8 +71,10 @@ pub(crate) fn push_expressions<A: Allocator>(
     bytes: &mut Vec<u8, A>,
 ) -> Result<(), Memory>
     requires { IsPackableList IsPackableExpression (expressions_of expressions.now) }
-    ensures spelled { OnOk result (bytes.new.items ≡ bytes.old.items ++ list_spelling expression_spelling (expressions_of expressions.now)) }
-    ensures range { OnOk result (AllByRecursion IsInRangeExpression (expressions_of expressions.now)) }
+    ensures spelled { OnOk result (bytes.new.items ≡ bytes.old.items
+        ++ list_spelling expression_spelling (expressions_of expressions.now)) }
+    ensures range { OnOk result (AllByRecursion IsInRangeExpression
+        (expressions_of expressions.now)) }
 {
     push_length(expressions.len(), bytes)?;
     for expression in expressions {

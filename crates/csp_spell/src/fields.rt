@@ -18,7 +18,8 @@ pub(crate) fn push_field<A: Allocator>(
     bytes: &mut Vec<u8, A>,
 ) -> Result<(), Memory>
     requires { IsPackableField (field_of field.now) }
-    ensures spelled { OnOk result (bytes.new.items ≡ bytes.old.items ++ field_spelling (field_of field.now)) }
+    ensures spelled { OnOk result (bytes.new.items ≡ bytes.old.items
+        ++ field_spelling (field_of field.now)) }
     ensures range { OnOk result (IsInRangeField (field_of field.now)) }
 {
     match field {
@@ -41,7 +42,8 @@ pub(crate) fn push_fields<A: Allocator>(
     bytes: &mut Vec<u8, A>,
 ) -> Result<(), Memory>
     requires { IsPackableList IsPackableField (fields_of fields.now) }
-    ensures spelled { OnOk result (bytes.new.items ≡ bytes.old.items ++ list_spelling field_spelling (fields_of fields.now)) }
+    ensures spelled { OnOk result (bytes.new.items ≡ bytes.old.items
+        ++ list_spelling field_spelling (fields_of fields.now)) }
     ensures range { OnOk result (AllByRecursion IsInRangeField (fields_of fields.now)) }
 {
     push_length(fields.len(), bytes)?;

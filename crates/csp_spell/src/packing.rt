@@ -47,7 +47,8 @@ pub fn pack_by<A: Allocator>(
 /// more.
 pub fn push_term<A: Allocator + Copy>(term: &Term<A>, bytes: &mut Vec<u8, A>) -> Result<(), Memory>
     requires { IsPackable (process_of term.now) }
-    ensures spelled { OnOk result (bytes.new.items ≡ bytes.old.items ++ spelling (process_of term.now)) }
+    ensures spelled { OnOk result (bytes.new.items ≡ bytes.old.items
+        ++ spelling (process_of term.now)) }
     ensures range { OnOk result (IsInRange (process_of term.now)) }
     ensures kept { OnErr result (bytes.new.items ≡ bytes.old.items) }
 {

@@ -34,7 +34,8 @@ fn read_events<A: Allocator + Copy>(
     depth: usize,
     bytes: &[u8],
 ) -> Result<(Vec<EventExpression<A>, A>, &[u8]), UnpackFault>
-    ensures { Gives (λ x. (event_expressions_of x.0.items, x.1.now)) result (list_at (event_at depth) bytes.now) }
+    ensures { Gives (λ x. (event_expressions_of x.0.items, x.1.now)) result
+        (list_at (event_at depth) bytes.now) }
 {
     let (count, rest) = read_number(bytes)?;
     read_each_event(alloc, depth, count, rest)
@@ -47,7 +48,8 @@ fn read_each_event<A: Allocator + Copy>(
     count: u32,
     bytes: &[u8],
 ) -> Result<(Vec<EventExpression<A>, A>, &[u8]), UnpackFault>
-    ensures { Gives (λ x. (event_expressions_of x.0.items, x.1.now)) result (items_at (event_at depth) count bytes.now) }
+    ensures { Gives (λ x. (event_expressions_of x.0.items, x.1.now)) result
+        (items_at (event_at depth) count bytes.now) }
 {
     let mut events = Vec::new(alloc);
     let mut rest = bytes;
@@ -85,7 +87,8 @@ fn read_tagged<A: Allocator + Copy>(
     tag: u8,
     bytes: &[u8],
 ) -> Result<(EventSet<A>, &[u8]), UnpackFault>
-    ensures { Gives (λ x. (event_set_of x.0, x.1.now)) result (event_set_behind depth (event_set_at depth) tag bytes.now) }
+    ensures { Gives (λ x. (event_set_of x.0, x.1.now)) result
+        (event_set_behind depth (event_set_at depth) tag bytes.now) }
 {
     match tag {
         0x28 => {
@@ -112,7 +115,8 @@ fn read_operands<A: Allocator + Copy>(
     depth: usize,
     bytes: &[u8],
 ) -> Result<(EventSet<A>, &[u8]), UnpackFault>
-    ensures { Gives (λ x. (event_set_of x.0, x.1.now)) result (two_at (event_set_at depth) (combined operator) bytes.now) }
+    ensures { Gives (λ x. (event_set_of x.0, x.1.now)) result
+        (two_at (event_set_at depth) (combined operator) bytes.now) }
 {
     let (left, rest) = read_event_set(alloc, depth, bytes)?;
     let (right, rest) = read_event_set(alloc, depth, rest)?;
@@ -142,7 +146,8 @@ pub(crate) fn read_pairs<A: Allocator + Copy>(
     depth: usize,
     bytes: &[u8],
 ) -> Result<(Vec<RenamingPair<A>, A>, &[u8]), UnpackFault>
-    ensures { Gives (λ x. (renaming_pairs_of x.0.items, x.1.now)) result (list_at (pair_at depth) bytes.now) }
+    ensures { Gives (λ x. (renaming_pairs_of x.0.items, x.1.now)) result
+        (list_at (pair_at depth) bytes.now) }
 {
     let (count, rest) = read_number(bytes)?;
     read_each_pair(alloc, depth, count, rest)
@@ -155,7 +160,8 @@ fn read_each_pair<A: Allocator + Copy>(
     count: u32,
     bytes: &[u8],
 ) -> Result<(Vec<RenamingPair<A>, A>, &[u8]), UnpackFault>
-    ensures { Gives (λ x. (renaming_pairs_of x.0.items, x.1.now)) result (items_at (pair_at depth) count bytes.now) }
+    ensures { Gives (λ x. (renaming_pairs_of x.0.items, x.1.now)) result
+        (items_at (pair_at depth) count bytes.now) }
 {
     let mut pairs = Vec::new(alloc);
     let mut rest = bytes;

@@ -40,7 +40,8 @@ fn read_tagged<A: Allocator + Copy>(
     tag: u8,
     bytes: &[u8],
 ) -> Result<(Expr<A>, &[u8]), UnpackFault>
-    ensures { Gives (λ x. (expression_of x.0, x.1.now)) result (expression_behind (value_at depth) (expression_at depth) tag bytes.now) }
+    ensures { Gives (λ x. (expression_of x.0, x.1.now)) result
+        (expression_behind (value_at depth) (expression_at depth) tag bytes.now) }
 {
     match tag {
         0x30 => {
@@ -86,7 +87,8 @@ fn read_range<A: Allocator + Copy>(
     depth: usize,
     bytes: &[u8],
 ) -> Result<(Expr<A>, &[u8]), UnpackFault>
-    ensures { Gives (λ x. (expression_of x.0, x.1.now)) result (two_at (expression_at depth) Range bytes.now) }
+    ensures { Gives (λ x. (expression_of x.0, x.1.now)) result
+        (two_at (expression_at depth) Range bytes.now) }
 {
     let (from, rest) = read_expression(alloc, depth, bytes)?;
     let (to, rest) = read_expression(alloc, depth, rest)?;
@@ -103,7 +105,8 @@ fn read_operation<A: Allocator + Copy>(
     tag: u8,
     bytes: &[u8],
 ) -> Result<(Expr<A>, &[u8]), UnpackFault>
-    ensures { Gives (λ x. (expression_of x.0, x.1.now)) result (operation_at (expression_at depth) (unary_tagged tag) (binary_tagged tag) bytes.now) }
+    ensures { Gives (λ x. (expression_of x.0, x.1.now)) result
+        (operation_at (expression_at depth) (unary_tagged tag) (binary_tagged tag) bytes.now) }
 {
     if let Some(operator) = unary_tagged(tag) {
         let (operand, rest) = read_expression(alloc, depth, bytes)?;
@@ -125,7 +128,8 @@ fn read_operands<A: Allocator + Copy>(
     depth: usize,
     bytes: &[u8],
 ) -> Result<(Expr<A>, &[u8]), UnpackFault>
-    ensures { Gives (λ x. (expression_of x.0, x.1.now)) result (two_at (expression_at depth) (Combine (binary_of operator)) bytes.now) }
+    ensures { Gives (λ x. (expression_of x.0, x.1.now)) result
+        (two_at (expression_at depth) (Combine (binary_of operator)) bytes.now) }
 {
     let (left, rest) = read_expression(alloc, depth, bytes)?;
     let (right, rest) = read_expression(alloc, depth, rest)?;
@@ -142,7 +146,8 @@ pub(crate) fn read_expressions<A: Allocator + Copy>(
     depth: usize,
     bytes: &[u8],
 ) -> Result<(Vec<Expr<A>, A>, &[u8]), UnpackFault>
-    ensures { Gives (λ x. (expressions_of x.0.items, x.1.now)) result (list_at (expression_at depth) bytes.now) }
+    ensures { Gives (λ x. (expressions_of x.0.items, x.1.now)) result
+        (list_at (expression_at depth) bytes.now) }
 {
     let (count, rest) = read_number(bytes)?;
     read_each_expression(alloc, depth, count, rest)
@@ -156,7 +161,8 @@ fn read_each_expression<A: Allocator + Copy>(
     count: u32,
     bytes: &[u8],
 ) -> Result<(Vec<Expr<A>, A>, &[u8]), UnpackFault>
-    ensures { Gives (λ x. (expressions_of x.0.items, x.1.now)) result (items_at (expression_at depth) count bytes.now) }
+    ensures { Gives (λ x. (expressions_of x.0.items, x.1.now)) result
+        (items_at (expression_at depth) count bytes.now) }
 {
     let mut expressions = Vec::new(alloc);
     let mut rest = bytes;

@@ -58,7 +58,8 @@ pub(crate) fn read_fields<A: Allocator + Copy>(
     depth: usize,
     bytes: &[u8],
 ) -> Result<(Vec<Field<A>, A>, &[u8]), UnpackFault>
-    ensures { Gives (λ x. (fields_of x.0.items, x.1.now)) result (list_at (field_at depth) bytes.now) }
+    ensures { Gives (λ x. (fields_of x.0.items, x.1.now)) result
+        (list_at (field_at depth) bytes.now) }
 {
     let (count, rest) = read_number(bytes)?;
     read_each_field(alloc, depth, count, rest)
@@ -71,7 +72,8 @@ fn read_each_field<A: Allocator + Copy>(
     count: u32,
     bytes: &[u8],
 ) -> Result<(Vec<Field<A>, A>, &[u8]), UnpackFault>
-    ensures { Gives (λ x. (fields_of x.0.items, x.1.now)) result (items_at (field_at depth) count bytes.now) }
+    ensures { Gives (λ x. (fields_of x.0.items, x.1.now)) result
+        (items_at (field_at depth) count bytes.now) }
 {
     let mut fields = Vec::new(alloc);
     let mut rest = bytes;

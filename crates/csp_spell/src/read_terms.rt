@@ -40,7 +40,8 @@ fn read_tagged<A: Allocator + Copy>(
     tag: u8,
     bytes: &[u8],
 ) -> Result<(Term<A>, &[u8]), UnpackFault>
-    ensures { Gives (λ x. (process_of x.0, x.1.now)) result (process_behind depth (process_at depth) tag bytes.now) }
+    ensures { Gives (λ x. (process_of x.0, x.1.now)) result
+        (process_behind depth (process_at depth) tag bytes.now) }
 {
     match tag {
         0x01 => Ok((Term::new(alloc, TermForm::Stop)?, bytes)),
@@ -90,7 +91,8 @@ fn read_prefix<A: Allocator + Copy>(
     depth: usize,
     bytes: &[u8],
 ) -> Result<(Term<A>, &[u8]), UnpackFault>
-    ensures { Gives (λ x. (process_of x.0, x.1.now)) result (prefix_at depth (process_at depth) bytes.now) }
+    ensures { Gives (λ x. (process_of x.0, x.1.now)) result
+        (prefix_at depth (process_at depth) bytes.now) }
 {
     let (channel, rest) = read_number(bytes)?;
     let (fields, rest) = read_fields(alloc, depth, rest)?;
@@ -107,7 +109,8 @@ fn read_guard<A: Allocator + Copy>(
     depth: usize,
     bytes: &[u8],
 ) -> Result<(Term<A>, &[u8]), UnpackFault>
-    ensures { Gives (λ x. (process_of x.0, x.1.now)) result (guard_at depth (process_at depth) bytes.now) }
+    ensures { Gives (λ x. (process_of x.0, x.1.now)) result
+        (guard_at depth (process_at depth) bytes.now) }
 {
     let (condition, rest) = read_expression(alloc, depth, bytes)?;
     let (body, rest) = read_term(alloc, depth, rest)?;
@@ -122,7 +125,8 @@ fn read_if<A: Allocator + Copy>(
     depth: usize,
     bytes: &[u8],
 ) -> Result<(Term<A>, &[u8]), UnpackFault>
-    ensures { Gives (λ x. (process_of x.0, x.1.now)) result (if_at depth (process_at depth) bytes.now) }
+    ensures { Gives (λ x. (process_of x.0, x.1.now)) result
+        (if_at depth (process_at depth) bytes.now) }
 {
     let (condition, rest) = read_expression(alloc, depth, bytes)?;
     let (first, rest) = read_term(alloc, depth, rest)?;
@@ -140,7 +144,8 @@ fn read_operands<A: Allocator + Copy>(
     depth: usize,
     bytes: &[u8],
 ) -> Result<(Term<A>, &[u8]), UnpackFault>
-    ensures { Gives (λ x. (process_of x.0, x.1.now)) result (two_at (process_at depth) (binary_process operator) bytes.now) }
+    ensures { Gives (λ x. (process_of x.0, x.1.now)) result
+        (two_at (process_at depth) (binary_process operator) bytes.now) }
 {
     let (left, rest) = read_term(alloc, depth, bytes)?;
     let (right, rest) = read_term(alloc, depth, rest)?;
@@ -156,7 +161,8 @@ fn read_sliding<A: Allocator + Copy>(
     depth: usize,
     bytes: &[u8],
 ) -> Result<(Term<A>, &[u8]), UnpackFault>
-    ensures { Gives (λ x. (process_of x.0, x.1.now)) result (two_at (process_at depth) SlidingChoice bytes.now) }
+    ensures { Gives (λ x. (process_of x.0, x.1.now)) result
+        (two_at (process_at depth) SlidingChoice bytes.now) }
 {
     let (left, rest) = read_term(alloc, depth, bytes)?;
     let (right, rest) = read_term(alloc, depth, rest)?;
@@ -174,7 +180,8 @@ fn read_generalised<A: Allocator + Copy>(
     depth: usize,
     bytes: &[u8],
 ) -> Result<(Term<A>, &[u8]), UnpackFault>
-    ensures { Gives (λ x. (process_of x.0, x.1.now)) result (generalised_at depth (process_at depth) bytes.now) }
+    ensures { Gives (λ x. (process_of x.0, x.1.now)) result
+        (generalised_at depth (process_at depth) bytes.now) }
 {
     let (left, rest) = read_term(alloc, depth, bytes)?;
     let (shared, rest) = read_event_set(alloc, depth, rest)?;
@@ -191,7 +198,8 @@ fn read_alphabetised<A: Allocator + Copy>(
     depth: usize,
     bytes: &[u8],
 ) -> Result<(Term<A>, &[u8]), UnpackFault>
-    ensures { Gives (λ x. (process_of x.0, x.1.now)) result (alphabetised_at depth (process_at depth) bytes.now) }
+    ensures { Gives (λ x. (process_of x.0, x.1.now)) result
+        (alphabetised_at depth (process_at depth) bytes.now) }
 {
     let (left, rest) = read_term(alloc, depth, bytes)?;
     let (own, rest) = read_event_set(alloc, depth, rest)?;
@@ -209,7 +217,8 @@ fn read_hiding<A: Allocator + Copy>(
     depth: usize,
     bytes: &[u8],
 ) -> Result<(Term<A>, &[u8]), UnpackFault>
-    ensures { Gives (λ x. (process_of x.0, x.1.now)) result (hiding_at depth (process_at depth) bytes.now) }
+    ensures { Gives (λ x. (process_of x.0, x.1.now)) result
+        (hiding_at depth (process_at depth) bytes.now) }
 {
     let (body, rest) = read_term(alloc, depth, bytes)?;
     let (hidden, rest) = read_event_set(alloc, depth, rest)?;
@@ -224,7 +233,8 @@ fn read_renaming<A: Allocator + Copy>(
     depth: usize,
     bytes: &[u8],
 ) -> Result<(Term<A>, &[u8]), UnpackFault>
-    ensures { Gives (λ x. (process_of x.0, x.1.now)) result (renaming_at depth (process_at depth) bytes.now) }
+    ensures { Gives (λ x. (process_of x.0, x.1.now)) result
+        (renaming_at depth (process_at depth) bytes.now) }
 {
     let (body, rest) = read_term(alloc, depth, bytes)?;
     let (pairs, rest) = read_pairs(alloc, depth, rest)?;
@@ -240,7 +250,8 @@ fn read_replicated<A: Allocator + Copy>(
     depth: usize,
     bytes: &[u8],
 ) -> Result<(Term<A>, &[u8]), UnpackFault>
-    ensures { Gives (λ x. (process_of x.0, x.1.now)) result (replicated_at depth (process_at depth) (replicated_process operator) bytes.now) }
+    ensures { Gives (λ x. (process_of x.0, x.1.now)) result
+        (replicated_at depth (process_at depth) (replicated_process operator) bytes.now) }
 {
     let (name, rest) = read_number(bytes)?;
     let (set, rest) = read_expression(alloc, depth, rest)?;

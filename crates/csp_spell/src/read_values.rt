@@ -36,7 +36,8 @@ fn read_tagged<A: Allocator + Copy>(
     tag: u8,
     bytes: &[u8],
 ) -> Result<(Value<A>, &[u8]), UnpackFault>
-    ensures { Gives (λ x. (value_of x.0, x.1.now)) result (value_behind (value_at depth) tag bytes.now) }
+    ensures { Gives (λ x. (value_of x.0, x.1.now)) result
+        (value_behind (value_at depth) tag bytes.now) }
 {
     match tag {
         0x60 => {
@@ -68,7 +69,8 @@ fn read_set<A: Allocator + Copy>(
     depth: usize,
     bytes: &[u8],
 ) -> Result<(Value<A>, &[u8]), UnpackFault>
-    ensures { Gives (λ x. (value_of x.0, x.1.now)) result (found_as Set (members_at (value_at depth) bytes.now)) }
+    ensures { Gives (λ x. (value_of x.0, x.1.now)) result
+        (found_as Set (members_at (value_at depth) bytes.now)) }
 {
     let (members, rest) = read_values(alloc, depth, bytes)?;
     if is_rising(&members) {
@@ -85,7 +87,8 @@ fn read_constructor<A: Allocator + Copy>(
     depth: usize,
     bytes: &[u8],
 ) -> Result<(Value<A>, &[u8]), UnpackFault>
-    ensures { Gives (λ x. (value_of x.0, x.1.now)) result (constructor_at (value_at depth) bytes.now) }
+    ensures { Gives (λ x. (value_of x.0, x.1.now)) result
+        (constructor_at (value_at depth) bytes.now) }
 {
     let (constructor, rest) = read_number(bytes)?;
     let (fields, rest) = read_values(alloc, depth, rest)?;
@@ -103,7 +106,8 @@ fn read_values<A: Allocator + Copy>(
     depth: usize,
     bytes: &[u8],
 ) -> Result<(Vec<Value<A>, A>, &[u8]), UnpackFault>
-    ensures { Gives (λ x. (values_of x.0.items, x.1.now)) result (list_at (value_at depth) bytes.now) }
+    ensures { Gives (λ x. (values_of x.0.items, x.1.now)) result
+        (list_at (value_at depth) bytes.now) }
 {
     let (count, rest) = read_number(bytes)?;
     read_each_value(alloc, depth, count, rest)
@@ -117,7 +121,8 @@ fn read_each_value<A: Allocator + Copy>(
     count: u32,
     bytes: &[u8],
 ) -> Result<(Vec<Value<A>, A>, &[u8]), UnpackFault>
-    ensures { Gives (λ x. (values_of x.0.items, x.1.now)) result (items_at (value_at depth) count bytes.now) }
+    ensures { Gives (λ x. (values_of x.0.items, x.1.now)) result
+        (items_at (value_at depth) count bytes.now) }
 {
     let mut values = Vec::new(alloc);
     let mut rest = bytes;

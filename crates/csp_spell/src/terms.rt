@@ -31,7 +31,8 @@ pub(crate) fn push_spelling<A: Allocator>(
     bytes: &mut Vec<u8, A>,
 ) -> Result<(), Memory>
     requires { IsPackable (process_of term.now) }
-    ensures spelled { OnOk result (bytes.new.items ≡ bytes.old.items ++ spelling (process_of term.now)) }
+    ensures spelled { OnOk result (bytes.new.items ≡ bytes.old.items
+        ++ spelling (process_of term.now)) }
     ensures range { OnOk result (IsInRange (process_of term.now)) }
 {
     push_form(term.form(), bytes)
@@ -41,7 +42,8 @@ pub(crate) fn push_spelling<A: Allocator>(
 #[cycle(push_spelling)]
 fn push_form<A: Allocator>(form: &TermForm<A>, bytes: &mut Vec<u8, A>) -> Result<(), Memory>
     requires { IsPackable (process_of_form form.now) }
-    ensures spelled { OnOk result (bytes.new.items ≡ bytes.old.items ++ spelling (process_of_form form.now)) }
+    ensures spelled { OnOk result (bytes.new.items ≡ bytes.old.items
+        ++ spelling (process_of_form form.now)) }
     ensures range { OnOk result (IsInRange (process_of_form form.now)) }
 {
     match form {
@@ -75,8 +77,10 @@ fn push_call<A: Allocator>(
     bytes: &mut Vec<u8, A>,
 ) -> Result<(), Memory>
     requires { IsPackable (Call equation.0 (to_expressions (expressions_of arguments.now))) }
-    ensures spelled { OnOk result (bytes.new.items ≡ bytes.old.items ++ spelling (Call equation.0 (to_expressions (expressions_of arguments.now)))) }
-    ensures range { OnOk result (IsInRange (Call equation.0 (to_expressions (expressions_of arguments.now)))) }
+    ensures spelled { OnOk result (bytes.new.items ≡ bytes.old.items
+        ++ spelling (Call equation.0 (to_expressions (expressions_of arguments.now)))) }
+    ensures range { OnOk result (IsInRange
+        (Call equation.0 (to_expressions (expressions_of arguments.now)))) }
 {
     bytes.push(0x04)?;
     push_number(equation.0, bytes)?;
@@ -92,8 +96,10 @@ fn push_prefix<A: Allocator>(
     bytes: &mut Vec<u8, A>,
 ) -> Result<(), Memory>
     requires { IsPackable (Prefix channel.0 (fields_of fields.now) (process_of body.now)) }
-    ensures spelled { OnOk result (bytes.new.items ≡ bytes.old.items ++ spelling (Prefix channel.0 (fields_of fields.now) (process_of body.now))) }
-    ensures range { OnOk result (IsInRange (Prefix channel.0 (fields_of fields.now) (process_of body.now))) }
+    ensures spelled { OnOk result (bytes.new.items ≡ bytes.old.items
+        ++ spelling (Prefix channel.0 (fields_of fields.now) (process_of body.now))) }
+    ensures range { OnOk result (IsInRange
+        (Prefix channel.0 (fields_of fields.now) (process_of body.now))) }
 {
     bytes.push(0x05)?;
     push_number(channel.0, bytes)?;
@@ -109,8 +115,10 @@ fn push_guard<A: Allocator>(
     bytes: &mut Vec<u8, A>,
 ) -> Result<(), Memory>
     requires { IsPackable (Guard (expression_of condition.now) (process_of body.now)) }
-    ensures spelled { OnOk result (bytes.new.items ≡ bytes.old.items ++ spelling (Guard (expression_of condition.now) (process_of body.now))) }
-    ensures range { OnOk result (IsInRange (Guard (expression_of condition.now) (process_of body.now))) }
+    ensures spelled { OnOk result (bytes.new.items ≡ bytes.old.items
+        ++ spelling (Guard (expression_of condition.now) (process_of body.now))) }
+    ensures range { OnOk result (IsInRange
+        (Guard (expression_of condition.now) (process_of body.now))) }
 {
     bytes.push(0x06)?;
     push_expression(condition, bytes)?;
@@ -125,9 +133,13 @@ fn push_if<A: Allocator>(
     second: &Term<A>,
     bytes: &mut Vec<u8, A>,
 ) -> Result<(), Memory>
-    requires { IsPackable (If (expression_of condition.now) (process_of first.now) (process_of second.now)) }
-    ensures spelled { OnOk result (bytes.new.items ≡ bytes.old.items ++ spelling (If (expression_of condition.now) (process_of first.now) (process_of second.now))) }
-    ensures range { OnOk result (IsInRange (If (expression_of condition.now) (process_of first.now) (process_of second.now))) }
+    requires { IsPackable (If (expression_of condition.now) (process_of first.now)
+        (process_of second.now)) }
+    ensures spelled { OnOk result (bytes.new.items ≡ bytes.old.items
+        ++ spelling (If (expression_of condition.now) (process_of first.now)
+        (process_of second.now))) }
+    ensures range { OnOk result (IsInRange
+        (If (expression_of condition.now) (process_of first.now) (process_of second.now))) }
 {
     bytes.push(0x07)?;
     push_expression(condition, bytes)?;
@@ -144,8 +156,10 @@ fn push_binary<A: Allocator>(
     bytes: &mut Vec<u8, A>,
 ) -> Result<(), Memory>
     requires { IsPackable (binary_process operator (process_of left.now) (process_of right.now)) }
-    ensures spelled { OnOk result (bytes.new.items ≡ bytes.old.items ++ spelling (binary_process operator (process_of left.now) (process_of right.now))) }
-    ensures range { OnOk result (IsInRange (binary_process operator (process_of left.now) (process_of right.now))) }
+    ensures spelled { OnOk result (bytes.new.items ≡ bytes.old.items
+        ++ spelling (binary_process operator (process_of left.now) (process_of right.now))) }
+    ensures range { OnOk result (IsInRange
+        (binary_process operator (process_of left.now) (process_of right.now))) }
 {
     bytes.push(process_tag(operator))?;
     push_spelling(left, bytes)?;
@@ -160,9 +174,14 @@ fn push_generalised<A: Allocator>(
     right: &Term<A>,
     bytes: &mut Vec<u8, A>,
 ) -> Result<(), Memory>
-    requires { IsPackable (GeneralisedParallel (process_of left.now) (event_set_of shared.now) (process_of right.now)) }
-    ensures spelled { OnOk result (bytes.new.items ≡ bytes.old.items ++ spelling (GeneralisedParallel (process_of left.now) (event_set_of shared.now) (process_of right.now))) }
-    ensures range { OnOk result (IsInRange (GeneralisedParallel (process_of left.now) (event_set_of shared.now) (process_of right.now))) }
+    requires { IsPackable (GeneralisedParallel (process_of left.now) (event_set_of shared.now)
+        (process_of right.now)) }
+    ensures spelled { OnOk result (bytes.new.items ≡ bytes.old.items
+        ++ spelling (GeneralisedParallel (process_of left.now) (event_set_of shared.now)
+        (process_of right.now))) }
+    ensures range { OnOk result (IsInRange
+        (GeneralisedParallel (process_of left.now) (event_set_of shared.now)
+        (process_of right.now))) }
 {
     bytes.push(0x0d)?;
     push_spelling(left, bytes)?;
@@ -179,9 +198,14 @@ fn push_alphabetised<A: Allocator>(
     right: &Term<A>,
     bytes: &mut Vec<u8, A>,
 ) -> Result<(), Memory>
-    requires { IsPackable (AlphabetisedParallel (process_of left.now) (event_set_of own.now) (event_set_of other.now) (process_of right.now)) }
-    ensures spelled { OnOk result (bytes.new.items ≡ bytes.old.items ++ spelling (AlphabetisedParallel (process_of left.now) (event_set_of own.now) (event_set_of other.now) (process_of right.now))) }
-    ensures range { OnOk result (IsInRange (AlphabetisedParallel (process_of left.now) (event_set_of own.now) (event_set_of other.now) (process_of right.now))) }
+    requires { IsPackable (AlphabetisedParallel (process_of left.now) (event_set_of own.now)
+        (event_set_of other.now) (process_of right.now)) }
+    ensures spelled { OnOk result (bytes.new.items ≡ bytes.old.items
+        ++ spelling (AlphabetisedParallel (process_of left.now) (event_set_of own.now)
+        (event_set_of other.now) (process_of right.now))) }
+    ensures range { OnOk result (IsInRange
+        (AlphabetisedParallel (process_of left.now) (event_set_of own.now) (event_set_of other.now)
+        (process_of right.now))) }
 {
     bytes.push(0x0e)?;
     push_spelling(left, bytes)?;
@@ -198,8 +222,10 @@ fn push_hiding<A: Allocator>(
     bytes: &mut Vec<u8, A>,
 ) -> Result<(), Memory>
     requires { IsPackable (Hiding (process_of body.now) (event_set_of hidden.now)) }
-    ensures spelled { OnOk result (bytes.new.items ≡ bytes.old.items ++ spelling (Hiding (process_of body.now) (event_set_of hidden.now))) }
-    ensures range { OnOk result (IsInRange (Hiding (process_of body.now) (event_set_of hidden.now))) }
+    ensures spelled { OnOk result (bytes.new.items ≡ bytes.old.items
+        ++ spelling (Hiding (process_of body.now) (event_set_of hidden.now))) }
+    ensures range { OnOk result (IsInRange
+        (Hiding (process_of body.now) (event_set_of hidden.now))) }
 {
     bytes.push(0x0f)?;
     push_spelling(body, bytes)?;
@@ -214,8 +240,10 @@ fn push_renaming<A: Allocator>(
     bytes: &mut Vec<u8, A>,
 ) -> Result<(), Memory>
     requires { IsPackable (Renaming (process_of body.now) (renaming_pairs_of pairs.now)) }
-    ensures spelled { OnOk result (bytes.new.items ≡ bytes.old.items ++ spelling (Renaming (process_of body.now) (renaming_pairs_of pairs.now))) }
-    ensures range { OnOk result (IsInRange (Renaming (process_of body.now) (renaming_pairs_of pairs.now))) }
+    ensures spelled { OnOk result (bytes.new.items ≡ bytes.old.items
+        ++ spelling (Renaming (process_of body.now) (renaming_pairs_of pairs.now))) }
+    ensures range { OnOk result (IsInRange
+        (Renaming (process_of body.now) (renaming_pairs_of pairs.now))) }
 {
     bytes.push(0x10)?;
     push_spelling(body, bytes)?;
@@ -231,9 +259,13 @@ fn push_replicated<A: Allocator>(
     body: &Term<A>,
     bytes: &mut Vec<u8, A>,
 ) -> Result<(), Memory>
-    requires { IsPackable (replicated_process operator name.0 (expression_of set.now) (process_of body.now)) }
-    ensures spelled { OnOk result (bytes.new.items ≡ bytes.old.items ++ spelling (replicated_process operator name.0 (expression_of set.now) (process_of body.now))) }
-    ensures range { OnOk result (IsInRange (replicated_process operator name.0 (expression_of set.now) (process_of body.now))) }
+    requires { IsPackable (replicated_process operator name.0 (expression_of set.now)
+        (process_of body.now)) }
+    ensures spelled { OnOk result (bytes.new.items ≡ bytes.old.items
+        ++ spelling (replicated_process operator name.0 (expression_of set.now)
+        (process_of body.now))) }
+    ensures range { OnOk result (IsInRange
+        (replicated_process operator name.0 (expression_of set.now) (process_of body.now))) }
 {
     bytes.push(replicated_tag(operator))?;
     push_number(name.0, bytes)?;
@@ -249,8 +281,10 @@ fn push_sliding<A: Allocator>(
     bytes: &mut Vec<u8, A>,
 ) -> Result<(), Memory>
     requires { IsPackable (SlidingChoice (process_of left.now) (process_of right.now)) }
-    ensures spelled { OnOk result (bytes.new.items ≡ bytes.old.items ++ spelling (SlidingChoice (process_of left.now) (process_of right.now))) }
-    ensures range { OnOk result (IsInRange (SlidingChoice (process_of left.now) (process_of right.now))) }
+    ensures spelled { OnOk result (bytes.new.items ≡ bytes.old.items
+        ++ spelling (SlidingChoice (process_of left.now) (process_of right.now))) }
+    ensures range { OnOk result (IsInRange
+        (SlidingChoice (process_of left.now) (process_of right.now))) }
 {
     bytes.push(0x14)?;
     push_spelling(left, bytes)?;

@@ -32,9 +32,11 @@ fn read_whole<A: Allocator + Copy>(alloc: A, bytes: &[u8]) -> Result<Term<A>, Un
 /// It calls itself as deep as the term nests, which is at most once for a byte.
 pub fn unpack<A: Allocator + Copy>(alloc: A, bytes: &[u8]) -> Result<Term<A>, UnpackFault>
     // What is read is spelled so.
-    ensures found { IfOk result (λ term. (spelling (process_of term) ≡ bytes.now) × IsSpellable (process_of term)) }
+    ensures found { IfOk result (λ term. (spelling (process_of term) ≡ bytes.now)
+        × IsSpellable (process_of term)) }
     // What is spelled so is read, unless memory is refused.
-    ensures only { (p : Process) → IsSpellable p → spelling p ≡ bytes.now → Gives process_of result (Some p) }
+    ensures only { (p : Process) → IsSpellable p → spelling p ≡ bytes.now
+        → Gives process_of result (Some p) }
     // Which fault it is.
     ensures exact { Gives process_of result (term_of bytes.now) }
 {

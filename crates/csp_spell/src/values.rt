@@ -19,7 +19,8 @@ pub(crate) fn push_value<A: Allocator>(
     bytes: &mut Vec<u8, A>,
 ) -> Result<(), Memory>
     requires { IsPackableValue (value_of value.now) }
-    ensures spelled { OnOk result (bytes.new.items ≡ bytes.old.items ++ value_spelling (value_of value.now)) }
+    ensures spelled { OnOk result (bytes.new.items ≡ bytes.old.items
+        ++ value_spelling (value_of value.now)) }
     ensures range { OnOk result (IsInRangeValue (value_of value.now)) }
 {
     match value {
@@ -52,8 +53,10 @@ fn push_constructor<A: Allocator>(
     bytes: &mut Vec<u8, A>,
 ) -> Result<(), Memory>
     requires { IsPackableList IsPackableValue (values_of fields.now) }
-    ensures spelled { OnOk result (bytes.new.items ≡ bytes.old.items ++ value_spelling (Constructor constructor.0 (to_values (values_of fields.now)))) }
-    ensures range { OnOk result (IsInRangeValue (Constructor constructor.0 (to_values (values_of fields.now)))) }
+    ensures spelled { OnOk result (bytes.new.items ≡ bytes.old.items
+        ++ value_spelling (Constructor constructor.0 (to_values (values_of fields.now)))) }
+    ensures range { OnOk result (IsInRangeValue
+        (Constructor constructor.0 (to_values (values_of fields.now)))) }
 {
     if fields.is_empty() {
         return push_tagged(0x62, constructor.0, bytes);
@@ -67,7 +70,8 @@ fn push_constructor<A: Allocator>(
 #[cycle(push_value)]
 fn push_values<A: Allocator>(values: &[Value<A>], bytes: &mut Vec<u8, A>) -> Result<(), Memory>
     requires { IsPackableList IsPackableValue (values_of values.now) }
-    ensures spelled { OnOk result (bytes.new.items ≡ bytes.old.items ++ list_spelling value_spelling (values_of values.now)) }
+    ensures spelled { OnOk result (bytes.new.items ≡ bytes.old.items
+        ++ list_spelling value_spelling (values_of values.now)) }
     ensures range { OnOk result (AllByRecursion IsInRangeValue (values_of values.now)) }
 {
     push_length(values.len(), bytes)?;

@@ -20,7 +20,8 @@ pub fn by_sides<A: AllocHandle>(
     alloc: A,
     sides: Result<(Side<A>, Side<A>), NoValue>,
 ) -> Result<Vec<RuleStep<A>, A>, NoValue>
-    ensures { (s : pure.Script) (p q : pure.Process) → AreSidesOf s p q sides → Answers s (ExternalChoice p q) result }
+    ensures { (s : pure.Script) (p q : pure.Process) → AreSidesOf s p q sides
+        → Answers s (ExternalChoice p q) result }
 {
     let (left, right) = sides?;
     Ok(between(alloc, left, right)?.steps)
@@ -28,8 +29,10 @@ pub fn by_sides<A: AllocHandle>(
 
 /// `P [] Q` with its steps, for a longer chain. `Memory` says that there is no room.
 pub fn between<A: AllocHandle>(alloc: A, left: Side<A>, right: Side<A>) -> Result<Side<A>, Memory>
-    ensures process { IfOk result (λ side. target_of side.process ≡ process_of_sides ExternalChoice left right) }
-    ensures steps { IfOk result (λ side. side_answers side ≡ answers_of_sides external_answers left right) }
+    ensures process { IfOk result (λ side. target_of side.process
+        ≡ process_of_sides ExternalChoice left right) }
+    ensures steps { IfOk result (λ side. side_answers side
+        ≡ answers_of_sides external_answers left right) }
 {
     let composition = Composition::Operator(ProcessOperator::ExternalChoice);
     let side = under(alloc, &composition, left, right);
@@ -44,8 +47,10 @@ fn under<A: AllocHandle>(
     left: Side<A>,
     right: Side<A>,
 ) -> Result<Side<A>, Memory>
-    ensures process { IfOk result (λ side. target_of side.process ≡ process_of_sides (composition_of composition.now) left right) }
-    ensures steps { IfOk result (λ side. side_answers side ≡ answers_of_sides (left_answers (composition_of composition.now)) left right) }
+    ensures process { IfOk result (λ side. target_of side.process
+        ≡ process_of_sides (composition_of composition.now) left right) }
+    ensures steps { IfOk result (λ side. side_answers side
+        ≡ answers_of_sides (left_answers (composition_of composition.now)) left right) }
 {
     let mut steps = Vec::new(alloc);
     let context = Context {
@@ -72,7 +77,8 @@ pub fn taus<A: AllocHandle>(
     left: Target<A>,
     right: Target<A>,
 ) -> Result<Vec<RuleStep<A>, A>, Memory>
-    ensures { IfOk result (λ steps. answers_of steps ≡ tau_answers (target_of left) (target_of right)) }
+    ensures { IfOk result (λ steps. answers_of steps
+        ≡ tau_answers (target_of left) (target_of right)) }
 {
     let mut steps = one_step(alloc, Action::Tau, left)?;
     add_step(Action::Tau, right, &mut steps)?;
@@ -85,7 +91,8 @@ pub fn either<A: AllocHandle>(
     left: Target<A>,
     right: Target<A>,
 ) -> Result<Target<A>, Memory>
-    ensures { IfOk result (λ t. target_of t ≡ under_both InternalChoice (target_of left) (target_of right)) }
+    ensures { IfOk result (λ t. target_of t ≡ under_both InternalChoice (target_of left)
+        (target_of right)) }
 {
     let composition = Composition::Operator(ProcessOperator::InternalChoice);
     let target = composition.of(alloc, left, right);

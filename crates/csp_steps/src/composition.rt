@@ -38,7 +38,8 @@ fn within<A: AllocHandle>(term: Term<A>) -> Target<A>
 
 impl<A: AllocHandle> Composition<A> {
     fn form(&self, alloc: A, left: Term<A>, right: Term<A>) -> Result<TermForm<A>, Memory>
-        ensures { IfOk result (λ form. process_of_form form ≡ composition_of self.now (process_of left) (process_of right)) }
+        ensures { IfOk result (λ form. process_of_form form
+            ≡ composition_of self.now (process_of left) (process_of right)) }
     {
         match self {
             Composition::Operator(operator) => Ok(TermForm::Binary(*operator, left, right)),
@@ -62,7 +63,8 @@ impl<A: AllocHandle> Composition<A> {
         left: Target<A>,
         right: Target<A>,
     ) -> Result<Target<A>, Memory>
-        ensures { IfOk result (λ t. target_of t ≡ under_both (composition_of self.now) (target_of left) (target_of right)) }
+        ensures { IfOk result (λ t. target_of t ≡ under_both (composition_of self.now)
+            (target_of left) (target_of right)) }
     {
         let Target::Within(left) = left else {
             return Ok(Target::Past);
@@ -87,7 +89,8 @@ impl<A: AllocHandle> Frame<A> {
 
     /// What the operator makes of the process, if it is within the limits. It is not where the process is not.
     pub(crate) fn of(&self, alloc: A, body: Target<A>) -> Result<Target<A>, Memory>
-        ensures { IfOk result (λ t. target_of t ≡ under_limits (frame_of self.now) (target_of body)) }
+        ensures { IfOk result (λ t. target_of t ≡ under_limits (frame_of self.now)
+            (target_of body)) }
     {
         let Target::Within(body) = body else {
             return Ok(Target::Past);

@@ -19,7 +19,8 @@ use csp_term::{Action, AllocHandle, Event, Memory, ScriptParts};
 /// What is seen of the event.
 fn hidden_event<A: AllocHandle>(test: &EventTest<A>, event: Event<A>) -> Action<A>
     requires { AreSorted (listed_in test.now) }
-    ensures { action_of result ≡ cond (test_of test.now (event_of event)) Tau (Ev (event_of event)) }
+    ensures { action_of result ≡ cond (test_of test.now (event_of event)) Tau
+        (Ev (event_of event)) }
 {
     if test.holds(&event) {
         Action::Tau
@@ -35,7 +36,8 @@ fn under<A: AllocHandle>(
     action: Action<A>,
     target: Target<A>,
 ) -> Result<RuleStep<A>, Memory>
-    ensures { IfOk result (λ s. answered_of s ≡ (action_of action, under_frame frame.now (target_of target))) }
+    ensures { IfOk result (λ s. answered_of s
+        ≡ (action_of action, under_frame frame.now (target_of target))) }
 {
     let target = frame.of(alloc, target)?;
     Ok(RuleStep { action, target })
@@ -48,7 +50,8 @@ fn step<A: AllocHandle>(
     of_body: RuleStep<A>,
 ) -> Result<RuleStep<A>, Memory>
     requires { AreSorted (listed_in test.now) }
-    ensures { IfOk result (λ s. answered_of s ∷ [] ≡ one_answer (hide_answer (test_of test.now) (under_frame frame.now)) of_body) }
+    ensures { IfOk result (λ s. answered_of s ∷ []
+        ≡ one_answer (hide_answer (test_of test.now) (under_frame frame.now)) of_body) }
 {
     let RuleStep { action, target } = of_body;
     match action {
@@ -70,7 +73,8 @@ pub fn by_body<A: AllocHandle>(
     hidden: EventSet<A>,
     body: Result<Vec<RuleStep<A>, A>, NoValue>,
 ) -> Result<Vec<RuleStep<A>, A>, NoValue>
-    ensures { (p : pure.Process) → AnswersIn script.now p body → AnswersIn script.now (Hiding p (event_set_of hidden)) result }
+    ensures { (p : pure.Process) → AnswersIn script.now p body
+        → AnswersIn script.now (Hiding p (event_set_of hidden)) result }
 {
     let test = script.event_test(alloc, &hidden)?;
     let body = body?;
@@ -89,7 +93,8 @@ fn without<A: AllocHandle>(
     body: Vec<RuleStep<A>, A>,
 ) -> Result<Vec<RuleStep<A>, A>, Memory>
     requires { AreSorted (listed_in test.now) }
-    ensures { IfOk result (λ steps. answers_of steps ≡ each_answer (hide_answer (test_of test.now) (under_frame frame.now)) (answers_of body)) }
+    ensures { IfOk result (λ steps. answers_of steps
+        ≡ each_answer (hide_answer (test_of test.now) (under_frame frame.now)) (answers_of body)) }
 {
     let mut steps = Vec::new(alloc);
     for of_body in body {

@@ -21,7 +21,8 @@ pub fn by_sides<A: AllocHandle>(
     alloc: A,
     sides: Result<(Side<A>, Side<A>), NoValue>,
 ) -> Result<Vec<RuleStep<A>, A>, NoValue>
-    ensures { (s : pure.Script) (p q : pure.Process) → AreSidesOf s p q sides → Answers s (Interrupt p q) result }
+    ensures { (s : pure.Script) (p q : pure.Process) → AreSidesOf s p q sides
+        → Answers s (Interrupt p q) result }
 {
     let (left, right) = sides?;
     let composition = Composition::Operator(ProcessOperator::Interrupt);
@@ -37,7 +38,8 @@ fn under<A: AllocHandle>(
     left: Side<A>,
     right: Side<A>,
 ) -> Result<Vec<RuleStep<A>, A>, Memory>
-    ensures { IfOk result (λ steps. answers_of steps ≡ answers_of_sides (ended_or_left_answers (composition_of composition.now)) left right) }
+    ensures { IfOk result (λ steps. answers_of steps
+        ≡ answers_of_sides (ended_or_left_answers (composition_of composition.now)) left right) }
 {
     let mut steps = Vec::new(alloc);
     let context = Context {
@@ -64,7 +66,8 @@ fn goes_on<A: AllocHandle>(
     moves: Vec<RuleStep<A>, A>,
     steps: &mut Vec<RuleStep<A>, A>,
 ) -> Result<(), Memory>
-    ensures { OnOk result (answers_of steps.new ≡ answers_of steps.old ++ each_answer (ending_answer (around_of context.entry)) (answers_of moves)) }
+    ensures { OnOk result (answers_of steps.new ≡ answers_of steps.old
+        ++ each_answer (ending_answer (around_of context.entry)) (answers_of moves)) }
 {
     let sharing = Sharing::Nothing;
     let added = stay::add(alloc, context, &sharing, AfterTick::All, moves, steps);

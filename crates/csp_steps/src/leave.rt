@@ -14,7 +14,8 @@ fn step<A: AllocHandle>(
     context: Context<'_, A>,
     of_side: RuleStep<A>,
 ) -> Result<RuleStep<A>, Memory>
-    ensures { IfOk result (λ s. answered_of s ∷ [] ≡ one_answer (leave_answer (around_of context.entry)) of_side) }
+    ensures { IfOk result (λ s. answered_of s ∷ []
+        ≡ one_answer (leave_answer (around_of context.entry)) of_side) }
 {
     let RuleStep { action, target } = of_side;
     match action {
@@ -34,7 +35,8 @@ pub(crate) fn add<A: AllocHandle>(
     moves: Vec<RuleStep<A>, A>,
     steps: &mut Vec<RuleStep<A>, A>,
 ) -> Result<(), Memory>
-    ensures { OnOk result (answers_of steps.new ≡ answers_of steps.old ++ each_answer (leave_answer (around_of context.entry)) (answers_of moves)) }
+    ensures { OnOk result (answers_of steps.new ≡ answers_of steps.old
+        ++ each_answer (leave_answer (around_of context.entry)) (answers_of moves)) }
 {
     for of_side in moves {
         steps.push(step(alloc, context, of_side)?)?;

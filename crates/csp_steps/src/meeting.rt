@@ -24,7 +24,8 @@ impl<'m, A: AllocHandle> Meeting<'m, A> {
     /// Whether the sides do the action together.
     fn is_shared(self, action: &Action<A>) -> bool
         requires { IsSearchable self.sharing.now }
-        ensures { result ≡ is_done_together (is_shared self.entry.sharing.now) (action_of action.now) }
+        ensures { result ≡ is_done_together (is_shared self.entry.sharing.now)
+            (action_of action.now) }
     {
         match action {
             Action::Event(event) => self.sharing.is_shared(event),
@@ -43,7 +44,9 @@ impl<'m, A: AllocHandle> Meeting<'m, A> {
 
     /// Where both steps lead.
     fn target(self, alloc: A, left: &Target<A>, right: &Target<A>) -> Result<Target<A>, Memory>
-        ensures { IfOk result (λ t. target_of t ≡ under_both (composition_of self.entry.composition.now) (target_of left.now) (target_of right.now)) }
+        ensures { IfOk result (λ t. target_of t ≡ under_both
+            (composition_of self.entry.composition.now) (target_of left.now)
+            (target_of right.now)) }
     {
         let left = left.try_copy(alloc)?;
         let right = right.try_copy(alloc)?;
@@ -59,7 +62,8 @@ impl<'m, A: AllocHandle> Meeting<'m, A> {
     ) -> Result<(), Memory>
         requires searchable { IsSearchable self.sharing.now }
         requires rising { AreRising self.right.now }
-        ensures { OnOk result (answers_of steps.new ≡ answers_of steps.old ++ one_answer (meeting_answers self.entry) left.now) }
+        ensures { OnOk result (answers_of steps.new
+            ≡ answers_of steps.old ++ one_answer (meeting_answers self.entry) left.now) }
     {
         if !self.is_shared(&left.action) {
             return Ok(());
@@ -87,7 +91,9 @@ impl<'m, A: AllocHandle> Meeting<'m, A> {
     ) -> Result<(), Memory>
         requires searchable { IsSearchable self.sharing.now }
         requires rising { AreRising self.right.now }
-        ensures { OnOk result (answers_of steps.new ≡ answers_of steps.old ++ each_answer (meeting_answers self.entry) (map answered_of left.now)) }
+        ensures { OnOk result (answers_of steps.new
+            ≡ answers_of steps.old ++ each_answer (meeting_answers self.entry)
+            (map answered_of left.now)) }
     {
         for step in left {
             self.add_with(alloc, step, steps)?;

@@ -24,7 +24,8 @@ fn add_images<A: AllocHandle>(
     target: &Target<A>,
     steps: &mut Vec<RuleStep<A>, A>,
 ) -> Result<(), Memory>
-    ensures { OnOk result (answers_of steps.new ≡ answers_of steps.old ++ image_answers (target_of target.now) (map event_of images.items)) }
+    ensures { OnOk result (answers_of steps.new ≡ answers_of steps.old
+        ++ image_answers (target_of target.now) (map event_of images.items)) }
 {
     for image in images {
         let target = target.try_copy(alloc)?;
@@ -44,7 +45,8 @@ fn add_event<A: AllocHandle>(
     steps: &mut Vec<RuleStep<A>, A>,
 ) -> Result<(), Memory>
     requires { PairsRise images.now }
-    ensures { OnOk result (answers_of steps.new ≡ answers_of steps.old ++ renamed_answer frame.now images.now (Ev (event_of event)) (target_of target)) }
+    ensures { OnOk result (answers_of steps.new ≡ answers_of steps.old
+        ++ renamed_answer frame.now images.now (Ev (event_of event)) (target_of target)) }
 {
     let target = frame.of(alloc, target)?;
     let images = images.of_event(alloc, event)?;
@@ -59,7 +61,8 @@ fn add_one<A: AllocHandle>(
     steps: &mut Vec<RuleStep<A>, A>,
 ) -> Result<(), Memory>
     requires { PairsRise images.now }
-    ensures { OnOk result (answers_of steps.new ≡ answers_of steps.old ++ one_answer (renamed_answer frame.now images.now) of_body) }
+    ensures { OnOk result (answers_of steps.new ≡ answers_of steps.old
+        ++ one_answer (renamed_answer frame.now images.now) of_body) }
 {
     let RuleStep { action, target } = of_body;
     match action {
@@ -77,7 +80,8 @@ pub fn by_body<A: AllocHandle>(
     pairs: Vec<RenamingPair<A>, A>,
     body: Result<Vec<RuleStep<A>, A>, NoValue>,
 ) -> Result<Vec<RuleStep<A>, A>, NoValue>
-    ensures { (p : pure.Process) → AnswersIn script.now p body → AnswersIn script.now (Renaming p (renaming_pairs_of pairs.items)) result }
+    ensures { (p : pure.Process) → AnswersIn script.now p body
+        → AnswersIn script.now (Renaming p (renaming_pairs_of pairs.items)) result }
 {
     let images = script.images(alloc, &pairs)?;
     let body = body?;
@@ -95,7 +99,8 @@ fn renamed<A: AllocHandle>(
     body: Vec<RuleStep<A>, A>,
 ) -> Result<Vec<RuleStep<A>, A>, Memory>
     requires { PairsRise images.now }
-    ensures { IfOk result (λ steps. answers_of steps ≡ each_answer (renamed_answer frame.now images.now) (answers_of body)) }
+    ensures { IfOk result (λ steps. answers_of steps
+        ≡ each_answer (renamed_answer frame.now images.now) (answers_of body)) }
 {
     let mut steps = Vec::new(alloc);
     for of_body in body {

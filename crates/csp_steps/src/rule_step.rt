@@ -33,7 +33,8 @@ impl<A: AllocHandle> Target<A> {
         term: &Term<A>,
         bindings: &[Binding<'_, A>],
     ) -> Result<Target<A>, Memory>
-        ensures { IfOk result (λ t. target_of t ≡ within_limits (process_under bindings.now term.now)) }
+        ensures { IfOk result (λ t. target_of t ≡ within_limits
+            (process_under bindings.now term.now)) }
     {
         match term.subst(alloc, bindings) {
             Ok(target) => Ok(Target::Within(target)),
@@ -81,7 +82,8 @@ pub(crate) fn add_step<A: AllocHandle>(
     target: Target<A>,
     steps: &mut Vec<RuleStep<A>, A>,
 ) -> Result<(), Memory>
-    ensures { OnOk result (answers_of steps.new ≡ answers_of steps.old ++ (action_of action, target_of target) ∷ []) }
+    ensures { OnOk result (answers_of steps.new ≡ answers_of steps.old
+        ++ (action_of action, target_of target) ∷ []) }
 {
     steps.push(RuleStep { action, target })?;
     Ok(())

@@ -85,7 +85,8 @@ fn binary<'v, A: AllocHandle>(
     left: &'v Term<A>,
     right: &'v Term<A>,
 ) -> Result<Vec<RuleStep<A>, A>, NoValue>
-    ensures { AnswersUnder script.now bindings.now (binary_process operator (process_of left.now) (process_of right.now)) result }
+    ensures { AnswersUnder script.now bindings.now
+        (binary_process operator (process_of left.now) (process_of right.now)) result }
 {
     match operator {
         ProcessOperator::ExternalChoice => choice::external(alloc, script, bindings, left, right),

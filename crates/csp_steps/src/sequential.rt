@@ -23,7 +23,9 @@ pub fn by_left<'t, A: AllocHandle>(
     right: &'t Target<A>,
     next: &'t Target<A>,
 ) -> Result<Vec<RuleStep<A>, A>, NoValue>
-    ensures { (s : pure.Script) (p q : pure.Process) → Answers s p left → target_of right.now ≡ within_limits q → target_of next.now ≡ within_limits (settled s q) → Answers s (Sequential p q) result }
+    ensures { (s : pure.Script) (p q : pure.Process) → Answers s p left
+        → target_of right.now ≡ within_limits q → target_of next.now ≡ within_limits (settled s q)
+        → Answers s (Sequential p q) result }
 {
     let left = left?;
     Ok(before(alloc, left, right, next)?)
@@ -36,7 +38,8 @@ fn before<'t, A: AllocHandle>(
     right: &'t Target<A>,
     next: &'t Target<A>,
 ) -> Result<Vec<RuleStep<A>, A>, Memory>
-    ensures { IfOk result (λ steps. answers_of steps ≡ sequential_answers (answers_of left) (target_of right.now) (target_of next.now)) }
+    ensures { IfOk result (λ steps. answers_of steps
+        ≡ sequential_answers (answers_of left) (target_of right.now) (target_of next.now)) }
 {
     let composition = Composition::Operator(ProcessOperator::Sequential);
     let sharing = Sharing::Nothing;

@@ -22,7 +22,8 @@ pub fn by_sides<A: AllocHandle>(
     sides: Result<(Side<A>, Side<A>), NoValue>,
     away: Target<A>,
 ) -> Result<Vec<RuleStep<A>, A>, NoValue>
-    ensures { (s : pure.Script) (p q : pure.Process) → AreSidesOf s p q sides → target_of away ≡ within_limits (settled s q) → Answers s (SlidingChoice p q) result }
+    ensures { (s : pure.Script) (p q : pure.Process) → AreSidesOf s p q sides
+        → target_of away ≡ within_limits (settled s q) → Answers s (SlidingChoice p q) result }
 {
     let (left, right) = sides?;
     let composition = Composition::Sliding;
@@ -40,7 +41,9 @@ fn under<A: AllocHandle>(
     right: Side<A>,
     away: Target<A>,
 ) -> Result<Vec<RuleStep<A>, A>, Memory>
-    ensures { IfOk result (λ steps. answers_of steps ≡ left_or_away_answers (composition_of composition.now) (side_answers left) (target_of right.process) (target_of away)) }
+    ensures { IfOk result (λ steps. answers_of steps
+        ≡ left_or_away_answers (composition_of composition.now) (side_answers left)
+        (target_of right.process) (target_of away)) }
 {
     let mut steps = Vec::new(alloc);
     let context = Context {

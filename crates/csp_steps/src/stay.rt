@@ -56,7 +56,8 @@ fn add_end<A: AllocHandle>(
     after: AfterTick,
     steps: &mut Vec<RuleStep<A>, A>,
 ) -> Result<(), Memory>
-    ensures { OnOk result (answers_of steps.new ≡ answers_of steps.old ++ ended_by after context.entry) }
+    ensures { OnOk result (answers_of steps.new ≡ answers_of steps.old
+        ++ ended_by after context.entry) }
 {
     steps.push(after_tick(alloc, context, after)?)?;
     Ok(())
@@ -70,7 +71,8 @@ fn add_around<A: AllocHandle>(
     target: Target<A>,
     steps: &mut Vec<RuleStep<A>, A>,
 ) -> Result<(), Memory>
-    ensures { OnOk result (answers_of steps.new ≡ answers_of steps.old ++ (action_of action, around_of context.entry (target_of target)) ∷ []) }
+    ensures { OnOk result (answers_of steps.new ≡ answers_of steps.old
+        ++ (action_of action, around_of context.entry (target_of target)) ∷ []) }
 {
     let target = context.around(alloc, target)?;
     add_step(action, target, steps)
@@ -86,7 +88,8 @@ fn add_one<A: AllocHandle>(
     steps: &mut Vec<RuleStep<A>, A>,
 ) -> Result<(), Memory>
     requires { IsSearchable sharing.now }
-    ensures { OnOk result (answers_of steps.new ≡ answers_of steps.old ++ one_answer (alone_answer sharing.now after context.entry) step) }
+    ensures { OnOk result (answers_of steps.new ≡ answers_of steps.old
+        ++ one_answer (alone_answer sharing.now after context.entry) step) }
 {
     let RuleStep { action, target } = step;
     match action {
@@ -112,7 +115,8 @@ pub(crate) fn add<A: AllocHandle>(
     steps: &mut Vec<RuleStep<A>, A>,
 ) -> Result<(), Memory>
     requires { IsSearchable sharing.now }
-    ensures { OnOk result (answers_of steps.new ≡ answers_of steps.old ++ each_answer (alone_answer sharing.now after context.entry) (answers_of moves)) }
+    ensures { OnOk result (answers_of steps.new ≡ answers_of steps.old
+        ++ each_answer (alone_answer sharing.now after context.entry) (answers_of moves)) }
 {
     for step in moves {
         add_one(alloc, context, sharing, after, step, steps)?;

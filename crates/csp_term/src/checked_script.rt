@@ -75,14 +75,16 @@ impl<A: Allocator> Script<A> {
 
     /// The constructors of all datatypes, by their numbers.
     pub fn constructors(&self) -> &[Constructor<A>]
-        ensures { map (λ c. string_bytes c.spelling) result.now ≡ (script_of self.now).constructor_names }
+        ensures { map (λ c. string_bytes c.spelling) result.now
+            ≡ (script_of self.now).constructor_names }
     {
         self.parts.constructors.as_slice()
     }
 
     /// The channels, by their numbers.
     pub fn channels(&self) -> &[Channel<A>]
-        ensures names { map (λ c. string_bytes c.spelling) result.now ≡ (script_of self.now).channel_names }
+        ensures names { map (λ c. string_bytes c.spelling) result.now
+            ≡ (script_of self.now).channel_names }
         ensures sets { map field_sets_of result.now ≡ (script_of self.now).channels }
     {
         self.parts.channels.as_slice()

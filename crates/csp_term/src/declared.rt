@@ -21,7 +21,8 @@ impl<A: AllocHandle> ScriptParts<A> {
 
     /// What the pairs make of events, or why that is nothing.
     pub fn images(&self, alloc: A, pairs: &[RenamingPair<A>]) -> Result<Images<A>, NoValue>
-        ensures { IsImagesOf result (renaming (script_of_parts self.now) (renaming_pairs_of pairs.now)) }
+        ensures { IsImagesOf result (renaming (script_of_parts self.now)
+            (renaming_pairs_of pairs.now)) }
     {
         Images::of(alloc, &self.types, &self.channels, pairs)
     }
@@ -35,7 +36,8 @@ impl<A: AllocHandle> ScriptParts<A> {
 
     /// The event that is written, with all its fields, or why there is none.
     pub fn whole_event(&self, alloc: A, written: &EventExpression<A>) -> Result<Event<A>, NoValue>
-        ensures { IsEventOf result (written_event (script_of_parts self.now) (event_expression_of written.now)) }
+        ensures { IsEventOf result (written_event (script_of_parts self.now)
+            (event_expression_of written.now)) }
     {
         csp_events::whole_event(alloc, &self.types, &self.channels, written)
     }

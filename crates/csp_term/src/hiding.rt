@@ -20,7 +20,9 @@ pub(crate) fn put_in_hiding<A: Allocator + Copy>(
     hidden: &EventSet<A>,
     bindings: &[Binding<'_, A>],
 ) -> Result<TermForm<A>, Memory>
-    ensures { IfOk result (λ form. process_of_form form ≡ Hiding (process_of body) (put_event_set (bindings_of bindings.now) (event_set_of hidden.now))) }
+    ensures { IfOk result (λ form. process_of_form form
+        ≡ Hiding (process_of body)
+        (put_event_set (bindings_of bindings.now) (event_set_of hidden.now))) }
 {
     Ok(TermForm::Hiding(body, hidden.put_in(alloc, bindings)?))
 }
@@ -33,7 +35,9 @@ pub(crate) fn put_in_renaming<A: Allocator + Copy>(
     pairs: &[RenamingPair<A>],
     bindings: &[Binding<'_, A>],
 ) -> Result<TermForm<A>, Memory>
-    ensures { IfOk result (λ form. process_of_form form ≡ put (bindings_of bindings.now) (Renaming (process_of body.now) (renaming_pairs_of pairs.now))) }
+    ensures { IfOk result (λ form. process_of_form form
+        ≡ put (bindings_of bindings.now)
+        (Renaming (process_of body.now) (renaming_pairs_of pairs.now))) }
 {
     let body = body.put_in(alloc, bindings)?;
     Ok(TermForm::Renaming(body, put_in_pairs(alloc, pairs, bindings)?))

@@ -57,7 +57,8 @@ pub fn compare_terms<A: Allocator>(left: &Term<A>, right: &Term<A>) -> Ordering
 
 /// Feeds the term to the hasher, which is then as any term that stands for the same process leaves it.
 pub fn hash_term<A: Allocator, H: Hasher>(term: &Term<A>, hasher: &mut H)
-    ensures { (other : Term A) → process_of other ≡ process_of term.now → hasher.new ≡ fold H.write hasher.old (⟦<Term<A> as Hash>⟧.hash_input other) }
+    ensures { (other : Term A) → process_of other ≡ process_of term.now
+        → hasher.new ≡ fold H.write hasher.old (⟦<Term<A> as Hash>⟧.hash_input other) }
 {
     term.hash(hasher);
 }
@@ -73,14 +74,16 @@ pub fn equal_types<A: Allocator>(left: &TypeTable<A>, right: &TypeTable<A>) -> b
 /// are in the same order.
 pub fn compare_types<A: Allocator>(left: &TypeTable<A>, right: &TypeTable<A>) -> Ordering
     ensures tie { (result ≡ Tie) ↔ (table_of left.now ≡ table_of right.now) }
-    ensures order { (l r : TypeTable A) → table_of l ≡ table_of left.now → table_of r ≡ table_of right.now → result ≡ ⟦<TypeTable<A> as Ord>⟧.cmp l r }
+    ensures order { (l r : TypeTable A) → table_of l ≡ table_of left.now
+        → table_of r ≡ table_of right.now → result ≡ ⟦<TypeTable<A> as Ord>⟧.cmp l r }
 {
     left.cmp(right)
 }
 
 /// Feeds the table to the hasher, which is then as any table with the same types leaves it.
 pub fn hash_types<A: Allocator, H: Hasher>(types: &TypeTable<A>, hasher: &mut H)
-    ensures { (other : TypeTable A) → table_of other ≡ table_of types.now → hasher.new ≡ fold H.write hasher.old (⟦<TypeTable<A> as Hash>⟧.hash_input other) }
+    ensures { (other : TypeTable A) → table_of other ≡ table_of types.now
+        → hasher.new ≡ fold H.write hasher.old (⟦<TypeTable<A> as Hash>⟧.hash_input other) }
 {
     types.hash(hasher);
 }
@@ -96,14 +99,16 @@ pub fn equal_equations<A: Allocator>(left: &Equation<A>, right: &Equation<A>) ->
 /// stand for the same as these are in the same order.
 pub fn compare_equations<A: Allocator>(left: &Equation<A>, right: &Equation<A>) -> Ordering
     ensures tie { (result ≡ Tie) ↔ (equation_of left.now ≡ equation_of right.now) }
-    ensures order { (l r : Equation A) → equation_of l ≡ equation_of left.now → equation_of r ≡ equation_of right.now → result ≡ ⟦<Equation<A> as Ord>⟧.cmp l r }
+    ensures order { (l r : Equation A) → equation_of l ≡ equation_of left.now
+        → equation_of r ≡ equation_of right.now → result ≡ ⟦<Equation<A> as Ord>⟧.cmp l r }
 {
     left.cmp(right)
 }
 
 /// Feeds the equation to the hasher, which is then as any equation with the same parameters and the same body leaves it.
 pub fn hash_equation<A: Allocator, H: Hasher>(equation: &Equation<A>, hasher: &mut H)
-    ensures { (other : Equation A) → equation_of other ≡ equation_of equation.now → hasher.new ≡ fold H.write hasher.old (⟦<Equation<A> as Hash>⟧.hash_input other) }
+    ensures { (other : Equation A) → equation_of other ≡ equation_of equation.now
+        → hasher.new ≡ fold H.write hasher.old (⟦<Equation<A> as Hash>⟧.hash_input other) }
 {
     equation.hash(hasher);
 }
@@ -112,7 +117,8 @@ pub fn hash_equation<A: Allocator, H: Hasher>(equation: &Equation<A>, hasher: &m
 /// same as these are in the same order.
 pub fn compare_scripts<A: Allocator>(left: &Script<A>, right: &Script<A>) -> Ordering
     ensures tie { (result ≡ Tie) ↔ (script_of left.now ≡ script_of right.now) }
-    ensures order { (l r : ScriptParts A) → script_of_parts l ≡ script_of left.now → script_of_parts r ≡ script_of right.now → result ≡ ⟦<ScriptParts<A> as Ord>⟧.cmp l r }
+    ensures order { (l r : ScriptParts A) → script_of_parts l ≡ script_of left.now
+        → script_of_parts r ≡ script_of right.now → result ≡ ⟦<ScriptParts<A> as Ord>⟧.cmp l r }
 {
     compare_parts(left.parts(), right.parts())
 }
@@ -121,14 +127,17 @@ pub fn compare_scripts<A: Allocator>(left: &Script<A>, right: &Script<A>) -> Ord
 /// these are in the same order.
 pub fn compare_parts<A: Allocator>(left: &ScriptParts<A>, right: &ScriptParts<A>) -> Ordering
     ensures tie { (result ≡ Tie) ↔ (script_of_parts left.now ≡ script_of_parts right.now) }
-    ensures order { (l r : ScriptParts A) → script_of_parts l ≡ script_of_parts left.now → script_of_parts r ≡ script_of_parts right.now → result ≡ ⟦<ScriptParts<A> as Ord>⟧.cmp l r }
+    ensures order { (l r : ScriptParts A) → script_of_parts l ≡ script_of_parts left.now
+        → script_of_parts r ≡ script_of_parts right.now
+        → result ≡ ⟦<ScriptParts<A> as Ord>⟧.cmp l r }
 {
     left.cmp(right)
 }
 
 /// Feeds the parts of the script to the hasher, which is then as those of any script that is the same leave it.
 pub fn hash_script<A: Allocator, H: Hasher>(script: &Script<A>, hasher: &mut H)
-    ensures { (other : ScriptParts A) → script_of_parts other ≡ script_of script.now → hasher.new ≡ fold H.write hasher.old (⟦<ScriptParts<A> as Hash>⟧.hash_input other) }
+    ensures { (other : ScriptParts A) → script_of_parts other ≡ script_of script.now
+        → hasher.new ≡ fold H.write hasher.old (⟦<ScriptParts<A> as Hash>⟧.hash_input other) }
 {
     script.parts().hash(hasher);
 }

@@ -30,7 +30,8 @@ impl<A: Allocator + Copy> Term<A> {
 
     /// What the term leaves of the room for nodes, `None` where it has more.
     pub fn room_left(&self, room: u32) -> Option<u32>
-        ensures { SomeIff result (size (process_of self.now) ≤ room) (room - size (process_of self.now)) }
+        ensures { SomeIff result (size (process_of self.now) ≤ room)
+            (room - size (process_of self.now)) }
     {
         let rest = self.form.room_left_by_head(room)?;
         match &*self.form {
@@ -60,7 +61,8 @@ impl<A: Allocator + Copy> Term<A> {
 impl<A: Allocator + Copy> TermForm<A> {
     /// What the form, without the terms in it, leaves of the room for nodes, `None` where it has more.
     fn room_left_by_head(&self, room: u32) -> Option<u32>
-        ensures { SomeIff result (own_size (process_of_form self.now) ≤ room) (room - own_size (process_of_form self.now)) }
+        ensures { SomeIff result (own_size (process_of_form self.now) ≤ room)
+            (room - own_size (process_of_form self.now)) }
     {
         let rest = room.checked_sub(1)?;
         match self {
@@ -138,7 +140,8 @@ impl<A: Allocator + Copy> TermForm<A> {
 impl<A: Allocator> Field<A> {
     /// What the field leaves of the room for nodes, `None` where it has more.
     fn room_left(&self, room: u32) -> Option<u32>
-        ensures { SomeIff result (fields_size (field_of self.now ∷ []) ≤ room) (room - fields_size (field_of self.now ∷ [])) }
+        ensures { SomeIff result (fields_size (field_of self.now ∷ []) ≤ room)
+            (room - fields_size (field_of self.now ∷ [])) }
     {
         let rest = room.checked_sub(1)?;
         match self {
@@ -167,7 +170,8 @@ impl<A: Allocator> Field<A> {
 
 /// What the fields together leave of the room.
 fn room_left_by_fields<A: Allocator>(fields: &[Field<A>], room: u32) -> Option<u32>
-    ensures { SomeIff result (fields_size (fields_of fields.now) ≤ room) (room - fields_size (fields_of fields.now)) }
+    ensures { SomeIff result (fields_size (fields_of fields.now) ≤ room)
+        (room - fields_size (fields_of fields.now)) }
 {
     let mut rest = room;
     for field in fields {

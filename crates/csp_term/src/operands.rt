@@ -26,7 +26,9 @@ pub(crate) fn put_in_conditional<A: Allocator + Copy>(
     condition: &Expr<A>,
     bindings: &[Binding<'_, A>],
 ) -> Result<TermForm<A>, Memory>
-    ensures { IfOk result (λ form. process_of_form form ≡ If (put_expression (bindings_of bindings.now) (expression_of condition.now)) (process_of first) (put (bindings_of bindings.now) (process_of second.now))) }
+    ensures { IfOk result (λ form. process_of_form form
+        ≡ If (put_expression (bindings_of bindings.now) (expression_of condition.now))
+        (process_of first) (put (bindings_of bindings.now) (process_of second.now))) }
 {
     let second = second.put_in(alloc, bindings)?;
     Ok(TermForm::If(condition.put_in(alloc, bindings)?, first, second))
@@ -41,7 +43,9 @@ pub(crate) fn put_in_binary<A: Allocator + Copy>(
     left: Term<A>,
     bindings: &[Binding<'_, A>],
 ) -> Result<TermForm<A>, Memory>
-    ensures { IfOk result (λ form. process_of_form form ≡ binary_process operator (process_of left) (put (bindings_of bindings.now) (process_of right.now))) }
+    ensures { IfOk result (λ form. process_of_form form
+        ≡ binary_process operator (process_of left)
+        (put (bindings_of bindings.now) (process_of right.now))) }
 {
     Ok(TermForm::Binary(operator, left, right.put_in(alloc, bindings)?))
 }
@@ -56,7 +60,10 @@ pub(crate) fn put_in_generalised<A: Allocator + Copy>(
     shared: &EventSet<A>,
     bindings: &[Binding<'_, A>],
 ) -> Result<TermForm<A>, Memory>
-    ensures { IfOk result (λ form. process_of_form form ≡ GeneralisedParallel (process_of left) (put_event_set (bindings_of bindings.now) (event_set_of shared.now)) (put (bindings_of bindings.now) (process_of right.now))) }
+    ensures { IfOk result (λ form. process_of_form form
+        ≡ GeneralisedParallel (process_of left)
+        (put_event_set (bindings_of bindings.now) (event_set_of shared.now))
+        (put (bindings_of bindings.now) (process_of right.now))) }
 {
     let right = right.put_in(alloc, bindings)?;
     Ok(TermForm::GeneralisedParallel(left, shared.put_in(alloc, bindings)?, right))
@@ -72,7 +79,11 @@ pub(crate) fn put_in_alphabetised<A: Allocator + Copy>(
     other: &EventSet<A>,
     bindings: &[Binding<'_, A>],
 ) -> Result<TermForm<A>, Memory>
-    ensures { IfOk result (λ form. process_of_form form ≡ AlphabetisedParallel (process_of left) (put_event_set (bindings_of bindings.now) (event_set_of own.now)) (put_event_set (bindings_of bindings.now) (event_set_of other.now)) (put (bindings_of bindings.now) (process_of right.now))) }
+    ensures { IfOk result (λ form. process_of_form form
+        ≡ AlphabetisedParallel (process_of left)
+        (put_event_set (bindings_of bindings.now) (event_set_of own.now))
+        (put_event_set (bindings_of bindings.now) (event_set_of other.now))
+        (put (bindings_of bindings.now) (process_of right.now))) }
 {
     let right = right.put_in(alloc, bindings)?;
     let own = own.put_in(alloc, bindings)?;
@@ -87,7 +98,8 @@ pub(crate) fn put_in_sliding<A: Allocator + Copy>(
     left: Term<A>,
     bindings: &[Binding<'_, A>],
 ) -> Result<TermForm<A>, Memory>
-    ensures { IfOk result (λ form. process_of_form form ≡ SlidingChoice (process_of left) (put (bindings_of bindings.now) (process_of right.now))) }
+    ensures { IfOk result (λ form. process_of_form form
+        ≡ SlidingChoice (process_of left) (put (bindings_of bindings.now) (process_of right.now))) }
 {
     Ok(TermForm::SlidingChoice(left, right.put_in(alloc, bindings)?))
 }

@@ -30,7 +30,8 @@ pub enum Property<A: Allocator> {
 impl<A: Allocator> Property<A> {
     /// The process that the implementation is compared with, if there is one.
     pub fn specification(&self) -> Option<&Term<A>>
-        ensures { option_map (λ t. process_of t.now) result ≡ specification_of (property_of self.now) }
+        ensures { option_map (λ t. process_of t.now) result
+            ≡ specification_of (property_of self.now) }
     {
         match self {
             Property::Refinement { specification, .. } => Some(specification),

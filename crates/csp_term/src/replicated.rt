@@ -24,7 +24,9 @@ pub(crate) fn put_in_replicated<A: Allocator + Copy>(
     set: &Expr<A>,
     bindings: &[Binding<'_, A>],
 ) -> Result<TermForm<A>, Memory>
-    ensures { IfOk result (λ form. process_of_form form ≡ put (bindings_of bindings.now) (replicated_process operator name.0 (expression_of set.now) (process_of body.now))) }
+    ensures { IfOk result (λ form. process_of_form form
+        ≡ put (bindings_of bindings.now)
+        (replicated_process operator name.0 (expression_of set.now) (process_of body.now))) }
 {
     let left = without(alloc, name, bindings)?;
     let body = body.put_in(alloc, &left)?;

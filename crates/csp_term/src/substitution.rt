@@ -48,7 +48,8 @@ impl From<Memory> for TermFault {
 impl<A: Allocator + Copy> Field<A> {
     /// The field with the values put in. An input binds its name behind it, and not in its own set.
     fn put_in(&self, alloc: A, bindings: &[Binding<'_, A>]) -> Result<Field<A>, Memory>
-        ensures { IfOk result (λ put. field_of put ∷ [] ≡ put_fields (bindings_of bindings.now) (field_of self.now ∷ [])) }
+        ensures { IfOk result (λ put. field_of put ∷ []
+            ≡ put_fields (bindings_of bindings.now) (field_of self.now ∷ [])) }
     {
         match self {
             Field::Given(value) => Ok(Field::Given(value.put_in(alloc, bindings)?)),
@@ -61,7 +62,8 @@ impl<A: Allocator + Copy> Field<A> {
 
     /// Takes out of the bindings what the field hides: those of the name that it binds, if it is an input.
     fn hide(&self, bindings: &mut Vec<Binding<'_, A>, A>)
-        ensures { bindings_of bindings.new.items ≡ behind (bindings_of bindings.old.items) (field_of self.now ∷ []) }
+        ensures { bindings_of bindings.new.items ≡ behind (bindings_of bindings.old.items)
+            (field_of self.now ∷ []) }
     {
         match self {
             Field::Given(_) => {}
@@ -84,7 +86,8 @@ pub(crate) fn without<'v, A: Allocator + Copy>(
     name: Name,
     bindings: &[Binding<'v, A>],
 ) -> Result<Vec<Binding<'v, A>, A>, Memory>
-    ensures { IfOk result (λ left. bindings_of left.items ≡ without name.0 (bindings_of bindings.now)) }
+    ensures { IfOk result (λ left. bindings_of left.items
+        ≡ without name.0 (bindings_of bindings.now)) }
 {
     let mut left = Vec::from_slice(alloc, bindings)?;
     take_out(name, &mut left);
@@ -98,7 +101,8 @@ pub fn bind<'v, A: Allocator + Copy>(
     value: &'v Value<A>,
     bindings: &[Binding<'v, A>],
 ) -> Result<Vec<Binding<'v, A>, A>, Memory>
-    ensures { IfOk result (λ bound. bindings_of bound.items ≡ bind name.0 (value_of value.now) (bindings_of bindings.now)) }
+    ensures { IfOk result (λ bound. bindings_of bound.items
+        ≡ bind name.0 (value_of value.now) (bindings_of bindings.now)) }
 {
     let mut bound = without(alloc, name, bindings)?;
     bound.insert(0, Binding { name, value })?;
@@ -111,8 +115,10 @@ fn put_in_fields<'v, A: Allocator + Copy>(
     fields: &[Field<A>],
     bindings: &[Binding<'v, A>],
 ) -> Result<(Vec<Field<A>, A>, Vec<Binding<'v, A>, A>), Memory>
-    ensures fields { IfOk result (λ put. fields_of put.0.items ≡ put_fields (bindings_of bindings.now) (fields_of fields.now)) }
-    ensures left { IfOk result (λ put. bindings_of put.1.items ≡ behind (bindings_of bindings.now) (fields_of fields.now)) }
+    ensures fields { IfOk result (λ put. fields_of put.0.items
+        ≡ put_fields (bindings_of bindings.now) (fields_of fields.now)) }
+    ensures left { IfOk result (λ put. bindings_of put.1.items
+        ≡ behind (bindings_of bindings.now) (fields_of fields.now)) }
 {
     let mut left = Vec::from_slice(alloc, bindings)?;
     let mut all = Vec::new(alloc);
@@ -128,7 +134,8 @@ impl<A: Allocator + Copy> Term<A> {
     /// outer one. `Memory` where there is no room.
     #[cycle(put_term)]
     pub fn put_in(&self, alloc: A, bindings: &[Binding<'_, A>]) -> Result<Term<A>, Memory>
-        ensures { IfOk result (λ t. process_of t ≡ put (bindings_of bindings.now) (process_of self.now)) }
+        ensures { IfOk result (λ t. process_of t ≡ put (bindings_of bindings.now)
+            (process_of self.now)) }
     {
         let form = (*self.form).put_in(alloc, bindings)?;
         Term::new(alloc, form)
@@ -139,7 +146,8 @@ impl<A: Allocator + Copy> TermForm<A> {
     /// The form with the values put in.
     #[cycle(put_term)]
     fn put_in(&self, alloc: A, bindings: &[Binding<'_, A>]) -> Result<TermForm<A>, Memory>
-        ensures { IfOk result (λ form. process_of_form form ≡ put (bindings_of bindings.now) (process_of_form self.now)) }
+        ensures { IfOk result (λ form. process_of_form form
+            ≡ put (bindings_of bindings.now) (process_of_form self.now)) }
     {
         match self {
             TermForm::Stop => Ok(TermForm::Stop),
@@ -190,7 +198,9 @@ fn put_in_call<A: Allocator + Copy>(
     arguments: &[Expr<A>],
     bindings: &[Binding<'_, A>],
 ) -> Result<TermForm<A>, Memory>
-    ensures { IfOk result (λ form. process_of_form form ≡ put (bindings_of bindings.now) (Call equation.0 (to_expressions (expressions_of arguments.now)))) }
+    ensures { IfOk result (λ form. process_of_form form
+        ≡ put (bindings_of bindings.now)
+        (Call equation.0 (to_expressions (expressions_of arguments.now)))) }
 {
     Ok(TermForm::Call(equation, put_in_all(alloc, arguments, bindings)?))
 }
@@ -204,7 +214,9 @@ fn put_in_prefix<A: Allocator + Copy>(
     body: &Term<A>,
     bindings: &[Binding<'_, A>],
 ) -> Result<TermForm<A>, Memory>
-    ensures { IfOk result (λ form. process_of_form form ≡ put (bindings_of bindings.now) (Prefix channel.0 (fields_of fields.now) (process_of body.now))) }
+    ensures { IfOk result (λ form. process_of_form form
+        ≡ put (bindings_of bindings.now)
+        (Prefix channel.0 (fields_of fields.now) (process_of body.now))) }
 {
     let (fields, left) = put_in_fields(alloc, fields, bindings)?;
     Ok(TermForm::Prefix(channel, fields, body.put_in(alloc, &left)?))
@@ -217,7 +229,9 @@ fn put_in_guard<A: Allocator + Copy>(
     body: Term<A>,
     bindings: &[Binding<'_, A>],
 ) -> Result<TermForm<A>, Memory>
-    ensures { IfOk result (λ form. process_of_form form ≡ Guard (put_expression (bindings_of bindings.now) (expression_of condition.now)) (process_of body)) }
+    ensures { IfOk result (λ form. process_of_form form
+        ≡ Guard (put_expression (bindings_of bindings.now) (expression_of condition.now))
+        (process_of body)) }
 {
     Ok(TermForm::Guard(condition.put_in(alloc, bindings)?, body))
 }
@@ -228,9 +242,11 @@ impl<A: Allocator + Copy> Term<A> {
     /// that nothing is built deeper than they allow but for the values.
     #[tactic(auto, using(crate::proofs::Growing::stays_large))]
     pub fn subst(&self, alloc: A, bindings: &[Binding<'_, A>]) -> Result<Term<A>, TermFault>
-        ensures put { IfOk result (λ t. process_of t ≡ put (bindings_of bindings.now) (process_of self.now)) }
+        ensures put { IfOk result (λ t. process_of t ≡ put (bindings_of bindings.now)
+            (process_of self.now)) }
         ensures within { IfOk result (λ t. IsTrue (fits (process_of t))) }
-        ensures too_large { IsErrOf result TermFault.TooLarge → IsFalse (fits (put (bindings_of bindings.now) (process_of self.now))) }
+        ensures too_large { IsErrOf result TermFault.TooLarge
+            → IsFalse (fits (put (bindings_of bindings.now) (process_of self.now))) }
     {
         if !self.fits() {
             return Err(TermFault::TooLarge);

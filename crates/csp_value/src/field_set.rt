@@ -37,7 +37,8 @@ impl<A: Allocator> FieldSet<A> {
 
     /// Whether the field may have the value. It takes as many comparisons as the number of values has binary digits.
     pub fn contains(&self, value: &Value<A>) -> bool
-        ensures { result ≡ has_value (values_list (members_of self.now.values)) (value_of value.now) }
+        ensures { result ≡ has_value (values_list (members_of self.now.values))
+            (value_of value.now) }
     {
         self.values.contains_by_halving(value)
     }

@@ -72,15 +72,18 @@ pub fn compare_actions<A: AllocHandle>(action: &Action<A>, other: &Action<A>) ->
 
 /// Values that stand for the same are hashed alike.
 pub fn hash_of_values<A: Allocator>(value: &Value<A>, other: &Value<A>)
-    ensures { value_of value.now ≡ value_of other.now → ⟦<Value<A> as Hash>⟧.hash_input value.now ≡ ⟦<Value<A> as Hash>⟧.hash_input other.now }
+    ensures { value_of value.now ≡ value_of other.now
+        → ⟦<Value<A> as Hash>⟧.hash_input value.now ≡ ⟦<Value<A> as Hash>⟧.hash_input other.now }
 {}
 
 /// Events that stand for the same are hashed alike.
 pub fn hash_of_events<A: AllocHandle>(event: &Event<A>, other: &Event<A>)
-    ensures { event_of event.now ≡ event_of other.now → ⟦<Event<A> as Hash>⟧.hash_input event.now ≡ ⟦<Event<A> as Hash>⟧.hash_input other.now }
+    ensures { event_of event.now ≡ event_of other.now
+        → ⟦<Event<A> as Hash>⟧.hash_input event.now ≡ ⟦<Event<A> as Hash>⟧.hash_input other.now }
 {}
 
 /// Actions that stand for the same are hashed alike.
 pub fn hash_of_actions<A: AllocHandle>(action: &Action<A>, other: &Action<A>)
-    ensures { action_of action.now ≡ action_of other.now → ⟦<Action<A> as Hash>⟧.hash_input action.now ≡ ⟦<Action<A> as Hash>⟧.hash_input other.now }
+    ensures { action_of action.now ≡ action_of other.now
+        → ⟦<Action<A> as Hash>⟧.hash_input action.now ≡ ⟦<Action<A> as Hash>⟧.hash_input other.now }
 {}

@@ -13,7 +13,8 @@ impl<A: Allocator> Value<A> {
     /// What the value leaves of the room for nodes, `None` where it has more of them.
     #[cycle(room)]
     pub fn room_left(&self, room: u32) -> Option<u32>
-        ensures { SomeIff result (value_size (value_of self.now) ≤ room) (room - value_size (value_of self.now)) }
+        ensures { SomeIff result (value_size (value_of self.now) ≤ room)
+            (room - value_size (value_of self.now)) }
     {
         let rest = room.checked_sub(1)?;
         match self {
@@ -44,7 +45,8 @@ impl<A: Allocator> Value<A> {
 /// What the values together leave of the room.
 #[cycle(room)]
 pub(crate) fn room_left_by<A: Allocator>(values: &[Value<A>], room: u32) -> Option<u32>
-    ensures { SomeIff result (values_size (to_values (values_of values.now)) ≤ room) (room - values_size (to_values (values_of values.now))) }
+    ensures { SomeIff result (values_size (to_values (values_of values.now)) ≤ room)
+        (room - values_size (to_values (values_of values.now))) }
 {
     let mut rest = room;
     for value in values {

@@ -47,7 +47,8 @@ impl<A: Allocator> SetOf<A> {
     /// What the members together leave of the room for nodes, `None` where they have more of them.
     #[cycle(room)]
     pub(crate) fn room_left(&self, room: u32) -> Option<u32>
-        ensures { SomeIff result (values_size (members_of self.now) ≤ room) (room - values_size (members_of self.now)) }
+        ensures { SomeIff result (values_size (members_of self.now) ≤ room)
+            (room - values_size (members_of self.now)) }
     {
         room_left_by(&self.members, room)
     }
@@ -88,14 +89,17 @@ impl<A: Allocator> SetOf<A> {
 
     /// Whether the value is a member of the set, where its members rise: by halving alone.
     pub(crate) fn contains_by_halving(&self, value: &Value<A>) -> bool
-        ensures { IsRisingSet self.now → result ≡ has_value (values_list (members_of self.now)) (value_of value.now) }
+        ensures { IsRisingSet self.now → result ≡ has_value (values_list (members_of self.now))
+            (value_of value.now) }
     {
         self.members.binary_search(value).is_ok()
     }
 
     /// The members of either set, or `Memory` where there is no room for them.
     pub fn union(self, other: SetOf<A>) -> Result<SetOf<A>, Memory>
-        ensures members { IfOk result (λ both. members_of both ≡ to_values (insert_values (values_list (members_of self)) (values_list (members_of other)))) }
+        ensures members { IfOk result (λ both. members_of both
+            ≡ to_values (insert_values (values_list (members_of self))
+            (values_list (members_of other)))) }
         ensures rising { IsRisingSet other → IfOk result IsRisingSet }
     {
         if !is_rising(&other.members) {
@@ -109,7 +113,9 @@ impl<A: Allocator> SetOf<A> {
 
     /// The members that are in the other set too. Nothing is copied.
     pub fn intersection(self, other: &SetOf<A>) -> SetOf<A>
-        ensures members { members_of result ≡ to_values (filter (λ v. has_value (values_list (members_of other.now)) v) (values_list (members_of self))) }
+        ensures members { members_of result
+            ≡ to_values (filter (λ v. has_value (values_list (members_of other.now)) v)
+            (values_list (members_of self))) }
         ensures rising { IsRisingSet self → IsRisingSet result }
     {
         let mut members = self.members;
@@ -123,7 +129,9 @@ impl<A: Allocator> SetOf<A> {
 
     /// The members that are not in the other set. Nothing is copied.
     pub fn difference(self, other: &SetOf<A>) -> SetOf<A>
-        ensures members { members_of result ≡ to_values (filter (λ v. not (has_value (values_list (members_of other.now)) v)) (values_list (members_of self))) }
+        ensures members { members_of result
+            ≡ to_values (filter (λ v. not (has_value (values_list (members_of other.now)) v))
+            (values_list (members_of self))) }
         ensures rising { IsRisingSet self → IsRisingSet result }
     {
         let mut members = self.members;
@@ -141,7 +149,8 @@ fn insert_each<A: Allocator>(
     values: Vec<Value<A>, A>,
     members: Vec<Value<A>, A>,
 ) -> Result<SetOf<A>, Memory>
-    ensures { IfOk result (λ both. members_of both ≡ to_values (insert_values (values_of values.items) (values_of members.items))) }
+    ensures { IfOk result (λ both. members_of both
+        ≡ to_values (insert_values (values_of values.items) (values_of members.items))) }
 {
     let mut both = members;
     for value in values {
@@ -152,7 +161,8 @@ fn insert_each<A: Allocator>(
 
 /// Puts the value in before the first member above it, unless an equal one comes first.
 fn insert<A: Allocator>(members: &mut Vec<Value<A>, A>, value: Value<A>) -> Result<(), Memory>
-    ensures { OnOk result (values_of members.new.items ≡ insert_value (value_of value) (values_of members.old.items)) }
+    ensures { OnOk result (values_of members.new.items
+        ≡ insert_value (value_of value) (values_of members.old.items)) }
 {
     for place in 0..members.len() {
         match value.cmp(&members[place]) {

@@ -31,10 +31,12 @@ pub(crate) fn answer<A: AllocHandle + Send + Sync, R: Threads + Wait + Sync>(
     assertion: &Assertion<A>,
 ) -> Answer<A>
     requires terms { IsAssertionOf (script_of script.now) (assertion_of assertion.now) }
-    ensures right { IsRight (script_of script.now) (assertion_of assertion.now) (bounds_asked settings.now) (outcome_of result.found) }
+    ensures right { IsRight (script_of script.now) (assertion_of assertion.now)
+        (bounds_asked settings.now) (outcome_of result.found) }
     ensures size { let outcome = as_written assertion.now.negated (outcome_of result.found) in
         IsSizeFor (script_of script.now) (assertion_of assertion.now) (bounds_asked settings.now) outcome result.size }
-    ensures stop { HasStop (script_of script.now) (assertion_of assertion.now) (outcome_of result.found) (stop_kept result.stop) }
+    ensures stop { HasStop (script_of script.now) (assertion_of assertion.now)
+        (outcome_of result.found) (stop_kept result.stop) }
 {
     let limits = limits(settings);
     answer_together(alloc, rt, script, assertion, limits, settings.workers)

@@ -18,7 +18,8 @@ pub(crate) fn with_size<A: AllocHandle>(
     size: Option<SearchSize>,
     mut text: String<A>,
 ) -> Result<String<A>, Memory>
-    ensures { IfOk result (λ all. string_bytes all ≡ string_bytes text ++ size_text (property_of property.now) size) }
+    ensures { IfOk result (λ all. string_bytes all
+        ≡ string_bytes text ++ size_text (property_of property.now) size) }
 {
     match size {
         None => Ok(text),
@@ -35,7 +36,8 @@ fn push_count<A: AllocHandle>(
     size: SearchSize,
     text: &mut String<A>,
 ) -> Result<(), AllocError>
-    ensures { Writes result text.old text.new (count_text (property_of property.now) size.pairs size.nodes) }
+    ensures { Writes result text.old text.new
+        (count_text (property_of property.now) size.pairs size.nodes) }
 {
     push_mark("  ", text)?;
     push_amount(size.pairs, "pair", text)?;

@@ -53,7 +53,8 @@ pub fn read<'t, A: Allocator + Copy>(
     alloc: A,
     text: &'t [u8],
 ) -> Result<NamedScript<'t, A>, Refusal>
-    ensures named { IfOk result (λ named. IsNamedText text.now (script_of named.script) (names_of named.names)) }
+    ensures named { IfOk result (λ named. IsNamedText text.now (script_of named.script)
+        (names_of named.names)) }
     ensures refused { IfErr result (λ why. IsRefusalOf text.now why) }
 {
     let list = tokens(alloc, text)?;
@@ -71,7 +72,8 @@ fn telling_names<'t, A: Allocator + Copy>(
     tree: &Raw<'t, A>,
     types: &TypeTable<A>,
 ) -> Result<Names<'t, A>, Memory>
-    ensures { IfOk result (λ names. names_of names ≡ with_types (table_of types.now) (names_in (raw.script_of tree.now))) }
+    ensures { IfOk result (λ names. names_of names
+        ≡ with_types (table_of types.now) (names_in (raw.script_of tree.now))) }
 {
     let names = names_of(alloc, tree)?;
     Ok(names.with_types(types.try_copy(alloc)?))

@@ -74,7 +74,8 @@ fn words<A: Allocator + Copy>(
     text: &[u8],
     refused: diagnostics::Refusal,
 ) -> Result<String<A>, AllocError>
-    ensures { IfOk result (λ words. IsMessage (shown_name file.now) text.now refused (string_bytes words)) }
+    ensures { IfOk result (λ words. IsMessage (shown_name file.now) text.now refused
+        (string_bytes words)) }
 {
     let name = shown_name(alloc, file)?;
     message(alloc, name.as_str(), text, refused)

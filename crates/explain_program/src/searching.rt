@@ -44,10 +44,12 @@ pub(crate) fn answer_together<A: AllocHandle + Send + Sync, R: Threads + Wait + 
 ) -> Answer<A>
     requires terms { IsAssertionOf (script_of script.now) (assertion_of assertion.now) }
     requires workers { (1 ≤ workers) × (workers ≤ 64) }
-    ensures right { IsRight (script_of script.now) (assertion_of assertion.now) (bounds_of limits) (outcome_of result.found) }
+    ensures right { IsRight (script_of script.now) (assertion_of assertion.now) (bounds_of limits)
+        (outcome_of result.found) }
     ensures size { let outcome = as_written assertion.now.negated (outcome_of result.found) in
         IsSizeFor (script_of script.now) (assertion_of assertion.now) (bounds_of limits) outcome result.size }
-    ensures stop { HasStop (script_of script.now) (assertion_of assertion.now) (outcome_of result.found) (stop_kept result.stop) }
+    ensures stop { HasStop (script_of script.now) (assertion_of assertion.now)
+        (outcome_of result.found) (stop_kept result.stop) }
 {
     match ended_together(
         alloc,
@@ -76,10 +78,12 @@ fn answer_alone<A: AllocHandle>(
     limits: Limits,
 ) -> Answer<A>
     requires { IsAssertionOf (script_of script.now) (assertion_of assertion.now) }
-    ensures right { IsRight (script_of script.now) (assertion_of assertion.now) (bounds_of limits) (outcome_of result.found) }
+    ensures right { IsRight (script_of script.now) (assertion_of assertion.now) (bounds_of limits)
+        (outcome_of result.found) }
     ensures size { let outcome = as_written assertion.now.negated (outcome_of result.found) in
         IsSizeFor (script_of script.now) (assertion_of assertion.now) (bounds_of limits) outcome result.size }
-    ensures stop { HasStop (script_of script.now) (assertion_of assertion.now) (outcome_of result.found) (stop_kept result.stop) }
+    ensures stop { HasStop (script_of script.now) (assertion_of assertion.now)
+        (outcome_of result.found) (stop_kept result.stop) }
 {
     match ended_search(alloc, script, assertion, limits) {
         Ok(store) => concluded(alloc, &store),
@@ -97,7 +101,8 @@ fn concluded<A: AllocHandle>(alloc: A, store: &Store<'_, A>) -> Answer<A>
     ensures lawful { IsLawful store.now.script store.now.search }
     ensures told { IsToldOrNoMemory store.now.search (outcome_of result.found) }
     ensures size { IsSomeAnd result.size (HasSize store.now.search) }
-    ensures stop { HasStop store.now.script store.now.search.assertion (outcome_of result.found) (stop_kept result.stop) }
+    ensures stop { HasStop store.now.script store.now.search.assertion (outcome_of result.found)
+        (stop_kept result.stop) }
 {
     let found = conclude(alloc, store);
     let size = Some(size_in(store));

@@ -33,8 +33,10 @@ pub(crate) fn explanation_text<A: AllocHandle>(
     question: &Question<'_, A>,
     answer: &Answer<A>,
 ) -> Result<String<A>, Memory>
-    requires terms { IsAssertionOf (script_of named.now.script) (assertion_of question.now.asked.now) }
-    requires shown { HasViolation (script_of named.now.script) (assertion_of question.now.asked.now) (outcome_of answer.now.found) }
+    requires terms { IsAssertionOf (script_of named.now.script)
+        (assertion_of question.now.asked.now) }
+    requires shown { HasViolation (script_of named.now.script) (assertion_of question.now.asked.now)
+        (outcome_of answer.now.found) }
     requires size { let it = script_of named.now.script in
         let asked = assertion_of question.now.asked.now in
         let outcome = as_written question.now.written.now.negated (outcome_of answer.now.found) in

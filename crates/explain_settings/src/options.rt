@@ -48,16 +48,26 @@ pub struct Settings<'a> {
 /// too many words.
 pub fn read<'a>(alloc: Global, words: &'a [&'a str]) -> Result<Settings<'a>, CommandLineFault>
     ensures taken { IfOk result (λ _. faults_of (texts words.entry.now) ≡ []) }
-    ensures workers { IfOk result (λ s. HasNumber (value (codes "workers") (texts words.entry.now)) s.workers) }
-    ensures pairs { IfOk result (λ s. HasNumber (value (codes "max-pairs") (texts words.entry.now)) s.max_pairs) }
-    ensures nodes { IfOk result (λ s. HasNumber (value (codes "max-nodes") (texts words.entry.now)) s.max_nodes) }
-    ensures at_once { IfOk result (λ s. IsTrue s.at_once ↔ IsUsed (codes "unfold") (texts words.entry.now)) }
-    ensures width { IfOk result (λ s. HasNumber (value (codes "width") (texts words.entry.now)) s.width) }
-    ensures count { IfOk result (λ s. IsTrue s.count ↔ IsUsed (codes "count") (texts words.entry.now)) }
-    ensures events { IfOk result (λ s. IsTrue s.events ↔ IsUsed (codes "events") (texts words.entry.now)) }
-    ensures steps { IfOk result (λ s. IsTrue s.steps ↔ IsUsed (codes "steps") (texts words.entry.now)) }
-    ensures file { IfOk result (λ s. value (codes "file") (texts words.entry.now) ≡ Some s.file.now) }
-    ensures assertion { IfOk result (λ s. HasNumber (value (codes "assertion") (texts words.entry.now)) s.assertion) }
+    ensures workers { IfOk result (λ s. HasNumber (value (codes "workers") (texts words.entry.now))
+        s.workers) }
+    ensures pairs { IfOk result (λ s. HasNumber (value (codes "max-pairs") (texts words.entry.now))
+        s.max_pairs) }
+    ensures nodes { IfOk result (λ s. HasNumber (value (codes "max-nodes") (texts words.entry.now))
+        s.max_nodes) }
+    ensures at_once { IfOk result (λ s. IsTrue s.at_once
+        ↔ IsUsed (codes "unfold") (texts words.entry.now)) }
+    ensures width { IfOk result (λ s. HasNumber (value (codes "width") (texts words.entry.now))
+        s.width) }
+    ensures count { IfOk result (λ s. IsTrue s.count
+        ↔ IsUsed (codes "count") (texts words.entry.now)) }
+    ensures events { IfOk result (λ s. IsTrue s.events
+        ↔ IsUsed (codes "events") (texts words.entry.now)) }
+    ensures steps { IfOk result (λ s. IsTrue s.steps
+        ↔ IsUsed (codes "steps") (texts words.entry.now)) }
+    ensures file { IfOk result (λ s. value (codes "file") (texts words.entry.now)
+        ≡ Some s.file.now) }
+    ensures assertion { IfOk result (λ s. HasNumber
+        (value (codes "assertion") (texts words.entry.now)) s.assertion) }
     ensures fault { IfErr result (IsFaultOf (texts words.entry.now)) }
 {
     let matches = match command_line(alloc)?.try_get_matches_from(words) {

@@ -23,7 +23,9 @@ pub(crate) fn push_blame<A: AllocHandle>(
     states: &[Term<A>],
     text: &mut String<A>,
 ) -> Result<(), Memory>
-    ensures { Writes result text.old text.new (blame_line (names_of names.now) (last_culprit (script_of script.now) (map process_of states.now))) }
+    ensures { Writes result text.old text.new
+        (blame_line (names_of names.now)
+        (last_culprit (script_of script.now) (map process_of states.now))) }
 {
     let found = last_culprit(alloc, script, states)?;
     push_line(names, &found, text)?;
@@ -50,7 +52,8 @@ fn push_line<A: AllocHandle>(
     found: &Option<Culprit<A>>,
     text: &mut String<A>,
 ) -> Result<(), AllocError>
-    ensures { Writes result text.old text.new (blame_line (names_of names.now) (found_of found.now)) }
+    ensures { Writes result text.old text.new
+        (blame_line (names_of names.now) (found_of found.now)) }
 {
     match found {
         Some(culprit) => {

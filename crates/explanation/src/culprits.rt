@@ -23,7 +23,8 @@ pub(crate) fn push_culprit<A: Allocator>(
     culprit: &Culprit<A>,
     text: &mut String<A>,
 ) -> Result<(), AllocError>
-    ensures { Writes result text.old text.new (culprit_text (names_of names.now) (culprit_of culprit.now)) }
+    ensures { Writes result text.old text.new
+        (culprit_text (names_of names.now) (culprit_of culprit.now)) }
 {
     match culprit {
         Culprit::Valueless(expression, cause) => push_valueless(names, expression, *cause, text),
@@ -42,7 +43,9 @@ fn push_valueless<A: Allocator>(
     cause: Cause,
     text: &mut String<A>,
 ) -> Result<(), AllocError>
-    ensures { Writes result text.old text.new (culprit_text (names_of names.now) (Valueless (expression_of expression.now) (cause_of cause))) }
+    ensures { Writes result text.old text.new
+        (culprit_text (names_of names.now)
+        (Valueless (expression_of expression.now) (cause_of cause))) }
 {
     push_mark("`", text)?;
     push_expression(names, expression, text)?;
@@ -100,7 +103,8 @@ fn push_outside<A: Allocator>(
     value: &Value<A>,
     text: &mut String<A>,
 ) -> Result<(), AllocError>
-    ensures { Writes result text.old text.new (culprit_text (names_of names.now) (Outside (owner_of owner) number (value_of value.now))) }
+    ensures { Writes result text.old text.new
+        (culprit_text (names_of names.now) (Outside (owner_of owner) number (value_of value.now))) }
 {
     push_mark("field ", text)?;
     push_number(number, text)?;
@@ -132,7 +136,8 @@ fn push_no_choice<A: Allocator>(
     set: &Expr<A>,
     text: &mut String<A>,
 ) -> Result<(), AllocError>
-    ensures { Writes result text.old text.new (culprit_text (names_of names.now) (NoChoice name.0 (expression_of set.now))) }
+    ensures { Writes result text.old text.new
+        (culprit_text (names_of names.now) (NoChoice name.0 (expression_of set.now))) }
 {
     push_mark("`|~| ", text)?;
     names.push_bound(name, text)?;

@@ -38,8 +38,10 @@ pub(crate) fn push_unknown<A: AllocHandle>(
     text: &mut String<A>,
 ) -> Result<(), Memory>
     requires terms { IsAssertionOf (script_of script.now) (assertion_of assertion.now) }
-    requires stop { HasStop (script_of script.now) (assertion_of assertion.now) (Unknown (why_of why)) (stop_in stop) }
-    ensures { OnOk result (TellsUnknown (style_of style.now) (script_of script.now) (assertion_of assertion.now) (why_of why) (string_bytes text.old) (string_bytes text.new)) }
+    requires stop { HasStop (script_of script.now) (assertion_of assertion.now)
+        (Unknown (why_of why)) (stop_in stop) }
+    ensures { OnOk result (TellsUnknown (style_of style.now) (script_of script.now)
+        (assertion_of assertion.now) (why_of why) (string_bytes text.old) (string_bytes text.new)) }
 {
     push_mark(reason(why), text)?;
     let stuck_by = hindrance(why);
@@ -73,8 +75,11 @@ fn push_found<A: AllocHandle>(
     text: &mut String<A>,
 ) -> Result<(), Memory>
     requires terms { IsAssertionOf (script_of script.now) (assertion_of assertion.now) }
-    requires stop { IsStop (script_of script.now) (assertion_of assertion.now) (hindrance_of hindrance) (stop_in stop) }
-    ensures { OnOk result (TellsFound (style_of style.now) (script_of script.now) (assertion_of assertion.now) (Some (hindrance_of hindrance)) (string_bytes text.old) (string_bytes text.new)) }
+    requires stop { IsStop (script_of script.now) (assertion_of assertion.now)
+        (hindrance_of hindrance) (stop_in stop) }
+    ensures { OnOk result (TellsFound (style_of style.now) (script_of script.now)
+        (assertion_of assertion.now) (Some (hindrance_of hindrance)) (string_bytes text.old)
+        (string_bytes text.new)) }
 {
     let found = side_run(alloc, script, assertion, hindrance, stop, style.reach)?;
     let Some(run) = found else {
@@ -96,7 +101,9 @@ fn push_side_run<A: AllocHandle>(
     run: &SideRun<A>,
     text: &mut String<A>,
 ) -> Result<(), Memory>
-    ensures { Writes result text.old text.new (faults.fault_run_text (style_of style.now) (script_of script.now) (hindrance_of hindrance) (side_run_of run.now)) }
+    ensures { Writes result text.old text.new
+        (faults.fault_run_text (style_of style.now) (script_of script.now) (hindrance_of hindrance)
+        (side_run_of run.now)) }
 {
     match run {
         SideRun::Implementation(told) => {
@@ -119,7 +126,10 @@ fn push_run<A: AllocHandle>(
     told: &ToldRun<A>,
     text: &mut String<A>,
 ) -> Result<(), Memory>
-    ensures { Writes result text.old text.new (told_text (style_of style.now) told.now ++ stuck_text (style_of style.now) (script_of script.now) (hindrance_of hindrance) told.now) }
+    ensures { Writes result text.old text.new
+        (told_text (style_of style.now) told.now
+        ++ stuck_text (style_of style.now) (script_of script.now) (hindrance_of hindrance)
+        told.now) }
 {
     let run = Run {
         states: &told.run.states,
@@ -145,7 +155,9 @@ fn push_stuck<A: AllocHandle>(
     states: &[Term<A>],
     text: &mut String<A>,
 ) -> Result<(), Memory>
-    ensures { Writes result text.old text.new (faults.stuck_line (names_of names.now) (script_of script.now) (hindrance_of hindrance) (map process_of states.now)) }
+    ensures { Writes result text.old text.new
+        (faults.stuck_line (names_of names.now) (script_of script.now) (hindrance_of hindrance)
+        (map process_of states.now)) }
 {
     match hindrance {
         Hindrance::Fault(_) => push_blame(alloc, names, script, states, text),

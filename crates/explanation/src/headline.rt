@@ -26,7 +26,9 @@ pub(crate) fn headline_text<A: AllocHandle>(
     assertion: &Assertion<A>,
     found: &Outcome<A>,
 ) -> Result<String<A>, AllocError>
-    ensures { IfOk result (λ text. string_bytes text ≡ told.headline (names_of names.now) number (assertion_of assertion.now) (as_written assertion.now.negated (outcome_of found.now))) }
+    ensures { IfOk result (λ text. string_bytes text
+        ≡ told.headline (names_of names.now) number (assertion_of assertion.now)
+        (as_written assertion.now.negated (outcome_of found.now))) }
 {
     let mut text = String::new(alloc);
     push_headline(alloc, names, number, assertion, found, &mut text)?;
@@ -41,7 +43,9 @@ fn push_headline<A: AllocHandle>(
     found: &Outcome<A>,
     text: &mut String<A>,
 ) -> Result<(), AllocError>
-    ensures { Writes result text.old text.new (told.headline (names_of names.now) number (assertion_of assertion.now) (as_written assertion.now.negated (outcome_of found.now))) }
+    ensures { Writes result text.old text.new
+        (told.headline (names_of names.now) number (assertion_of assertion.now)
+        (as_written assertion.now.negated (outcome_of found.now))) }
 {
     push_number(number, text)?;
     push_mark(" ", text)?;
@@ -70,7 +74,8 @@ fn push_assertion<A: AllocHandle>(
     assertion: &Assertion<A>,
     text: &mut String<A>,
 ) -> Result<(), AllocError>
-    ensures { Writes result text.old text.new (told.assertion_text (names_of names.now) (assertion_of assertion.now)) }
+    ensures { Writes result text.old text.new
+        (told.assertion_text (names_of names.now) (assertion_of assertion.now)) }
 {
     push_mark(negation_text(assertion.negated), text)?;
     push_property(
@@ -95,7 +100,9 @@ fn push_property<A: AllocHandle>(
     implementation: &Term<A>,
     text: &mut String<A>,
 ) -> Result<(), AllocError>
-    ensures { Writes result text.old text.new (told.property_text (names_of names.now) (property_of property.now) (process_of implementation.now)) }
+    ensures { Writes result text.old text.new
+        (told.property_text (names_of names.now) (property_of property.now)
+        (process_of implementation.now)) }
 {
     match property {
         Property::Refinement {
@@ -124,7 +131,8 @@ fn push_first_side<A: AllocHandle>(
     side: &Term<A>,
     text: &mut String<A>,
 ) -> Result<(), AllocError>
-    ensures { Writes result text.old text.new (told.first_side (process_text (names_of names.now) (process_of side.now))) }
+    ensures { Writes result text.old text.new
+        (told.first_side (process_text (names_of names.now) (process_of side.now))) }
 {
     let mut alone = String::new(alloc);
     push_term(names, side, &mut alone)?;

@@ -35,8 +35,10 @@ pub(crate) fn side_run<A: AllocHandle>(
     most: usize,
 ) -> Result<Option<SideRun<A>>, Memory>
     requires terms { IsAssertionOf (script_of script.now) (assertion_of assertion.now) }
-    requires stop { IsStop (script_of script.now) (assertion_of assertion.now) (hindrance_of hindrance) (stop_in stop) }
-    ensures { IfOk result (λ found. IsFound (script_of script.now) (assertion_of assertion.now) (hindrance_of hindrance) most (option_map side_run_of found)) }
+    requires stop { IsStop (script_of script.now) (assertion_of assertion.now)
+        (hindrance_of hindrance) (stop_in stop) }
+    ensures { IfOk result (λ found. IsFound (script_of script.now) (assertion_of assertion.now)
+        (hindrance_of hindrance) most (option_map side_run_of found)) }
 {
     let Some(path) = stop else {
         return specification_side(alloc, script, &assertion.property, hindrance, most);
@@ -57,8 +59,11 @@ fn specification_side<A: AllocHandle>(
     hindrance: Hindrance,
     most: usize,
 ) -> Result<Option<SideRun<A>>, Memory>
-    requires terms { IfSome (specification_of (property_of property.now)) (IsTermOf (script_of script.now)) }
-    ensures { IfOk result (λ found. IsSpecificationSide (script_of script.now) (specification_of (property_of property.now)) (hindrance_of hindrance) most (option_map side_run_of found)) }
+    requires terms { IfSome (specification_of (property_of property.now))
+        (IsTermOf (script_of script.now)) }
+    ensures { IfOk result (λ found. IsSpecificationSide (script_of script.now)
+        (specification_of (property_of property.now)) (hindrance_of hindrance) most
+        (option_map side_run_of found)) }
 {
     let found = specification_run(alloc, script, property, hindrance, most)?;
     let Some(run) = found else {
@@ -76,8 +81,10 @@ fn specification_run<A: AllocHandle>(
     hindrance: Hindrance,
     most: usize,
 ) -> Result<Option<StuckRun<A>>, Memory>
-    requires terms { IfSome (specification_of (property_of property.now)) (IsTermOf (script_of script.now)) }
-    ensures { IfOk result (IsSpecificationRun (script_of script.now) (specification_of (property_of property.now)) (hindrance_of hindrance) most) }
+    requires terms { IfSome (specification_of (property_of property.now))
+        (IsTermOf (script_of script.now)) }
+    ensures { IfOk result (IsSpecificationRun (script_of script.now)
+        (specification_of (property_of property.now)) (hindrance_of hindrance) most) }
 {
     match property {
         Property::Refinement { specification, .. } => {

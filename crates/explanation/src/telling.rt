@@ -36,8 +36,10 @@ pub fn tell<A: AllocHandle>(
     stop: Option<&[Action<A>]>,
 ) -> Result<String<A>, Memory>
     requires terms { IsAssertionOf (script_of script.now) (assertion_of question.now.asked.now) }
-    requires shown { HasViolation (script_of script.now) (assertion_of question.now.asked.now) (outcome_of found.now) }
-    requires stop { HasStop (script_of script.now) (assertion_of question.now.asked.now) (outcome_of found.now) (stop_in stop) }
+    requires shown { HasViolation (script_of script.now) (assertion_of question.now.asked.now)
+        (outcome_of found.now) }
+    requires stop { HasStop (script_of script.now) (assertion_of question.now.asked.now)
+        (outcome_of found.now) (stop_in stop) }
     ensures { let it = script_of script.now in
         let written = assertion_of question.now.written.now in
         let asked = assertion_of question.now.asked.now in
@@ -61,9 +63,13 @@ fn push_why<A: AllocHandle>(
     text: &mut String<A>,
 ) -> Result<(), Memory>
     requires terms { IsAssertionOf (script_of script.now) (assertion_of assertion.now) }
-    requires shown { HasViolation (script_of script.now) (assertion_of assertion.now) (outcome_of found.now) }
-    requires stop { HasStop (script_of script.now) (assertion_of assertion.now) (outcome_of found.now) (stop_in stop) }
-    ensures { OnOk result (TellsWhy (style_of style.now) (script_of script.now) (assertion_of assertion.now) (outcome_of found.now) (string_bytes text.old) (string_bytes text.new)) }
+    requires shown { HasViolation (script_of script.now) (assertion_of assertion.now)
+        (outcome_of found.now) }
+    requires stop { HasStop (script_of script.now) (assertion_of assertion.now)
+        (outcome_of found.now) (stop_in stop) }
+    ensures { OnOk result (TellsWhy (style_of style.now) (script_of script.now)
+        (assertion_of assertion.now) (outcome_of found.now) (string_bytes text.old)
+        (string_bytes text.new)) }
 {
     match found {
         Outcome::Holds => push_sentence(holding_text(assertion.negated), text),
@@ -112,7 +118,8 @@ fn push_failing<A: AllocHandle>(
     text: &mut String<A>,
 ) -> Result<(), Memory>
     requires terms { IsAssertionOf (script_of script.now) (assertion_of assertion.now) }
-    requires run { HasEnd (script_of script.now) (process_of assertion.now.implementation) (violation_of shown.now) }
+    requires run { HasEnd (script_of script.now) (process_of assertion.now.implementation)
+        (violation_of shown.now) }
     ensures { let before = string_bytes text.old ++ failing_text assertion.now.negated in
         OnOk result (TellsViolation (style_of style.now) (script_of script.now) (assertion_of assertion.now) (violation_of shown.now) before (string_bytes text.new)) }
 {
@@ -130,8 +137,11 @@ fn push_violation<A: AllocHandle>(
     text: &mut String<A>,
 ) -> Result<(), Memory>
     requires terms { IsAssertionOf (script_of script.now) (assertion_of assertion.now) }
-    requires run { HasEnd (script_of script.now) (process_of assertion.now.implementation) (violation_of shown.now) }
-    ensures { OnOk result (TellsViolation (style_of style.now) (script_of script.now) (assertion_of assertion.now) (violation_of shown.now) (string_bytes text.old) (string_bytes text.new)) }
+    requires run { HasEnd (script_of script.now) (process_of assertion.now.implementation)
+        (violation_of shown.now) }
+    ensures { OnOk result (TellsViolation (style_of style.now) (script_of script.now)
+        (assertion_of assertion.now) (violation_of shown.now) (string_bytes text.old)
+        (string_bytes text.new)) }
 {
     let found = counterexample_of(alloc, script, assertion, shown, style.most, style.reach)?;
     match found {

@@ -115,7 +115,8 @@ impl<'s, A: AllocHandle> KnownParts<'s, A> {
         requires known { AreKnownOf (script_of script.now) self.old }
         requires within { IsTrue (fits (process_of term.now)) }
         requires spellable { IsSpellable (process_of term.now) }
-        requires numbers { AreNumbersOf (processes_of self.old.parts) (parts_of_process (process_of term.now)) numbers.items }
+        requires numbers { AreNumbersOf (processes_of self.old.parts)
+            (parts_of_process (process_of term.now)) numbers.items }
         ensures known { AreKnownOf (script_of script.now) self.new }
         ensures row { IfOk result (λ found. IfSome found (IsRowOf self.new (process_of term.now))) }
     {

@@ -48,7 +48,8 @@ impl<'s, A: AllocHandle> KnownParts<'s, A> {
     ) -> Result<Option<SplitRow<A>>, Memory>
         requires known { AreKnownOf (script_in self.now.parts) self.now }
         requires shape { IsLastKept (script_in self.now.parts) shape.now }
-        ensures { IfOk result (λ found. IfSome found (IsRowAmong self.now.parts (shape_in shape.now) (packed_process term.now))) }
+        ensures { IfOk result (λ found. IfSome found
+            (IsRowAmong self.now.parts (shape_in shape.now) (packed_process term.now))) }
     {
         match shape {
             Some(last) => {
@@ -69,7 +70,8 @@ impl<'s, A: AllocHandle> KnownParts<'s, A> {
         only: &Tried<A>,
     ) -> Result<Option<EarlierRow<A>>, Memory>
         requires { AreKnownOf (script_in self.now.parts) self.now }
-        ensures { IfOk result (λ found. IfSome found (IsEarlierRowOf self.now (packed_process term.now))) }
+        ensures { IfOk result (λ found. IfSome found
+            (IsEarlierRowOf self.now (packed_process term.now))) }
     {
         for (place, earlier) in self.earlier.iter().enumerate() {
             let row = self.split_in(alloc, term, &earlier.shape, &earlier.tried, only)?;
@@ -104,7 +106,8 @@ impl<'s, A: AllocHandle> KnownParts<'s, A> {
         requires { AreKnownOf (script_in self.old.parts) self.old }
         ensures known { AreKnownOf (script_in self.old.parts) self.new }
         ensures parts { self.new.parts ≡ self.old.parts }
-        ensures row { IfOk result (λ found. IfSome found (IsRowOf self.new (packed_process term.now))) }
+        ensures row { IfOk result (λ found. IfSome found
+            (IsRowOf self.new (packed_process term.now))) }
     {
         if let Some(row) = self.split_in(alloc, term, &self.last, &self.tried, only)? {
             return Ok(Some(row));

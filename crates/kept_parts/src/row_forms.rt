@@ -60,7 +60,8 @@ impl<'s, A: AllocHandle> KnownParts<'s, A> {
         requires closed { IsTermOf (script_in self.old.parts) (packed_process term.now) }
         requires row { IsRowOf self.old (packed_process term.now) row.now }
         ensures known { AreKnownOf (script_in self.old.parts) self.new }
-        ensures form { IfOk result (λ told. IfSome told (IsPackedFormOf (script_in self.old.parts) (packed_process term.now))) }
+        ensures form { IfOk result (λ told. IfSome told
+            (IsPackedFormOf (script_in self.old.parts) (packed_process term.now))) }
     {
         if !fire_all(&mut self.parts, alloc, &self.alphabet, &row.numbers)? {
             return Ok(None);
@@ -80,7 +81,8 @@ impl<'s, A: AllocHandle> KnownParts<'s, A> {
         requires closed { IsTermOf (script_in self.now.parts) (packed_process term.now) }
         requires row { IsRowOf self.now (packed_process term.now) row.now }
         requires fired { AreRowFired self.now.parts row.now.numbers.items }
-        ensures { IfOk result (λ told. IfSome told (IsPackedFormOf (script_in self.now.parts) (packed_process term.now))) }
+        ensures { IfOk result (λ told. IfSome told
+            (IsPackedFormOf (script_in self.now.parts) (packed_process term.now))) }
     {
         let Some(last) = &self.last else {
             return Ok(None);

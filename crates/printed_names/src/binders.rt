@@ -14,7 +14,8 @@ use std::alloc::Allocator;
 impl<'t, A: Allocator + Copy> BoundNames<'t, A> {
     /// Adds what the declaration binds: its parameters, and what its processes bind.
     pub(crate) fn add_declaration(&mut self, declaration: &Declaration<'t, A>) -> Result<(), Memory>
-        ensures { Meets result self.old self.new (spellings (bound_in_declaration (declaration_of declaration.now))) }
+        ensures { Meets result self.old self.new
+            (spellings (bound_in_declaration (declaration_of declaration.now))) }
     {
         match declaration {
             Declaration::Equation {
@@ -41,7 +42,8 @@ impl<'t, A: Allocator + Copy> BoundNames<'t, A> {
 
     /// Adds what the specification binds, where there is one.
     fn add_property(&mut self, property: &Property<'t, A>) -> Result<(), Memory>
-        ensures { Meets result self.old self.new (spellings (bound_in_property (property_of property.now))) }
+        ensures { Meets result self.old self.new
+            (spellings (bound_in_property (property_of property.now))) }
     {
         match property {
             Property::Refinement { specification, .. } => self.add_process(specification),
@@ -77,7 +79,8 @@ impl<'t, A: Allocator + Copy> BoundNames<'t, A> {
     /// Adds what two processes bind, the left one first.
     #[cycle(add_process)]
     fn add_both(&mut self, left: &Process<'t, A>, right: &Process<'t, A>) -> Result<(), Memory>
-        ensures { Meets result self.old self.new (spellings (bound_in (process_of left.now) ++ bound_in (process_of right.now))) }
+        ensures { Meets result self.old self.new
+            (spellings (bound_in (process_of left.now) ++ bound_in (process_of right.now))) }
     {
         self.add_process(left)?;
         self.add_process(right)
@@ -85,7 +88,8 @@ impl<'t, A: Allocator + Copy> BoundNames<'t, A> {
 
     /// Adds the names of inputs.
     fn add_fields(&mut self, fields: &[Field<'t, A>]) -> Result<(), Memory>
-        ensures { Meets result self.old self.new (spellings (bound_by_fields (map field_of fields.now))) }
+        ensures { Meets result self.old self.new
+            (spellings (bound_by_fields (map field_of fields.now))) }
     {
         for field in fields {
             self.add_field(field)?;
@@ -95,7 +99,8 @@ impl<'t, A: Allocator + Copy> BoundNames<'t, A> {
 
     /// Adds the name of an input.
     fn add_field(&mut self, field: &Field<'t, A>) -> Result<(), Memory>
-        ensures { Meets result self.old self.new (spellings (bound_by_fields (field_of field.now ∷ []))) }
+        ensures { Meets result self.old self.new
+            (spellings (bound_by_fields (field_of field.now ∷ []))) }
     {
         match field {
             Field::Given(_) => Ok(()),

@@ -62,7 +62,8 @@ fn push_constructors<'t, A: Allocator>(
     list: &mut Vec<&'t str, A>,
     clauses: &[Clause<'t, A>],
 ) -> Result<(), Memory>
-    ensures { Lists result list.old list.new (spellings (clause_names (map clause_of clauses.now))) }
+    ensures { Lists result list.old list.new
+        (spellings (clause_names (map clause_of clauses.now))) }
 {
     for clause in clauses {
         push_spelling(list, clause.name.text)?;

@@ -35,7 +35,8 @@ fn fill<R: Read>(reader: &mut R, room: &mut [u8]) -> Result<usize, Unread>
     ensures within { IfOk result (λ count. count ≤ length room.new) }
     ensures bytes { IfOk result (λ count.
         Consumes (R.remaining reader.old) (R.remaining reader.new) (take count room.new)) }
-    ensures end { IfOk result (λ count. count < length room.new → IsAtEnd (R.remaining reader.new)) }
+    ensures end { IfOk result (λ count. count < length room.new
+        → IsAtEnd (R.remaining reader.new)) }
 {
     let mut filled = 0;
     for _ in 0..u64::MAX {

@@ -67,6 +67,7 @@ pub trait Files<A: Allocator> {
 
     /// The bytes of the file of that name, or the first `MOST_BYTES` of them where it has more.
     fn read(&mut self, name: &str) -> Result<Vec<u8, A>, Unread>
-        ensures holds { IfOk result (λ bytes. IsBeginning (may_hold self.old name.now) bytes.items) }
+        ensures holds { IfOk result (λ bytes. IsBeginning (may_hold self.old name.now)
+            bytes.items) }
         ensures lacks { IfErr result (IfLacks (may_lack self.old name.now)) };
 }

@@ -26,7 +26,8 @@ pub trait Sink {
     fn push(&mut self, text: &[u8]) -> Result<usize, Failed>
         ensures count { WritesAtMost result text.now }
         ensures bytes { WriteAppends (taken self.old) (taken self.new) result text.now }
-        ensures failure { has_failed self.new ≡ (has_failed self.old || breaks_down result text.now) };
+        ensures failure { has_failed self.new
+            ≡ (has_failed self.old || breaks_down result text.now) };
 }
 
 /// A sink in memory. A growth that is refused is a failure.

@@ -45,11 +45,16 @@ pub struct Settings<'a> {
 /// more than one.
 pub fn read<'a>(alloc: Global, words: &'a [&'a str]) -> Result<Settings<'a>, CommandLineFault>
     ensures taken { IfOk result (λ _. faults_of (texts words.entry.now) ≡ []) }
-    ensures workers { IfOk result (λ s. s.workers ≡ chosen (codes "workers") 1 (texts words.entry.now)) }
-    ensures pairs { IfOk result (λ s. s.max_pairs ≡ chosen (codes "max-pairs") 100000 (texts words.entry.now)) }
-    ensures nodes { IfOk result (λ s. s.max_nodes ≡ chosen (codes "max-nodes") 10000 (texts words.entry.now)) }
-    ensures at_once { IfOk result (λ s. IsTrue s.at_once ↔ IsUsed (codes "unfold") (texts words.entry.now)) }
-    ensures file { IfOk result (λ s. given (codes "file") (texts words.entry.now) ≡ Some s.file.now) }
+    ensures workers { IfOk result (λ s. s.workers ≡ chosen (codes "workers") 1
+        (texts words.entry.now)) }
+    ensures pairs { IfOk result (λ s. s.max_pairs ≡ chosen (codes "max-pairs") 100000
+        (texts words.entry.now)) }
+    ensures nodes { IfOk result (λ s. s.max_nodes ≡ chosen (codes "max-nodes") 10000
+        (texts words.entry.now)) }
+    ensures at_once { IfOk result (λ s. IsTrue s.at_once
+        ↔ IsUsed (codes "unfold") (texts words.entry.now)) }
+    ensures file { IfOk result (λ s. given (codes "file") (texts words.entry.now)
+        ≡ Some s.file.now) }
     ensures fault { IfErr result (IsFaultOf (texts words.entry.now)) }
 {
     let matches = match command_line(alloc)?.try_get_matches_from(words) {

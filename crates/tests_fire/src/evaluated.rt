@@ -21,7 +21,8 @@ static ROWS: [(i32, i32, Result<i32, Fault>); 3] = [
 
 /// `left % right`
 fn rest(alloc: Global, left: i32, right: i32) -> Result<Expr<Global>, Memory>
-    ensures { IfOk result (λ e. expression_of e ≡ Combine Modulus (Literal (Integer left)) (Literal (Integer right))) }
+    ensures { IfOk result (λ e. expression_of e ≡ Combine Modulus (Literal (Integer left))
+        (Literal (Integer right))) }
 {
     let left = Box::new(alloc, Expr::Literal(Value::Int(left)))?;
     let right = Box::new(alloc, Expr::Literal(Value::Int(right)))?;

@@ -25,7 +25,8 @@ fn first_target(
     form: &Form<Global>,
 ) -> Result<Option<Term<Global>>, Memory>
     requires { LeadsToTermsOf (script_of script.now) (form_of form.now) }
-    ensures { IfOk result (λ found. IfSome found (λ target. IsTermOf (script_of script.now) (process_of target))) }
+    ensures { IfOk result (λ found. IfSome found
+        (λ target. IsTermOf (script_of script.now) (process_of target))) }
 {
     match form {
         Form::Steps(steps, _) => {
@@ -47,7 +48,8 @@ pub(crate) fn target(
     term: &Term<Global>,
 ) -> Result<Option<Term<Global>>, Memory>
     requires { IsTermOf (script_of script.now) (process_of term.now) }
-    ensures { IfOk result (λ found. IfSome found (λ target. IsTermOf (script_of script.now) (process_of target))) }
+    ensures { IfOk result (λ found. IfSome found
+        (λ target. IsTermOf (script_of script.now) (process_of target))) }
 {
     let expansion = fire(alloc, script, term)?;
     first_target(alloc, script, expansion.form())

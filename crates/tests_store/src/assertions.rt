@@ -26,7 +26,8 @@ pub(crate) fn specification(
     script: &Script<Global>,
     number: usize,
 ) -> Result<Option<&Term<Global>>, Fail>
-    ensures { IfOk result (λ o. IfSome o (λ term. IsTermOf (script_of script.now) (process_of term.now))) }
+    ensures { IfOk result (λ o. IfSome o
+        (λ term. IsTermOf (script_of script.now) (process_of term.now))) }
 {
     let assertion = assertion(script, number)?;
     Ok(assertion.property.specification())

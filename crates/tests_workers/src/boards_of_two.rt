@@ -12,7 +12,8 @@ pub(crate) fn two_seats<A: Allocator + Copy>(
 ) -> Result<(Board<A>, Seat, Seat), Memory>
     requires { positions ≤ 1000000 }
     ensures board { IfOk result (λ opened. opened.0.positions ≡ positions) }
-    ensures seats { IfOk result (λ opened. (opened.1.board ≡ opened.0) × (opened.2.board ≡ opened.0)) }
+    ensures seats { IfOk result (λ opened. (opened.1.board ≡ opened.0)
+        × (opened.2.board ≡ opened.0)) }
 {
     let (board, mut seats) = Board::open(alloc, positions, 2)?;
     let second = seats.pop().unwrap();

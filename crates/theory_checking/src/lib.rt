@@ -31,14 +31,18 @@ pub mod names;
 
 /// A tree has at most one refusal, at one place.
 pub fn kind_refusal_is_one()
-    ensures { (raw : RawScript) (f g : KindFault) (p q : Place) → IsKindRefusal raw f p → IsKindRefusal raw g q → (f ≡ g) × (p ≡ q) }
+    ensures { (raw : RawScript) (f g : KindFault) (p q : Place) → IsKindRefusal raw f p
+        → IsKindRefusal raw g q → (f ≡ g) × (p ≡ q) }
 {}
 
 /// What the three passes look at stands at the tokens of the tree, in their order.
 pub fn passes_go_in_the_order_of_the_text()
-    ensures declared { (ts : List PlacedToken) (raw : RawScript) → IsScript ts raw → StandAlong ts (map (λ n. n.place) (all_declared raw)) }
-    ensures sites { (ts : List PlacedToken) (raw : RawScript) → IsScript ts raw → StandAlong ts (map site_place (sites raw)) }
-    ensures items { (ts : List PlacedToken) (raw : RawScript) → IsScript ts raw → StandAlong ts (map item_place (items raw)) }
+    ensures declared { (ts : List PlacedToken) (raw : RawScript) → IsScript ts raw
+        → StandAlong ts (map (λ n. n.place) (all_declared raw)) }
+    ensures sites { (ts : List PlacedToken) (raw : RawScript) → IsScript ts raw
+        → StandAlong ts (map site_place (sites raw)) }
+    ensures items { (ts : List PlacedToken) (raw : RawScript) → IsScript ts raw
+        → StandAlong ts (map item_place (items raw)) }
 {}
 
 /// A tree stands for at most one script.
@@ -48,30 +52,37 @@ pub fn script_is_one()
 
 /// A text stands for at most one checked script.
 pub fn checked_script_is_one()
-    ensures { (bytes : List ℕ) (s t : Script) → IsCheckedText bytes s → IsCheckedText bytes t → s ≡ t }
+    ensures { (bytes : List ℕ) (s t : Script) → IsCheckedText bytes s → IsCheckedText bytes t
+        → s ≡ t }
 {}
 
 /// A text has at most one refusal for its names and kinds, at one place.
 pub fn text_refusal_is_one()
-    ensures { (bytes : List ℕ) (f g : KindFault) (p q : Place) → IsRefusedText bytes f p → IsRefusedText bytes g q → (f ≡ g) × (p ≡ q) }
+    ensures { (bytes : List ℕ) (f g : KindFault) (p q : Place) → IsRefusedText bytes f p
+        → IsRefusedText bytes g q → (f ≡ g) × (p ≡ q) }
 {}
 
 /// A checked tree is not refused.
 pub fn checked_is_not_refused()
-    ensures { (raw : RawScript) (s : Script) (f : KindFault) (p : Place) → IsCheckedTree raw s → ¬ IsKindRefusal raw f p }
+    ensures { (raw : RawScript) (s : Script) (f : KindFault) (p : Place) → IsCheckedTree raw s
+        → ¬ IsKindRefusal raw f p }
 {}
 
 /// A checked text is refused neither by the readers nor for its names and kinds, and no text by both.
 pub fn checked_text_is_not_refused()
-    ensures reading { (bytes : List ℕ) (s : Script) (f : ReadingFault) (p : Place) → IsCheckedText bytes s → ¬ IsReadingRefusal bytes f p }
-    ensures kinds { (bytes : List ℕ) (s : Script) (f : KindFault) (p : Place) → IsCheckedText bytes s → ¬ IsRefusedText bytes f p }
-    ensures both { (bytes : List ℕ) (f : ReadingFault) (g : KindFault) (p q : Place) → IsReadingRefusal bytes f p → ¬ IsRefusedText bytes g q }
+    ensures reading { (bytes : List ℕ) (s : Script) (f : ReadingFault) (p : Place)
+        → IsCheckedText bytes s → ¬ IsReadingRefusal bytes f p }
+    ensures kinds { (bytes : List ℕ) (s : Script) (f : KindFault) (p : Place)
+        → IsCheckedText bytes s → ¬ IsRefusedText bytes f p }
+    ensures both { (bytes : List ℕ) (f : ReadingFault) (g : KindFault) (p q : Place)
+        → IsReadingRefusal bytes f p → ¬ IsRefusedText bytes g q }
 {}
 
 /// A tree without a refusal has its script, and so has one of which the first two passes refuse nothing.
 pub fn unrefused_tree_has_its_script()
     ensures passes { (raw : RawScript) → IsUnrefused raw → PassesNames raw }
-    ensures script { (raw : RawScript) → PassesNames raw → (script : Script) × IsScriptOf raw script }
+    ensures script { (raw : RawScript) → PassesNames raw
+        → (script : Script) × IsScriptOf raw script }
 {}
 
 /// A tree without a refusal is not unchecked. That kinds fit all of it is said in this weak way, since to find them one
@@ -82,7 +93,8 @@ pub fn unrefused_tree_is_not_unchecked()
 
 /// A text without a refusal, by the readers or for its names and kinds, is not unchecked.
 pub fn unrefused_text_is_not_unchecked()
-    ensures { (bytes : List ℕ) → IsUnrefusedText bytes → HasNoKindRefusal bytes → ¬ ((s : Script) → ¬ IsCheckedText bytes s) }
+    ensures { (bytes : List ℕ) → IsUnrefusedText bytes → HasNoKindRefusal bytes
+        → ¬ ((s : Script) → ¬ IsCheckedText bytes s) }
 {}
 
 /// The script of a checked tree is well-kinded, by its values too.
@@ -92,13 +104,15 @@ pub fn checked_tree_has_checked_script()
 
 /// Where no name is declared twice, the members of a tree's sets rise, whether kinds fit or not.
 pub fn members_of_trees_rise()
-    ensures { (raw above : RawScript) → NoneRefused IsRedeclared (all_declared raw) → MembersRise raw above }
+    ensures { (raw above : RawScript) → NoneRefused IsRedeclared (all_declared raw)
+        → MembersRise raw above }
 {}
 
 /// Where some kinds fit the sets so far, some fit those above, those of a declaration's first fields, and those of a
 /// datatype's first clauses.
 pub fn kinds_fit_from_above()
-    ensures above { (types : Types) (above more : RawScript) → SomeFit types (above ++ more) → SomeFit types above }
+    ensures above { (types : Types) (above more : RawScript) → SomeFit types (above ++ more)
+        → SomeFit types above }
     ensures fields { (types : Types) (above : RawScript) → FirstFieldsFit types above }
     ensures clauses { (types : Types) (above : RawScript) → FirstClausesFit types above }
 {}

@@ -15,13 +15,15 @@ ghost use Rattle.theory_faults.specs.Truth.{IsToBlame};
 
 /// What is to blame in a term has the term's first cause, and where there is no cause nothing is to blame.
 pub fn culprits_are_causes()
-    ensures { (script : Script) (p : Process) → option_map cause_of (culprit_in script p) ≡ cause_in script p }
+    ensures { (script : Script) (p : Process) → option_map cause_of (culprit_in script p)
+        ≡ cause_in script p }
 {}
 
 /// It explains that cause: an expression has no value by it, though its operands have one, a value lies outside of the
 /// set of its field, or a choice is over an empty set.
 pub fn culprits_explain_causes()
-    ensures { (script : Script) (p : Process) → IsToBlame script (culprit_in script p) (cause_in script p) }
+    ensures { (script : Script) (p : Process) → IsToBlame script (culprit_in script p)
+        (cause_in script p) }
 {}
 
 /// It stands in the term's own parts, or else in the processes that the rule looks at, the first of them first.

@@ -62,12 +62,14 @@ pub fn refusals_are_of_the_tokens()
 
 /// Tokens have at most one tree, and so has a text.
 pub fn tree_is_one()
-    ensures tokens { (ts : List PlacedToken) (s u : RawScript) → IsScript ts s → IsScript ts u → s ≡ u }
+    ensures tokens { (ts : List PlacedToken) (s u : RawScript) → IsScript ts s → IsScript ts u
+        → s ≡ u }
     ensures text { (bytes : List ℕ) (s u : RawScript) → IsRead bytes s → IsRead bytes u → s ≡ u }
 {}
 
 /// Tokens that are not refused have a tree within the limit of heights, and so has a text that is not refused.
 pub fn unrefused_text_is_read()
-    ensures tokens { (ts : List PlacedToken) (end : Place) → AreUnrefused ts end → (s : RawScript) × IsParsed ts s }
+    ensures tokens { (ts : List PlacedToken) (end : Place) → AreUnrefused ts end
+        → (s : RawScript) × IsParsed ts s }
     ensures text { (bytes : List ℕ) → IsUnrefusedText bytes → (s : RawScript) × IsRead bytes s }
 {}

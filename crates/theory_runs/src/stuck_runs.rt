@@ -14,17 +14,21 @@ ghost use Rattle.theory_runs.specs.Runs.{HasNoStuckRun, IsStuckRun};
 
 /// Each state on the way to a stuck term is reached by the path's beginning that leads up to it.
 pub fn states_on_the_way_are_reached()
-    ensures { (script : Script) (t : Process) (h : Hindrance) (path : List Action) (states : List Process) → IsStuckRun script t h path states → AreReached script t path states }
+    ensures { (script : Script) (t : Process) (h : Hindrance) (path : List Action)
+        (states : List Process) → IsStuckRun script t h path states
+        → AreReached script t path states }
 {}
 
 /// Where there is a run to a stuck term, it is not so that there is none.
 pub fn a_stuck_run_is_one()
-    ensures { (script : Script) (t : Process) (h : Hindrance) (path : List Action) (states : List Process) → IsStuckRun script t h path states → ¬ HasNoStuckRun script t h }
+    ensures { (script : Script) (t : Process) (h : Hindrance) (path : List Action)
+        (states : List Process) → IsStuckRun script t h path states → ¬ HasNoStuckRun script t h }
 {}
 
 /// A term is stuck by one thing alone.
 pub fn hindrances_are_one()
-    ensures { (script : Script) (t : Process) (h k : Hindrance) → h ≢ k → IsStuckBy script t h → ¬ IsStuckBy script t k }
+    ensures { (script : Script) (t : Process) (h k : Hindrance) → h ≢ k → IsStuckBy script t h
+        → ¬ IsStuckBy script t k }
 {}
 
 /// Where the next term that was met is not stuck so, and its steps are put there, one more is done.
@@ -42,7 +46,8 @@ pub fn ways_back_are_runs()
 /// Where a path of the implementation stops a search, each beginning of it is along a trace of the specification, which
 /// is never stuck itself. So the two sides do not both stop an assertion.
 pub fn one_side_stops()
-    ensures along { (script : Script) (a : Assertion) (h : Hindrance) (path : List Action) → StopsSearch script a h path → IsKnownAlong script a path }
+    ensures along { (script : Script) (a : Assertion) (h : Hindrance) (path : List Action)
+        → StopsSearch script a h path → IsKnownAlong script a path }
     ensures one { (script : Script) (a : Assertion) → OneSideStops script a }
 {}
 

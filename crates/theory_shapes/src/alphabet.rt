@@ -10,7 +10,8 @@ ghost use Rattle.theory_shapes.specs.Alphabet.{FieldSetsRise, IsEventOf, alphabe
 
 /// A term does no event but those of the script.
 pub fn steps_are_by_events_of_the_script()
-    ensures { (script : Script) (t : Process) (e : Event) (u : Process) → RuleStep script t (Ev e) u → IsEventOf script e }
+    ensures { (script : Script) (t : Process) (e : Event) (u : Process) → RuleStep script t (Ev e) u
+        → IsEventOf script e }
 {}
 
 /// The alphabet has exactly these events.
@@ -25,7 +26,8 @@ pub fn alphabet_rises()
 
 /// That of a checked script rises, and so each event has a number of its own: its place in it.
 pub fn events_have_their_own_numbers()
-    ensures rises { (script : Script) → IsCheckedScript script → RisesBy event_cmp (alphabet script) }
+    ensures rises { (script : Script) → IsCheckedScript script
+        → RisesBy event_cmp (alphabet script) }
     ensures apart { (script : Script) → IsCheckedScript script → (n m : ℕ) (d : Event) → n < length (alphabet script) → m < length (alphabet script)
         → event_eq (get_or (alphabet script) n d) (get_or (alphabet script) m d) ≡ nat_eq n m }
 {}

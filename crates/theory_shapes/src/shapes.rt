@@ -38,12 +38,15 @@ pub fn terms_are_taken_apart()
 
 /// And it is no other shape with such parts.
 pub fn taken_apart_in_one_way()
-    ensures { (s : Shape) (parts : List Process) → length parts ≡ holes s → AllByRecursion IsPart parts → (shape_of (fill s parts) ≡ s) × (parts_of (fill s parts) ≡ parts) }
+    ensures { (s : Shape) (parts : List Process) → length parts ≡ holes s
+        → AllByRecursion IsPart parts → (shape_of (fill s parts) ≡ s)
+        × (parts_of (fill s parts) ≡ parts) }
 {}
 
 /// A term is spelled by the pieces of its shape, with the spellings of its parts between them.
 pub fn spelled_in_pieces()
-    ensures whole { (s : Shape) (parts : List Process) → spelling (fill s parts) ≡ in_turn 0 (pieces s) (part_run parts) }
+    ensures whole { (s : Shape) (parts : List Process)
+        → spelling (fill s parts) ≡ in_turn 0 (pieces s) (part_run parts) }
     ensures count { (s : Shape) → length (pieces s) ≡ suc (holes s) }
 {}
 
@@ -51,10 +54,16 @@ pub fn spelled_in_pieces()
 /// farther right. So a run begins where the piece before it ends.
 pub fn runs_stand_in_turn()
     ensures first { (s : Shape) (parts : List Process) → before_hole s parts 0 ≡ first_piece s }
-    ensures next { (s : Shape) (parts : List Process) (i : ℕ) → i < holes s → before_hole s parts (suc i) ≡ before_hole s parts i ++ (part_run parts i ++ get_or (pieces s) (suc i) []) }
-    ensures last { (s : Shape) (parts : List Process) → before_hole s parts (holes s) ≡ spelling (fill s parts) }
-    ensures alike { (s : Shape) (parts others : List Process) (i : ℕ) → ((j : ℕ) → j < i → part_at parts j ≡ part_at others j) → before_hole s parts i ≡ before_hole s others i }
-    ensures starts { (s : Shape) (parts : List Process) (i : ℕ) → i < holes s → run_start s parts (suc i) ≡ run_end s parts i + length (get_or (pieces s) (suc i) []) }
+    ensures next { (s : Shape) (parts : List Process) (i : ℕ) → i < holes s
+        → before_hole s parts (suc i) ≡ before_hole s parts i
+        ++ (part_run parts i ++ get_or (pieces s) (suc i) []) }
+    ensures last { (s : Shape) (parts : List Process)
+        → before_hole s parts (holes s) ≡ spelling (fill s parts) }
+    ensures alike { (s : Shape) (parts others : List Process) (i : ℕ)
+        → ((j : ℕ) → j < i → part_at parts j ≡ part_at others j)
+        → before_hole s parts i ≡ before_hole s others i }
+    ensures starts { (s : Shape) (parts : List Process) (i : ℕ) → i < holes s
+        → run_start s parts (suc i) ≡ run_end s parts i + length (get_or (pieces s) (suc i) []) }
     ensures stands { (s : Shape) (parts : List Process) (i : ℕ) → length parts ≡ holes s → i < holes s
         → take (length (part_run parts i)) (drop (run_start s parts i) (spelling (fill s parts))) ≡ part_run parts i }
 {}
@@ -68,10 +77,13 @@ pub fn changes_are_spelled_in_place()
 /// The size of a term is a sum over its parts, and its depth a maximum over them. So a part of a term within the limits is
 /// within them.
 pub fn measured_by_parts()
-    ensures size { (s : Shape) (parts : List Process) → length parts ≡ holes s → size (fill s parts) ≡ own_size s + sum_by size parts }
-    ensures depth { (s : Shape) (parts : List Process) → length parts ≡ holes s → depth (fill s parts) ≡ max (own_depth s) (deepest (levels s) parts) }
+    ensures size { (s : Shape) (parts : List Process) → length parts ≡ holes s
+        → size (fill s parts) ≡ own_size s + sum_by size parts }
+    ensures depth { (s : Shape) (parts : List Process) → length parts ≡ holes s
+        → depth (fill s parts) ≡ max (own_depth s) (deepest (levels s) parts) }
     ensures levels { (s : Shape) → length (levels s) ≡ holes s }
-    ensures parts { (s : Shape) (parts : List Process) → length parts ≡ holes s → IsTrue (fits (fill s parts)) → AllByRecursion (λ p. IsTrue (fits p)) parts }
+    ensures parts { (s : Shape) (parts : List Process) → length parts ≡ holes s
+        → IsTrue (fits (fill s parts)) → AllByRecursion (λ p. IsTrue (fits p)) parts }
 {}
 
 /// Where parts of a term within the limits take the places of others, what these measure tells whether the new term is
@@ -97,7 +109,9 @@ pub fn moves_lead_to_shapes()
 
 /// Each move is spelled in its place, and all other bytes stay.
 pub fn moves_are_spelled_in_place()
-    ensures { (d : Move) (s : Shape) (parts : List Process) → spelling (moved_from d 0 s parts) ≡ edited (spelling (fill s parts)) 0 (move_edits d 0 0 s parts) }
+    ensures { (d : Move) (s : Shape) (parts : List Process)
+        → spelling (moved_from d 0 s parts) ≡ edited (spelling (fill s parts)) 0
+        (move_edits d 0 0 s parts) }
 {}
 
 /// The steps of a term are told by changes of its parts, but where a step does not leave the shape as it is.
@@ -145,7 +159,8 @@ pub fn accepted_by_parts()
 
 /// What was fired is shown; and a term that is covered is shown by its parts.
 pub fn shown_by_parts()
-    ensures fired { (script : Script) (t : Process) (steps : Steps) (offers : List (List Action)) → IsFired script t steps offers → IsShown script t steps offers }
+    ensures fired { (script : Script) (t : Process) (steps : Steps) (offers : List (List Action))
+        → IsFired script t steps offers → IsShown script t steps offers }
     ensures covered { (script : Script) (s : Shape) (parts : List Process) (known : List Steps) (ms : List (Action × List Change)) (offers : List (List Action))
         → IsCovered script s parts known ms → IsTrue (fits (fill s parts)) → TargetsFit s parts ms → ((xs : List Action) → IsAcceptedBy ms xs ↔ Contains offers xs)
         → IsShown script (fill s parts) (changed_by s parts ms) offers }
@@ -153,7 +168,8 @@ pub fn shown_by_parts()
 
 /// A term has a spelling of its own exactly where the sets and renamings of its shape and its parts have.
 pub fn spellable_by_parts()
-    ensures { (s : Shape) (parts : List Process) → length parts ≡ holes s → IsSpellable (fill s parts) ↔ (IsSpellableShape s × AllByRecursion IsSpellable parts) }
+    ensures { (s : Shape) (parts : List Process) → length parts ≡ holes s
+        → IsSpellable (fill s parts) ↔ (IsSpellableShape s × AllByRecursion IsSpellable parts) }
 {}
 
 /// So a term is known by its bytes: it is the shape with these parts if it is spelled so.
@@ -167,14 +183,17 @@ pub fn terms_are_known_by_pieces()
 pub fn parts_are_terms_of_the_script()
     ensures closed { (script : Script) (kinds : Kinds) (s : Shape) (parts : List Process) → length parts ≡ holes s
         → IsClosedTerm script kinds (fill s parts) ↔ (IsClosedShape script kinds s × AllByRecursion (IsClosedTerm script kinds) parts) }
-    ensures parts { (script : Script) (s : Shape) (parts : List Process) → length parts ≡ holes s → IsTermOf script (fill s parts) → AllByRecursion (IsTermOf script) parts }
+    ensures parts { (script : Script) (s : Shape) (parts : List Process) → length parts ≡ holes s
+        → IsTermOf script (fill s parts) → AllByRecursion (IsTermOf script) parts }
 {}
 
 /// `(SKIP \ {}) ||| STOP` has two parts, the first of them under two operators.
 pub fn shape_of_a_small_term()
-    ensures shape { shape_of hidden_beside_stop ≡ Composed Interleaved (Framed (Hidden (Enumeration [])) Hole) Hole }
+    ensures shape { shape_of hidden_beside_stop ≡ Composed Interleaved
+        (Framed (Hidden (Enumeration [])) Hole) Hole }
     ensures parts { parts_of hidden_beside_stop ≡ Skip ∷ Stop ∷ [] }
-    ensures pieces { pieces (shape_of hidden_beside_stop) ≡ (0x0b ∷ 0x0f ∷ []) ∷ (0x28 ∷ 0 ∷ 0 ∷ 0 ∷ 0 ∷ []) ∷ [] ∷ [] }
+    ensures pieces { pieces (shape_of hidden_beside_stop)
+        ≡ (0x0b ∷ 0x0f ∷ []) ∷ (0x28 ∷ 0 ∷ 0 ∷ 0 ∷ 0 ∷ []) ∷ [] ∷ [] }
     ensures size { own_size (shape_of hidden_beside_stop) ≡ 3 }
     ensures levels { levels (shape_of hidden_beside_stop) ≡ 2 ∷ 1 ∷ [] }
 {}
@@ -182,10 +201,14 @@ pub fn shape_of_a_small_term()
 /// A step of one part, of two together, and one that is hidden; a part that ends; and two that do not leave the shape as
 /// it is: a side ends that is no part, and both sides have ended.
 pub fn steps_of_small_shapes()
-    ensures alone { letter_shape_steps (Interleaving a_stop (plain 1 Stop)) ≡ (letter 0, Some (in_hole 0 Stop ∷ [])) ∷ (letter 1, Some (in_hole 1 Stop ∷ [])) ∷ [] }
-    ensures together { letter_shape_steps (GeneralisedParallel a_stop (just 0) (plain 0 Skip)) ≡ (letter 0, Some (in_hole 0 Stop ∷ in_hole 1 Skip ∷ [])) ∷ [] }
-    ensures hidden { letter_shape_steps (Hiding (Interleaving Stop a_stop) (just 0)) ≡ (Tau, Some (in_hole 1 Stop ∷ [])) ∷ [] }
-    ensures ends { letter_shape_steps (Interleaving Skip Stop) ≡ (Tau, Some (in_hole 0 Omega ∷ [])) ∷ [] }
+    ensures alone { letter_shape_steps (Interleaving a_stop (plain 1 Stop))
+        ≡ (letter 0, Some (in_hole 0 Stop ∷ [])) ∷ (letter 1, Some (in_hole 1 Stop ∷ [])) ∷ [] }
+    ensures together { letter_shape_steps (GeneralisedParallel a_stop (just 0) (plain 0 Skip))
+        ≡ (letter 0, Some (in_hole 0 Stop ∷ in_hole 1 Skip ∷ [])) ∷ [] }
+    ensures hidden { letter_shape_steps (Hiding (Interleaving Stop a_stop) (just 0))
+        ≡ (Tau, Some (in_hole 1 Stop ∷ [])) ∷ [] }
+    ensures ends { letter_shape_steps (Interleaving Skip Stop)
+        ≡ (Tau, Some (in_hole 0 Omega ∷ [])) ∷ [] }
     ensures side_ends { letter_shape_steps hidden_beside_stop ≡ (Tau, None) ∷ [] }
     ensures both_ended { letter_shape_steps (Interleaving Omega Omega) ≡ (Tick, None) ∷ [] }
 {}

@@ -24,20 +24,24 @@ ghost use Rattle.theory_spelling.specs.Reading.{IsBytes, process_at, term_of};
 
 /// What is spelled is read again, whatever is behind it. A term nests no deeper than its spelling is long.
 pub fn spelled_is_read_again()
-    ensures front { (p : Process) (rest : List ℕ) (n : ℕ) → IsSpellable p → length (spelling p) ≤ n → process_at n (spelling p ++ rest) ≡ Some (p, rest) }
+    ensures front { (p : Process) (rest : List ℕ) (n : ℕ) → IsSpellable p → length (spelling p) ≤ n
+        → process_at n (spelling p ++ rest) ≡ Some (p, rest) }
     ensures whole { (p : Process) → IsSpellable p → term_of (spelling p) ≡ Some p }
 {}
 
 /// What is read of bytes is spelled by all of them.
 pub fn read_is_spelled_so()
-    ensures { (bytes : List ℕ) (p : Process) → IsBytes bytes → term_of bytes ≡ Some p → (spelling p ≡ bytes) × IsSpellable p }
+    ensures { (bytes : List ℕ) (p : Process) → IsBytes bytes → term_of bytes ≡ Some p
+        → (spelling p ≡ bytes) × IsSpellable p }
 {}
 
 /// No spelling is a beginning of another one: where two terms are spelled at the front of the same bytes, they are the
 /// same, and so are the bytes behind them.
 pub fn no_spelling_begins_another()
-    ensures front { (p q : Process) (more other : List ℕ) → IsSpellable p → IsSpellable q → spelling p ++ more ≡ spelling q ++ other → (p ≡ q) × (more ≡ other) }
-    ensures longer { (p q : Process) (b : ℕ) (more : List ℕ) → IsSpellable p → IsSpellable q → spelling p ++ b ∷ more ≡ spelling q → ⊥ }
+    ensures front { (p q : Process) (more other : List ℕ) → IsSpellable p → IsSpellable q
+        → spelling p ++ more ≡ spelling q ++ other → (p ≡ q) × (more ≡ other) }
+    ensures longer { (p q : Process) (b : ℕ) (more : List ℕ) → IsSpellable p → IsSpellable q
+        → spelling p ++ b ∷ more ≡ spelling q → ⊥ }
 {}
 
 /// A term within the limits has short lists: it has no more items than nodes.
@@ -48,15 +52,19 @@ pub fn terms_within_the_limits_have_short_lists()
 /// A well-kinded term with short lists, whose numbers are in range, has a spelling of its own, since the members of its
 /// sets rise. So has each term of a checked script that is within the limits, whose numbers are in range.
 pub fn well_kinded_terms_are_spellable()
-    ensures kinded { (script : Script) (kinds : Kinds) (scope : Scope) (p : Process) → IsWellKinded script kinds scope p → IsPackable p → IsInRange p → IsSpellable p }
-    ensures of_script { (script : Script) (p : Process) → IsTermOf script p → IsTrue (fits p) → IsInRange p → IsSpellable p }
+    ensures kinded { (script : Script) (kinds : Kinds) (scope : Scope) (p : Process)
+        → IsWellKinded script kinds scope p → IsPackable p → IsInRange p → IsSpellable p }
+    ensures of_script { (script : Script) (p : Process) → IsTermOf script p → IsTrue (fits p)
+        → IsInRange p → IsSpellable p }
 {}
 
 /// What a step leads to has short lists. So has all that a run leads to from a term that has them; and where the first is
 /// a term of a checked script, and the numbers of the last are in range, that one has a spelling of its own.
 pub fn reached_terms_are_spellable()
-    ensures target { (script : Script) (t : Process) (x : Action) (u : Process) → Step script t x u → IsPackable u }
-    ensures short { (script : Script) (t : Process) (path : List Action) (u : Process) → Run script t path u → IsPackable t → IsPackable u }
+    ensures target { (script : Script) (t : Process) (x : Action) (u : Process) → Step script t x u
+        → IsPackable u }
+    ensures short { (script : Script) (t : Process) (path : List Action) (u : Process)
+        → Run script t path u → IsPackable t → IsPackable u }
     ensures spellable { (script : Script) (t : Process) (path : List Action) (u : Process) →
         IsTermOf script t → Run script t path u → IsPackable t → IsInRange u → IsSpellable u }
 {}
@@ -69,7 +77,8 @@ pub fn spellable_terms_are_short_and_in_range()
 
 /// Two terms are equal exactly where their spellings are.
 pub fn equal_terms_are_spelled_alike()
-    ensures { (p q : Process) → IsSpellable p → IsSpellable q → (spelling p ≡ spelling q) ↔ (p ≡ q) }
+    ensures { (p q : Process) → IsSpellable p → IsSpellable q
+        → (spelling p ≡ spelling q) ↔ (p ≡ q) }
 {}
 
 /// `c!1 -> STOP` with the first channel is 17 bytes, and `STOP [> SKIP` is 3. The constructor `N` with the number 0 is 5

@@ -18,7 +18,8 @@ pub(crate) fn steps<A: AllocHandle>(
     equation: EquationId,
     arguments: &[Expr<A>],
 ) -> Result<Vec<RuleStep<A>, A>, NoValue>
-    ensures { AnswersUnder script.now bindings.now (Call equation.0 (to_expressions (expressions_of arguments.now))) result }
+    ensures { AnswersUnder script.now bindings.now
+        (Call equation.0 (to_expressions (expressions_of arguments.now))) result }
 {
     let body = called(alloc, script, bindings, equation, arguments)?;
     let target = settled_body(alloc, script, body)?;

@@ -20,7 +20,8 @@ pub(crate) fn external<'v, A: AllocHandle>(
     left: &'v Term<A>,
     right: &'v Term<A>,
 ) -> Result<Vec<RuleStep<A>, A>, NoValue>
-    ensures { AnswersUnder script.now bindings.now (ExternalChoice (process_of left.now) (process_of right.now)) result }
+    ensures { AnswersUnder script.now bindings.now
+        (ExternalChoice (process_of left.now) (process_of right.now)) result }
 {
     let sides = side::both(alloc, script, bindings, left, right);
     choice::by_sides(alloc, sides)
@@ -34,7 +35,8 @@ pub(crate) fn internal<'v, A: AllocHandle>(
     left: &'v Term<A>,
     right: &'v Term<A>,
 ) -> Result<Vec<RuleStep<A>, A>, NoValue>
-    ensures { AnswersUnder script.now bindings.now (InternalChoice (process_of left.now) (process_of right.now)) result }
+    ensures { AnswersUnder script.now bindings.now
+        (InternalChoice (process_of left.now) (process_of right.now)) result }
 {
     let left = put_in_place(alloc, script, bindings, left)?;
     let right = put_in_place(alloc, script, bindings, right)?;

@@ -42,7 +42,8 @@ impl<'v, A: AllocHandle> Front<'v, A> {
     /// The front under these bindings, with no value.
     pub(crate) fn under(alloc: A, bindings: &[Binding<'v, A>]) -> Result<Front<'v, A>, Memory>
         ensures values { IfOk result (λ f. lent_values f.values.items ≡ []) }
-        ensures bindings { IfOk result (λ f. bindings_of f.bindings.items ≡ bindings_of bindings.now) }
+        ensures bindings { IfOk result (λ f. bindings_of f.bindings.items
+            ≡ bindings_of bindings.now) }
     {
         Ok(Front {
             values: Vec::new(alloc),
@@ -52,8 +53,10 @@ impl<'v, A: AllocHandle> Front<'v, A> {
 
     /// The front with one more value, that of a given field.
     fn with_given(&self, alloc: A, value: &'v Value<A>) -> Result<Front<'v, A>, Memory>
-        ensures values { IfOk result (λ f. lent_values f.values.items ≡ lent_values self.now.values.items ++ value_of value.now ∷ []) }
-        ensures bindings { IfOk result (λ f. bindings_of f.bindings.items ≡ bindings_of self.now.bindings.items) }
+        ensures values { IfOk result (λ f. lent_values f.values.items
+            ≡ lent_values self.now.values.items ++ value_of value.now ∷ []) }
+        ensures bindings { IfOk result (λ f. bindings_of f.bindings.items
+            ≡ bindings_of self.now.bindings.items) }
     {
         let mut values = Vec::from_slice(alloc, self.values.as_slice())?;
         values.push(value)?;
@@ -65,8 +68,10 @@ impl<'v, A: AllocHandle> Front<'v, A> {
 
     /// The front with one more value, for which the name stands from here on.
     fn with_input(&self, alloc: A, name: Name, value: &'v Value<A>) -> Result<Front<'v, A>, Memory>
-        ensures values { IfOk result (λ f. lent_values f.values.items ≡ lent_values self.now.values.items ++ value_of value.now ∷ []) }
-        ensures bindings { IfOk result (λ f. bindings_of f.bindings.items ≡ bind name.0 (value_of value.now) (bindings_of self.now.bindings.items)) }
+        ensures values { IfOk result (λ f. lent_values f.values.items
+            ≡ lent_values self.now.values.items ++ value_of value.now ∷ []) }
+        ensures bindings { IfOk result (λ f. bindings_of f.bindings.items
+            ≡ bind name.0 (value_of value.now) (bindings_of self.now.bindings.items)) }
     {
         let mut values = Vec::from_slice(alloc, self.values.as_slice())?;
         values.push(value)?;
@@ -86,7 +91,8 @@ pub(crate) fn look_for<'v, A: AllocHandle>(
     sets: &'v [FieldSet<A>],
     found: Vec<RuleStep<A>, A>,
 ) -> Result<Vec<RuleStep<A>, A>, NoValue>
-    ensures { FindsBehind walk.now front.now (fields_of fields.now) (sets_of sets.now) found result }
+    ensures { FindsBehind walk.now front.now (fields_of fields.now) (sets_of sets.now) found
+        result }
 {
     match (fields.split_first(), sets.split_first()) {
         (None, None) => reach(walk, front, found),
@@ -114,7 +120,8 @@ fn given<'v, A: AllocHandle>(
     sets: &'v [FieldSet<A>],
     found: Vec<RuleStep<A>, A>,
 ) -> Result<Vec<RuleStep<A>, A>, NoValue>
-    ensures { FindsField walk.now front.now (Given (expression_of value.now)) set.now fields.now sets.now found result }
+    ensures { FindsField walk.now front.now (Given (expression_of value.now)) set.now fields.now
+        sets.now found result }
 {
     let seen = (&*value).look(walk.alloc, &walk.script.types, &front.bindings)?;
     if !set.contains(seen.value()) {
@@ -135,7 +142,8 @@ fn inputs<'v, A: AllocHandle>(
     sets: &'v [FieldSet<A>],
     found: Vec<RuleStep<A>, A>,
 ) -> Result<Vec<RuleStep<A>, A>, NoValue>
-    ensures { FindsField walk.now front.now (Input name.0) set.now fields.now sets.now found result }
+    ensures { FindsField walk.now front.now (Input name.0) set.now fields.now sets.now found
+        result }
 {
     let mut found = found;
     for value in set.members() {
@@ -157,7 +165,8 @@ fn inputs_from<'v, A: AllocHandle>(
     sets: &'v [FieldSet<A>],
     found: Vec<RuleStep<A>, A>,
 ) -> Result<Vec<RuleStep<A>, A>, NoValue>
-    ensures { FindsField walk.now front.now (InputFrom name.0 (expression_of from.now)) set.now fields.now sets.now found result }
+    ensures { FindsField walk.now front.now (InputFrom name.0 (expression_of from.now)) set.now
+        fields.now sets.now found result }
 {
     let mut found = found;
     let seen = (&*from).look(walk.alloc, &walk.script.types, &front.bindings)?;

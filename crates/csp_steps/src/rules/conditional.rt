@@ -20,7 +20,8 @@ pub(crate) fn steps<'v, A: AllocHandle>(
     first: &'v Term<A>,
     second: &'v Term<A>,
 ) -> Result<Vec<RuleStep<A>, A>, NoValue>
-    ensures { AnswersUnder script.now bindings.now (If (expression_of test.now) (process_of first.now) (process_of second.now)) result }
+    ensures { AnswersUnder script.now bindings.now
+        (If (expression_of test.now) (process_of first.now) (process_of second.now)) result }
 {
     if condition(alloc, &script.types, bindings, test)? {
         rules::steps(alloc, script, bindings, first)

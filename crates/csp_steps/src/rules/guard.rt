@@ -19,7 +19,8 @@ pub(crate) fn steps<'v, A: AllocHandle>(
     test: &'v Expr<A>,
     body: &'v Term<A>,
 ) -> Result<Vec<RuleStep<A>, A>, NoValue>
-    ensures { AnswersUnder script.now bindings.now (Guard (expression_of test.now) (process_of body.now)) result }
+    ensures { AnswersUnder script.now bindings.now
+        (Guard (expression_of test.now) (process_of body.now)) result }
 {
     if condition(alloc, &script.types, bindings, test)? {
         rules::steps(alloc, script, bindings, body)

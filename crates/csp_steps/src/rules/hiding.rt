@@ -19,7 +19,8 @@ pub(crate) fn steps<'v, A: AllocHandle>(
     hidden: &'v EventSet<A>,
     body: &'v Term<A>,
 ) -> Result<Vec<RuleStep<A>, A>, NoValue>
-    ensures { AnswersUnder script.now bindings.now (Hiding (process_of body.now) (event_set_of hidden.now)) result }
+    ensures { AnswersUnder script.now bindings.now
+        (Hiding (process_of body.now) (event_set_of hidden.now)) result }
 {
     let body = rules::steps(alloc, script, bindings, body);
     let hidden = hidden.put_in(alloc, bindings)?;

@@ -18,7 +18,8 @@ pub(crate) fn steps<'v, A: AllocHandle>(
     left: &'v Term<A>,
     right: &'v Term<A>,
 ) -> Result<Vec<RuleStep<A>, A>, NoValue>
-    ensures { AnswersUnder script.now bindings.now (Interrupt (process_of left.now) (process_of right.now)) result }
+    ensures { AnswersUnder script.now bindings.now
+        (Interrupt (process_of left.now) (process_of right.now)) result }
 {
     let sides = side::both(alloc, script, bindings, left, right);
     interrupt::by_sides(alloc, sides)

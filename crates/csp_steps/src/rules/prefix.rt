@@ -19,7 +19,8 @@ pub(crate) fn steps<'v, A: AllocHandle>(
     fields: &'v [Field<A>],
     body: &'v Term<A>,
 ) -> Result<Vec<RuleStep<A>, A>, NoValue>
-    ensures { AnswersUnder script.now bindings.now (Prefix channel.0 (fields_of fields.now) (process_of body.now)) result }
+    ensures { AnswersUnder script.now bindings.now
+        (Prefix channel.0 (fields_of fields.now) (process_of body.now)) result }
 {
     let Some(declared) = script.channels.get(channel.0 as usize) else {
         return Err(NoValue::Cause(Cause::Kind));

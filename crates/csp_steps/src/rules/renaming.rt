@@ -19,7 +19,8 @@ pub(crate) fn steps<'v, A: AllocHandle>(
     pairs: &'v [RenamingPair<A>],
     body: &'v Term<A>,
 ) -> Result<Vec<RuleStep<A>, A>, NoValue>
-    ensures { AnswersUnder script.now bindings.now (Renaming (process_of body.now) (renaming_pairs_of pairs.now)) result }
+    ensures { AnswersUnder script.now bindings.now
+        (Renaming (process_of body.now) (renaming_pairs_of pairs.now)) result }
 {
     let body = rules::steps(alloc, script, bindings, body);
     let pairs = put_in_pairs(alloc, pairs, bindings)?;

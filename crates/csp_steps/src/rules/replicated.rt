@@ -35,7 +35,8 @@ pub(crate) fn steps<'v, A: AllocHandle>(
     set: &'v Expr<A>,
     body: &'v Term<A>,
 ) -> Result<Vec<RuleStep<A>, A>, NoValue>
-    ensures { AnswersUnder script.now bindings.now (replicated_process operator name.0 (expression_of set.now) (process_of body.now)) result }
+    ensures { AnswersUnder script.now bindings.now
+        (replicated_process operator name.0 (expression_of set.now) (process_of body.now)) result }
 {
     let seen = (&*set).look(alloc, &script.types, bindings)?;
     let Value::Set(members) = seen.value() else {
@@ -71,8 +72,10 @@ impl Looking {
         left: Side<A>,
         right: Side<A>,
     ) -> Result<Side<A>, Memory>
-        ensures process { IfOk result (λ side. target_of side.process ≡ process_of_sides (looking_process self) left right) }
-        ensures steps { IfOk result (λ side. HaveSameSteps (side_answers side) (answers_of_sides (looking_answers self) left right)) }
+        ensures process { IfOk result (λ side. target_of side.process
+            ≡ process_of_sides (looking_process self) left right) }
+        ensures steps { IfOk result (λ side. HaveSameSteps (side_answers side)
+            (answers_of_sides (looking_answers self) left right)) }
     {
         match self {
             Looking::ExternalChoice => choice::between(alloc, left, right),
@@ -95,7 +98,8 @@ impl<'v, 'b, A: AllocHandle> Instances<'v, 'b, A> {
     /// The instance of the value, with its steps.
     #[cycle(steps)]
     fn side(&self, value: &'v Value<A>) -> Result<Side<A>, NoValue>
-        ensures { IsSideOf (script_of_parts self.now.script.now) (instance_of self.now value.now) result }
+        ensures { IsSideOf (script_of_parts self.now.script.now) (instance_of self.now value.now)
+            result }
     {
         let bindings = bind(self.alloc, self.name, value, self.bindings)?;
         side::under(self.alloc, self.script, &bindings, self.body)
@@ -117,7 +121,8 @@ impl<'v, 'b, A: AllocHandle> Instances<'v, 'b, A> {
         first: Side<A>,
         others: &'v [Value<A>],
     ) -> Result<Vec<RuleStep<A>, A>, NoValue>
-        ensures { GoesOn (script_of_parts self.now.script.now) (looking_process operator) first (instances_of self.now others.now) result }
+        ensures { GoesOn (script_of_parts self.now.script.now) (looking_process operator) first
+            (instances_of self.now others.now) result }
     {
         let mut chain = first;
         for value in others {
@@ -143,7 +148,8 @@ impl<'v, 'b, A: AllocHandle> Instances<'v, 'b, A> {
 
     /// The chain of internal choices, of at least one, if it is within the limits.
     fn choices(&self, first: &'v Value<A>, others: &'v [Value<A>]) -> Result<Target<A>, Memory>
-        ensures { IfOk result (λ t. target_of t ≡ within_limits (instance_chain self.now InternalChoice first.now others.now)) }
+        ensures { IfOk result (λ t. target_of t ≡ within_limits
+            (instance_chain self.now InternalChoice first.now others.now)) }
     {
         let mut chain = self.process(first)?;
         for value in others {
@@ -160,7 +166,8 @@ impl<'v, 'b, A: AllocHandle> Instances<'v, 'b, A> {
         others: &'v [Value<A>],
         last: &'v Value<A>,
     ) -> Result<Vec<RuleStep<A>, A>, Memory>
-        ensures { IfOk result (λ steps. answers_of steps ≡ chosen_answers self.now first.now others.now last.now) }
+        ensures { IfOk result (λ steps. answers_of steps
+            ≡ chosen_answers self.now first.now others.now last.now) }
     {
         let chain = self.choices(first, others)?;
         let before = settled(self.alloc, self.script, chain)?;
@@ -173,7 +180,8 @@ impl<'v, 'b, A: AllocHandle> Instances<'v, 'b, A> {
     /// choice between any number of the same, so that the others are not fired.
     #[cycle(steps)]
     fn external(&self, values: &'v [Value<A>]) -> Result<Vec<RuleStep<A>, A>, NoValue>
-        ensures { AnswersIn self.now.script.now (chain ExternalChoice Stop (instances_of self.now values.now)) result }
+        ensures { AnswersIn self.now.script.now
+            (chain ExternalChoice Stop (instances_of self.now values.now)) result }
     {
         let Some((first, others)) = values.split_first() else {
             return Ok(Vec::new(self.alloc));
@@ -188,7 +196,8 @@ impl<'v, 'b, A: AllocHandle> Instances<'v, 'b, A> {
     /// The steps of `|||` over the values. Of none it is `SKIP`.
     #[cycle(steps)]
     fn interleaving(&self, values: &'v [Value<A>]) -> Result<Vec<RuleStep<A>, A>, NoValue>
-        ensures { AnswersIn self.now.script.now (chain Interleaving Skip (instances_of self.now values.now)) result }
+        ensures { AnswersIn self.now.script.now
+            (chain Interleaving Skip (instances_of self.now values.now)) result }
     {
         match values.split_first() {
             None => skip::steps(self.alloc, self.script),
@@ -202,7 +211,8 @@ impl<'v, 'b, A: AllocHandle> Instances<'v, 'b, A> {
     /// The steps of `|~|` over the values. It looks at an instance only where there is no other.
     #[cycle(steps)]
     fn internal(&self, values: &'v [Value<A>]) -> Result<Vec<RuleStep<A>, A>, NoValue>
-        ensures { AnswersChoices (script_of_parts self.now.script.now) (instances_of self.now values.now) result }
+        ensures { AnswersChoices (script_of_parts self.now.script.now)
+            (instances_of self.now values.now) result }
     {
         let Some((last, before)) = values.split_last() else {
             return Err(NoValue::Cause(Cause::Choice));

@@ -18,7 +18,8 @@ pub(crate) fn steps<'v, A: AllocHandle>(
     left: &'v Term<A>,
     right: &'v Term<A>,
 ) -> Result<Vec<RuleStep<A>, A>, NoValue>
-    ensures { AnswersUnder script.now bindings.now (Sequential (process_of left.now) (process_of right.now)) result }
+    ensures { AnswersUnder script.now bindings.now
+        (Sequential (process_of left.now) (process_of right.now)) result }
 {
     let next = put_in_place(alloc, script, bindings, right)?;
     let right = Target::put_in(alloc, right, bindings)?;

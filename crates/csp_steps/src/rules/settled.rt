@@ -21,7 +21,8 @@ pub(crate) fn put_in_place<A: AllocHandle>(
     bindings: &[Binding<'_, A>],
     term: &Term<A>,
 ) -> Result<Target<A>, Memory>
-    ensures { IfOk result (λ t. target_of t ≡ within_limits (settled (script_of_parts script.now) (process_under bindings.now term.now))) }
+    ensures { IfOk result (λ t. target_of t ≡ within_limits
+        (settled (script_of_parts script.now) (process_under bindings.now term.now))) }
 {
     let target = Target::put_in(alloc, term, bindings)?;
     settled(alloc, script, target)
@@ -33,7 +34,8 @@ pub(crate) fn settled<A: AllocHandle>(
     script: &ScriptParts<A>,
     target: Target<A>,
 ) -> Result<Target<A>, Memory>
-    ensures { (p : Process) → target_of target ≡ within_limits p → IfOk result (λ t. target_of t ≡ within_limits (settled (script_of_parts script.now) p)) }
+    ensures { (p : Process) → target_of target ≡ within_limits p
+        → IfOk result (λ t. target_of t ≡ within_limits (settled (script_of_parts script.now) p)) }
 {
     match target {
         Target::Past => Ok(Target::Past),
@@ -47,7 +49,9 @@ fn settled_term<A: AllocHandle>(
     script: &ScriptParts<A>,
     term: Term<A>,
 ) -> Result<Target<A>, Memory>
-    ensures { IsTrue (fits (process_of term)) → IfOk result (λ t. target_of t ≡ within_limits (settled (script_of_parts script.now) (process_of term))) }
+    ensures { IsTrue (fits (process_of term)) → IfOk result
+        (λ t. target_of t
+        ≡ within_limits (settled (script_of_parts script.now) (process_of term))) }
 {
     let unfolded = settle(alloc, script, &term)?;
     match unfolded {
@@ -74,7 +78,8 @@ pub(crate) fn settled_body<A: AllocHandle>(
     script: &ScriptParts<A>,
     body: Option<Term<A>>,
 ) -> Result<Target<A>, Memory>
-    ensures { (p : Process) → IsWithin body p → IfOk result (λ t. target_of t ≡ within_limits (settled (script_of_parts script.now) p)) }
+    ensures { (p : Process) → IsWithin body p → IfOk result
+        (λ t. target_of t ≡ within_limits (settled (script_of_parts script.now) p)) }
 {
     match body {
         None => Ok(Target::Past),

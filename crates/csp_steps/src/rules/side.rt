@@ -34,7 +34,8 @@ pub(crate) fn both<'v, A: AllocHandle>(
     left: &'v Term<A>,
     right: &'v Term<A>,
 ) -> Result<(Side<A>, Side<A>), NoValue>
-    ensures { AreSidesOf (script_of_parts script.now) (process_under bindings.now left.now) (process_under bindings.now right.now) result }
+    ensures { AreSidesOf (script_of_parts script.now) (process_under bindings.now left.now)
+        (process_under bindings.now right.now) result }
 {
     let left = under(alloc, script, bindings, left)?;
     let right = under(alloc, script, bindings, right)?;

@@ -19,7 +19,8 @@ pub(crate) fn steps<'v, A: AllocHandle>(
     left: &'v Term<A>,
     right: &'v Term<A>,
 ) -> Result<Vec<RuleStep<A>, A>, NoValue>
-    ensures { AnswersUnder script.now bindings.now (SlidingChoice (process_of left.now) (process_of right.now)) result }
+    ensures { AnswersUnder script.now bindings.now
+        (SlidingChoice (process_of left.now) (process_of right.now)) result }
 {
     let away = put_in_place(alloc, script, bindings, right)?;
     let sides = side::both(alloc, script, bindings, left, right);
