@@ -146,8 +146,11 @@ pub fn texts_of_assertions()
         { property = DeadlockFree; implementation = not_true; negated = true })
         ≡ codes "not (not true & STOP) :[deadlock free]" }
     ensures chain { assertion_text names
-        (record { property = DivergenceFree; implementation = ExternalChoice not_true p; negated
-        = false }) ≡ codes "(not true & STOP [] P) :[divergence free]" }
+        (record {
+          property = DivergenceFree;
+          implementation = ExternalChoice not_true p;
+          negated = false;
+        }) ≡ codes "(not true & STOP [] P) :[divergence free]" }
 {}
 
 /// The first few states of a specification, and how many more there are.
@@ -300,9 +303,13 @@ pub fn texts_of_steps()
 /// A step after which the specification cannot go on.
 pub fn texts_of_counterexamples()
     ensures { counterexample_text told (record { path = c 1 ∷ []; evidence = ByEvent (c 2) })
-        (record { states = p ∷ Stop ∷ []; origins = Some (Does (event 1))
-        ∷ []; counterpart = Some (Along ((p ∷ []) ∷ (Omega ∷ p ∷ []) ∷ []) (Tick ∷ []) []); loop
-        = None; waiting = [] })
+        (record {
+          states = p ∷ Stop ∷ [];
+          origins = Some (Does (event 1)) ∷ [];
+          counterpart = Some (Along ((p ∷ []) ∷ (Omega ∷ p ∷ []) ∷ []) (Tick ∷ []) []);
+          loop = None;
+          waiting = [];
+        })
         ≡ codes "  0 start\n      P\n      specification: P\n  1 c.1\n      STOP\n      specification: _OMEGA\n      specification: and 1 more\n  then it does c.2, and the specification cannot\n  there the specification can do no more than {tick}\n" }
 {}
 
@@ -310,18 +317,32 @@ pub fn texts_of_counterexamples()
 /// the first few, and how many are left out.
 pub fn texts_of_loops()
     ensures whole { counterexample_text told (record { path = c 1 ∷ []; evidence = ByDivergence })
-        (record { states = Stop ∷ p ∷ []; origins = Some (Does (event 1))
-        ∷ []; counterpart = None; loop = Some
-        (record { states = p ∷ Skip ∷ []; back = 0; origins = Some (Unfolds 0) ∷ Some Slides
-        ∷ [] }); waiting = [] })
+        (record {
+          states = Stop ∷ p ∷ [];
+          origins = Some (Does (event 1)) ∷ [];
+          counterpart = None;
+          loop = Some
+              (record {
+                states = p ∷ Skip ∷ [];
+                back = 0;
+                origins = Some (Unfolds 0) ∷ Some Slides ∷ [];
+              });
+          waiting = [];
+        })
         ≡ codes "  0 start\n      STOP\n  1 c.1\n      P\n  then it goes on with tau for ever:\n  2 tau: unfolds P\n      SKIP\n  3 tau: slides to its right side\n      back to state 1\n" }
     ensures named { loop_text told (record { way = Right ∷ []; equation = 0 } ∷ []) 0
-        (Some (record { states = p ∷ Stop ∷ []; back = 0; origins = Some (below Left (Unfolds 0))
-        ∷ Some (Below (Hides (event 1)) (Together (Does (event 1)) (Does (event 1)))) ∷ [] }))
+        (Some (record {
+          states = p ∷ Stop ∷ [];
+          back = 0;
+          origins = Some (below Left (Unfolds 0)) ∷ Some (Below (Hides (event 1)) (Together (Does (event 1)) (Does (event 1)))) ∷ [];
+        }))
         ≡ codes "  1 tau: left: unfolds P\n      STOP\n  2 tau: hidden c.1 by left (P), right (P)\n      back to state 0\n" }
     ensures cut { loop_text told [] 4 (Some
-        (record { states = p ∷ Stop ∷ p ∷ p ∷ []; back = 1; origins = Some (Unfolds 0) ∷ None ∷ None
-        ∷ None ∷ [] }))
+        (record {
+          states = p ∷ Stop ∷ p ∷ p ∷ [];
+          back = 1;
+          origins = Some (Unfolds 0) ∷ None ∷ None ∷ None ∷ [];
+        }))
         ≡ codes "  5 tau: unfolds P\n      STOP\n  6 tau\n      P\n  .. 2 more taus, back to state 5\n" }
     ensures none { loop_text told [] 4 None ≡ [] }
 {}
@@ -329,18 +350,27 @@ pub fn texts_of_loops()
 /// A deadlock: what each part can do by itself. A state that is one part alone has been told.
 pub fn texts_of_waiting()
     ensures parts { counterexample_text told (record { path = []; evidence = ByDeadlock })
-        (record { states = Interleaving p Stop
-        ∷ []; origins = []; counterpart = None; loop = None; waiting = record
-        { way = Left ∷ []; process = p; initials = c 1 ∷ Tick ∷ [] }
-        ∷ record { way = Right ∷ []; process = Stop; initials = [] } ∷ [] })
+        (record {
+          states = Interleaving p Stop ∷ [];
+          origins = [];
+          counterpart = None;
+          loop = None;
+          waiting = record
+              { way = Left ∷ []; process = p; initials = c 1 ∷ Tick ∷ [] }
+              ∷ record { way = Right ∷ []; process = Stop; initials = [] } ∷ [];
+        })
         ≡ codes "  0 start\n      P ||| STOP\n  then it can do nothing\n  by itself left can do {c.1,tick}\n      P\n  by itself right can do {}\n      STOP\n" }
     ensures named { counterexample_text (telling ByEvents)
         (record { path = Tau ∷ []; evidence = ByDeadlock })
-        (record { states = Interleaving p Stop ∷ Interleaving Stop Stop
-        ∷ []; origins = Some (below Left (Unfolds 0))
-        ∷ []; counterpart = None; loop = None; waiting = record
-        { way = Left ∷ []; process = Stop; initials = [] }
-        ∷ record { way = Right ∷ []; process = Stop; initials = [] } ∷ [] })
+        (record {
+          states = Interleaving p Stop ∷ Interleaving Stop Stop ∷ [];
+          origins = Some (below Left (Unfolds 0)) ∷ [];
+          counterpart = None;
+          loop = None;
+          waiting = record
+              { way = Left ∷ []; process = Stop; initials = [] }
+              ∷ record { way = Right ∷ []; process = Stop; initials = [] } ∷ [];
+        })
         ≡ codes "      STOP ||| STOP\n  then it can do nothing\n  by itself left (P) can do {}\n      STOP\n  by itself right can do {}\n      STOP\n" }
     ensures one { parts_text told [] (record { way = []; process = p; initials = c 1 ∷ [] } ∷ [])
         ≡ [] }

@@ -70,8 +70,11 @@ pub fn texts_of_processes()
         (Productions (record { channel = 0; fields = no_expressions } ∷ [])))
         ≡ codes "(c.x -> P) \\ {|c|}" }
     ensures behind { process_text names (Renaming (Hiding p (Enumeration []))
-        (record { from = record { channel = 0; fields = one x }; to = record
-        { channel = 0; fields = one (number 1) } } ∷ [])) ≡ codes "(P \\ {})[[c.x <- c.1]]" }
+        (record {
+          from = record { channel = 0; fields = one x };
+          to = record
+              { channel = 0; fields = one (number 1) };
+        } ∷ [])) ≡ codes "(P \\ {})[[c.x <- c.1]]" }
     ensures shared { process_text names (GeneralisedParallel (Guard (Combine Equals x x) p)
         (Enumeration []) (Hiding p (Enumeration []))) ≡ codes "x == x & P [| {} |] (P \\ {})" }
     ensures replicated { process_text names (ReplicatedExternalChoice 0 (SetOf (one x))
