@@ -10,7 +10,7 @@ use Rattle.theory_origins.specs.Origin.{Origin}
 use Rattle.theory_explanation.specs.Counterexamples.{Loop}
 use Rattle.theory_explanation.specs.Loops.{back_text, few_taus, left_out_line, loop_text, taus_told}
 use Rattle.theory_explanation.specs.Legend.{legend}
-use Rattle.theory_explanation.specs.PartNames.{PartName, names_behind}
+use Rattle.theory_explanation.specs.PartNames.{PartName, part_names_behind}
 use Rattle.theory_explanation.specs.Steps.{behind_line, state_line, step_line}
 use Rattle.theory_explanation.specs.Styles.{Style}
 use Rattle.counterexample.specs.Loops.{next_text}
@@ -66,7 +66,7 @@ module _ (style : Style) (few n back : ℕ) (states : List Process) (origins : L
     line = step_line (legend style.names parts) (n + i) Tau o []
 
     abbrev more : List PartName
-    more = names_behind parts o
+    more = part_names_behind parts o
 
     from : i < few → taus_left style few n back states origins i parts ≡ few_taus style (suc (few - (i + 1))) (n + i) back parts (s ∷ drop (suc i) states) (o ∷ drop (suc i) origins)
     from low =

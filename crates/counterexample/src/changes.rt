@@ -1,7 +1,7 @@
 //! What has changed in a text.
 
 ghost use Rattle.std.specs.Prelude.{◌≡◌, ◌≤◌, ◌+◌, length, reverse, map, IfOk};
-ghost use Rattle.theory_explanation.specs.Changing.{change_text, changed_words, mark_before, mark_behind, part_text, same_words, spaced, spaces_behind, words};
+ghost use Rattle.theory_explanation.specs.Changing.{change_text, changed_words, mark_before, mark_behind, middle_text, same_words, spaced, spaces_behind, words};
 ghost use Rattle.counterexample.specs.Texts.{texts_of};
 ghost use Rattle.csp_print.specs.Writing.{Writes};
 
@@ -93,7 +93,7 @@ fn push_part<A: Allocator + Copy>(
     text: &mut String<A>,
 ) -> Result<(), AllocError>
     requires { front + back ≤ length words.now }
-    ensures { Writes result text.old text.new (part_text front back (texts_of words.now)) }
+    ensures { Writes result text.old text.new (middle_text front back (texts_of words.now)) }
 {
     push_mark(mark_before(front), text)?;
     push_spaced(&words[front..words.len() - back], text)?;

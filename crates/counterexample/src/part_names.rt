@@ -2,7 +2,7 @@
 
 ghost use Rattle.std.specs.Prelude.{◌≡◌, [], IfOk, OnOk, Some, map, not, option_map};
 ghost use Rattle.std.specs.List.{filter};
-ghost use Rattle.theory_explanation.specs.PartNames.{is_at, name_of, names_along, names_behind, unfolded, with_name};
+ghost use Rattle.theory_explanation.specs.PartNames.{is_at, name_of, names_along, part_names_behind, unfolded, with_name};
 ghost use Rattle.csp_moves.specs.Origin.{origin_of};
 ghost use Rattle.csp_moves.specs.Passage.{side_of};
 ghost use Rattle.counterexample.specs.Counterexample.{origins_listed};
@@ -58,7 +58,7 @@ pub(crate) fn put_unfolded<A: AllocHandle>(
     parts: &mut Vec<PartName<A>, A>,
 ) -> Result<(), AllocError>
     ensures { OnOk result (part_names_listed parts.new.items
-        ≡ names_behind (part_names_listed parts.old.items) (option_map origin_of origin.now)) }
+        ≡ part_names_behind (part_names_listed parts.old.items) (option_map origin_of origin.now)) }
 {
     match origin {
         Some(origin) => put_from(alloc, origin, parts),

@@ -7,7 +7,7 @@ use Rattle.theory_syntax.proofs.Places.{drop_at}
 use Rattle.theory_origins.specs.Origin.{Origin}
 use Rattle.theory_explanation.specs.Counterparts.{specification_text}
 use Rattle.theory_explanation.specs.Folding.{folded, is_folded, state_behind}
-use Rattle.theory_explanation.specs.PartNames.{PartName, names_behind}
+use Rattle.theory_explanation.specs.PartNames.{PartName, part_names_behind}
 use Rattle.theory_explanation.specs.Steps.{beside_text, first_text, path_text, step_text, steps_text, told_run}
 use Rattle.theory_explanation.specs.Styles.{Style}
 
@@ -70,11 +70,11 @@ module _ (style : Style) where
       pub step_left : is_folded style.telling o ≡ false →
           steps_left path states origins along i told parts
           ≡ step_text style (i + 1) told parts x o names_with (drop (length names_with) (drop (i + 1) path)) (state_with t)
-          ++ (beside_text style x (drop (i + 1) along) ++ steps_left path states origins along (i + 1) (state_with t) (names_behind parts o))
+          ++ (beside_text style x (drop (i + 1) along) ++ steps_left path states origins along (i + 1) (state_with t) (part_names_behind parts o))
       step_left alone = rw (add-one, drop_at path i x p, drop_at states i t at, drop_at origins i o from, alone, ← drop_one (suc i) along) refl
 
       pub step_folded : is_folded style.telling o ≡ true →
-          steps_left path states origins along i told parts ≡ steps_left path states origins along (i + 1) told (names_behind parts o)
+          steps_left path states origins along i told parts ≡ steps_left path states origins along (i + 1) told (part_names_behind parts o)
       step_folded with_it = rw (add-one, drop_at path i x p, drop_at states i t at, drop_at origins i o from, with_it, ← drop_one (suc i) along) refl
 
     pub no_state_left : slice_get states i ≡ None → steps_left path states origins along i told parts ≡ []

@@ -11,7 +11,7 @@ use Rattle.theory_notation.specs.Processes.{process_text}
 use Rattle.theory_explanation.specs.Cutting.{Width}
 use Rattle.theory_explanation.specs.Folding.{Hiding, Other, Unfolding, before_others, is_event, kind_told, state_behind, unfoldings}
 use Rattle.theory_explanation.specs.Legend.{legend}
-use Rattle.theory_explanation.specs.PartNames.{PartName, names_behind}
+use Rattle.theory_explanation.specs.PartNames.{PartName, part_names_behind}
 use Rattle.theory_explanation.specs.Steps.{events_text, last_line, state_line, step_line, width_before}
 
 -- the last of some states, behind another one
@@ -89,10 +89,10 @@ module _ (names : Names) (path : List Action) (origins : List (Option Origin)) w
 
   module _ (i : ℕ) (parts : List PartName) where
     module _ (x : Action) (o : Option Origin) (p : slice_get path i ≡ Some x) (at : slice_get origins i ≡ Some o) where
-      pub event_left : is_event x o ≡ true → events_left i parts ≡ step_line (legend names parts) (i + 1) x o [] ++ events_left (i + 1) (names_behind parts o)
+      pub event_left : is_event x o ≡ true → events_left i parts ≡ step_line (legend names parts) (i + 1) x o [] ++ events_left (i + 1) (part_names_behind parts o)
       event_left is = rw (add-one, drop_at path i x p, drop_at origins i o at, is) refl
 
-      pub no_event_left : is_event x o ≡ false → events_left i parts ≡ events_left (i + 1) (names_behind parts o)
+      pub no_event_left : is_event x o ≡ false → events_left i parts ≡ events_left (i + 1) (part_names_behind parts o)
       no_event_left is = rw (add-one, drop_at path i x p, drop_at origins i o at, is) refl
 
     without : (n : ℕ) (xs : List Action) → events_text names n parts xs [] ≡ []

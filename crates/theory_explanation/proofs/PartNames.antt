@@ -6,7 +6,7 @@ use Rattle.theory_syntax.specs.Process.{Process, Stop, Skip, ExternalChoice, Int
 use Rattle.theory_semantics.specs.Meaning.Transitions.{RuleStep, skip, prefix, call, guard, if_true, if_false, external_tau_left, external_tau_right, external_left, external_right, internal_left, internal_right, sequential, sequential_tick, interleaving_left, interleaving_right, interleaving_tick_left, interleaving_tick_right, interleaving_tick, interrupt_left, interrupt_tick, interrupt_tau_right, interrupt_right, generalised_left, generalised_right, generalised_both, generalised_tick_left, generalised_tick_right, generalised_tick, alphabetised_left, alphabetised_right, alphabetised_both, alphabetised_tick_left, alphabetised_tick_right, alphabetised_tick, hiding_tau, hiding_hidden, hiding_event, hiding_tick, renaming_tau, renaming_event, renaming_tick, replicated_external, replicated_internal, replicated_interleaving, sliding_tau, sliding_left, sliding_away}
 use Rattle.theory_origins.specs.Origin.{Side, Left, Right, Origin, ComesFrom, origin}
 use Rattle.theory_origins.specs.Parts.{body, chain_for, sides, IsPartAt, itself, inside, on_left, on_right}
-use Rattle.theory_explanation.specs.PartNames.{IsCallAt, PartName, is_at, name_further, name_of, names_behind, same_side, same_way, unfolded, with_name}
+use Rattle.theory_explanation.specs.PartNames.{IsCallAt, PartName, is_at, name_further, name_of, part_names_behind, same_side, same_way, unfolded, with_name}
 
 -- ---- the last name
 
@@ -56,13 +56,13 @@ elsewhere (e ∷ parts) d way other = by (is_at d.way e) (is_at way e) refl refl
     by false true is at rest = rw (is, at) refl
     by false false is at rest = rw (is, at) rest
 
-pub named_there : (parts : List PartName) (o : Origin) (d : PartName) → unfolded o ≡ Some d → name_of (names_behind parts (Some o)) d.way ≡ Some d.equation
+pub named_there : (parts : List PartName) (o : Origin) (d : PartName) → unfolded o ≡ Some d → name_of (part_names_behind parts (Some o)) d.way ≡ Some d.equation
 named_there parts o d is = ap (λ z. name_of (with_name parts z) d.way) is ∙ there parts d
 
-pub named_elsewhere : (parts : List PartName) (o : Origin) (way : List Side) → ((d : PartName) → unfolded o ≡ Some d → d.way ≢ way) → name_of (names_behind parts (Some o)) way ≡ name_of parts way
+pub named_elsewhere : (parts : List PartName) (o : Origin) (way : List Side) → ((d : PartName) → unfolded o ≡ Some d → d.way ≢ way) → name_of (part_names_behind parts (Some o)) way ≡ name_of parts way
 named_elsewhere parts o way other = by (unfolded o) refl
   where
-    by : (z : Option PartName) → unfolded o ≡ z → name_of (names_behind parts (Some o)) way ≡ name_of parts way
+    by : (z : Option PartName) → unfolded o ≡ z → name_of (part_names_behind parts (Some o)) way ≡ name_of parts way
     by (Some d) is = ap (λ z. name_of (with_name parts z) way) is ∙ elsewhere parts d way (other d is)
     by None is = ap (λ z. name_of (with_name parts z) way) is
 

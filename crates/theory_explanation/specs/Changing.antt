@@ -30,12 +30,12 @@ mark_behind zero = []
 mark_behind (suc n) = codes " .."
 
 -- the words without so many at the front and so many at the end
-abbrev pub part_text : ℕ → ℕ → List (List ℕ) → List ℕ
-part_text front back ws = mark_before front ++ (spaced (take (length ws - (front + back)) (drop front ws)) ++ mark_behind back)
+abbrev pub middle_text : ℕ → ℕ → List (List ℕ) → List ℕ
+middle_text front back ws = mark_before front ++ (spaced (take (length ws - (front + back)) (drop front ws)) ++ mark_behind back)
 
 -- The words without those that are the same at the front and at the end, but for the nearest three.
 abbrev pub changed_part : ℕ → List (List ℕ) → List (List ℕ) → List ℕ
-changed_part front old new = part_text (front - 3) (same_words (reverse (drop front old)) (reverse (drop front new)) - 3) new
+changed_part front old new = middle_text (front - 3) (same_words (reverse (drop front old)) (reverse (drop front new)) - 3) new
 
 abbrev pub changed_words : List (List ℕ) → List (List ℕ) → List ℕ
 changed_words old new = changed_part (same_words old new) old new

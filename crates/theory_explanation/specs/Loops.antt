@@ -7,7 +7,7 @@ use Rattle.theory_explanation.specs.Counterexamples.{Loop}
 use Rattle.theory_explanation.specs.Counting.{number_text}
 use Rattle.theory_explanation.specs.Cutting.{Width, Whole, UpTo}
 use Rattle.theory_explanation.specs.Legend.{legend}
-use Rattle.theory_explanation.specs.PartNames.{PartName, names_behind}
+use Rattle.theory_explanation.specs.PartNames.{PartName, part_names_behind}
 use Rattle.theory_explanation.specs.Steps.{behind_line, state_line, step_line}
 use Rattle.theory_explanation.specs.Styles.{Style}
 
@@ -27,7 +27,7 @@ few_taus style few n back parts (s ∷ states) [] = []
 few_taus style zero n back parts (s ∷ states) (o ∷ origins) = left_out_line (length (s ∷ states)) back
 few_taus style (suc few) n back parts (s ∷ []) (o ∷ origins) = step_line (legend style.names parts) n Tau o [] ++ state_line (back_text back)
 few_taus style (suc few) n back parts (s ∷ t ∷ states) (o ∷ origins) =
-    step_line (legend style.names parts) n Tau o [] ++ (behind_line style.names style.width s t ++ few_taus style few (suc n) back (names_behind parts o) (t ∷ states) origins)
+    step_line (legend style.names parts) n Tau o [] ++ (behind_line style.names style.width s t ++ few_taus style few (suc n) back (part_names_behind parts o) (t ∷ states) origins)
 
 -- how many of the taus are told, where all or so many are to be
 abbrev pub taus_told : Width → List Process → ℕ

@@ -66,14 +66,14 @@ with_name parts (Some d) = filter (λ e. not (is_at d.way e)) parts ++ d ∷ []
 with_name parts None = parts
 
 -- the names behind a step, if it is told
-abbrev pub names_behind : List PartName → Option Origin → List PartName
-names_behind parts (Some o) = with_name parts (unfolded o)
-names_behind parts None = parts
+abbrev pub part_names_behind : List PartName → Option Origin → List PartName
+part_names_behind parts (Some o) = with_name parts (unfolded o)
+part_names_behind parts None = parts
 
 -- the names behind steps
 abbrev pub names_along : List PartName → List (Option Origin) → List PartName
 names_along parts [] = parts
-names_along parts (o ∷ origins) = names_along (names_behind parts o) origins
+names_along parts (o ∷ origins) = names_along (part_names_behind parts o) origins
 
 -- the equation by which the part at the way is told, if there is one
 abbrev pub name_of : List PartName → List Side → Option ℕ

@@ -14,7 +14,7 @@ use Rattle.theory_explanation.specs.Ends.{end_text}
 use Rattle.theory_explanation.specs.Folding.{ByEvents, EachStep, Folded, Telling, folded, is_event, is_folded, state_behind, then_text}
 use Rattle.theory_explanation.specs.Legend.{Legend, legend}
 use Rattle.theory_explanation.specs.Origins.{source_text}
-use Rattle.theory_explanation.specs.PartNames.{PartName, names_behind}
+use Rattle.theory_explanation.specs.PartNames.{PartName, part_names_behind}
 use Rattle.theory_explanation.specs.Styles.{Style}
 
 -- ---- a state
@@ -68,9 +68,9 @@ steps_text style n told parts (x ∷ path) [] origins along = []
 steps_text style n told parts (x ∷ path) (t ∷ states) [] along = []
 steps_text style n told parts (x ∷ path) (t ∷ states) (o ∷ origins) along =
     let ns = folded style.telling origins in
-    if is_folded style.telling o then steps_text style (suc n) told (names_behind parts o) path states origins (drop 1 along)
+    if is_folded style.telling o then steps_text style (suc n) told (part_names_behind parts o) path states origins (drop 1 along)
     else step_text style n told parts x o ns (drop (length ns) path) (state_behind (length ns) t states)
-    ++ (beside_text style x along ++ steps_text style (suc n) (state_behind (length ns) t states) (names_behind parts o) path states origins (drop 1 along))
+    ++ (beside_text style x along ++ steps_text style (suc n) (state_behind (length ns) t states) (part_names_behind parts o) path states origins (drop 1 along))
 
 -- the names that are unfolded at the start of the path, and the state behind that
 abbrev pub start_line : Style → List ℕ → Process → List Action → List ℕ
@@ -83,7 +83,7 @@ abbrev pub events_text : Names → ℕ → List PartName → List Action → Lis
 events_text names n parts [] origins = []
 events_text names n parts (x ∷ path) [] = []
 events_text names n parts (x ∷ path) (o ∷ origins) =
-    (if is_event x o then step_line (legend names parts) n x o [] else []) ++ events_text names (suc n) (names_behind parts o) path origins
+    (if is_event x o then step_line (legend names parts) n x o [] else []) ++ events_text names (suc n) (part_names_behind parts o) path origins
 
 -- the last state, whole
 abbrev pub last_line : Names → Process → List Process → List ℕ

@@ -32,7 +32,7 @@ ghost use Rattle.theory_explanation.specs.Headline.{assertion_text};
 ghost use Rattle.theory_explanation.specs.Loops.{loop_text};
 ghost use Rattle.theory_explanation.specs.Origins.{source_text};
 ghost use Rattle.theory_explanation.specs.Legend.{legend};
-ghost use Rattle.theory_explanation.specs.PartNames.{IsCallAt, PartName, name_of, names_along, names_behind, unfolded};
+ghost use Rattle.theory_explanation.specs.PartNames.{IsCallAt, PartName, name_of, names_along, part_names_behind, unfolded};
 ghost use Rattle.theory_explanation.specs.Samples.{below, c, c_two, event, named_run, not_true, right_named, telling, told, unfolded_run, unnamed};
 ghost use Rattle.theory_explanation.specs.Steps.{path_text, step_line};
 ghost use Rattle.theory_explanation.specs.Waiting.{parts_text};
@@ -232,10 +232,10 @@ pub fn texts_of_doers()
 /// A part has the name of the equation that was unfolded last at its way, whatever is unfolded elsewhere.
 pub fn parts_have_the_last_names()
     ensures there { (parts : List PartName) (o : Origin) (d : PartName) → unfolded o ≡ Some d
-        → name_of (names_behind parts (Some o)) d.way ≡ Some d.equation }
+        → name_of (part_names_behind parts (Some o)) d.way ≡ Some d.equation }
     ensures elsewhere { (parts : List PartName) (o : Origin) (way : List Side)
         → ((d : PartName) → unfolded o ≡ Some d → d.way ≢ way)
-        → name_of (names_behind parts (Some o)) way ≡ name_of parts way }
+        → name_of (part_names_behind parts (Some o)) way ≡ name_of parts way }
 {}
 
 /// What a step is told to unfold is a call of that equation, which stands at the end of that way.

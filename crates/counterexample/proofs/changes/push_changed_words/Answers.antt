@@ -1,7 +1,7 @@
 -- The words that are the same at the front and at the end are counted, and the others are put.
 use Rattle.std.proofs.Common.{◌≡◌, ◌-◌, ℕ, List, Bor, drop, reverse, ◌∙◌, ap}
 use Rattle.std.specs.String.{string_bytes}
-use Rattle.theory_explanation.specs.Changing.{changed_part, part_text, same_words}
+use Rattle.theory_explanation.specs.Changing.{changed_part, middle_text, same_words}
 use Rattle.counterexample.specs.Texts.{texts_of}
 use Rattle.counterexample.proofs.Parts.{behind_same}
 use Rattle.csp_print.proofs.Writing.{alike}
@@ -18,7 +18,7 @@ returns g c =
     let back : c.same_words-back.result ≡ b =
     c.same_words-back.ensures.count ∙ ap (λ ws. same_words ws (texts_of c.deref-2.result.now)) ended ∙ ap (λ ws. same_words (reverse (drop f old)) ws) ends in
     let same =
-    ap (λ (k : ℕ). part_text k c.saturating_sub-2.result new) c.saturating_sub.ensures
-    ∙ ap (λ (k : ℕ). part_text (f - 3) k new) (c.saturating_sub-2.ensures ∙ ap (λ (k : ℕ). k - 3) back)
+    ap (λ (k : ℕ). middle_text k c.saturating_sub-2.result new) c.saturating_sub.ensures
+    ∙ ap (λ (k : ℕ). middle_text (f - 3) k new) (c.saturating_sub-2.ensures ∙ ap (λ (k : ℕ). k - 3) back)
     ∙ ap (λ (k : ℕ). changed_part k old new) c.same_words-front.ensures.count in
     alike c.push_part.result (string_bytes c.args.text.now) (string_bytes c.push_part.new.text) _ _ same c.push_part.ensures

@@ -8,7 +8,7 @@ use Rattle.csp_value.specs.Action.{action_of}
 use Rattle.csp_moves.specs.Origin.{origin_of}
 use Rattle.theory_explanation.specs.Legend.{legend}
 use Rattle.theory_explanation.specs.PartNames as names
-use Rattle.theory_explanation.specs.PartNames.{names_behind}
+use Rattle.theory_explanation.specs.PartNames.{part_names_behind}
 use Rattle.theory_explanation.specs.Steps.{events_text, step_line}
 use Rattle.theory_explanation.proofs.Folding.{event_left, events_left, no_action_there, no_event_left, no_origin_there}
 use Rattle.csp_print.specs.Names.{names_of}
@@ -49,7 +49,7 @@ loop-place-preserved g c =
     let told = get_some (λ p. option_map origin_of p) c.args.origins.now i c.in-Some.origin.now
     (slice_get_read c.args.origins.now (length c.args.origins.now) i c.in-Some.origin.now refl look.3.0 look.1) in
     let now = string_bytes c.loop-place.text in
-    let more = names_behind parts o in
+    let more = part_names_behind parts o in
     let named : part_names_listed c.put_unfolded.new.parts.items ≡ more = c.in_ok-put_unfolded.ensures in
     let here = events_left script path origins i parts in
     let next = events_left script path origins (i + 1) more in

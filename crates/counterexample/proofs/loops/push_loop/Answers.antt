@@ -12,7 +12,7 @@ use Rattle.theory_syntax.specs.Value.{Tau}
 use Rattle.theory_explanation.specs.Loops.{few_taus, left_out_line, taus_told}
 use Rattle.theory_explanation.specs.Legend.{legend}
 use Rattle.theory_explanation.specs.PartNames as names
-use Rattle.theory_explanation.specs.PartNames.{names_along, names_behind}
+use Rattle.theory_explanation.specs.PartNames.{names_along, part_names_behind}
 use Rattle.theory_explanation.specs.Steps.{step_line}
 use Rattle.csp_print.proofs.Writing.{alike, comes_to_end, goes_on}
 use Rattle.counterexample.specs.Counterexample.{loop_of, origins_listed}
@@ -127,7 +127,7 @@ loop-place-preserved g c =
     let t = c.get-next.result in
     let next = lent_at process_of c.deref-in-loop-place-3.result.now (i + 1) t c.get-next.ensures.lookup ∙ ap (λ (ts : List (Term g.row.A.Denot)). slice_get (map process_of ts) (i + 1)) c.deref-in-loop-place-3.ensures.value in
     let second : all ≡ one ++ next_text style back (process_of s) (slice_get loop.states (i + 1)) = c.in_ok-push_next.ensures ∙ ap (λ u. one ++ next_text style back (process_of s) u) next in
-    let more = names_behind parts o in
+    let more = part_names_behind parts o in
     let named : part_names_listed c.put_unfolded.new.parts.items ≡ more = c.in_ok-put_unfolded.ensures in
     let line = step_line (legend style.names parts) (n + 1 + i) Tau o [] in
     let listed = ap (λ (ps : List (PartName g.row.A.Denot)). part_names_listed ps) c.deref-in-loop-place-2.ensures.value in

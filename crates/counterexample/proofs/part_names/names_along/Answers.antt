@@ -2,7 +2,7 @@
 use Rattle.std.proofs.Common.{◌≡◌, ◌∷◌, ◌+◌, suc, List, Option, drop, sym, ◌∙◌, ap, add-one, drop-cons}
 use Rattle.std.proofs.lemmas.List.{drop_all}
 use Rattle.theory_explanation.specs.PartNames as names
-use Rattle.theory_explanation.specs.PartNames.{names_along, names_behind}
+use Rattle.theory_explanation.specs.PartNames.{names_along, part_names_behind}
 use Rattle.csp_moves.specs.declared.origin.Origin.{Origin}
 use Rattle.counterexample.specs.Counterexample.{origins_listed}
 use Rattle.counterexample.specs.PartNames.{part_names_listed}

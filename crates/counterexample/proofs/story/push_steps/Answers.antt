@@ -13,7 +13,7 @@ use Rattle.theory_explanation.specs.Cutting.{Width}
 use Rattle.theory_explanation.specs.Folding.{folded, state_behind}
 use Rattle.theory_explanation.specs.Legend.{legend}
 use Rattle.theory_explanation.specs.PartNames as names
-use Rattle.theory_explanation.specs.PartNames.{names_behind}
+use Rattle.theory_explanation.specs.PartNames.{part_names_behind}
 use Rattle.theory_explanation.specs.Steps.{behind_line, beside_text, step_line, width_before}
 use Rattle.theory_explanation.proofs.Comparings.{no_origin_left, no_state_left, step_folded, step_left, steps_left}
 use Rattle.csp_print.proofs.Writing.{comes_to_end}
@@ -80,7 +80,7 @@ loop-place-preserved g c =
     let x = c.action-item.result in
     let t = process_of c.in-Some.state.now in
     let o = option_map origin_of c.in-Some-found.origin.now in
-    let more = names_behind parts o in
+    let more = part_names_behind parts o in
     let named : part_names_listed c.put_unfolded.new.parts.items ≡ more = c.in_ok-put_unfolded.ensures in
     let next = c.in-Some.ensures.lookup in
     let look = c.in-Some-found.ensures.lookup in
