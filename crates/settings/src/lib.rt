@@ -12,6 +12,3 @@ mod settings;
 pub use command::{UNFOLD, flag};
 pub use fault::CommandLineFault;
 pub use settings::{MAX_NODES, MAX_PAIRS, MAX_WORKERS, Settings, is_used, number, read};
-
-#[cfg(test)]
-mod tests;

@@ -1,4 +1,4 @@
-//! What messages on refused texts are seen to be made of, and command lines of `explain`. The messages of whole texts are
+//! What messages on refused texts are seen to be made of, and command lines of both programs. The messages of whole texts are
 //! cases of `cases`. What is expected is written by hand, from the definitions and from what a reader needs to be told.
 #![tactic(auto)]
 
@@ -10,6 +10,8 @@ mod around;
 mod characters;
 #[cfg(test)]
 mod command_lines;
+#[cfg(test)]
+mod command_lines_of_refcheck;
 #[cfg(test)]
 mod excerpts_shown;
 #[cfg(test)]

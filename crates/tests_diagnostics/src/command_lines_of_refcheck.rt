@@ -1,6 +1,6 @@
-//! What is seen of command lines. What is expected comes from the ranges and defaults, and from the words of `clap`.
+//! Command lines of `refcheck`. What is expected comes from the ranges and defaults, and from the words of `clap`.
 
-use crate::{CommandLineFault, read};
+use settings::{CommandLineFault, read};
 use std::alloc::Global;
 use std::test::Fail;
 
@@ -169,7 +169,7 @@ fn refusal(alloc: Global, words: &[&str]) -> Option<String> {
 }
 
 #[test]
-fn takes_each_option(rt: HostRuntime) -> Result<(), Fail> {
+fn each_option_is_taken(rt: HostRuntime) -> Result<(), Fail> {
     for (words, expected) in taken() {
         assert_eq!(rt; choices(rt.alloc(), words), Some(*expected), "at {words:?}");
     }
@@ -181,7 +181,7 @@ fn takes_each_option(rt: HostRuntime) -> Result<(), Fail> {
 }
 
 #[test]
-fn says_what_is_wrong(rt: HostRuntime) -> Result<(), Fail> {
+fn what_is_wrong_is_said(rt: HostRuntime) -> Result<(), Fail> {
     for (words, line) in refused() {
         let text = refusal(rt.alloc(), words).ok_or("a refusal")?;
         assert!(rt; text.as_str().starts_with(*line), "at {words:?}: {text}");
@@ -194,7 +194,7 @@ fn says_what_is_wrong(rt: HostRuntime) -> Result<(), Fail> {
 }
 
 #[test]
-fn helps(rt: HostRuntime) -> Result<(), Fail> {
+fn help_and_version_are_asked_for(rt: HostRuntime) -> Result<(), Fail> {
     let help = asked(rt.alloc(), &["--help"]).ok_or("help")?;
     for part in HELPS {
         assert!(rt; help.as_str().contains(*part), "without {part}: {help}");
