@@ -5,4 +5,5 @@ pub mod Refusal
 pub mod Running
 pub mod Answering
 pub mod Stack
+pub mod Unread
 pub mod Words
