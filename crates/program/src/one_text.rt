@@ -1,8 +1,9 @@
 //! One text in memory as a file.
 
-ghost use Rattle.std.specs.Prelude.{◌≡◌, ◌↔◌, IfOk};
+ghost use Rattle.std.specs.Prelude.{◌≡◌, ◌↔◌, IfErr, IfOk};
 ghost use Rattle.program.specs.declared.files.Lack.TheVariants as lack;
 ghost use Rattle.program.specs.Beginning.{IsBeginning};
+ghost use Rattle.program.specs.Unread.{IfLacks};
 
 use crate::beginning::MOST_BYTES;
 use crate::files::{Files, Lack, Unread};
@@ -27,6 +28,8 @@ impl<A: Allocator + Copy> Files<A> for OneText<'_, A> {
     fn read(&mut self, name: &str) -> Result<Vec<u8, A>, Unread>
         ensures holds { IfOk result (λ bytes. IsBeginning
             (λ text. (name.now ≡ self.old.name.now) × (text ≡ self.old.text.now)) bytes.items) }
+        ensures lacks { IfErr result (IfLacks
+            (λ why. (why ≡ lack.Missing) × (name.now ≡ self.old.name.now → ⊥))) }
         ensures name { result ≡ Err (Unread.File lack.Missing)
             ↔ (name.now ≡ self.old.name.now → ⊥) }
     {

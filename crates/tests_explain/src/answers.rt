@@ -1,5 +1,7 @@
 //! Command lines that no table of cases can show.
 
+ghost use Rattle.std.specs.Prelude.{◌≡◌};
+
 use crate::command_lines::wrong_words;
 use crate::runs::{run_in, run_on};
 use program::{Files, Lack, Unread};
