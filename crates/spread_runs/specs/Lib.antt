@@ -1,0 +1,3 @@
+pub mod Toward
+pub mod Walk
+pub mod Spread
