@@ -1,3 +1,4 @@
 pub mod Toward
 pub mod Walk
+pub mod Rounds
 pub mod Spread

@@ -1,18 +1,18 @@
 //! Loops that are spread.
 
-ghost use Rattle.std.specs.Prelude.{◌≡◌, ◌<◌, ◌∷◌, ◌++◌, [], length, map, replicate, slice_get, Some, IfOk, IfSome};
+ghost use Rattle.std.specs.Prelude.{◌≡◌, ◌<◌, length, map, replicate, slice_get, Some, IfOk, IfSome};
 ghost use Rattle.theory_syntax.specs.Value.{Tau};
 ghost use Rattle.theory_syntax.specs.Process.{Process};
 ghost use Rattle.theory_semantics.specs.Kinds.Scripts.{IsTermOf};
 ghost use Rattle.csp_value.specs.Action.{action_of};
 ghost use Rattle.csp_term.specs.Script.{script_of};
 ghost use Rattle.csp_term.specs.Term.{process_of};
-ghost use Rattle.spread_runs.specs.Spread.{SpreadsLoop, SpreadsRun};
-ghost use Rattle.spread_runs.specs.Rounds.{AreTaus, ComeRound};
+ghost use Rattle.spread_runs.specs.Spread.{SpreadsLoop};
+ghost use Rattle.spread_runs.specs.Rounds.{ComeRound};
 
 use crate::runs::{SpreadRun, spread_run};
 use csp_term::laws::equal_terms;
-use csp_term::{Action, AllocHandle, Memory, Script, Term};
+use csp_term::{Action, AllocHandle, Memory, Script, Term, copy_all};
 
 /// A loop by tau that is told in place of one at once.
 #[derive(Drop)]
@@ -45,7 +45,7 @@ pub fn spread_loop<A: AllocHandle>(
     let Some(run) = found else {
         return Ok(None);
     };
-    round_of(run)
+    Ok(round_of(run))
 }
 
 // The states, and behind them the one at the place.
@@ -74,3 +74,33 @@ fn taus<A: AllocHandle>(alloc: A, count: usize) -> Result<Vec<Action<A>, A>, Mem
     Ok(taus)
 }
 
+// The run without its last state, which is one of those before it, or `None` where it is none.
+fn round_of<A: AllocHandle>(run: SpreadRun<A>) -> Option<SpreadLoop<A>>
+    ensures { IfSome result (λ l. ComeRound (map process_of l.states.items) l.back
+        (map process_of run.states.items)) }
+{
+    let SpreadRun { path, mut states } = run;
+    drop(path);
+    let last = states.pop();
+    let Some(again) = last else {
+        return None;
+    };
+    let found = place_of(&states, &again);
+    let Some(back) = found else {
+        return None;
+    };
+    Some(SpreadLoop { states, back })
+}
+
+// The place of the first of the states that is the term, if one is.
+fn place_of<A: AllocHandle>(states: &[Term<A>], term: &Term<A>) -> Option<usize>
+    ensures { IfSome result (λ k. slice_get (map process_of states.now) k
+        ≡ Some (process_of term.now)) }
+{
+    for place in 0..states.len() {
+        if equal_terms(&states[place], term) {
+            return Some(place);
+        }
+    }
+    None
+}

@@ -65,7 +65,14 @@ fn walk_along<A: AllocHandle>(
         return Ok(None);
     };
     for place in 0..path.len() {
-        let next = step_to(alloc, script, written, walk, &path[place], &states[place + 1])?;
+        let next = step_to(
+            alloc,
+            script,
+            written,
+            walk,
+            &path[place],
+            &states[place + 1],
+        )?;
         let Some(gone) = next else {
             return Ok(None);
         };

@@ -56,8 +56,8 @@ fn place_toward<A: AllocHandle>(
         left -= 1;
         let step = &steps[left];
         if equal_actions(&step.action, action) {
-            let is_toward = is_toward(alloc, script, &step.target, target)?;
-            if is_toward {
+            let is_near = is_toward(alloc, script, &step.target, target)?;
+            if is_near {
                 return Ok(Some(left));
             }
             any = Some(left);
