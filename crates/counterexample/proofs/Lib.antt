@@ -14,3 +14,4 @@ pub mod LoopsOf
 pub mod Belows
 pub mod Naming
 pub mod WaitingTexts
+pub mod Spreads

@@ -7,6 +7,7 @@ use Rattle.theory_runs.specs.States.{HasNoReplay, IsReplay}
 use Rattle.theory_origins.specs.Origin as origin
 use Rattle.theory_explanation.specs.Counterexamples as pure
 use Rattle.csp_value.specs.Action.{action_of}
+use Rattle.csp_term.specs.Script.{script_of}
 use Rattle.csp_term.specs.Term.{process_of}
 use Rattle.csp_term.specs.declared.term.Term.{Term}
 use Rattle.csp_moves.specs.Origin.{origin_of}
@@ -21,6 +22,7 @@ use Rattle.counterexample.specs.declared.counterexamples.Counterexample.{Counter
 use Rattle.counterexample.specs.declared.counterexamples.Replayed.{Replayed}
 use Rattle.counterexample.specs.declared.counterexamples.Replayed.TheVariants as replayed
 use Rattle.counterexample.specs.declared.looping.Looping.{Looping}
+use Rattle.counterexample.specs.declared.sides.Sides.{Sides}
 use Rattle.counterexample.specs.declared.waiting.Waiting.{Waiting}
 use Rattle.counterexample.specs.declared.counterparts.Counterpart.{Counterpart}
 use Rattle.counterexample.specs.declared.counterparts.Counterpart.TheVariants as variant
@@ -65,8 +67,8 @@ IsLoopOf script None None = ⊤
 IsLoopOf script lasso l = ⊥
 
 -- the states of a replay, and where it ends in a divergence, a lasso from there
-abbrev pub IsReplayed : {A : Type 0} → Script → Assertion → Violation → List Process → Option (Lasso A) → Type 0
-IsReplayed script a v states lasso = (replay : IsReplay script a.implementation v states) × IsLassoFor script v.evidence replay.end lasso
+abbrev pub IsReplayed : {A : Type 0} → Script → Process → Violation → List Process → Option (Lasso A) → Type 0
+IsReplayed script t v states lasso = (replay : IsReplay script t v states) × IsLassoFor script v.evidence replay.end lasso
 
 -- a counterexample, or that no run ends so, or that a divergence has too many states at its end
 abbrev pub TellsReplayed : {A : Type 0} → Script → Assertion → Violation → ℕ → ℕ → Replayed A → Type 0
@@ -77,3 +79,7 @@ TellsReplayed script a v most reach replayed.TooMany = pure.HasWideEnd script a 
 -- the process of a specification, where there is one
 abbrev pub specification_in : {A : Type 0} → Option (Bor (Term A)) → Option Process
 specification_in t = option_map (λ s. process_of s.now) t
+
+-- what is told of a violation by these sides
+abbrev pub IsToldBy : {A : Type 0} → Sides A → Violation → ℕ → pure.Counterexample → Type 0
+IsToldBy sides v n c = pure.IsToldBeside (script_of sides.script.now) (process_of sides.start.now) (script_of sides.other.now) (specification_in sides.specification) v n c

@@ -8,3 +8,4 @@ pub mod Texts
 pub mod Widths
 pub mod Folding
 pub mod Stories
+pub mod Spreading

@@ -1,8 +1,8 @@
 //! Violations with the states that lead to them.
 
-ghost use Rattle.std.specs.Prelude.{map, IfOk};
+ghost use Rattle.std.specs.Prelude.{◌≡◌, map, IfOk, IfSome};
+ghost use Rattle.theory_semantics.specs.Kinds.Scripts.{IsTermOf};
 ghost use Rattle.theory_search.specs.Terms.{IsAssertionOf};
-ghost use Rattle.theory_explanation.specs.Counterexamples.{IsCounterexample};
 ghost use Rattle.csp_term.specs.Script.{assertion_of, script_of};
 ghost use Rattle.csp_term.specs.Term.{process_of};
 ghost use Rattle.verdict.specs.Outcome.{violation_of};
@@ -11,6 +11,7 @@ ghost use Rattle.counterexample.specs.Counterexample as told;
 use crate::counterparts::{Counterpart, counterpart_for};
 use crate::looping::{Looping, looping_of};
 use crate::origins::origins_along;
+use crate::sides::Sides;
 use crate::waiting::{Waiting, waiting_at};
 use csp_moves::Origin;
 use csp_replay::{Lasso, Replay, replay_of};
@@ -59,9 +60,16 @@ pub fn counterexample_of<A: AllocHandle>(
         (violation_of shown.now) most reach) }
 {
     let start = &assertion.implementation;
-    match replay_of(alloc, script, start, shown, reach)? {
+    let replay = replay_of(alloc, script, start, shown, reach)?;
+    match replay {
         Replay::States(states, lasso) => {
-            let found = along(alloc, script, assertion, shown, most, states, lasso)?;
+            let sides = Sides {
+                script,
+                start,
+                other: script,
+                specification: assertion.property.specification(),
+            };
+            let found = along(alloc, &sides, shown, most, states, lasso)?;
             Ok(Replayed::Counterexample(found))
         }
         Replay::Nowhere => Ok(Replayed::Nowhere),
@@ -69,25 +77,28 @@ pub fn counterexample_of<A: AllocHandle>(
     }
 }
 
-// The counterexample with the states of the replay, and the lasso at its end, if it diverges.
-fn along<A: AllocHandle>(
+/// What is told of the violation by the states of a replay from the start, and the lasso at its end, if it diverges.
+pub(crate) fn along<A: AllocHandle>(
     alloc: A,
-    script: &Script<A>,
-    assertion: &Assertion<A>,
+    sides: &Sides<'_, A>,
     shown: &Shown<A>,
     most: usize,
     states: Vec<Term<A>, A>,
     lasso: Option<Lasso<A>>,
 ) -> Result<Counterexample<A>, Memory>
-    requires terms { IsAssertionOf (script_of script.now) (assertion_of assertion.now) }
-    requires replay { told.IsReplayed (script_of script.now) (assertion_of assertion.now)
-        (violation_of shown.now) (map process_of states.items) lasso }
-    ensures { IfOk result (λ found. IsCounterexample (script_of script.now)
-        (assertion_of assertion.now) (violation_of shown.now) most (told.counterexample_of found)) }
+    requires start { IsTermOf (script_of sides.now.script.now) (process_of sides.now.start.now) }
+    requires specification { IfSome (told.specification_in sides.now.specification)
+        (IsTermOf (script_of sides.now.other.now)) }
+    requires replay { told.IsReplayed (script_of sides.now.script.now)
+        (process_of sides.now.start.now) (violation_of shown.now) (map process_of states.items)
+        lasso }
+    ensures told { IfOk result (λ found. told.IsToldBy sides.now (violation_of shown.now) most
+        (told.counterexample_of found)) }
+    ensures states { IfOk result (λ found. found.states ≡ states) }
 {
+    let script = sides.script;
     let origins = origins_along(alloc, script, &shown.path, &states)?;
-    let specification = assertion.property.specification();
-    let counterpart = counterpart_for(alloc, script, specification, &shown.path, most)?;
+    let counterpart = counterpart_for(alloc, sides.other, sides.specification, &shown.path, most)?;
     let looping = looping_of(alloc, script, lasso)?;
     let waiting = waiting_at(alloc, script, &shown.evidence, &states[shown.path.len()])?;
     Ok(Counterexample {

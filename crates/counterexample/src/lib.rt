@@ -6,6 +6,9 @@
 //! answers that no run by the path ends so, where that is so, and that the specification has too many states along the
 //! path, where they are more than were asked for.
 //!
+//! Where names are unfolded at once `spread_counterexample_of` tells a run of the script as it is written in place of that
+//! one, if it finds one: each name that the steps unfold is told then.
+//!
 //! `push_counterexample` puts behind a string, by its contract, the text that the definitions give of one: the run of
 //! the implementation, state by state, with where each tau comes from and the first few states of the specification
 //! beside each of its own, what is wrong at its end, and what the specification has there, its initials or its least
@@ -33,7 +36,9 @@ mod part_names;
 mod paths;
 mod run;
 mod runs;
+mod sides;
 mod specification;
+mod spreading;
 mod standing;
 mod states;
 mod step;
@@ -54,6 +59,7 @@ pub use marks::{push_amount, push_mark, push_number};
 pub use origins::origins_along;
 pub use paths::push_path;
 pub use run::Run;
+pub use spreading::{Spread, spread_counterexample_of};
 pub use style::Style;
 pub use telling::Telling;
 pub use text::push_counterexample;

@@ -35,6 +35,8 @@ pub(crate) fn explanation_text<A: AllocHandle>(
 ) -> Result<String<A>, Memory>
     requires terms { IsAssertionOf (script_of named.now.script)
         (assertion_of question.now.asked.now) }
+    requires written { IsAssertionOf (script_of named.now.script)
+        (assertion_of question.now.written.now) }
     requires shown { HasViolation (script_of named.now.script) (assertion_of question.now.asked.now)
         (outcome_of answer.now.found) }
     requires size { let it = script_of named.now.script in

@@ -1,5 +1,5 @@
 -- The runs of sides that those of the code stand for.
-use Rattle.std.specs.Prelude.{◌≡◌, ℕ, List, [], Option, Some, None, map}
+use Rattle.std.specs.Prelude.{◌≡◌, ℕ, suc, List, [], Option, Some, None, length, map}
 use Rattle.theory_syntax.specs.Process.{Process, Script}
 use Rattle.theory_runs.specs.Runs.{HasNoneWithin}
 use Rattle.theory_runs.specs.Stuck.{Hindrance}
@@ -18,6 +18,15 @@ use Rattle.explanation.specs.declared.sides.SideRun.TheVariants as variant
 abbrev pub side_run_of : {A : Type 0} → SideRun A → pure.SideRun
 side_run_of (variant.Implementation told) = pure.OfImplementation (map action_of told.run.path.items) (map process_of told.run.states.items) (origins_listed told.origins.items)
 side_run_of (variant.Specification told) = pure.OfSpecification (map action_of told.run.path.items) (map process_of told.run.states.items) (origins_listed told.origins.items)
+
+-- a run of the specification
+abbrev pub specification_run_of : {A : Type 0} → ToldRun A → pure.SideRun
+specification_run_of told = pure.OfSpecification (map action_of told.run.path.items) (map process_of told.run.states.items) (origins_listed told.origins.items)
+
+-- one state before each action, and one at the end
+abbrev pub IsEven : pure.SideRun → Type 0
+IsEven (pure.OfImplementation path states origins) = length states ≡ suc (length path)
+IsEven (pure.OfSpecification path states origins) = length states ≡ suc (length path)
 
 -- the text of the run
 abbrev pub told_text : {A : Type 0} → Style → ToldRun A → List ℕ

@@ -18,13 +18,15 @@ ghost use Rattle.explanation.specs.Running.{HasStop, IsStop, stop_in};
 ghost use Rattle.explanation.specs.Sides.{side_run_of, stuck_text, told_text};
 
 use crate::blame::push_blame;
+use crate::question::Question;
 use crate::reasons::reason;
 use crate::sides::{SideRun, side_run};
+use crate::spread_sides::spread_side;
 use crate::told_run::ToldRun;
 use counterexample::{Run, Style, push_mark, push_path};
 use csp_print::Names;
 use csp_replay::Hindrance;
-use csp_term::{Action, AllocHandle, Assertion, Memory, Script, Term};
+use csp_term::{Action, AllocHandle, Memory, Script, Term};
 use verdict::Why;
 
 /// Why there is no answer, and a run to a state that is faulty or large, where that is why.
@@ -32,23 +34,26 @@ pub(crate) fn push_unknown<A: AllocHandle>(
     alloc: A,
     style: &Style<'_, '_, A>,
     script: &Script<A>,
-    assertion: &Assertion<A>,
+    question: &Question<'_, A>,
     why: Why,
     stop: Option<&[Action<A>]>,
     text: &mut String<A>,
 ) -> Result<(), Memory>
-    requires terms { IsAssertionOf (script_of script.now) (assertion_of assertion.now) }
-    requires stop { HasStop (script_of script.now) (assertion_of assertion.now)
+    requires terms { IsAssertionOf (script_of script.now) (assertion_of question.now.asked.now) }
+    requires written { IsAssertionOf (script_of script.now)
+        (assertion_of question.now.written.now) }
+    requires stop { HasStop (script_of script.now) (assertion_of question.now.asked.now)
         (Unknown (why_of why)) (stop_in stop) }
     ensures { OnOk result (TellsUnknown (style_of style.now) (script_of script.now)
-        (assertion_of assertion.now) (why_of why) (string_bytes text.old) (string_bytes text.new)) }
+        (assertion_of question.now.written.now) (assertion_of question.now.asked.now) (why_of why)
+        (string_bytes text.old) (string_bytes text.new)) }
 {
     push_mark(reason(why), text)?;
     let stuck_by = hindrance(why);
     let Some(hindrance) = stuck_by else {
         return Ok(());
     };
-    push_found(alloc, style, script, assertion, hindrance, stop, text)
+    push_found(alloc, style, script, question, hindrance, stop, text)
 }
 
 // What a state of a side is stuck by, where there is no answer for that.
@@ -69,19 +74,22 @@ fn push_found<A: AllocHandle>(
     alloc: A,
     style: &Style<'_, '_, A>,
     script: &Script<A>,
-    assertion: &Assertion<A>,
+    question: &Question<'_, A>,
     hindrance: Hindrance,
     stop: Option<&[Action<A>]>,
     text: &mut String<A>,
 ) -> Result<(), Memory>
-    requires terms { IsAssertionOf (script_of script.now) (assertion_of assertion.now) }
-    requires stop { IsStop (script_of script.now) (assertion_of assertion.now)
+    requires terms { IsAssertionOf (script_of script.now) (assertion_of question.now.asked.now) }
+    requires written { IsAssertionOf (script_of script.now)
+        (assertion_of question.now.written.now) }
+    requires stop { IsStop (script_of script.now) (assertion_of question.now.asked.now)
         (hindrance_of hindrance) (stop_in stop) }
     ensures { OnOk result (TellsFound (style_of style.now) (script_of script.now)
-        (assertion_of assertion.now) (Some (hindrance_of hindrance)) (string_bytes text.old)
-        (string_bytes text.new)) }
+        (assertion_of question.now.written.now) (assertion_of question.now.asked.now)
+        (Some (hindrance_of hindrance)) (string_bytes text.old) (string_bytes text.new)) }
 {
-    let found = side_run(alloc, script, assertion, hindrance, stop, style.reach)?;
+    let asked = question.asked;
+    let found = side_run(alloc, script, asked, hindrance, stop, style.reach)?;
     let Some(run) = found else {
         push_mark(
             "  the specification comes there, and has too many states to tell how\n",
@@ -89,7 +97,11 @@ fn push_found<A: AllocHandle>(
         )?;
         return Ok(());
     };
-    push_side_run(alloc, style, script, hindrance, &run, text)
+    let spread = spread_side(alloc, script, question.written, &run)?;
+    match spread {
+        Some(told) => push_side_run(alloc, style, script, hindrance, &told, text),
+        None => push_side_run(alloc, style, script, hindrance, &run, text),
+    }
 }
 
 // The side, its run state by state, and what is wrong at the end.

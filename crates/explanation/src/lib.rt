@@ -4,7 +4,8 @@
 //! the assertion; behind them, where it fails, a run by the path of the violation, state by state, with where its steps
 //! come from, beside what the specification has along it, what is wrong at its end, and what the specification has
 //! there; and where it has no answer, the reason, and where a state that is faulty or large is why, a run of a side to
-//! such a state, told in the same way, with what is to blame in a faulty one. The text is made whole or not at all.
+//! such a state, told in the same way, with what is to blame in a faulty one. Where names are unfolded at once,
+//! the runs that are told are those of the script as it is written, if such are found. The text is made whole or not at all.
 #![tactic(auto)]
 
 mod blame;
@@ -14,6 +15,7 @@ mod headline;
 mod question;
 mod reasons;
 mod sides;
+mod spread_sides;
 mod telling;
 mod told_run;
 

@@ -8,7 +8,7 @@ ghost use Rattle.theory_runs.specs.States.{HasEnd};
 ghost use Rattle.csp_term.specs.Script.{assertion_of, script_of};
 ghost use Rattle.csp_term.specs.Term.{process_of};
 ghost use Rattle.verdict.specs.Outcome.{outcome_of, violation_of};
-ghost use Rattle.theory_explanation.specs.Telling.{IsTold, TellsViolation, TellsWhy, failing_text, holding_text};
+ghost use Rattle.theory_explanation.specs.Telling.{IsTold, TellsFailing, TellsViolation, TellsWhy, failing_text, holding_text};
 ghost use Rattle.csp_print.specs.Writing.{Writes};
 ghost use Rattle.counterexample.specs.Styles.{style_of};
 ghost use Rattle.explanation.specs.Running.{HasStop, HasViolation, stop_in};
@@ -16,7 +16,9 @@ ghost use Rattle.explanation.specs.Running.{HasStop, HasViolation, stop_in};
 use crate::faults::push_unknown;
 use crate::headline::headline_text;
 use crate::question::Question;
-use counterexample::{Replayed, Style, counterexample_of, push_counterexample, push_mark};
+use counterexample::{
+    Replayed, Style, counterexample_of, push_counterexample, push_mark, spread_counterexample_of,
+};
 use csp_term::{Action, AllocHandle, Assertion, Memory, Script};
 use verdict::{Outcome, Shown};
 
@@ -36,6 +38,8 @@ pub fn tell<A: AllocHandle>(
     stop: Option<&[Action<A>]>,
 ) -> Result<String<A>, Memory>
     requires terms { IsAssertionOf (script_of script.now) (assertion_of question.now.asked.now) }
+    requires written { IsAssertionOf (script_of script.now)
+        (assertion_of question.now.written.now) }
     requires shown { HasViolation (script_of script.now) (assertion_of question.now.asked.now)
         (outcome_of found.now) }
     requires stop { HasStop (script_of script.now) (assertion_of question.now.asked.now)
@@ -48,7 +52,7 @@ pub fn tell<A: AllocHandle>(
         IfOk result (λ text. told (string_bytes text)) }
 {
     let mut text = headline_text(alloc, style.names, question.number, question.written, found)?;
-    push_why(alloc, style, script, question.asked, found, stop, &mut text)?;
+    push_why(alloc, style, script, question, found, stop, &mut text)?;
     Ok(text)
 }
 
@@ -57,24 +61,26 @@ fn push_why<A: AllocHandle>(
     alloc: A,
     style: &Style<'_, '_, A>,
     script: &Script<A>,
-    assertion: &Assertion<A>,
+    question: &Question<'_, A>,
     found: &Outcome<A>,
     stop: Option<&[Action<A>]>,
     text: &mut String<A>,
 ) -> Result<(), Memory>
-    requires terms { IsAssertionOf (script_of script.now) (assertion_of assertion.now) }
-    requires shown { HasViolation (script_of script.now) (assertion_of assertion.now)
+    requires terms { IsAssertionOf (script_of script.now) (assertion_of question.now.asked.now) }
+    requires written { IsAssertionOf (script_of script.now)
+        (assertion_of question.now.written.now) }
+    requires shown { HasViolation (script_of script.now) (assertion_of question.now.asked.now)
         (outcome_of found.now) }
-    requires stop { HasStop (script_of script.now) (assertion_of assertion.now)
+    requires stop { HasStop (script_of script.now) (assertion_of question.now.asked.now)
         (outcome_of found.now) (stop_in stop) }
     ensures { OnOk result (TellsWhy (style_of style.now) (script_of script.now)
-        (assertion_of assertion.now) (outcome_of found.now) (string_bytes text.old)
-        (string_bytes text.new)) }
+        (assertion_of question.now.written.now) (assertion_of question.now.asked.now)
+        (outcome_of found.now) (string_bytes text.old) (string_bytes text.new)) }
 {
     match found {
-        Outcome::Holds => push_sentence(holding_text(assertion.negated), text),
-        Outcome::Fails(shown) => push_failing(alloc, style, script, assertion, shown, text),
-        Outcome::Unknown(why) => push_unknown(alloc, style, script, assertion, *why, stop, text),
+        Outcome::Holds => push_sentence(holding_text(question.asked.negated), text),
+        Outcome::Fails(shown) => push_failing(alloc, style, script, question, shown, text),
+        Outcome::Unknown(why) => push_unknown(alloc, style, script, question, *why, stop, text),
         Outcome::Denied => Ok(()),
     }
 }
@@ -113,22 +119,61 @@ fn push_failing<A: AllocHandle>(
     alloc: A,
     style: &Style<'_, '_, A>,
     script: &Script<A>,
-    assertion: &Assertion<A>,
+    question: &Question<'_, A>,
     shown: &Shown<A>,
     text: &mut String<A>,
 ) -> Result<(), Memory>
-    requires terms { IsAssertionOf (script_of script.now) (assertion_of assertion.now) }
-    requires run { HasEnd (script_of script.now) (process_of assertion.now.implementation)
+    requires terms { IsAssertionOf (script_of script.now) (assertion_of question.now.asked.now) }
+    requires written { IsAssertionOf (script_of script.now)
+        (assertion_of question.now.written.now) }
+    requires run { HasEnd (script_of script.now) (process_of question.now.asked.now.implementation)
         (violation_of shown.now) }
-    ensures { let before = string_bytes text.old ++ failing_text assertion.now.negated in
-        OnOk result (TellsViolation (style_of style.now) (script_of script.now) (assertion_of assertion.now) (violation_of shown.now) before (string_bytes text.new)) }
+    ensures { let before = string_bytes text.old ++ failing_text question.now.asked.now.negated in
+        let written = assertion_of question.now.written.now in
+        let asked = assertion_of question.now.asked.now in
+        OnOk result (TellsFailing (style_of style.now) (script_of script.now) written asked
+        (violation_of shown.now) before (string_bytes text.new)) }
 {
-    push_mark(failing_text(assertion.negated), text)?;
-    push_violation(alloc, style, script, assertion, shown, text)
+    push_mark(failing_text(question.asked.negated), text)?;
+    push_violation(alloc, style, script, question, shown, text)
+}
+
+// The violation, by a run of the script as it is written, where that is another one than the script and such a run is
+// found, and else as the names of the script are read.
+fn push_violation<A: AllocHandle>(
+    alloc: A,
+    style: &Style<'_, '_, A>,
+    script: &Script<A>,
+    question: &Question<'_, A>,
+    shown: &Shown<A>,
+    text: &mut String<A>,
+) -> Result<(), Memory>
+    requires terms { IsAssertionOf (script_of script.now) (assertion_of question.now.asked.now) }
+    requires written { IsAssertionOf (script_of script.now)
+        (assertion_of question.now.written.now) }
+    requires run { HasEnd (script_of script.now) (process_of question.now.asked.now.implementation)
+        (violation_of shown.now) }
+    ensures { let written = assertion_of question.now.written.now in
+        let asked = assertion_of question.now.asked.now in
+        OnOk result (TellsFailing (style_of style.now) (script_of script.now) written asked
+        (violation_of shown.now) (string_bytes text.old) (string_bytes text.new)) }
+{
+    let start = &question.written.implementation;
+    let found = spread_counterexample_of(alloc, style, script, start, question.asked, shown)?;
+    match found {
+        Some(spread) => push_counterexample(
+            alloc,
+            style,
+            &spread.shown,
+            &spread.counterexample,
+            text,
+        ),
+        None => push_replayed(alloc, style, script, question.asked, shown, text),
+    }
 }
 
 // A counterexample of the violation: a run by its path, state by state, beside what the specification has along it.
-fn push_violation<A: AllocHandle>(
+fn push_replayed<A: AllocHandle>(
     alloc: A,
     style: &Style<'_, '_, A>,
     script: &Script<A>,

@@ -1,5 +1,5 @@
 -- A run in the making that spreads another one.
-use Rattle.std.specs.Prelude.{◌≡◌, List, [], ◌∷◌, ◌++◌, map}
+use Rattle.std.specs.Prelude.{◌≡◌, ℕ, List, [], ◌∷◌, ◌++◌, map, slice_get, Some}
 use Rattle.theory_syntax.specs.Value.{Action}
 use Rattle.theory_syntax.specs.Process.{Process, Script}
 use Rattle.theory_semantics.specs.Kinds.Scripts.{IsTermOf}
@@ -39,3 +39,9 @@ pub record GoesToBy {A : Type 0} (script : Script) (x : Action) (target : Proces
       Tells script t (path ++ x ∷ []) (states ++ process_of old.here ∷ []) new
   pub closed : IsTermOf script (process_of new.here)
   pub there : process_of new.here ≡ target
+
+-- It stands at the state at the place, as one of the run that it spreads, of which so much is before that.
+pub record IsAlong {A : Type 0} (script : Script) (t : Process) (path : List Action) (before states : List Process) (place : ℕ) (w : Walk A) : Type 0 where
+  pub tells : Tells script t path before w
+  pub closed : IsTermOf script (process_of w.here)
+  pub stands : slice_get states place ≡ Some (process_of w.here)

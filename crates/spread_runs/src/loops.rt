@@ -12,7 +12,7 @@ ghost use Rattle.spread_runs.specs.Rounds.{ComeRound};
 
 use crate::runs::{SpreadRun, spread_run};
 use csp_term::laws::equal_terms;
-use csp_term::{Action, AllocHandle, Memory, Script, Term, copy_all};
+use csp_term::{Action, AllocHandle, Memory, Script, Term};
 
 /// A loop by tau that is told in place of one at once.
 #[derive(Drop)]
@@ -58,8 +58,13 @@ fn states_round<A: AllocHandle>(
     ensures { IfOk result (λ round. ComeRound (map process_of states.now) back
         (map process_of round.items)) }
 {
-    let mut round = copy_all(alloc, states)?;
-    round.push(states[back].try_copy(alloc)?)?;
+    let mut round = Vec::new(alloc);
+    for state in states {
+        let copy = state.try_copy(alloc)?;
+        round.push(copy)?;
+    }
+    let again = states[back].try_copy(alloc)?;
+    round.push(again)?;
     Ok(round)
 }
 

@@ -64,15 +64,9 @@ fn walk_along<A: AllocHandle>(
     let Some(mut walk) = found else {
         return Ok(None);
     };
-    for place in 0..path.len() {
-        let next = step_to(
-            alloc,
-            script,
-            written,
-            walk,
-            &path[place],
-            &states[place + 1],
-        )?;
+    for (place, action) in path.iter().enumerate() {
+        let target = &states[place + 1];
+        let next = step_to(alloc, script, written, walk, action, target)?;
         let Some(gone) = next else {
             return Ok(None);
         };

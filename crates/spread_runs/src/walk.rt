@@ -65,23 +65,23 @@ pub(crate) fn taus_to<A: AllocHandle>(
     alloc: A,
     script: &Script<A>,
     written: &Script<A>,
-    walk: Walk<A>,
+    mut walk: Walk<A>,
     target: &Term<A>,
 ) -> Result<Option<Walk<A>>, Memory>
     requires closed { IsTermOf (script_of written.now) (process_of walk.here) }
     ensures { IfOk result (λ found. IfSome found (GoesTo (script_of written.now)
         (process_of target.now) walk)) }
 {
-    let mut gone = walk;
     for _ in 0..MOST_TAUS {
-        if equal_terms(&gone.here, target) {
-            return Ok(Some(gone));
+        if equal_terms(&walk.here, target) {
+            return Ok(Some(walk));
         }
-        let found = term_toward(alloc, script, written, &gone.here, &Action::Tau, target)?;
+        let tau = Action::Tau;
+        let found = term_toward(alloc, script, written, &walk.here, &tau, target)?;
         let Some(next) = found else {
             return Ok(None);
         };
-        gone = one_on(gone, Action::Tau, next)?;
+        walk = one_on(walk, tau, next)?;
     }
     Ok(None)
 }

@@ -2,7 +2,8 @@
 -- has beside them, and of a divergence the loop that goes on for ever.
 use Rattle.std.specs.Prelude.{◌≡◌, ◌≢◌, ◌<◌, ℕ, suc, List, [], ◌∷◌, ◌++◌, length, replicate, slice_get, Option, Some, None, Contains, ⊤}
 use Rattle.theory_syntax.specs.Value.{Action, Tau}
-use Rattle.theory_syntax.specs.Process.{Process, Assertion, specification_of, Script}
+use Rattle.theory_syntax.specs.Process.{Process, Assertion, specification_of, AtOnce, Script}
+use Rattle.theory_syntax.specs.Readings.{by_tau}
 use Rattle.theory_semantics.specs.Meaning.Runs.{Run}
 use Rattle.theory_semantics.specs.Meaning.Violations.{Evidence, ByEvent, ByOffers, ByDeadlock, ByDivergence, Violation}
 use Rattle.theory_search.specs.Counting.{AreMoreThan}
@@ -14,6 +15,7 @@ use Rattle.theory_runs.specs.Acceptances.{AreLeastAcceptances}
 use Rattle.theory_runs.specs.Initials.{AreInitials}
 use Rattle.theory_runs.specs.Lassos.{EachDiverges, IsLasso}
 use Rattle.theory_runs.specs.States.{AreStatesAlong, AreSmall, AreMoreAlong, IsReplay}
+use Rattle.theory_spread_runs.specs.Spread.{Spreads}
 use Rattle.theory_explanation.specs.Lacking.{lacking}
 
 -- What a specification has along a path: its states after the trace of each beginning, the initials of the last ones, and
@@ -106,14 +108,32 @@ AreWaitingFor script (ByOffers xs) t ws = AreWaiting script (placed_parts t) ws
 AreWaitingFor script ByDeadlock t ws = AreWaiting script (placed_parts t) ws
 AreWaitingFor script e t ws = ws ≡ []
 
--- the states of a replay of the violation, where its steps come from, what the specification has along its path, the loop
--- at its end, and which parts wait there
-pub record IsCounterexample (script : Script) (a : Assertion) (v : Violation) (n : ℕ) (c : Counterexample) : Type 0 where
-  pub replay : IsReplay script a.implementation v c.states
+-- What is told of the violation: the states of a replay of it from t by the script, where its steps come from, what the
+-- specification, if there is one, has along its path, by a script in which names may be read otherwise, the loop at its end,
+-- and which parts wait there.
+pub record IsToldBeside (script : Script) (t : Process) (other : Script) (spec : Option Process) (v : Violation) (n : ℕ) (c : Counterexample) : Type 0 where
+  pub replay : IsReplay script t v c.states
   pub origins : AreOriginsAlong script v.path c.states c.origins
-  pub counterpart : IsCounterpartFor script (specification_of a.property) v.path n c.counterpart
+  pub counterpart : IsCounterpartFor other spec v.path n c.counterpart
   pub loop : IsLoopFor script v.evidence replay.end c.loop
   pub waiting : AreWaitingFor script v.evidence replay.end c.waiting
+
+-- the same by one script
+abbrev pub IsCounterexample : Script → Assertion → Violation → ℕ → Counterexample → Type 0
+IsCounterexample script a v n c = IsToldBeside script a.implementation script (specification_of a.property) v n c
+
+-- a violation with another path
+abbrev pub by_path : List Action → Violation → Violation
+by_path path v = record { path = path; evidence = v.evidence }
+
+-- Names are unfolded at once, and a replay of the violation is spread: what is told is a run from t, by the longer path, of the
+-- script as it is written. The specification is told beside it as names are read.
+pub record IsSpreadCounterexample (script : Script) (t : Process) (a : Assertion) (v : Violation) (n : ℕ) (longer : List Action) (c : Counterexample) : Type 0 where
+  pub at_once : script.unfolds ≡ AtOnce
+  pub states : List Process
+  pub replay : IsReplay script a.implementation v states
+  pub spread : Spreads (by_tau script) t v.path states longer c.states
+  pub told : IsToldBeside (by_tau script) t script (specification_of a.property) (by_path longer v) n c
 
 -- More than n states are behind the path of a divergence, by taus, so that its loop is not looked for.
 pub record HasWideEnd (script : Script) (a : Assertion) (v : Violation) (n : ℕ) : Type 0 where

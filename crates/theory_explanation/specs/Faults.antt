@@ -1,13 +1,15 @@
 -- Runs of a side to a state that is faulty or large, by which an assertion has no answer.
 use Rattle.std.specs.Prelude.{◌≡◌, ℕ, List, [], ◌++◌, codes, Option, Some, None}
 use Rattle.theory_syntax.specs.Value.{Action}
-use Rattle.theory_syntax.specs.Process.{Process, Assertion, specification_of, Script}
+use Rattle.theory_syntax.specs.Process.{Process, Assertion, specification_of, AtOnce, Script}
+use Rattle.theory_syntax.specs.Readings.{by_tau}
 use Rattle.theory_search.specs.Counting.{AreMoreThan}
 use Rattle.theory_search.specs.Outcome.{Why, TooManyPairs, TooManyNodes, LargeTerm, Fault, NoMemory}
 use Rattle.theory_origins.specs.Origin.{Origin}
 use Rattle.theory_runs.specs.Stuck.{Hindrance, ByCause, BySize}
 use Rattle.theory_runs.specs.Runs.{IsReached, IsStuckRun}
 use Rattle.theory_runs.specs.Stops.{StopsSearch}
+use Rattle.theory_spread_runs.specs.Spread.{Spreads}
 use Rattle.theory_notation.specs.Names.{Names}
 use Rattle.theory_explanation.specs.Counterexamples.{AreOriginsAlong}
 use Rattle.theory_explanation.specs.Culprits.{blame_line, last_culprit}
@@ -43,6 +45,21 @@ abbrev pub IsFound : Script → Assertion → Hindrance → ℕ → Option SideR
 IsFound script a h n (Some (OfImplementation path states origins)) = IsStopTold script a h path states origins
 IsFound script a h n (Some (OfSpecification path states origins)) = (spec : Process) × (specification_of a.property ≡ Some spec) × IsToldRun script spec h path states origins
 IsFound script a h n None = (spec : Process) × (specification_of a.property ≡ Some spec) × AreMoreThan ◌≡◌ n (IsReached script spec)
+
+-- ---- names at once
+
+-- Names are unfolded at once, and the run of the process is spread: what is told is a run of the script as it is written.
+pub record IsSpreadRun (script : Script) (t : Process) (path : List Action) (states : List Process) (longer : List Action) (more : List Process) (origins : List (Option Origin)) : Type 0 where
+  pub at_once : script.unfolds ≡ AtOnce
+  pub spread : Spreads (by_tau script) t path states longer more
+  pub told : AreOriginsAlong (by_tau script) longer more origins
+
+-- the run of a side of the assertion as it is asked is spread to one of that side as it is written
+abbrev pub IsSpreadSide : Script → Assertion → SideRun → SideRun → Type 0
+IsSpreadSide script a (OfImplementation path states others) (OfImplementation longer more origins) = IsSpreadRun script a.implementation path states longer more origins
+IsSpreadSide script a (OfSpecification path states others) (OfSpecification longer more origins) =
+    (spec : Process) × (specification_of a.property ≡ Some spec) × IsSpreadRun script spec path states longer more origins
+IsSpreadSide script a run told = ⊥
 
 -- ---- the text
 

@@ -80,8 +80,8 @@ explanation_text-requires g c =
     let Z : Bool → Type 0 = λ negated. IsSizeFor script asked bounds (as_written negated found) c.answer-answer.result.size in
     let size = subst Z (ap (λ (a : pure.Assertion). a.negated) is) c.answer-answer.ensures.size in
     elim (g.met.A.AllocHandle g.world.𝓛 g.world.𝓜 g.world.𝓡 ((λ s x. x), (λ x. x), (λ x. x), λ x. x)).small [
-      | inl e ↦ rw (e.0, e.1) (lit< tt, (asked_sides, (shown, (size, c.answer-answer.ensures.stop))))
-      | inr e ↦ rw (e.0, e.1) (lit< tt, (asked_sides, (shown, (size, c.answer-answer.ensures.stop))))
+      | inl e ↦ rw (e.0, e.1) (lit< tt, (asked_sides, (sides, (shown, (size, c.answer-answer.ensures.stop)))))
+      | inr e ↦ rw (e.0, e.1) (lit< tt, (asked_sides, (sides, (shown, (size, c.answer-answer.ensures.stop)))))
     ]
 
 pub returns-in-Ok-clause-told : goal.returns-in-Ok-clause-told

@@ -25,8 +25,8 @@ tell-requires g c =
     let S : Option (List Action) → Type 0 = HasStop (script_of c.args.named.now.script) (assertion_of c.args.question.now.asked.now) (outcome_of c.args.answer.now.found) in
     let stop = subst S (sym c.lent.ensures) c.requires.stop in
     elim g.met.A.AllocHandle.small [
-      | inl e ↦ rw (e.0, e.1) (lit< tt, (lit< tt, (c.requires.terms, (c.requires.shown, stop))))
-      | inr e ↦ rw (e.0, e.1) (lit< tt, (lit< tt, (c.requires.terms, (c.requires.shown, stop))))
+      | inl e ↦ rw (e.0, e.1) (lit< tt, (lit< tt, (c.requires.terms, (c.requires.written, (c.requires.shown, stop)))))
+      | inr e ↦ rw (e.0, e.1) (lit< tt, (lit< tt, (c.requires.terms, (c.requires.written, (c.requires.shown, stop)))))
     ]
 
 pub returns-then-settings : goal.returns-then-settings

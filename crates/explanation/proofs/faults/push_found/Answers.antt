@@ -1,34 +1,67 @@
--- A run is found and told, or none is.
-use Rattle.std.proofs.Common.{◌≡◌, ◌++◌, Option, Some, None, option_map, subst, inl, inr, lit<}
+-- A run is found and told, by the script as it is written or as names are read, or none is.
+use Rattle.std.proofs.Common.{◌≡◌, ◌++◌, Option, Some, None, IfSome, option_map, subst, inl, inr, lit<, lit≤}
 use Rattle.std.specs.String.{string_bytes}
 use Rattle.csp_term.specs.Script.{assertion_of, script_of}
-use Rattle.theory_explanation.specs.Faults.{IsFound, fault_run_text}
+use Rattle.theory_explanation.specs.Faults.{IsFound, IsSpreadSide, fault_run_text, found_text}
 use Rattle.theory_explanation.specs.Telling.{TellsFound}
 use Rattle.counterexample.specs.Styles.{style_of}
 use Rattle.csp_replay.specs.Hindrance.{hindrance_of}
-use Rattle.explanation.specs.Sides.{side_run_of}
+use Rattle.explanation.specs.Sides.{IsEven, side_run_of}
 use Rattle.explanation.specs.declared.sides.SideRun.{SideRun}
 use Rattle.explanation.proofs.OnOks.{on_ok_so}
+use Rattle.explanation.proofs.ToldRuns.{found_even}
 use Rattle.explanation.proofs.faults.push_found.Goals as goal
 
 pub returns-in_default : goal.returns-in_default
 returns-in_default g c =
     let h = hindrance_of c.args.hindrance in
-    let F : Option (SideRun g.row.A.Denot) → Type 0 = λ found. IsFound (script_of c.args.script.now) (assertion_of c.args.assertion.now) h c.args.style.now.reach (option_map side_run_of found) in
-    (None, subst F c.in_default.is c.in_ok-found.ensures, c.in_ok-push_mark.ensures)
+    let F : Option (SideRun g.row.A.Denot) → Type 0 = λ found. IsFound (script_of c.args.script.now) (assertion_of c.args.question.now.asked.now) h c.args.style.now.reach (option_map side_run_of found) in
+    inr (None, subst F c.in_default.is c.in_ok-found.ensures, c.in_ok-push_mark.ensures)
 
-pub returns : goal.returns
-returns g c =
-    let style = style_of c.args.style.now in
+pub spread_side-requires : goal.spread_side-requires
+spread_side-requires g c =
     let script = script_of c.args.script.now in
-    let a = assertion_of c.args.assertion.now in
+    let a = assertion_of c.args.question.now.asked.now in
     let h = hindrance_of c.args.hindrance in
     let run = side_run_of c.in-Some.run' in
+    let F : Option (SideRun g.row.A.Denot) → Type 0 = λ found. IsFound script a h c.args.style.now.reach (option_map side_run_of found) in
+    let is : IsFound script a h c.args.style.now.reach (Some run) = subst F c.in-Some.is c.in_ok-found.ensures in
+    let even : IsEven run = found_even script a h c.args.style.now.reach run is in
+    elim g.met.A.AllocHandle.small [
+      | inl e ↦ rw (e.0, e.1) (search (lit≤, lit<, c.requires.written, even))
+      | inr e ↦ rw (e.0, e.1) (search (lit≤, lit<, c.requires.written, even))
+    ]
+
+pub returns-in-Some-2 : goal.returns-in-Some-2
+returns-in-Some-2 g c =
+    let style = style_of c.args.style.now in
+    let script = script_of c.args.script.now in
+    let w = assertion_of c.args.question.now.written.now in
+    let a = assertion_of c.args.question.now.asked.now in
+    let h = hindrance_of c.args.hindrance in
+    let run = side_run_of c.in-Some.run' in
+    let told = side_run_of c.in-Some-2.told in
     let old = string_bytes c.args.text.now in
     let new = string_bytes c.push_side_run.new.text in
     let F : Option (SideRun g.row.A.Denot) → Type 0 = λ found. IsFound script a h c.args.style.now.reach (option_map side_run_of found) in
     let is : IsFound script a h c.args.style.now.reach (Some run) = subst F c.in-Some.is c.in_ok-found.ensures in
-    on_ok_so c.push_side_run.result (new ≡ old ++ fault_run_text style script h run) (TellsFound style script a (Some h) old new) (λ put. (Some run, is, put)) c.push_side_run.ensures
+    let S : Option (SideRun g.row.A.Denot) → Type 0 = λ spread. IfSome spread (λ s. IsSpreadSide script w run (side_run_of s)) in
+    let spread : IsSpreadSide script w run told = subst S c.in-Some-2.is c.in_ok-spread.ensures in
+    on_ok_so c.push_side_run.result (new ≡ old ++ fault_run_text style script h told) (TellsFound style script w a (Some h) old new) (λ put. inl (run, told, is, spread, put)) c.push_side_run.ensures
+
+pub returns-in-None : goal.returns-in-None
+returns-in-None g c =
+    let style = style_of c.args.style.now in
+    let script = script_of c.args.script.now in
+    let w = assertion_of c.args.question.now.written.now in
+    let a = assertion_of c.args.question.now.asked.now in
+    let h = hindrance_of c.args.hindrance in
+    let run = side_run_of c.in-Some.run' in
+    let old = string_bytes c.args.text.now in
+    let new = string_bytes c.push_side_run-in-None.new.text in
+    let F : Option (SideRun g.row.A.Denot) → Type 0 = λ found. IsFound script a h c.args.style.now.reach (option_map side_run_of found) in
+    let is : IsFound script a h c.args.style.now.reach (Some run) = subst F c.in-Some.is c.in_ok-found.ensures in
+    on_ok_so c.push_side_run-in-None.result (new ≡ old ++ fault_run_text style script h run) (TellsFound style script w a (Some h) old new) (λ put. inr (Some run, is, put)) c.push_side_run-in-None.ensures
 
 pub drop-run-requires-room-T-Destruct : goal.drop-run-requires-room-T-Destruct
 drop-run-requires-room-T-Destruct g c κs within = elim g.met.A.AllocHandle.small [ inl e ↦ rw (e.0, e.1) (lit< tt) | inr e ↦ rw (e.0, e.1) (lit< tt) ]

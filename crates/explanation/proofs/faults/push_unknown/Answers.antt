@@ -16,20 +16,22 @@ pub returns-in_default : goal.returns-in_default
 returns-in_default g c =
     let style = style_of c.args.style.now in
     let script = script_of c.args.script.now in
-    let a = assertion_of c.args.assertion.now in
+    let w = assertion_of c.args.question.now.written.now in
+    let a = assertion_of c.args.question.now.asked.now in
     let why = why_of c.args.why in
     let old = string_bytes c.args.text.now in
     let mid = string_bytes c.push_mark.new.text in
     let said : mid ≡ old ++ reason why = c.in_ok-push_mark.ensures ∙ ap (λ ts. old ++ ts) c.reason.ensures in
     let which : None ≡ hindrance why = sym (ap (option_map hindrance_of) c.in_default.is) ∙ c.hindrance-stuck_by.ensures in
-    let T : Option Hindrance → Type 0 = λ o. TellsFound style script a o (old ++ reason why) mid in
+    let T : Option Hindrance → Type 0 = λ o. TellsFound style script w a o (old ++ reason why) mid in
     subst T which said
 
 pub returns : goal.returns
 returns g c =
     let style = style_of c.args.style.now in
     let script = script_of c.args.script.now in
-    let a = assertion_of c.args.assertion.now in
+    let w = assertion_of c.args.question.now.written.now in
+    let a = assertion_of c.args.question.now.asked.now in
     let why = why_of c.args.why in
     let r = c.push_found.result in
     let old = string_bytes c.args.text.now in
@@ -37,14 +39,14 @@ returns g c =
     let new = string_bytes c.push_found.new.text in
     let said : mid ≡ old ++ reason why = c.in_ok-push_mark.ensures ∙ ap (λ ts. old ++ ts) c.reason.ensures in
     let which : Some (hindrance_of c.in-Some.hindrance) ≡ hindrance why = sym (ap (option_map hindrance_of) c.in-Some.is) ∙ c.hindrance-stuck_by.ensures in
-    let T : Option Hindrance → Type 0 = λ o. OnOk r (TellsFound style script a o mid new) in
-    let O : List ℕ → Type 0 = λ ts. OnOk r (TellsFound style script a (hindrance why) ts new) in
+    let T : Option Hindrance → Type 0 = λ o. OnOk r (TellsFound style script w a o mid new) in
+    let O : List ℕ → Type 0 = λ ts. OnOk r (TellsFound style script w a (hindrance why) ts new) in
     subst O said (subst T which c.push_found.ensures)
 
 pub push_found-requires : goal.push_found-requires
 push_found-requires g c =
     let script = script_of c.args.script.now in
-    let a = assertion_of c.args.assertion.now in
+    let a = assertion_of c.args.question.now.asked.now in
     let h = hindrance_of c.in-Some.hindrance in
     let which : Some h ≡ hindrance (why_of c.args.why) = sym (ap (option_map hindrance_of) c.in-Some.is) ∙ c.hindrance-stuck_by.ensures in
     let stop : IsStop script a h (stop_in c.args.stop) = c.requires.stop h (sym which) in

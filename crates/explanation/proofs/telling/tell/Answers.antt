@@ -10,5 +10,5 @@ use Rattle.explanation.proofs.telling.tell.Goals as goal
 pub returns : goal.returns
 returns g c =
     let told = string_bytes c.push_why.new.text in
-    let T : List ℕ → Type 0 = λ ts. TellsWhy (style_of c.args.style.now) (script_of c.args.script.now) (assertion_of c.args.question.now.asked.now) (outcome_of c.args.found.now) ts told in
+    let T : List ℕ → Type 0 = λ ts. TellsWhy (style_of c.args.style.now) (script_of c.args.script.now) (assertion_of c.args.question.now.written.now) (assertion_of c.args.question.now.asked.now) (outcome_of c.args.found.now) ts told in
     (outcome_of c.args.found.now, refl, subst T c.in_ok-text.ensures c.in_ok-push_why.ensures)
