@@ -16,6 +16,8 @@ use Rattle.csp_term.specs.Term.{process_of}
 use Rattle.csp_term.specs.declared.term.Term.{Term}
 use Rattle.csp_replay.specs.Endings.{IsLassoFor}
 use Rattle.csp_replay.specs.declared.lasso.Lasso.{Lasso}
+use Rattle.spread_runs.specs.Spread.{SpreadsLoop}
+use Rattle.spread_runs.specs.declared.loops.SpreadLoop.{SpreadLoop}
 use Rattle.spread_runs.proofs.Rounds.{first_same}
 use Rattle.verdict.specs.Outcome.{violation_of}
 use Rattle.counterexample.specs.Counterexample.{IsReplayed, counterexample_of}
@@ -74,3 +76,18 @@ module _ (A : Type 0) (script written : Script) (is : written ≡ by_tau script)
           told = subst T is (subst V like (subst S asked told));
         };
       }
+
+-- a lasso by which a loop was found
+pub lasso_found : (A : Type 0) (written : Script) (lasso : Lasso A) (l : SpreadLoop A) → SpreadsLoop written (map process_of lasso.states.items) lasso.back l → (other : Script) (e : Evidence) (t : Process) →
+    IsLassoFor other e t (Some lasso) → IsLassoFor written e t (Some (record { states = l.states; back = l.back }))
+lasso_found A written lasso l loops other (ByEvent x) t is = absurd is
+lasso_found A written lasso l loops other (ByOffers xs) t is = absurd is
+lasso_found A written lasso l loops other ByDeadlock t is = absurd is
+lasso_found A written lasso l loops other ByDivergence t is = (is.0, loops other t is.0 is.1)
+
+-- where there is none
+pub none_found : (A : Type 0) (other written : Script) (e : Evidence) (t : Process) → IsLassoFor {A = A} other e t None → IsLassoFor {A = A} written e t None
+none_found A other written (ByEvent x) t is = tt
+none_found A other written (ByOffers xs) t is = tt
+none_found A other written ByDeadlock t is = tt
+none_found A other written ByDivergence t is = absurd is

@@ -11,7 +11,9 @@ ghost use Rattle.theory_syntax.specs.Expression.{Add, Apply, Combine, Head, Modu
 ghost use Rattle.theory_syntax.specs.Value.{Action, Integer, Tau, Tick};
 ghost use Rattle.theory_faults.specs.Culprit.{NoChoice, OfChannel, OfConstructor, Outside, Valueless};
 ghost use Rattle.theory_faults.specs.Truth.{IsToBlame};
+ghost use Rattle.theory_syntax.specs.Readings.{by_tau};
 ghost use Rattle.theory_semantics.specs.Laws.Terms.{digits};
+ghost use Rattle.theory_semantics.specs.Meaning.Runs.{trace};
 ghost use Rattle.theory_semantics.specs.Meaning.Evaluation.{BadModulus, Cause, EmptySequence, OutOfRange, Overflow};
 ghost use Rattle.theory_semantics.specs.Meaning.Violations.{ByDeadlock, ByDivergence, ByEvent, ByOffers, IsViolation, Violation};
 ghost use Rattle.theory_search.specs.Search.{EndedFails, IsLawful, Search};
@@ -21,7 +23,8 @@ ghost use Rattle.theory_runs.specs.States.{AreReached, IsReplay};
 ghost use Rattle.theory_runs.specs.Stops.{IsKnownAlong};
 ghost use Rattle.theory_runs.specs.Stuck.{ByCause, BySize, Hindrance};
 ghost use Rattle.theory_explanation.specs.Comparing.{counterexample_text};
-ghost use Rattle.theory_explanation.specs.Counterexamples.{Along, Counterexample, Counterpart, HasOriginAt, HasWideEnd, IsCounterexample, Loop, ShowsLack, TellsDivergence, Waiting, WaitsThere};
+ghost use Rattle.theory_explanation.specs.Counterexamples.{Along, Counterexample, Counterpart, HasOriginAt, HasWideEnd, IsCounterexample, IsSpreadCounterexample, Loop, ShowsLack, TellsDivergence, Waiting, WaitsThere, by_path};
+ghost use Rattle.theory_unfolding.specs.Assertions.{HasViolationLike};
 ghost use Rattle.theory_explanation.specs.Counterparts.{lack_text, specification_text};
 ghost use Rattle.theory_explanation.specs.Counting.{count_text};
 ghost use Rattle.theory_explanation.specs.Culprits.{culprit_text, last_culprit};
@@ -62,6 +65,14 @@ pub fn counterexamples_tell_divergence()
         → IsCounterexample script a v n found → v.evidence ≡ ByDivergence
         → (loop : Loop) × (found.loop ≡ Some loop)
         × TellsDivergence script a.implementation v.path loop }
+{}
+
+/// Where names are unfolded at once, and a violation by tau with that trace and evidence is there, what is told by a run of
+/// the script as it is written is told of such a violation.
+pub fn spread_counterexamples_show_violations()
+    ensures { (script : Script) (written a : Assertion) (v : Violation) (n : ℕ) (longer : List Action) (found : Counterexample) →
+        IsSpreadCounterexample script written.implementation a v n longer found → HasViolationLike (by_tau script) written v →
+        IsViolation (by_tau script) written (by_path longer v) × (trace longer ≡ trace v.path) }
 {}
 
 /// Of a search that fails by divergence the loop is told, where it is looked for among as many states as there may be

@@ -31,7 +31,7 @@ module _ (s : Script) where
   spread_trace (acts {x = x} {path = path} {longer = longer} step rest) = trace_step x longer path (spread_trace rest)
 
   -- as many states as actions, and one more
-  spread_even : {t : Process} {path longer : List Action} {states more : List Process} → Spreads s t path states longer more → length more ≡ suc (length longer)
+  pub spread_even : {t : Process} {path longer : List Action} {states more : List Process} → Spreads s t path states longer more → length more ≡ suc (length longer)
   spread_even ends = refl
   spread_even (tau step rest) = ap suc (spread_even rest)
   spread_even (acts step rest) = ap suc (spread_even rest)

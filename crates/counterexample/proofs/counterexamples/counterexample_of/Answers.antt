@@ -25,7 +25,7 @@ along-requires g c =
     let S : Option Process → Type 0 = λ s. IfSome s (IsTermOf script) in
     let specification : IfSome (specification_in c.specification.result) (IsTermOf script) = subst S (sym c.specification.ensures) c.requires.terms.specification in
     let R : Replay g.row.A.Denot → Type 0 = λ r. TellsReplay script a.implementation v c.args.reach r in
-    let replay : IsReplayed script a.implementation v (map process_of c.in-States.field-0.items) c.in-States.field-1 = subst R c.in-States.is c.in_ok-replay.ensures in
+    let replay : IsReplayed script a.implementation v (map process_of c.in-States.states.items) c.in-States.lasso = subst R c.in-States.is c.in_ok-replay.ensures in
     elim g.met.A.AllocHandle.small [
       | inl e ↦ rw (e.0, e.1) (search (lit≤, lit<, start, specification, replay))
       | inr e ↦ rw (e.0, e.1) (search (lit≤, lit<, start, specification, replay))

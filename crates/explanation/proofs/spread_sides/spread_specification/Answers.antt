@@ -1,0 +1,34 @@
+-- The specification as it is written is the start, if there is one.
+use Rattle.std.proofs.Common.{◌≡◌, suc, Option, Some, IfSome, option_map, length, map, sym, ◌∙◌, ap, subst, inl, inr, lit<, lit≤}
+use Rattle.std.specs.Borrow.{Bor}
+use Rattle.theory_syntax.specs.Process.{Process, specification_of}
+use Rattle.theory_semantics.specs.Kinds.Scripts.{IsTermOf}
+use Rattle.csp_term.specs.Script.{assertion_of, script_of}
+use Rattle.csp_term.specs.Term.{process_of}
+use Rattle.csp_term.specs.declared.term.Term.{Term}
+use Rattle.counterexample.specs.Counterexample.{specification_in}
+use Rattle.explanation.specs.ToldRuns.{SpreadsTold}
+use Rattle.explanation.specs.declared.told_run.ToldRun.{ToldRun}
+use Rattle.explanation.proofs.spread_sides.spread_specification.Goals as goal
+
+pub spread_told-requires : goal.spread_told-requires
+spread_told-requires g c =
+    let script = script_of c.args.script.now in
+    let start = c.in-Some.start in
+    let I : Option (Bor (Term g.row.A.Denot)) → Type 0 = λ o. specification_in o ≡ specification_of (assertion_of c.args.written.now).property in
+    let there : Some (process_of start.now) ≡ specification_of (assertion_of c.args.written.now).property = subst I c.in-Some.is c.specification-start.ensures in
+    let S : Option Process → Type 0 = λ s. IfSome s (IsTermOf script) in
+    let closed : IsTermOf script (process_of start.now) = subst S (sym there) c.requires.terms.specification in
+    elim g.met.A.AllocHandle.small [
+      | inl e ↦ rw (e.0, e.1) (search (lit≤, lit<, c.requires.at_once, closed, c.requires.even))
+      | inr e ↦ rw (e.0, e.1) (search (lit≤, lit<, c.requires.at_once, closed, c.requires.even))
+    ]
+
+pub returns-in-Some-2 : goal.returns-in-Some-2
+returns-in-Some-2 g c =
+    let script = script_of c.args.script.now in
+    let start = c.in-Some.start in
+    let I : Option (Bor (Term g.row.A.Denot)) → Type 0 = λ o. specification_in o ≡ specification_of (assertion_of c.args.written.now).property in
+    let there : Some (process_of start.now) ≡ specification_of (assertion_of c.args.written.now).property = subst I c.in-Some.is c.specification-start.ensures in
+    let O : Option (ToldRun g.row.A.Denot) → Type 0 = λ o. IfSome o (SpreadsTold script (process_of start.now) c.args.told.now) in
+    (process_of start.now, sym there, subst O c.in-Some-2.is c.in_ok-spread.ensures)
