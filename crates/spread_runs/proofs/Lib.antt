@@ -1,4 +1,4 @@
 pub mod Walking
 pub mod Rounds
 pub mod Fired
-pub mod Toward
+pub mod Leading

@@ -1,5 +1,5 @@
 -- A loop that is spread is one.
-use Rattle.std.proofs.Common.{◌≡◌, ℕ, List, [], ◌∷◌, ◌++◌, length, map, replicate, slice_get, Some, sym, ◌∙◌, ap, subst}
+use Rattle.std.proofs.Common.{◌≡◌, ℕ, zero, suc, ◌+◌, List, [], ◌∷◌, ◌++◌, length, map, replicate, slice_get, Option, Some, None, IfSome, refl, sym, ◌∙◌, ap, subst, arith}
 use Rattle.theory_syntax.specs.Value.{Action, Tau}
 use Rattle.theory_syntax.specs.Process.{Process, Script}
 use Rattle.theory_runs.specs.Lassos.{IsLasso}
@@ -7,10 +7,12 @@ use Rattle.theory_runs.specs.States.{Visits}
 use Rattle.theory_runs.proofs.Visiting.{first_state}
 use Rattle.theory_spread_runs.specs.Spread.{Spreads}
 use Rattle.theory_spread_runs.proofs.Spreading.{spread_lasso, spread_visits}
+use Rattle.csp_value.specs.Action.{action_of}
 use Rattle.csp_term.specs.Term.{process_of}
 use Rattle.spread_runs.specs.declared.loops.SpreadLoop.{SpreadLoop}
 use Rattle.spread_runs.specs.Rounds.{ComeRound}
-use Rattle.spread_runs.specs.Spread.{SpreadsLoop}
+use Rattle.spread_runs.specs.declared.runs.SpreadRun.{SpreadRun}
+use Rattle.spread_runs.specs.Spread.{SpreadsLoop, SpreadsRun}
 
 pub first_same : (states : List Process) (again start t : Process) → slice_get states 0 ≡ Some start → slice_get (states ++ again ∷ []) 0 ≡ Some t → start ≡ t
 first_same [] again start t at first = absurd (cc at)
@@ -59,3 +61,27 @@ loop_spread A script states back round start taus longer more l comes first are 
     let ends : closes.0 ≡ again = last_is script longer t again ls closes.0 (spread_visits script other whole t again lasso.visits) in
     let E : Process → Type 0 = λ x. Spreads script t (replicate n Tau) (states ++ again ∷ []) longer (ls ++ x ∷ []) in
     spread_lasso script other t again n l.back longer (states ++ again ∷ []) ls (subst E ends whole) (closes.1 ∙ ap Some ends) lasso.visits
+
+-- taus, and one more
+taus_and_one : (n : ℕ) → replicate (suc n) Tau ≡ replicate n Tau ++ Tau ∷ []
+taus_and_one zero = refl
+taus_and_one (suc n) = ap (λ xs. Tau ∷ xs) (taus_and_one n)
+
+pub one_tau_more : (n : ℕ) → replicate (n + 1) Tau ≡ replicate n Tau ++ Tau ∷ []
+one_tau_more n = let next : n + 1 ≡ suc n = omega arith in ap (λ k. replicate k Tau) next ∙ taus_and_one n
+
+-- a round has one state more
+pub round_length : (states : List Process) (back : ℕ) (round : List Process) → ComeRound states back round → length round ≡ suc (length states)
+round_length states back round comes = ap length comes.2 ∙ length_and_one states comes.0
+  where
+    length_and_one : (xs : List Process) (x : Process) → length (xs ++ x ∷ []) ≡ suc (length xs)
+    length_and_one [] x = refl
+    length_and_one (y ∷ xs) x = ap suc (length_and_one xs x)
+
+-- a run round is a loop, where its last state is found among those before it
+pub loops_spread : (A : Type 0) (script : Script) (states : List Process) (back : ℕ) (round : List Process) (start : Process) (taus : List Action) (run : SpreadRun A) (found : Option (SpreadLoop A)) →
+    ComeRound states back round → slice_get states 0 ≡ Some start → taus ≡ replicate (length states) Tau → SpreadsRun script start taus round run →
+    IfSome found (λ l. ComeRound (map process_of l.states.items) l.back (map process_of run.states.items)) → IfSome found (SpreadsLoop script states back)
+loops_spread A script states back round start taus run (Some l) comes first are spread closes =
+    loop_spread A script states back round start taus (map action_of run.path.items) (map process_of run.states.items) l comes first are spread closes
+loops_spread A script states back round start taus run None comes first are spread closes = tt

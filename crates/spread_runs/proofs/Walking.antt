@@ -1,5 +1,5 @@
 -- Walks go on, and spread more.
-use Rattle.std.proofs.Common.{◌≡◌, ℕ, zero, suc, ◌+◌, List, [], ◌∷◌, ◌++◌, length, ◌≤◌, map, take, slice_get, Some, sym, ◌∙◌, ap, subst, arith}
+use Rattle.std.proofs.Common.{◌≡◌, ℕ, zero, suc, ◌+◌, List, [], ◌∷◌, ◌++◌, length, ◌≤◌, map, take, slice_get, Option, Some, None, Result, Ok, Err, IfOk, IfSome, sym, ◌∙◌, ap, subst, arith}
 use Rattle.std.proofs.lemmas.List.{map-append}
 use Rattle.theory_search.proofs.Adding.{take_whole}
 use Rattle.theory_syntax.specs.Value as pure
@@ -62,6 +62,12 @@ module _ (A : Type 0) (script : Script) where
     closed = to.on.closed;
     there = to.there;
   }
+
+  pub gone_by : {E : Type 0} (old mid : Walk A) (x : pure.Action) (u target : Process) → IsOneOn x u old mid → Step script (process_of old.here) x u → (r : Result (Option (Walk A)) E) →
+      IfOk r (λ o. IfSome o (GoesTo script target mid)) → IfOk r (λ o. IfSome o (GoesToBy script x target old))
+  gone_by old mid x u target on step (Ok (Some new)) to = by_step old mid new x u target on step to
+  gone_by old mid x u target on step (Ok None) to = tt
+  gone_by old mid x u target on step (Err e) to = tt
 
   -- ---- along a path
 

@@ -1,0 +1,55 @@
+-- The round is spread, and comes back.
+use Rattle.std.proofs.Common.{◌≡◌, ◌<◌, [], ◌∷◌, ◌++◌, suc, List, Option, Some, None, IfSome, length, map, replicate, slice_get, refl, sym, ◌∙◌, ap, subst, inl, inr, lit≤, lit<, arith}
+use Rattle.std.proofs.lemmas.List.{length-map, length-append, length-replicate}
+use Rattle.std.proofs.lemmas.Option.{slice_get_read}
+use Rattle.theory_syntax.specs.Value as pure
+use Rattle.theory_syntax.specs.Value.{Tau}
+use Rattle.theory_syntax.specs.Process.{Process}
+use Rattle.theory_syntax.proofs.Places.{get_some}
+use Rattle.theory_semantics.specs.Kinds.Scripts.{IsTermOf}
+use Rattle.csp_value.specs.Action.{action_of}
+use Rattle.csp_value.specs.declared.action.Action.{Action}
+use Rattle.csp_term.specs.Script.{script_of}
+use Rattle.csp_term.specs.Term.{process_of}
+use Rattle.csp_term.specs.declared.term.Term.{Term}
+use Rattle.spread_runs.specs.Spread.{SpreadsRun}
+use Rattle.spread_runs.specs.declared.runs.SpreadRun.{SpreadRun}
+use Rattle.spread_runs.proofs.Rounds.{loops_spread, round_length}
+use Rattle.spread_runs.proofs.loops.spread_loop.Goals as goal
+
+pub spread_run-requires : goal.spread_run-requires
+spread_run-requires g c =
+    let states = c.args.states.now in
+    let n = length states in
+    let first = c.index-states.result in
+    let back = c.requires.back in
+    let inside : 0 < n = omega (arith, back) in
+    let stands = get_some process_of states 0 first (slice_get_read states n 0 first refl inside c.index-states.is) in
+    let closed : IsTermOf (script_of c.args.written.now) (process_of first) = c.requires.closed (process_of first) stands in
+    let round = round_length (map process_of states) c.args.back (map process_of c.in_ok-round.round.items) c.in_ok-round.ensures in
+    let rounds = length-map c.in_ok-round.round.items process_of in
+    let many = length-map states process_of in
+    let taus = sym (length-map c.in_ok-taus.taus.items action_of) ∙ ap length c.in_ok-taus.ensures ∙ length-replicate c.len.result Tau in
+    let count = c.len.ensures in
+    let lent = ap length c.deref.ensures.value in
+    let lent_states = ap length c.deref-2.ensures.value in
+    let even : length c.deref-2.result.now ≡ suc (length c.deref.result.now) = omega (arith, round, rounds, many, taus, count, lent, lent_states) in
+    elim g.met.A.AllocHandle.small [ inl e ↦ rw (e.0, e.1) (search (lit≤, lit<, closed, even)) | inr e ↦ rw (e.0, e.1) (search (lit≤, lit<, closed, even)) ]
+
+pub returns : goal.returns
+returns g c =
+    let written = script_of c.args.written.now in
+    let states = c.args.states.now in
+    let n = length states in
+    let first = c.index-states.result in
+    let back = c.requires.back in
+    let inside : 0 < n = omega (arith, back) in
+    let stands = get_some process_of states 0 first (slice_get_read states n 0 first refl inside c.index-states.is) in
+    let P : List (Action g.row.A.Denot) → Type 0 = λ path. IfSome c.in_ok-found.found (SpreadsRun written (process_of first) (map action_of path) (map process_of c.deref-2.result.now)) in
+    let S : List (Term g.row.A.Denot) → Type 0 = λ ss. IfSome c.in_ok-found.found (SpreadsRun written (process_of first) (map action_of c.in_ok-taus.taus.items) (map process_of ss)) in
+    let O : Option (SpreadRun g.row.A.Denot) → Type 0 = λ o. IfSome o (SpreadsRun written (process_of first) (map action_of c.in_ok-taus.taus.items) (map process_of c.in_ok-round.round.items)) in
+    let spread = subst O c.in-Some.is (subst S c.deref-2.ensures.value (subst P c.deref.ensures.value c.in_ok-found.ensures)) in
+    let many : c.len.result ≡ length (map process_of states) = c.len.ensures ∙ sym (length-map states process_of) in
+    let taus = c.in_ok-taus.ensures ∙ ap (λ k. replicate k Tau) many in
+    loops_spread g.row.A.Denot written (map process_of states) c.args.back (map process_of c.in_ok-round.round.items) (process_of first) (map action_of c.in_ok-taus.taus.items) c.in-Some.run' c.round_of.result c.in_ok-round.ensures stands taus spread
+    c.round_of.ensures
