@@ -34,14 +34,14 @@ module _ (A : Type 0) (script written : Script) (is : written ≡ by_tau script)
   begins_in (ByEvent x) t (Some lasso) closed has = absurd has
   begins_in (ByOffers xs) t (Some lasso) closed has = absurd has
   begins_in ByDeadlock t (Some lasso) closed has = absurd has
-  begins_in ByDivergence t (Some lasso)  closed has = λ u first.
+  begins_in ByDivergence t (Some lasso) closed has = λ u first.
       let states = map process_of lasso.states.items in
       let begins = first_state script (replicate (length states) Tau) t has.0 _ has.1.visits in
       subst (IsTermOf written) (sym (first_same states has.0 u t first begins)) (term_written t closed)
-  begins_in (ByEvent x) t None  closed has = tt
-  begins_in (ByOffers xs) t None  closed has = tt
-  begins_in ByDeadlock t None  closed has = tt
-  begins_in ByDivergence t None  closed has = tt
+  begins_in (ByEvent x) t None closed has = tt
+  begins_in (ByOffers xs) t None closed has = tt
+  begins_in ByDeadlock t None closed has = tt
+  begins_in ByDivergence t None closed has = tt
 
   module _ (t start : Process) (v w : Violation) (states more : List Process) (spread : Spreads written t v.path states w.path more) (like : w ≡ by_path w.path v) where
     -- what is spread of a replay is one, and so is its lasso

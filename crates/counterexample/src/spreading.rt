@@ -89,8 +89,8 @@ fn spread_at_once<A: AllocHandle>(
         return Ok(None);
     };
     let written = written_script(alloc, script)?;
-    let run = spread_replay(alloc, script, &written, start, shown, &states)?;
-    let Some(run) = run else {
+    let found = spread_replay(alloc, script, &written, start, shown, &states)?;
+    let Some(told) = found else {
         return Ok(None);
     };
     let round = spread_lasso(alloc, script, &written, lasso)?;
@@ -103,7 +103,7 @@ fn spread_at_once<A: AllocHandle>(
         other: script,
         specification: assertion.property.specification(),
     };
-    let SpreadReplay { shown, states } = run;
+    let SpreadReplay { shown, states } = told;
     let counterexample = along(alloc, &sides, &shown, style.most, states, lasso)?;
     Ok(Some(Spread {
         shown,
@@ -126,17 +126,17 @@ fn spread_replay<A: AllocHandle>(
         (process_of start.now) (violation_of shown.now) (map process_of states.now))) }
 {
     let found = spread_run(alloc, script, written, start, &shown.path, states)?;
-    let Some(run) = found else {
+    let Some(told) = found else {
         return Ok(None);
     };
     let evidence = shown.evidence.try_copy(alloc)?;
     let shown = Shown {
-        path: run.path,
+        path: told.path,
         evidence,
     };
     Ok(Some(SpreadReplay {
         shown,
-        states: run.states,
+        states: told.states,
     }))
 }
 

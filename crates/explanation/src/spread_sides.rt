@@ -98,15 +98,15 @@ fn spread_told<A: AllocHandle>(
         (process_of start.now) told.now)) }
 {
     let written = written_script(alloc, script)?;
-    let run = &told.run;
-    let found = spread_run(alloc, script, &written, start, &run.path, &run.states)?;
-    let Some(run) = found else {
+    let StuckRun { path, states } = &told.run;
+    let found = spread_run(alloc, script, &written, start, path, states)?;
+    let Some(longer) = found else {
         return Ok(None);
     };
-    let run = StuckRun {
-        path: run.path,
-        states: run.states,
+    let stuck = StuckRun {
+        path: longer.path,
+        states: longer.states,
     };
-    let spread = told_run(alloc, &written, run)?;
+    let spread = told_run(alloc, &written, stuck)?;
     Ok(Some(spread))
 }

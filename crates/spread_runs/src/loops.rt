@@ -42,10 +42,10 @@ pub fn spread_loop<A: AllocHandle>(
     let round = states_round(alloc, states, back)?;
     let taus = taus(alloc, states.len())?;
     let found = spread_run(alloc, script, written, &states[0], &taus, &round)?;
-    let Some(run) = found else {
+    let Some(spread) = found else {
         return Ok(None);
     };
-    Ok(round_of(run))
+    Ok(round_of(spread))
 }
 
 // The states, and behind them the one at the place.

@@ -30,12 +30,12 @@ spread_loop-requires g c =
     let back = subst L (sym c.deref.ensures.value) (subst C c.in-Some.is c.requires.comes) in
     elim g.met.A.AllocHandle.small [ inl e ↦ rw (e.0, e.1) (search (lit≤, lit<, closed, back)) | inr e ↦ rw (e.0, e.1) (search (lit≤, lit<, closed, back)) ]
 
-pub returns-in-Some-2 : goal.returns-in-Some-2
-returns-in-Some-2 g c =
+pub returns-in-Some-found : goal.returns-in-Some-found
+returns-in-Some-found g c =
     let written = script_of c.args.written.now in
     let lasso = c.in-Some.lasso in
     let T : List (Term g.row.A.Denot) → Type 0 = λ ts. IfSome c.in_ok-found.found (SpreadsLoop written (map process_of ts) lasso.back) in
     let O : Option (SpreadLoop g.row.A.Denot) → Type 0 = λ o. IfSome o (SpreadsLoop written (map process_of lasso.states.items) lasso.back) in
-    let loops = subst O c.in-Some-2.is (subst T c.deref.ensures.value c.in_ok-found.ensures) in
-    let L : Option (Lasso g.row.A.Denot) → Type 0 = λ l. SpreadsLasso written l (spread.Found (Some (record { states = c.in-Some-2.round.states; back = c.in-Some-2.round.back }))) in
-    subst L (sym c.in-Some.is) (lasso_found g.row.A.Denot written lasso c.in-Some-2.round loops)
+    let loops = subst O c.in-Some-found.is (subst T c.deref.ensures.value c.in_ok-found.ensures) in
+    let L : Option (Lasso g.row.A.Denot) → Type 0 = λ l. SpreadsLasso written l (spread.Found (Some (record { states = c.in-Some-found.round.states; back = c.in-Some-found.round.back }))) in
+    subst L (sym c.in-Some.is) (lasso_found g.row.A.Denot written lasso c.in-Some-found.round loops)

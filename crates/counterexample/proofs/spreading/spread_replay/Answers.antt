@@ -24,7 +24,7 @@ returns g c =
     let written = script_of c.args.written.now in
     let t = process_of c.args.start.now in
     let states = map process_of c.args.states.now in
-    let found = c.in-Some.run' in
+    let found = c.in-Some.told in
     let P : List (Action g.row.A.Denot) → Type 0 = λ path. IfSome c.in_ok-found.found (SpreadsRun written t (map action_of path) states) in
     let O : Option (SpreadRun g.row.A.Denot) → Type 0 = λ o. IfSome o (SpreadsRun written t (map action_of c.args.shown.now.path.items) states) in
     let E : Evidence → Violation = λ e. record { path = map action_of found.path.items; evidence = e } in

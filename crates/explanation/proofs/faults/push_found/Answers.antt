@@ -32,21 +32,21 @@ spread_side-requires g c =
       | inr e ↦ rw (e.0, e.1) (search (lit≤, lit<, c.requires.written, even))
     ]
 
-pub returns-in-Some-2 : goal.returns-in-Some-2
-returns-in-Some-2 g c =
+pub returns-in-Some-spread : goal.returns-in-Some-spread
+returns-in-Some-spread g c =
     let style = style_of c.args.style.now in
     let script = script_of c.args.script.now in
     let w = assertion_of c.args.question.now.written.now in
     let a = assertion_of c.args.question.now.asked.now in
     let h = hindrance_of c.args.hindrance in
     let run = side_run_of c.in-Some.run' in
-    let told = side_run_of c.in-Some-2.told in
+    let told = side_run_of c.in-Some-spread.told in
     let old = string_bytes c.args.text.now in
     let new = string_bytes c.push_side_run.new.text in
     let F : Option (SideRun g.row.A.Denot) → Type 0 = λ found. IsFound script a h c.args.style.now.reach (option_map side_run_of found) in
     let is : IsFound script a h c.args.style.now.reach (Some run) = subst F c.in-Some.is c.in_ok-found.ensures in
     let S : Option (SideRun g.row.A.Denot) → Type 0 = λ spread. IfSome spread (λ s. IsSpreadSide script w run (side_run_of s)) in
-    let spread : IsSpreadSide script w run told = subst S c.in-Some-2.is c.in_ok-spread.ensures in
+    let spread : IsSpreadSide script w run told = subst S c.in-Some-spread.is c.in_ok-spread.ensures in
     on_ok_so c.push_side_run.result (new ≡ old ++ fault_run_text style script h told) (TellsFound style script w a (Some h) old new) (λ put. inl (run, told, is, spread, put)) c.push_side_run.ensures
 
 pub returns-in-None : goal.returns-in-None

@@ -24,11 +24,11 @@ spread_told-requires g c =
       | inr e ↦ rw (e.0, e.1) (search (lit≤, lit<, c.requires.at_once, closed, c.requires.even))
     ]
 
-pub returns-in-Some-2 : goal.returns-in-Some-2
-returns-in-Some-2 g c =
+pub returns-in-Some-spread : goal.returns-in-Some-spread
+returns-in-Some-spread g c =
     let script = script_of c.args.script.now in
     let start = c.in-Some.start in
     let I : Option (Bor (Term g.row.A.Denot)) → Type 0 = λ o. specification_in o ≡ specification_of (assertion_of c.args.written.now).property in
     let there : Some (process_of start.now) ≡ specification_of (assertion_of c.args.written.now).property = subst I c.in-Some.is c.specification-start.ensures in
     let O : Option (ToldRun g.row.A.Denot) → Type 0 = λ o. IfSome o (SpreadsTold script (process_of start.now) c.args.told.now) in
-    (process_of start.now, sym there, subst O c.in-Some-2.is c.in_ok-spread.ensures)
+    (process_of start.now, sym there, subst O c.in-Some-spread.is c.in_ok-spread.ensures)

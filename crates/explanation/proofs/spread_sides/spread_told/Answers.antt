@@ -36,7 +36,7 @@ pub told_run-requires : goal.told_run-requires
 told_run-requires g c =
     let written = script_of c.in_ok-written.written in
     let t = process_of c.args.start.now in
-    let run = c.in-Some.run' in
+    let run = c.in-Some.longer in
     let O : Option (SpreadRun g.row.A.Denot) → Type 0 = λ o. IfSome o (SpreadsRun written t (map action_of c.deref.result.now) (map process_of c.deref-2.result.now)) in
     let long = spread_even written (subst O c.in-Some.is c.in_ok-found.ensures) in
     let states = length-map run.states.items process_of in
@@ -50,7 +50,7 @@ returns g c =
     let is : written ≡ by_tau script = c.in_ok-written.ensures in
     let t = process_of c.args.start.now in
     let told = c.args.told.now in
-    let run = c.in-Some.run' in
+    let run = c.in-Some.longer in
     let longer = map action_of run.path.items in
     let more = map process_of run.states.items in
     let origins = origins_listed c.in_ok-spread.spread.origins.items in

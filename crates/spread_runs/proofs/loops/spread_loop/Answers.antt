@@ -51,5 +51,5 @@ returns g c =
     let spread = subst O c.in-Some.is (subst S c.deref-2.ensures.value (subst P c.deref.ensures.value c.in_ok-found.ensures)) in
     let many : c.len.result ≡ length (map process_of states) = c.len.ensures ∙ sym (length-map states process_of) in
     let taus = c.in_ok-taus.ensures ∙ ap (λ k. replicate k Tau) many in
-    loops_spread g.row.A.Denot written (map process_of states) c.args.back (map process_of c.in_ok-round.round.items) (process_of first) (map action_of c.in_ok-taus.taus.items) c.in-Some.run' c.round_of.result c.in_ok-round.ensures stands taus spread
+    loops_spread g.row.A.Denot written (map process_of states) c.args.back (map process_of c.in_ok-round.round.items) (process_of first) (map action_of c.in_ok-taus.taus.items) c.in-Some.spread c.round_of.result c.in_ok-round.ensures stands taus spread
     c.round_of.ensures
