@@ -14,30 +14,27 @@ use Rattle.csp_fire.specs.declared.form.Step.{Step}
 use Rattle.csp_fire.specs.Form.{step_of}
 use Rattle.csp_term.specs.Term.{process_of}
 use Rattle.csp_term.specs.declared.term.Term.{Term}
-use Rattle.spread_runs.specs.Toward.{IsStepBy, LeadsTo}
+use Rattle.spread_runs.specs.Toward.{LeadsTo, action_done}
 
-module _ (A : Type 0) (steps : List (Step A)) (x : Action) (place : ℕ) where
+module _ (A : Type 0) (steps : List (Step A)) (x : Action) (place : ℕ) (by : slice_get (map action_done steps) place ≡ Some x) where
   -- a step that stands at a place is one of the steps
-  pub step_inside : IsStepBy (map step_of steps) x place → place < length steps
-  step_inside by =
-      let inside = slice_get_within (map step_of steps) place (x, by.0) by.1 in
-      let long = length-map steps step_of in
+  pub step_inside : place < length steps
+  step_inside =
+      let inside = slice_get_within (map action_done steps) place x by in
+      let long = length-map steps action_done in
       omega (arith, inside, long)
 
-  -- the one that is read there
-  pub step_by : (step : Step A) → place < length steps → step ≡ get_or steps place step → slice_get (map step_of steps) place ≡ Some (step_of step)
-  step_by step inside read = get_some step_of steps place step (slice_get_read steps (length steps) place step refl inside read)
-
-  -- and leads to its target
-  pub leads_by : (script : Script) (t : Process) (step : Step A) (next : Term A) → IsTermOf script t → AreSteps script t (map step_of steps) → IsStepBy (map step_of steps) x place →
-      step ≡ get_or steps place step → process_of next ≡ process_of step.target → LeadsTo script t x next
-  leads_by script t step next closed are by read copied =
-      let at = step_by step (step_inside by) read in
-      let same : (x, by.0) ≡ step_of step = same_step at by.1 in
-      let there : by.0 ≡ process_of next = ap (λ s. s.1) same ∙ sym copied in
-      let step : meaning.Step script t x by.0 = (are x by.0).1 (Contains-from_stands (map step_of steps) (x, by.0) (place, by.1)) in
-      let target : IsTermOf script by.0 = (closed.0, closed.1, step_closed script closed.0 closed.1.sets closed.1.equations t x by.0 step.1 closed.2) in
-      (subst (λ u. meaning.Step script t x u) there step, subst (IsTermOf script) there target)
+  -- the one that is read there leads to its target
+  pub leads_by : (script : Script) (t : Process) (step : Step A) (next : Term A) → IsTermOf script t → AreSteps script t (map step_of steps) → step ≡ get_or steps place step →
+      process_of next ≡ process_of step.target → LeadsTo script t x next
+  leads_by script t step next closed are read copied =
+      let there = slice_get_read steps (length steps) place step refl step_inside read in
+      let does : action_done step ≡ x = same_action (get_some action_done steps place step there) in
+      let u = process_of step.target in
+      let taken : meaning.Step script t (action_done step) u = (are (action_done step) u).1 (Contains-from_stands (map step_of steps) (action_done step, u) (place, get_some step_of steps place step there)) in
+      let by_x : meaning.Step script t x u = subst (λ y. meaning.Step script t y u) does taken in
+      let target : IsTermOf script u = (closed.0, closed.1, step_closed script closed.0 closed.1.sets closed.1.equations t x u by_x.1 closed.2) in
+      (subst (λ v. meaning.Step script t x v) (sym copied) by_x, subst (IsTermOf script) (sym copied) target)
     where
-      same_step : {s r : Action × Process} → slice_get (map step_of steps) place ≡ Some s → slice_get (map step_of steps) place ≡ Some r → r ≡ s
-      same_step {s} {r} e f = let h : Some r ≡ Some s = sym f ∙ e in cc h
+      same_action : {y : Action} → slice_get (map action_done steps) place ≡ Some y → y ≡ x
+      same_action {y} at = let h : Some y ≡ Some x = sym at ∙ by in cc h

@@ -1,13 +1,12 @@
 //! Terms on the way to what a step leads to at once.
 
-ghost use Rattle.std.specs.Prelude.{◌≡◌, ◌⊎◌, map, IfOk, IfSome, IsTrue};
+ghost use Rattle.std.specs.Prelude.{◌≡◌, ◌⊎◌, map, slice_get, IfOk, IfSome, IsTrue, Some};
 ghost use Rattle.theory_semantics.specs.Kinds.Scripts.{IsTermOf};
 ghost use Rattle.theory_semantics.specs.Meaning.Unfolding.{settled};
-ghost use Rattle.csp_fire.specs.Form.{step_of};
 ghost use Rattle.csp_value.specs.Action.{action_of};
 ghost use Rattle.csp_term.specs.Script.{script_of, script_of_parts};
 ghost use Rattle.csp_term.specs.Term.{process_of};
-ghost use Rattle.spread_runs.specs.Toward.{IsStepBy, LeadsTo};
+ghost use Rattle.spread_runs.specs.Toward.{LeadsTo, action_done};
 
 use crate::steps::steps_of_term;
 use csp_fire::Step;
@@ -17,7 +16,7 @@ use csp_term::{Action, AllocHandle, Memory, Script, ScriptParts, Term};
 use csp_value::laws::equal_actions;
 
 /// A term that a step by the action leads to by the script as it is written, or `None` where it has none: if there is one,
-/// the target or a term that is settled to it at once, and of several the last one.
+/// the target or a term that is settled to it at once, and of several the first one.
 pub(crate) fn term_toward<A: AllocHandle>(
     alloc: A,
     script: &Script<A>,
@@ -39,7 +38,7 @@ pub(crate) fn term_toward<A: AllocHandle>(
     Ok(Some(next))
 }
 
-// The place of such a step. From the last one on, since of two sides that unfold a name the left one is to do it first.
+// The place of such a step.
 fn place_toward<A: AllocHandle>(
     alloc: A,
     script: &ScriptParts<A>,
@@ -47,23 +46,49 @@ fn place_toward<A: AllocHandle>(
     action: &Action<A>,
     target: &Term<A>,
 ) -> Result<Option<usize>, Memory>
-    ensures { IfOk result (λ found. IfSome found (IsStepBy (map step_of steps.now)
-        (action_of action.now))) }
+    ensures { IfOk result (λ found. IfSome found (λ k. slice_get (map action_done steps.now) k
+        ≡ Some (action_of action.now))) }
 {
-    let mut any = None;
-    let mut left = steps.len();
-    while left > 0 {
-        left -= 1;
-        let step = &steps[left];
-        if equal_actions(&step.action, action) {
-            let is_near = is_toward(alloc, script, &step.target, target)?;
+    let found = near_place(alloc, script, steps, action, target)?;
+    if found.is_some() {
+        return Ok(found);
+    }
+    Ok(any_place(steps, action))
+}
+
+// The place of the first step by the action to the target, or to what is settled to it.
+fn near_place<A: AllocHandle>(
+    alloc: A,
+    script: &ScriptParts<A>,
+    steps: &[Step<A>],
+    action: &Action<A>,
+    target: &Term<A>,
+) -> Result<Option<usize>, Memory>
+    ensures { IfOk result (λ found. IfSome found (λ k. slice_get (map action_done steps.now) k
+        ≡ Some (action_of action.now))) }
+{
+    for place in 0..steps.len() {
+        if equal_actions(&steps[place].action, action) {
+            let is_near = is_toward(alloc, script, &steps[place].target, target)?;
             if is_near {
-                return Ok(Some(left));
+                return Ok(Some(place));
             }
-            any = Some(left);
         }
     }
-    Ok(any)
+    Ok(None)
+}
+
+// The place of the first step by the action.
+fn any_place<A: AllocHandle>(steps: &[Step<A>], action: &Action<A>) -> Option<usize>
+    ensures { IfSome result (λ k. slice_get (map action_done steps.now) k
+        ≡ Some (action_of action.now)) }
+{
+    for place in 0..steps.len() {
+        if equal_actions(&steps[place].action, action) {
+            return Some(place);
+        }
+    }
+    None
 }
 
 // Whether the term is the target, or is settled to it.
