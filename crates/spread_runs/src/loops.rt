@@ -40,8 +40,8 @@ pub fn spread_loop<A: AllocHandle>(
         (map process_of states.now) back)) }
 {
     let round = states_round(alloc, states, back)?;
-    let taus = taus(alloc, states.len())?;
-    let found = spread_run(alloc, script, written, &states[0], &taus, &round)?;
+    let path = taus(alloc, states.len())?;
+    let found = spread_run(alloc, script, written, &states[0], &path, &round)?;
     let Some(spread) = found else {
         return Ok(None);
     };

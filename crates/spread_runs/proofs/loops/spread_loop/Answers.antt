@@ -1,6 +1,6 @@
 -- The round is spread, and comes back.
 use Rattle.std.proofs.Common.{◌≡◌, ◌<◌, [], ◌∷◌, ◌++◌, suc, List, Option, Some, None, IfSome, length, map, replicate, slice_get, refl, sym, ◌∙◌, ap, subst, inl, inr, lit≤, lit<, arith}
-use Rattle.std.proofs.lemmas.List.{length-map, length-append, length-replicate}
+use Rattle.std.proofs.lemmas.List.{length-map, length-replicate}
 use Rattle.std.proofs.lemmas.Option.{slice_get_read}
 use Rattle.theory_syntax.specs.Value as pure
 use Rattle.theory_syntax.specs.Value.{Tau}
@@ -29,7 +29,7 @@ spread_run-requires g c =
     let round = round_length (map process_of states) c.args.back (map process_of c.in_ok-round.round.items) c.in_ok-round.ensures in
     let rounds = length-map c.in_ok-round.round.items process_of in
     let many = length-map states process_of in
-    let taus = sym (length-map c.in_ok-taus.taus.items action_of) ∙ ap length c.in_ok-taus.ensures ∙ length-replicate c.len.result Tau in
+    let taus = sym (length-map c.in_ok-path.path.items action_of) ∙ ap length c.in_ok-path.ensures ∙ length-replicate c.len.result Tau in
     let count = c.len.ensures in
     let lent = ap length c.deref.ensures.value in
     let lent_states = ap length c.deref-2.ensures.value in
@@ -46,10 +46,10 @@ returns g c =
     let inside : 0 < n = omega (arith, back) in
     let stands = get_some process_of states 0 first (slice_get_read states n 0 first refl inside c.index-states.is) in
     let P : List (Action g.row.A.Denot) → Type 0 = λ path. IfSome c.in_ok-found.found (SpreadsRun written (process_of first) (map action_of path) (map process_of c.deref-2.result.now)) in
-    let S : List (Term g.row.A.Denot) → Type 0 = λ ss. IfSome c.in_ok-found.found (SpreadsRun written (process_of first) (map action_of c.in_ok-taus.taus.items) (map process_of ss)) in
-    let O : Option (SpreadRun g.row.A.Denot) → Type 0 = λ o. IfSome o (SpreadsRun written (process_of first) (map action_of c.in_ok-taus.taus.items) (map process_of c.in_ok-round.round.items)) in
+    let S : List (Term g.row.A.Denot) → Type 0 = λ ss. IfSome c.in_ok-found.found (SpreadsRun written (process_of first) (map action_of c.in_ok-path.path.items) (map process_of ss)) in
+    let O : Option (SpreadRun g.row.A.Denot) → Type 0 = λ o. IfSome o (SpreadsRun written (process_of first) (map action_of c.in_ok-path.path.items) (map process_of c.in_ok-round.round.items)) in
     let spread = subst O c.in-Some.is (subst S c.deref-2.ensures.value (subst P c.deref.ensures.value c.in_ok-found.ensures)) in
     let many : c.len.result ≡ length (map process_of states) = c.len.ensures ∙ sym (length-map states process_of) in
-    let taus = c.in_ok-taus.ensures ∙ ap (λ k. replicate k Tau) many in
-    loops_spread g.row.A.Denot written (map process_of states) c.args.back (map process_of c.in_ok-round.round.items) (process_of first) (map action_of c.in_ok-taus.taus.items) c.in-Some.spread c.round_of.result c.in_ok-round.ensures stands taus spread
+    let taus = c.in_ok-path.ensures ∙ ap (λ k. replicate k Tau) many in
+    loops_spread g.row.A.Denot written (map process_of states) c.args.back (map process_of c.in_ok-round.round.items) (process_of first) (map action_of c.in_ok-path.path.items) c.in-Some.spread c.round_of.result c.in_ok-round.ensures stands taus spread
     c.round_of.ensures
