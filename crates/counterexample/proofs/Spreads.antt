@@ -1,5 +1,5 @@
 -- Replays and lassos that are spread are told by the script as it is written.
-use Rattle.std.proofs.Common.{◌≡◌, ℕ, List, Vec, Option, Some, None, length, map, replicate, sym, subst}
+use Rattle.std.proofs.Common.{◌≡◌, ℕ, List, Option, Some, None, length, map, replicate, sym, subst}
 use Rattle.theory_syntax.specs.Value.{Tau}
 use Rattle.theory_syntax.specs.Process.{Process, Assertion, specification_of, ByTau, AtOnce, Script}
 use Rattle.theory_syntax.specs.Readings.{by_tau}
@@ -13,7 +13,6 @@ use Rattle.theory_spread_runs.proofs.Showing.{shown_by_tau}
 use Rattle.theory_spread_runs.proofs.Spreading.{spread_visits}
 use Rattle.theory_explanation.specs.Counterexamples.{IsToldBeside, by_path}
 use Rattle.csp_term.specs.Term.{process_of}
-use Rattle.csp_term.specs.declared.term.Term.{Term}
 use Rattle.csp_replay.specs.Endings.{IsLassoFor}
 use Rattle.csp_replay.specs.declared.lasso.Lasso.{Lasso}
 use Rattle.spread_runs.specs.Spread.{SpreadsLoop}
@@ -21,7 +20,7 @@ use Rattle.spread_runs.specs.declared.loops.SpreadLoop.{SpreadLoop}
 use Rattle.spread_runs.proofs.Rounds.{first_same}
 use Rattle.verdict.specs.Outcome.{violation_of}
 use Rattle.counterexample.specs.Counterexample.{IsReplayed, counterexample_of}
-use Rattle.counterexample.specs.Spreading.{BeginsIn, IsSpread, SpreadsLasso}
+use Rattle.counterexample.specs.Spreading.{BeginsIn, IsSpread}
 use Rattle.counterexample.specs.declared.spreading.Spread.{Spread}
 
 module _ (A : Type 0) (script written : Script) (is : written ≡ by_tau script) where

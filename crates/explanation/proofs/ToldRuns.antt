@@ -1,11 +1,10 @@
 -- A run to a stuck state, with where its steps come from, is a run that is told.
-use Rattle.std.proofs.Common.{◌≡◌, ℕ, suc, List, Some, length, map, sym, ◌∙◌, ap, subst, arith}
+use Rattle.std.proofs.Common.{◌≡◌, ℕ, suc, Some, length, map, sym, subst, arith}
 use Rattle.std.proofs.lemmas.List.{length-map}
 use Rattle.theory_syntax.specs.Process.{Assertion, Process, Script}
 use Rattle.theory_runs.specs.Stuck.{Hindrance}
 use Rattle.csp_value.specs.Action.{action_of}
 use Rattle.csp_term.specs.Term.{process_of}
-use Rattle.theory_explanation.specs.Counterexamples.{AreOriginsAlong}
 use Rattle.theory_explanation.specs.Faults.{IsFound, IsToldRun, OfImplementation, OfSpecification, SideRun}
 use Rattle.theory_explanation.proofs.Replays.{visits_length}
 use Rattle.counterexample.specs.Counterexample.{origins_listed}

@@ -1,6 +1,6 @@
 //! Runs of sides to stuck states, by the script as it is written.
 
-ghost use Rattle.std.specs.Prelude.{◌≡◌, length, map, suc, IfOk, IfSome};
+ghost use Rattle.std.specs.Prelude.{◌≡◌, length, suc, IfOk, IfSome};
 ghost use Rattle.theory_syntax.specs.Process.{AtOnce};
 ghost use Rattle.theory_semantics.specs.Kinds.Scripts.{IsTermOf};
 ghost use Rattle.theory_search.specs.Terms.{IsAssertionOf};

@@ -2,7 +2,6 @@
 use Rattle.std.proofs.Common.{◌≡◌, ℕ, zero, suc, ◌+◌, List, [], ◌∷◌, ◌++◌, length, map, replicate, slice_get, Option, Some, None, IfSome, refl, sym, ◌∙◌, ap, subst, arith}
 use Rattle.theory_syntax.specs.Value.{Action, Tau}
 use Rattle.theory_syntax.specs.Process.{Process, Script}
-use Rattle.theory_runs.specs.Lassos.{IsLasso}
 use Rattle.theory_runs.specs.States.{Visits}
 use Rattle.theory_runs.proofs.Visiting.{first_state}
 use Rattle.theory_spread_runs.specs.Spread.{Spreads}

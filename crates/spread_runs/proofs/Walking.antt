@@ -1,6 +1,5 @@
 -- Walks go on, and spread more.
 use Rattle.std.proofs.Common.{◌≡◌, ℕ, zero, suc, ◌+◌, List, [], ◌∷◌, ◌++◌, length, ◌≤◌, map, take, slice_get, Option, Some, None, Result, Ok, Err, IfOk, IfSome, sym, ◌∙◌, ap, subst, arith}
-use Rattle.std.proofs.lemmas.List.{map-append}
 use Rattle.theory_search.proofs.Adding.{take_whole}
 use Rattle.theory_syntax.specs.Value as pure
 use Rattle.theory_syntax.specs.Value.{Tau}

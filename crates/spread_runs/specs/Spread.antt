@@ -1,6 +1,6 @@
 -- Runs and loops of the code that spread others.
-use Rattle.std.specs.Prelude.{◌≡◌, ℕ, List, ◌∷◌, [], ◌++◌, length, map, replicate, slice_get, Some}
-use Rattle.theory_syntax.specs.Value.{Action, Tau}
+use Rattle.std.specs.Prelude.{ℕ, List, ◌∷◌, [], ◌++◌, map}
+use Rattle.theory_syntax.specs.Value.{Action}
 use Rattle.theory_syntax.specs.Process.{Process, Script}
 use Rattle.theory_runs.specs.Lassos.{IsLasso}
 use Rattle.theory_spread_runs.specs.Spread.{Spreads}

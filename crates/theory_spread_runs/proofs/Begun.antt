@@ -1,5 +1,5 @@
 -- How a run that spreads another one is told step by step.
-use Rattle.std.proofs.Common.{◌≡◌, List, [], ◌∷◌, ◌++◌, sym, ap, ap₂, subst, append_assoc, append-nil}
+use Rattle.std.proofs.Common.{◌≡◌, List, [], ◌∷◌, ◌++◌, sym, subst, append_assoc, append-nil}
 use Rattle.theory_syntax.specs.Value.{Action, Tau}
 use Rattle.theory_syntax.specs.Process.{Process, Script}
 use Rattle.theory_semantics.specs.Meaning.Transitions.{Step}

@@ -1,5 +1,5 @@
 -- Evidence at once and by tau.
-use Rattle.std.proofs.Common.{◌≡◌, List, ◌∷◌, ◌++◌, [], ℕ, refl, sym, ◌∙◌, ap, subst}
+use Rattle.std.proofs.Common.{◌≡◌, List, ◌∷◌, ◌++◌, [], refl, sym, ◌∙◌, ap, subst}
 use Rattle.theory_syntax.specs.Value.{Action}
 use Rattle.theory_syntax.specs.Process.{Process, Traces, Failures, Property, RefinementOf, DeadlockFree, DivergenceFree, specification_of, Assertion, Unfolding, ByTau, AtOnce, Script}
 use Rattle.theory_syntax.specs.Readings.{at_once, by_tau, reading}

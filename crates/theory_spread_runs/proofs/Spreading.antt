@@ -1,8 +1,7 @@
 -- What spreads a run is a run.
-use Rattle.std.proofs.Common.{◌≡◌, ℕ, zero, suc, ◌+◌, List, [], ◌∷◌, ◌++◌, length, replicate, slice_get, Some, refl, sym, ◌∙◌, ap, subst, arith}
-use Rattle.theory_syntax.specs.Value.{Action, Tau, Tick, Ev}
+use Rattle.std.proofs.Common.{◌≡◌, ℕ, zero, suc, List, [], ◌∷◌, ◌++◌, length, replicate, slice_get, Some, refl, sym, ◌∙◌, ap, subst, arith}
+use Rattle.theory_syntax.specs.Value.{Action, Tau}
 use Rattle.theory_syntax.specs.Process.{Process, Script}
-use Rattle.theory_semantics.specs.Meaning.Transitions.{Step}
 use Rattle.theory_semantics.specs.Meaning.Runs.{trace}
 use Rattle.theory_runs.specs.Lassos.{IsLasso}
 use Rattle.theory_runs.specs.States.{Visits}

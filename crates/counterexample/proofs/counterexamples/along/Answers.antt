@@ -1,7 +1,6 @@
 -- Where the steps come from, what the specification has beside them, the loop, and the parts that wait.
-use Rattle.std.proofs.Common.{◌≡◌, ◌∙◌, suc, List, Option, IfSome, length, map, option_map, sym, subst, ap, inl, inr, lit≤, lit<, arith}
+use Rattle.std.proofs.Common.{◌≡◌, ◌∙◌, suc, List, IfSome, length, map, option_map, sym, subst, ap, inl, inr, lit≤, lit<, arith}
 use Rattle.std.proofs.lemmas.List.{length-map}
-use Rattle.theory_syntax.specs.Process.{Process}
 use Rattle.theory_semantics.specs.Kinds.Scripts.{IsTermOf}
 use Rattle.theory_explanation.specs.Counterexamples.{AreOriginsAlong, AreWaitingFor, IsCounterpartFor}
 use Rattle.theory_explanation.proofs.Replays.{replay_length}

@@ -1,6 +1,6 @@
 -- The states of the replay, or why there are none.
-use Rattle.std.proofs.Common.{List, Option, IfSome, map, option_map, sym, subst, inl, inr, lit<, lit≤}
-use Rattle.theory_syntax.specs.Process.{Process, specification_of}
+use Rattle.std.proofs.Common.{Option, IfSome, map, sym, subst, inl, inr, lit<, lit≤}
+use Rattle.theory_syntax.specs.Process.{Process}
 use Rattle.theory_semantics.specs.Kinds.Scripts.{IsTermOf}
 use Rattle.theory_explanation.specs.Counterexamples.{IsToldBeside}
 use Rattle.csp_replay.specs.Replays.{TellsReplay}

@@ -1,7 +1,7 @@
 -- A replay is spread, and what is told of it is told by the script as it is written.
-use Rattle.std.proofs.Common.{◌≡◌, suc, List, Option, Some, IfSome, length, map, sym, ◌∙◌, ap, subst, inl, inr, lit<, lit≤, arith}
+use Rattle.std.proofs.Common.{◌≡◌, suc, List, Option, IfSome, length, map, sym, ap, subst, inl, inr, lit<, lit≤, arith}
 use Rattle.std.proofs.lemmas.List.{length-map}
-use Rattle.theory_syntax.specs.Process.{Process, specification_of, Script}
+use Rattle.theory_syntax.specs.Process.{Process}
 use Rattle.theory_semantics.specs.Kinds.Scripts.{IsTermOf}
 use Rattle.theory_explanation.proofs.Replays.{replay_length}
 use Rattle.csp_value.specs.Action.{action_of}

@@ -1,5 +1,5 @@
 -- The loop that is found is a lasso where the given one is.
-use Rattle.std.proofs.Common.{◌≡◌, ◌<◌, List, Option, Some, None, IfSome, length, map, sym, subst, inl, inr, lit<, lit≤}
+use Rattle.std.proofs.Common.{◌<◌, List, Option, Some, None, IfSome, length, map, sym, subst, inl, inr, lit<, lit≤}
 use Rattle.csp_term.specs.Script.{script_of}
 use Rattle.csp_term.specs.Term.{process_of}
 use Rattle.csp_term.specs.declared.term.Term.{Term}
@@ -8,7 +8,6 @@ use Rattle.spread_runs.specs.Spread.{SpreadsLoop}
 use Rattle.spread_runs.specs.declared.loops.SpreadLoop.{SpreadLoop}
 use Rattle.counterexample.specs.Counterexample.{ComesBack}
 use Rattle.counterexample.specs.Spreading.{BeginsIn, SpreadsLasso}
-use Rattle.counterexample.specs.declared.spreading.SpreadLasso.{SpreadLasso}
 use Rattle.counterexample.specs.declared.spreading.SpreadLasso.TheVariants as spread
 use Rattle.counterexample.proofs.Spreads.{lasso_found, none_found}
 use Rattle.counterexample.proofs.spreading.spread_lasso.Goals as goal

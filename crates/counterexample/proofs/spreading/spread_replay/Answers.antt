@@ -1,5 +1,5 @@
 -- The run is told with the evidence of the violation.
-use Rattle.std.proofs.Common.{◌≡◌, suc, List, Option, Some, IfSome, length, map, sym, ◌∙◌, ap, subst, inl, inr, lit<, lit≤, arith}
+use Rattle.std.proofs.Common.{◌≡◌, suc, List, Option, IfSome, length, map, ap, subst, inl, inr, lit<, lit≤, arith}
 use Rattle.theory_semantics.specs.Kinds.Scripts.{IsTermOf}
 use Rattle.theory_semantics.specs.Meaning.Violations.{Evidence, Violation}
 use Rattle.csp_value.specs.Action.{action_of}
@@ -8,7 +8,6 @@ use Rattle.csp_term.specs.Script.{script_of}
 use Rattle.csp_term.specs.Term.{process_of}
 use Rattle.spread_runs.specs.Spread.{SpreadsRun}
 use Rattle.spread_runs.specs.declared.runs.SpreadRun.{SpreadRun}
-use Rattle.verdict.specs.Outcome.{violation_of}
 use Rattle.counterexample.proofs.spreading.spread_replay.Goals as goal
 
 pub spread_run-requires : goal.spread_run-requires

@@ -2,7 +2,7 @@
 use Rattle.std.proofs.Common.{◌≡◌, ◌++◌, Option, Some, None, IfSome, option_map, subst, inl, inr, lit<, lit≤}
 use Rattle.std.specs.String.{string_bytes}
 use Rattle.csp_term.specs.Script.{assertion_of, script_of}
-use Rattle.theory_explanation.specs.Faults.{IsFound, IsSpreadSide, fault_run_text, found_text}
+use Rattle.theory_explanation.specs.Faults.{IsFound, IsSpreadSide, fault_run_text}
 use Rattle.theory_explanation.specs.Telling.{TellsFound}
 use Rattle.counterexample.specs.Styles.{style_of}
 use Rattle.csp_replay.specs.Hindrance.{hindrance_of}

@@ -1,5 +1,5 @@
 -- The run of either side is spread from the start of that side.
-use Rattle.std.proofs.Common.{◌≡◌, suc, List, Option, Some, IfSome, length, map, sym, subst, inl, inr, lit<, lit≤, arith}
+use Rattle.std.proofs.Common.{◌≡◌, suc, Option, IfSome, length, sym, subst, inl, inr, lit<, lit≤, arith}
 use Rattle.std.proofs.lemmas.List.{length-map}
 use Rattle.theory_semantics.specs.Kinds.Scripts.{IsTermOf}
 use Rattle.theory_explanation.specs.Faults.{IsSpreadSide}

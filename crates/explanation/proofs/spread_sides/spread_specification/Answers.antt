@@ -1,5 +1,5 @@
 -- The specification as it is written is the start, if there is one.
-use Rattle.std.proofs.Common.{◌≡◌, suc, Option, Some, IfSome, option_map, length, map, sym, ◌∙◌, ap, subst, inl, inr, lit<, lit≤}
+use Rattle.std.proofs.Common.{◌≡◌, Option, Some, IfSome, sym, subst, inl, inr, lit<, lit≤}
 use Rattle.std.specs.Borrow.{Bor}
 use Rattle.theory_syntax.specs.Process.{Process, specification_of}
 use Rattle.theory_semantics.specs.Kinds.Scripts.{IsTermOf}

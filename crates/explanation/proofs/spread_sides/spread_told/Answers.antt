@@ -1,7 +1,7 @@
 -- What is found spreads the run, and its steps come from what is told.
-use Rattle.std.proofs.Common.{◌≡◌, suc, List, Option, Some, IfSome, length, map, refl, sym, ◌∙◌, ap, subst, inl, inr, lit<, lit≤, arith}
+use Rattle.std.proofs.Common.{◌≡◌, suc, List, Option, IfSome, length, map, sym, ap, subst, inl, inr, lit<, lit≤, arith}
 use Rattle.std.proofs.lemmas.List.{length-map}
-use Rattle.theory_syntax.specs.Process.{ByTau, Script}
+use Rattle.theory_syntax.specs.Process.{Script}
 use Rattle.theory_syntax.specs.Readings.{by_tau}
 use Rattle.theory_semantics.specs.Kinds.Scripts.{IsTermOf}
 use Rattle.theory_spread_runs.specs.Spread.{Spreads}

@@ -1,10 +1,9 @@
 -- A run of the script as it is written is told, or one as names are read.
-use Rattle.std.proofs.Common.{◌≡◌, ◌++◌, Option, Some, IfSome, inl, inr, subst, lit<, lit≤}
+use Rattle.std.proofs.Common.{◌≡◌, ◌++◌, Option, IfSome, inl, inr, subst, lit<, lit≤}
 use Rattle.std.specs.String.{string_bytes}
 use Rattle.theory_syntax.specs.Readings.{by_tau}
 use Rattle.theory_semantics.specs.Meaning.Violations.{Violation}
 use Rattle.theory_explanation.specs.Comparing.{counterexample_text}
-use Rattle.theory_explanation.specs.Counterexamples.{by_path}
 use Rattle.theory_explanation.specs.Telling.{TellsFailing, TellsViolation}
 use Rattle.csp_term.specs.Script.{assertion_of, script_of}
 use Rattle.csp_term.specs.Term.{process_of}

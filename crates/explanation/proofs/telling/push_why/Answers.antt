@@ -1,12 +1,12 @@
 -- What is told by the outcome.
-use Rattle.std.proofs.Common.{◌≡◌, ◌++◌, ℕ, List, sym, subst, refl, inl, inr, lit<, OnOk}
+use Rattle.std.proofs.Common.{◌++◌, sym, subst, refl, inl, inr, lit<, OnOk}
 use Rattle.std.specs.String.{string_bytes}
 use Rattle.theory_semantics.specs.Meaning.Violations.{IsViolation}
 use Rattle.theory_runs.proofs.Visiting.{has_end}
 use Rattle.csp_term.specs.Script.{assertion_of, script_of}
 use Rattle.verdict.specs.declared.outcome.Outcome.{Outcome}
 use Rattle.verdict.specs.Outcome.{outcome_of, violation_of}
-use Rattle.theory_explanation.specs.Telling.{TellsFailing, TellsWhy, failing_text, holding_text}
+use Rattle.theory_explanation.specs.Telling.{TellsFailing, TellsWhy, failing_text}
 use Rattle.csp_print.proofs.Writing.{alike}
 use Rattle.counterexample.specs.Styles.{style_of}
 use Rattle.explanation.proofs.OnOks.{on_ok_so}

@@ -1,5 +1,5 @@
 -- The last state stands at the place that is found, among those before it.
-use Rattle.std.proofs.Common.{◌≡◌, ℕ, [], ◌∷◌, ◌++◌, List, Option, Some, IfSome, map, slice_get, ◌∙◌, ap, subst, inl, inr, lit<}
+use Rattle.std.proofs.Common.{◌≡◌, ℕ, [], ◌∷◌, List, Option, Some, IfSome, map, slice_get, ◌∙◌, ap, subst, inl, inr, lit<}
 use Rattle.std.proofs.lemmas.List.{map-append}
 use Rattle.csp_term.specs.Term.{process_of}
 use Rattle.csp_term.specs.declared.term.Term.{Term}

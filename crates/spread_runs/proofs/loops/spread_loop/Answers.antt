@@ -1,10 +1,8 @@
 -- The round is spread, and comes back.
-use Rattle.std.proofs.Common.{◌≡◌, ◌<◌, [], ◌∷◌, ◌++◌, suc, List, Option, Some, None, IfSome, length, map, replicate, slice_get, refl, sym, ◌∙◌, ap, subst, inl, inr, lit≤, lit<, arith}
+use Rattle.std.proofs.Common.{◌≡◌, ◌<◌, suc, List, Option, IfSome, length, map, replicate, refl, sym, ◌∙◌, ap, subst, inl, inr, lit≤, lit<, arith}
 use Rattle.std.proofs.lemmas.List.{length-map, length-replicate}
 use Rattle.std.proofs.lemmas.Option.{slice_get_read}
-use Rattle.theory_syntax.specs.Value as pure
 use Rattle.theory_syntax.specs.Value.{Tau}
-use Rattle.theory_syntax.specs.Process.{Process}
 use Rattle.theory_syntax.proofs.Places.{get_some}
 use Rattle.theory_semantics.specs.Kinds.Scripts.{IsTermOf}
 use Rattle.csp_value.specs.Action.{action_of}

@@ -1,5 +1,5 @@
 -- One copy more, and the state at the place behind them.
-use Rattle.std.proofs.Common.{◌≡◌, [], ◌∷◌, ◌++◌, ℕ, List, Some, length, map, take, refl, sym, ◌∙◌, ap, ap₂, subst}
+use Rattle.std.proofs.Common.{[], ◌∷◌, ◌++◌, length, map, refl, sym, ◌∙◌, ap, ap₂}
 use Rattle.std.proofs.lemmas.List.{map-append}
 use Rattle.std.proofs.lemmas.Option.{slice_get_read}
 use Rattle.theory_syntax.proofs.Places.{get_some}

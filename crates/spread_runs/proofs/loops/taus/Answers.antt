@@ -1,7 +1,6 @@
 -- One tau more.
-use Rattle.std.proofs.Common.{◌≡◌, ◌+◌, ◌≤◌, [], ◌∷◌, ◌++◌, ℕ, zero, suc, List, map, replicate, refl, sym, ◌∙◌, ap, subst, arith}
+use Rattle.std.proofs.Common.{◌≡◌, [], ◌∷◌, ◌++◌, map, replicate, sym, ◌∙◌, ap, arith}
 use Rattle.std.proofs.lemmas.List.{map-append}
-use Rattle.theory_syntax.specs.Value as pure
 use Rattle.theory_syntax.specs.Value.{Tau}
 use Rattle.csp_value.specs.Action.{action_of}
 use Rattle.spread_runs.proofs.Rounds.{one_tau_more}

@@ -1,5 +1,5 @@
 -- The state where the walk stands is the last one.
-use Rattle.std.proofs.Common.{◌≡◌, [], ◌∷◌, ◌++◌, List, Option, Some, IfSome, map, sym, ◌∙◌, ap, subst}
+use Rattle.std.proofs.Common.{[], ◌∷◌, List, Option, IfSome, map, sym, ◌∙◌, ap, subst}
 use Rattle.std.proofs.lemmas.List.{map-append}
 use Rattle.theory_syntax.specs.Process.{Process}
 use Rattle.theory_spread_runs.specs.Spread.{Spreads}

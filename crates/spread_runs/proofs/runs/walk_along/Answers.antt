@@ -1,5 +1,5 @@
 -- One step more of the run is spread.
-use Rattle.std.proofs.Common.{◌≡◌, ◌+◌, ◌≤◌, ◌<◌, [], ◌∷◌, ◌++◌, List, Option, Some, IfSome, length, map, take, slice_get, refl, sym, ◌∙◌, ap, subst, inl, inr, lit≤, lit<, arith}
+use Rattle.std.proofs.Common.{◌+◌, ◌≤◌, ◌<◌, [], ◌∷◌, ◌++◌, List, Option, IfSome, length, map, take, refl, sym, subst, inl, inr, lit≤, lit<, arith}
 use Rattle.std.proofs.lemmas.Option.{slice_get_read}
 use Rattle.theory_syntax.specs.Value as pure
 use Rattle.theory_syntax.specs.Process.{Process}

@@ -1,6 +1,5 @@
 -- The step that is found is one of the term.
-use Rattle.std.proofs.Common.{◌≡◌, ◌<◌, ℕ, List, Option, Some, IfSome, length, map, slice_get, sym, ◌∙◌, subst, arith}
-use Rattle.theory_syntax.specs.Value as pure
+use Rattle.std.proofs.Common.{◌≡◌, ℕ, List, Option, Some, IfSome, map, slice_get, subst, arith}
 use Rattle.csp_fire.specs.declared.form.Step.{Step}
 use Rattle.csp_value.specs.Action.{action_of}
 use Rattle.csp_term.specs.Script.{script_of}

@@ -1,5 +1,5 @@
 -- A step, and the taus behind it.
-use Rattle.std.proofs.Common.{◌≡◌, Option, Some, IfSome, IfOk, Result, Ok, Err, sym, ◌∙◌, ap, subst, inl, inr, lit≤, lit<}
+use Rattle.std.proofs.Common.{Option, IfSome, sym, subst, inl, inr, lit≤, lit<}
 use Rattle.theory_syntax.specs.Value as pure
 use Rattle.theory_semantics.specs.Kinds.Scripts.{IsTermOf}
 use Rattle.csp_value.specs.Action.{action_of}

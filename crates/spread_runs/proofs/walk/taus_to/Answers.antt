@@ -1,5 +1,5 @@
 -- One tau more, or the target.
-use Rattle.std.proofs.Common.{◌≡◌, Option, Some, IfSome, sym, ◌∙◌, subst, inl, inr, lit≤, lit<}
+use Rattle.std.proofs.Common.{Option, IfSome, subst, inl, inr, lit≤, lit<}
 use Rattle.theory_syntax.specs.Value.{Tau}
 use Rattle.theory_semantics.specs.Kinds.Scripts.{IsTermOf}
 use Rattle.csp_term.specs.Script.{script_of}
