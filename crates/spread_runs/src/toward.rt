@@ -67,9 +67,9 @@ fn near_place<A: AllocHandle>(
     ensures { IfOk result (λ found. IfSome found (λ k. slice_get (map action_done steps.now) k
         ≡ Some (action_of action.now))) }
 {
-    for place in 0..steps.len() {
-        if equal_actions(&steps[place].action, action) {
-            let is_near = is_toward(alloc, script, &steps[place].target, target)?;
+    for (place, step) in steps.iter().enumerate() {
+        if equal_actions(&step.action, action) {
+            let is_near = is_toward(alloc, script, &step.target, target)?;
             if is_near {
                 return Ok(Some(place));
             }

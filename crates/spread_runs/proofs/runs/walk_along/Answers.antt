@@ -1,5 +1,5 @@
 -- One step more of the run is spread.
-use Rattle.std.proofs.Common.{◌+◌, ◌≤◌, ◌<◌, [], ◌∷◌, ◌++◌, List, Option, IfSome, length, map, take, refl, sym, subst, inl, inr, lit≤, lit<, arith}
+use Rattle.std.proofs.Common.{◌+◌, ◌≤◌, ◌<◌, [], ◌∷◌, ◌++◌, List, Option, IfSome, length, map, take, refl, sym, subst, inl, inr, lit≤, arith}
 use Rattle.std.proofs.lemmas.Option.{slice_get_read}
 use Rattle.theory_syntax.specs.Value as pure
 use Rattle.theory_syntax.specs.Process.{Process}
@@ -17,25 +17,24 @@ use Rattle.spread_runs.proofs.runs.walk_along.Goals as goal
 pub taus_to-requires : goal.taus_to-requires
 taus_to-requires g c =
     let written = script_of c.args.written.now in
-    let closed : IsTermOf written (process_of c.in_ok-begun.begun.here) = subst (IsTermOf written) (sym c.in_ok-begun.ensures.here) c.requires.closed in
-    elim g.met.A.AllocHandle.small [ inl e ↦ rw (e.0, e.1) (search (lit≤, lit<, closed)) | inr e ↦ rw (e.0, e.1) (search (lit≤, lit<, closed)) ]
+    record { closed = subst (IsTermOf written) (sym c.in_ok-begun.ensures.here) c.requires.closed }
 
 pub loop-place-init : goal.loop-place-init
 loop-place-init g c =
     let written = script_of c.args.written.now in
     let t = process_of c.args.start.now in
     let states = c.args.states.now in
-    let first = c.index-states.result in
+    let first = c.index-states-0.result in
     let even = c.requires.even in
     let inside : 0 < length states = omega (arith, even) in
-    let stands = get_some process_of states 0 first (slice_get_read states (length states) 0 first refl inside c.index-states.is) in
+    let stands = get_some process_of states 0 first (slice_get_read states (length states) 0 first refl inside c.index-states-0.is) in
     let O : Option (Walk g.row.A.Denot) → Type 0 = λ o. IfSome o (GoesTo written (process_of first) c.in_ok-begun.begun) in
     along_first g.row.A.Denot written t (process_of first) (map process_of states) c.in_ok-begun.begun c.in-Some.walk c.in_ok-begun.ensures (subst O c.in-Some.is c.in_ok-found.ensures) stands
 
 pub step_to-requires : goal.step_to-requires
 step_to-requires g c =
     let closed : IsTermOf (script_of c.args.written.now) (process_of c.loop-place.walk.here) = c.loop-place.invariant.closed in
-    elim g.met.A.AllocHandle.small [ inl e ↦ rw (e.0, e.1) (search (lit≤, lit<, closed)) | inr e ↦ rw (e.0, e.1) (search (lit≤, lit<, closed)) ]
+    elim g.met.A.AllocHandle.small [ inl e ↦ rw (e.0, e.1) (search (lit≤, closed)) | inr e ↦ rw (e.0, e.1) (search (lit≤, closed)) ]
 
 pub loop-place-preserved : goal.loop-place-preserved
 loop-place-preserved g c =

@@ -1,5 +1,5 @@
 -- A step, and the taus behind it.
-use Rattle.std.proofs.Common.{Option, IfSome, sym, subst, inl, inr, lit≤, lit<}
+use Rattle.std.proofs.Common.{Option, IfSome, sym, subst}
 use Rattle.theory_syntax.specs.Value as pure
 use Rattle.theory_semantics.specs.Kinds.Scripts.{IsTermOf}
 use Rattle.csp_value.specs.Action.{action_of}
@@ -17,7 +17,7 @@ taus_to-requires g c =
     let O : Option (Term g.row.A.Denot) → Type 0 = λ o. IfSome o (LeadsTo written (process_of c.args.walk.here) (action_of c.args.action.now)) in
     let leads = subst O c.in-Some.is c.in_ok-found.ensures in
     let closed : IsTermOf written (process_of c.in_ok-gone.gone.here) = subst (IsTermOf written) (sym c.in_ok-gone.ensures.here) leads.1 in
-    elim g.met.A.AllocHandle.small [ inl e ↦ rw (e.0, e.1) (search (lit≤, lit<, closed)) | inr e ↦ rw (e.0, e.1) (search (lit≤, lit<, closed)) ]
+    record { closed = closed }
 
 pub returns : goal.returns
 returns g c =

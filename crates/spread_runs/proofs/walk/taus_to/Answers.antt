@@ -1,5 +1,5 @@
 -- One tau more, or the target.
-use Rattle.std.proofs.Common.{Option, IfSome, subst, inl, inr, lit≤, lit<}
+use Rattle.std.proofs.Common.{Option, IfSome, subst, inl, inr, lit≤}
 use Rattle.theory_syntax.specs.Value.{Tau}
 use Rattle.theory_semantics.specs.Kinds.Scripts.{IsTermOf}
 use Rattle.csp_term.specs.Script.{script_of}
@@ -18,7 +18,7 @@ returns-then-equal_terms g c = record { on = c.loop.invariant; there = c.equal_t
 pub term_toward-requires : goal.term_toward-requires
 term_toward-requires g c =
     let closed : IsTermOf (script_of c.args.written.now) (process_of c.loop.walk.here) = c.loop.invariant.closed in
-    elim g.met.A.AllocHandle.small [ inl e ↦ rw (e.0, e.1) (search (lit≤, lit<, closed)) | inr e ↦ rw (e.0, e.1) (search (lit≤, lit<, closed)) ]
+    elim g.met.A.AllocHandle.small [ inl e ↦ rw (e.0, e.1) (search (lit≤, closed)) | inr e ↦ rw (e.0, e.1) (search (lit≤, closed)) ]
 
 pub loop-preserved : goal.loop-preserved
 loop-preserved g c =
@@ -26,4 +26,4 @@ loop-preserved g c =
     let here = process_of c.loop.walk.here in
     let O : Option (Term g.row.A.Denot) → Type 0 = λ o. IfSome o (LeadsTo written here Tau) in
     let leads = subst O c.in-Some.is c.in_ok-found.ensures in
-    one_more g.row.A.Denot written c.args.walk c.loop.walk c.in_ok-one_on.field-0 (process_of c.in-Some.next) c.loop.invariant c.in_ok-one_on.ensures leads.0 leads.1
+    one_more g.row.A.Denot written c.args.walk c.loop.walk c.in_ok-walk.walk (process_of c.in-Some.next) c.loop.invariant c.in_ok-walk.ensures leads.0 leads.1
