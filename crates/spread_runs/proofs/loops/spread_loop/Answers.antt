@@ -27,11 +27,10 @@ spread_run-requires g c =
     let round = round_length (map process_of states) c.args.back (map process_of c.in_ok-round.round.items) c.in_ok-round.ensures in
     let rounds = length-map c.in_ok-round.round.items process_of in
     let many = length-map states process_of in
-    let taus = sym (length-map c.in_ok-path.path.items action_of) ∙ ap length c.in_ok-path.ensures ∙ length-replicate c.len.result Tau in
-    let count = c.len.ensures in
+    let taus = sym (length-map c.in_ok-path.path.items action_of) ∙ ap length c.in_ok-path.ensures ∙ length-replicate (length states) Tau in
     let lent = ap length c.deref.ensures.value in
     let lent_states = ap length c.deref-2.ensures.value in
-    let even : length c.deref-2.result.now ≡ suc (length c.deref.result.now) = omega (arith, round, rounds, many, taus, count, lent, lent_states) in
+    let even : length c.deref-2.result.now ≡ suc (length c.deref.result.now) = omega (arith, round, rounds, many, taus, lent, lent_states) in
     elim g.met.A.AllocHandle.small [ inl e ↦ rw (e.0, e.1) (search (lit≤, lit<, closed, even)) | inr e ↦ rw (e.0, e.1) (search (lit≤, lit<, closed, even)) ]
 
 pub returns : goal.returns
@@ -47,7 +46,7 @@ returns g c =
     let S : List (Term g.row.A.Denot) → Type 0 = λ ss. IfSome c.in_ok-found.found (SpreadsRun written (process_of first) (map action_of c.in_ok-path.path.items) (map process_of ss)) in
     let O : Option (SpreadRun g.row.A.Denot) → Type 0 = λ o. IfSome o (SpreadsRun written (process_of first) (map action_of c.in_ok-path.path.items) (map process_of c.in_ok-round.round.items)) in
     let spread = subst O c.in-Some.is (subst S c.deref-2.ensures.value (subst P c.deref.ensures.value c.in_ok-found.ensures)) in
-    let many : c.len.result ≡ length (map process_of states) = c.len.ensures ∙ sym (length-map states process_of) in
+    let many : length states ≡ length (map process_of states) = sym (length-map states process_of) in
     let taus = c.in_ok-path.ensures ∙ ap (λ k. replicate k Tau) many in
     loops_spread g.row.A.Denot written (map process_of states) c.args.back (map process_of c.in_ok-round.round.items) (process_of first) (map action_of c.in_ok-path.path.items) c.in-Some.spread c.round_of.result c.in_ok-round.ensures stands taus spread
     c.round_of.ensures

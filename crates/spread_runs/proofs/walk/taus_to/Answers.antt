@@ -1,5 +1,5 @@
 -- One tau more, or the target.
-use Rattle.std.proofs.Common.{Option, IfSome, subst, inl, inr, lit≤}
+use Rattle.std.proofs.Common.{Option, IfSome, subst, inl, inr, lit<, lit≤}
 use Rattle.theory_syntax.specs.Value.{Tau}
 use Rattle.theory_semantics.specs.Kinds.Scripts.{IsTermOf}
 use Rattle.csp_term.specs.Script.{script_of}
@@ -27,3 +27,15 @@ loop-preserved g c =
     let O : Option (Term g.row.A.Denot) → Type 0 = λ o. IfSome o (LeadsTo written here Tau) in
     let leads = subst O c.in-Some.is c.in_ok-found.ensures in
     one_more g.row.A.Denot written c.args.walk c.loop.walk c.in_ok-walk.walk (process_of c.in-Some.next) c.loop.invariant c.in_ok-walk.ensures leads.0 leads.1
+
+pub one_on-requires : goal.one_on-requires
+one_on-requires g c = elim g.met.A.AllocHandle.small [ inl e ↦ rw (e.0, e.1) (search (lit≤, lit<)) | inr e ↦ rw (e.0, e.1) (search (lit≤, lit<)) ]
+
+pub drop-walk-requires-room-T-Destruct : goal.drop-walk-requires-room-T-Destruct
+drop-walk-requires-room-T-Destruct g c κs within = elim g.met.A.AllocHandle.small [ inl e ↦ rw (e.0, e.1) (lit< tt) | inr e ↦ rw (e.0, e.1) (lit< tt) ]
+
+pub drop-walk-requires-in_default-room-T-Destruct : goal.drop-walk-requires-in_default-room-T-Destruct
+drop-walk-requires-in_default-room-T-Destruct g c κs within = elim g.met.A.AllocHandle.small [ inl e ↦ rw (e.0, e.1) (lit< tt) | inr e ↦ rw (e.0, e.1) (lit< tt) ]
+
+pub drop-walk-requires-2-room-T-Destruct : goal.drop-walk-requires-2-room-T-Destruct
+drop-walk-requires-2-room-T-Destruct g c κs within = elim g.met.A.AllocHandle.small [ inl e ↦ rw (e.0, e.1) (lit< tt) | inr e ↦ rw (e.0, e.1) (lit< tt) ]
