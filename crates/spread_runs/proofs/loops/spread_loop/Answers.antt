@@ -50,3 +50,15 @@ returns g c =
     let taus = c.in_ok-path.ensures ∙ ap (λ k. replicate k Tau) many in
     loops_spread g.row.A.Denot written (map process_of states) c.args.back (map process_of c.in_ok-round.round.items) (process_of first) (map action_of c.in_ok-path.path.items) c.in-Some.spread c.round_of.result c.in_ok-round.ensures stands taus spread
     c.round_of.ensures
+
+pub taus-requires : goal.taus-requires
+taus-requires g c = elim g.met.A.AllocHandle.small [ inl e ↦ rw (e.0, e.1) (search (lit≤, lit<)) | inr e ↦ rw (e.0, e.1) (search (lit≤, lit<)) ]
+
+pub drop-path-requires-room-T-Destruct : goal.drop-path-requires-room-T-Destruct
+drop-path-requires-room-T-Destruct g c κs within = elim g.met.A.AllocHandle.small [ inl e ↦ rw (e.0, e.1) (lit< tt) | inr e ↦ rw (e.0, e.1) (lit< tt) ]
+
+pub drop-path-requires-in_default-room-T-Destruct : goal.drop-path-requires-in_default-room-T-Destruct
+drop-path-requires-in_default-room-T-Destruct g c κs within = elim g.met.A.AllocHandle.small [ inl e ↦ rw (e.0, e.1) (lit< tt) | inr e ↦ rw (e.0, e.1) (lit< tt) ]
+
+pub drop-path-requires-2-room-T-Destruct : goal.drop-path-requires-2-room-T-Destruct
+drop-path-requires-2-room-T-Destruct g c κs within = elim g.met.A.AllocHandle.small [ inl e ↦ rw (e.0, e.1) (lit< tt) | inr e ↦ rw (e.0, e.1) (lit< tt) ]
