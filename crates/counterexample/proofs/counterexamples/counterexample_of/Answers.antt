@@ -1,5 +1,5 @@
 -- The states of the replay, or why there are none.
-use Rattle.std.proofs.Common.{Option, IfSome, map, sym, subst, inl, inr, lit<, lit≤}
+use Rattle.std.proofs.Common.{Option, IfSome, map, sym, subst, inl, inr, lit≤}
 use Rattle.theory_syntax.specs.Process.{Process}
 use Rattle.theory_semantics.specs.Kinds.Scripts.{IsTermOf}
 use Rattle.theory_explanation.specs.Counterexamples.{IsToldBeside}
@@ -27,12 +27,12 @@ along-requires g c =
     let R : Replay g.row.A.Denot → Type 0 = λ r. TellsReplay script a.implementation v c.args.reach r in
     let replay : IsReplayed script a.implementation v (map process_of c.in-States.states.items) c.in-States.lasso = subst R c.in-States.is c.in_ok-replay.ensures in
     elim g.met.A.AllocHandle.small [
-      | inl e ↦ rw (e.0, e.1) (search (lit≤, lit<, start, specification, replay))
-      | inr e ↦ rw (e.0, e.1) (search (lit≤, lit<, start, specification, replay))
+      | inl e ↦ rw (e.0, e.1) (search (lit≤, start, specification, replay))
+      | inr e ↦ rw (e.0, e.1) (search (lit≤, start, specification, replay))
     ]
 
-pub returns-in-States : goal.returns-in-States
-returns-in-States g c =
+pub returns-in_ok-found-in-States : goal.returns-in_ok-found-in-States
+returns-in_ok-found-in-States g c =
     let script = script_of c.args.script.now in
     let a = assertion_of c.args.assertion.now in
     let v = violation_of c.args.shown.now in

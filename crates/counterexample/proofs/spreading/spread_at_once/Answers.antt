@@ -38,7 +38,7 @@ spread_replay-requires g c =
     let actions = length-map c.args.shown.now.path.items action_of in
     let read = ap length c.deref.ensures.value in
     let even : length c.deref.result.now ≡ suc (length c.args.shown.now.path.items) = omega (arith, long, terms, actions, read) in
-    elim g.met.A.AllocHandle.small [ inl e ↦ rw (e.0, e.1) (search (lit≤, lit<, closed, even)) | inr e ↦ rw (e.0, e.1) (search (lit≤, lit<, closed, even)) ]
+    elim g.met.A.AllocHandle.small [ inl e ↦ rw (e.0, e.1) (search (lit≤, closed, even)) | inr e ↦ rw (e.0, e.1) (search (lit≤, closed, even)) ]
 
 pub spread_lasso-requires : goal.spread_lasso-requires
 spread_lasso-requires g c =
@@ -51,7 +51,7 @@ spread_lasso-requires g c =
     let end = end_closed script a.implementation v (map process_of c.in-States.states.items) replayed.0 c.requires.terms.implementation in
     let closed : BeginsIn written c.in-States.lasso = begins_in g.row.A.Denot script written c.in_ok-written.ensures v.evidence replayed.0.end c.in-States.lasso end replayed.1 in
     let comes : ComesBack c.in-States.lasso = comes_back g.row.A.Denot script v.evidence replayed.0.end c.in-States.lasso replayed.1 in
-    elim g.met.A.AllocHandle.small [ inl e ↦ rw (e.0, e.1) (search (lit≤, lit<, closed, comes)) | inr e ↦ rw (e.0, e.1) (search (lit≤, lit<, closed, comes)) ]
+    record { closed = closed; comes = comes }
 
 pub along-requires : goal.along-requires
 along-requires g c =
@@ -76,8 +76,8 @@ along-requires g c =
     let replay : IsReplayed written t (violation_of run.shown) more c.in-Found.lasso =
     replayed_by_tau g.row.A.Denot script written is t a.implementation v (violation_of run.shown) (map process_of c.in-States.states.items) more spread.spread spread.like c.in-States.lasso c.in-Found.lasso replayed lassos in
     elim g.met.A.AllocHandle.small [
-      | inl e ↦ rw (e.0, e.1) (search (lit≤, lit<, start, specification, replay))
-      | inr e ↦ rw (e.0, e.1) (search (lit≤, lit<, start, specification, replay))
+      | inl e ↦ rw (e.0, e.1) (search (lit≤, start, specification, replay))
+      | inr e ↦ rw (e.0, e.1) (search (lit≤, start, specification, replay))
     ]
 
 pub returns : goal.returns
@@ -97,3 +97,30 @@ returns g c =
     let spread : SpreadsReplay written t v states run = subst O c.in-Some.is (subst T c.deref.ensures.value c.in_ok-found.ensures) in
     told_by_tau g.row.A.Denot script written is t a v c.args.style.now.most states (map process_of run.states.items) (specification_in c.specification.result) (record { shown = run.shown; counterexample = c.in_ok-counterexample.counterexample }) c.requires.at_once replayed.0
     spread.spread spread.like (ap (λ ts. map process_of ts.items) c.in_ok-counterexample.ensures.states) c.specification.ensures c.in_ok-counterexample.ensures.told
+
+pub drop-told-requires-room-T-Destruct : goal.drop-told-requires-room-T-Destruct
+drop-told-requires-room-T-Destruct g c κs within = elim g.met.A.AllocHandle.small [ inl e ↦ rw (e.0, e.1) (lit< tt) | inr e ↦ rw (e.0, e.1) (lit< tt) ]
+
+pub drop-requires-in_err-round-2-room-T-Destruct : goal.drop-requires-in_err-round-2-room-T-Destruct
+drop-requires-in_err-round-2-room-T-Destruct g c κs within = elim g.met.A.AllocHandle.small [ inl e ↦ rw (e.0, e.1) (lit< tt) | inr e ↦ rw (e.0, e.1) (lit< tt) ]
+
+pub drop-told-requires-in_default-round-room-T-Destruct : goal.drop-told-requires-in_default-round-room-T-Destruct
+drop-told-requires-in_default-round-room-T-Destruct g c κs within = elim g.met.A.AllocHandle.small [ inl e ↦ rw (e.0, e.1) (lit< tt) | inr e ↦ rw (e.0, e.1) (lit< tt) ]
+
+pub drop-requires-in_default-round-2-room-T-Destruct : goal.drop-requires-in_default-round-2-room-T-Destruct
+drop-requires-in_default-round-2-room-T-Destruct g c κs within = elim g.met.A.AllocHandle.small [ inl e ↦ rw (e.0, e.1) (lit< tt) | inr e ↦ rw (e.0, e.1) (lit< tt) ]
+
+pub drop-shown-requires-room-T-Destruct : goal.drop-shown-requires-room-T-Destruct
+drop-shown-requires-room-T-Destruct g c κs within = elim g.met.A.AllocHandle.small [ inl e ↦ rw (e.0, e.1) (lit< tt) | inr e ↦ rw (e.0, e.1) (lit< tt) ]
+
+pub drop-requires-in_err-counterexample-2-room-T-Destruct : goal.drop-requires-in_err-counterexample-2-room-T-Destruct
+drop-requires-in_err-counterexample-2-room-T-Destruct g c κs within = elim g.met.A.AllocHandle.small [ inl e ↦ rw (e.0, e.1) (lit< tt) | inr e ↦ rw (e.0, e.1) (lit< tt) ]
+
+pub array_drop-told-requires : goal.array_drop-told-requires
+array_drop-told-requires g c = elim g.met.A.AllocHandle.small [ inl e ↦ rw (e.0, e.1) (lit< tt) | inr e ↦ rw (e.0, e.1) (lit< tt) ]
+
+pub array_drop-told-requires-in_default-round : goal.array_drop-told-requires-in_default-round
+array_drop-told-requires-in_default-round g c = elim g.met.A.AllocHandle.small [ inl e ↦ rw (e.0, e.1) (lit< tt) | inr e ↦ rw (e.0, e.1) (lit< tt) ]
+
+pub array_drop-shown-requires : goal.array_drop-shown-requires
+array_drop-shown-requires g c = elim g.met.A.AllocHandle.small [ inl e ↦ rw (e.0, e.1) (lit< tt) | inr e ↦ rw (e.0, e.1) (lit< tt) ]

@@ -1,5 +1,7 @@
 -- The loop that is found is a lasso where the given one is.
-use Rattle.std.proofs.Common.{◌<◌, List, Option, Some, None, IfSome, length, map, sym, subst, inl, inr, lit<, lit≤}
+use Rattle.std.proofs.Common.{◌≡◌, ◌<◌, List, Option, Some, None, IfSome, length, map, slice_get, sym, subst}
+use Rattle.theory_syntax.specs.Process.{Process}
+use Rattle.theory_semantics.specs.Kinds.Scripts.{IsTermOf}
 use Rattle.csp_term.specs.Script.{script_of}
 use Rattle.csp_term.specs.Term.{process_of}
 use Rattle.csp_term.specs.declared.term.Term.{Term}
@@ -23,11 +25,11 @@ spread_loop-requires g c =
     let lasso = c.in-Some.lasso in
     let B : Option (Lasso g.row.A.Denot) → Type 0 = λ l. BeginsIn written l in
     let C : Option (Lasso g.row.A.Denot) → Type 0 = λ l. ComesBack l in
-    let T : List (Term g.row.A.Denot) → Type 0 = λ ts. BeginsIn written (Some (record { states = record lasso.states { items = ts }; back = lasso.back })) in
+    let T : List (Term g.row.A.Denot) → Type 0 = λ ts. (t : Process) → slice_get (map process_of ts) 0 ≡ Some t → IsTermOf written t in
     let L : List (Term g.row.A.Denot) → Type 0 = λ ts. lasso.back < length ts in
     let closed = subst T (sym c.deref.ensures.value) (subst B c.in-Some.is c.requires.closed) in
     let back = subst L (sym c.deref.ensures.value) (subst C c.in-Some.is c.requires.comes) in
-    elim g.met.A.AllocHandle.small [ inl e ↦ rw (e.0, e.1) (search (lit≤, lit<, closed, back)) | inr e ↦ rw (e.0, e.1) (search (lit≤, lit<, closed, back)) ]
+    record { closed = closed; back = back }
 
 pub returns-in-Some-found : goal.returns-in-Some-found
 returns-in-Some-found g c =

@@ -16,7 +16,7 @@ spread_run-requires g c =
     let read = ap length c.deref.ensures.value in
     let given = c.requires.even in
     let even : length c.args.states.now ≡ suc (length c.deref.result.now) = omega (arith, read, given) in
-    elim g.met.A.AllocHandle.small [ inl e ↦ rw (e.0, e.1) (search (lit≤, lit<, closed, even)) | inr e ↦ rw (e.0, e.1) (search (lit≤, lit<, closed, even)) ]
+    elim g.met.A.AllocHandle.small [ inl e ↦ rw (e.0, e.1) (search (lit≤, closed, even)) | inr e ↦ rw (e.0, e.1) (search (lit≤, closed, even)) ]
 
 pub returns : goal.returns
 returns g c =
@@ -28,3 +28,6 @@ returns g c =
     let O : Option (SpreadRun g.row.A.Denot) → Type 0 = λ o. IfSome o (SpreadsRun written t (map action_of c.args.shown.now.path.items) states) in
     let E : Evidence → Violation = λ e. record { path = map action_of found.path.items; evidence = e } in
     record { like = ap E c.in_ok-evidence.ensures; spread = subst O c.in-Some.is (subst P c.deref.ensures.value c.in_ok-found.ensures) }
+
+pub drop-told-requires-room-T-Destruct : goal.drop-told-requires-room-T-Destruct
+drop-told-requires-room-T-Destruct g c κs within = elim g.met.A.AllocHandle.small [ inl e ↦ rw (e.0, e.1) (lit< tt) | inr e ↦ rw (e.0, e.1) (lit< tt) ]
