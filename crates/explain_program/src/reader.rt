@@ -35,13 +35,17 @@ impl<'t, A: Allocator> NamedScript<'t, A> {
     /// The same with the names of its equations unfolded at once, where that is asked for.
     pub(crate) fn as_asked(self, at_once: bool) -> NamedScript<'t, A>
         ensures script { let read = names_read at_once in
-            (script_of self.script).unfolds ≡ ByTau
-            → script_of result.script ≡ reading read (script_of self.script) }
-        ensures names { names_of result.names ≡ names_of self.names }
+            (script_of self.entry.script).unfolds ≡ ByTau
+            → script_of result.script ≡ reading read (script_of self.entry.script) }
+        ensures names { names_of result.names ≡ names_of self.entry.names }
     {
-        let NamedScript { script, names } = self;
-        let script = if at_once { script.at_once() } else { script };
-        NamedScript { script, names }
+        if at_once {
+            let NamedScript { script, names } = self;
+            let script = script.at_once();
+            NamedScript { script, names }
+        } else {
+            self
+        }
     }
 }
 
