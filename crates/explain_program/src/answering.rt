@@ -34,7 +34,8 @@ pub(crate) fn answer<A: AllocHandle + Send + Sync, R: Threads + Wait + Sync>(
     ensures right { IsRight (script_of script.now) (assertion_of assertion.now)
         (bounds_asked settings.now) (outcome_of result.found) }
     ensures size { let outcome = as_written assertion.now.negated (outcome_of result.found) in
-        IsSizeFor (script_of script.now) (assertion_of assertion.now) (bounds_asked settings.now) outcome result.size }
+        IsSizeFor (script_of script.now) (assertion_of assertion.now) (bounds_asked settings.now)
+        outcome result.size }
     ensures stop { HasStop (script_of script.now) (assertion_of assertion.now)
         (outcome_of result.found) (stop_kept result.stop) }
 {

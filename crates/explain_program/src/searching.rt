@@ -47,7 +47,8 @@ pub(crate) fn answer_together<A: AllocHandle + Send + Sync, R: Threads + Wait + 
     ensures right { IsRight (script_of script.now) (assertion_of assertion.now) (bounds_of limits)
         (outcome_of result.found) }
     ensures size { let outcome = as_written assertion.now.negated (outcome_of result.found) in
-        IsSizeFor (script_of script.now) (assertion_of assertion.now) (bounds_of limits) outcome result.size }
+        IsSizeFor (script_of script.now) (assertion_of assertion.now) (bounds_of limits)
+        outcome result.size }
     ensures stop { HasStop (script_of script.now) (assertion_of assertion.now)
         (outcome_of result.found) (stop_kept result.stop) }
 {
@@ -81,7 +82,8 @@ fn answer_alone<A: AllocHandle>(
     ensures right { IsRight (script_of script.now) (assertion_of assertion.now) (bounds_of limits)
         (outcome_of result.found) }
     ensures size { let outcome = as_written assertion.now.negated (outcome_of result.found) in
-        IsSizeFor (script_of script.now) (assertion_of assertion.now) (bounds_of limits) outcome result.size }
+        IsSizeFor (script_of script.now) (assertion_of assertion.now) (bounds_of limits)
+        outcome result.size }
     ensures stop { HasStop (script_of script.now) (assertion_of assertion.now)
         (outcome_of result.found) (stop_kept result.stop) }
 {
