@@ -1,12 +1,12 @@
 -- A run is found and told, by the script as it is written or as names are read, or none is.
-use Rattle.std.proofs.Common.{◌≡◌, ◌++◌, Option, Some, None, IfSome, option_map, subst, inl, inr, lit<, lit≤}
+use Rattle.std.proofs.Common.{◌≡◌, ◌++◌, Option, Some, None, IfSome, option_map, subst, inl, inr, lit<}
 use Rattle.std.specs.String.{string_bytes}
 use Rattle.csp_term.specs.Script.{assertion_of, script_of}
 use Rattle.theory_explanation.specs.Faults.{IsFound, IsSpreadSide, fault_run_text}
 use Rattle.theory_explanation.specs.Telling.{TellsFound}
 use Rattle.counterexample.specs.Styles.{style_of}
 use Rattle.csp_replay.specs.Hindrance.{hindrance_of}
-use Rattle.explanation.specs.Sides.{IsEven, side_run_of}
+use Rattle.explanation.specs.Sides.{side_run_of}
 use Rattle.explanation.specs.declared.sides.SideRun.{SideRun}
 use Rattle.explanation.proofs.OnOks.{on_ok_so}
 use Rattle.explanation.proofs.ToldRuns.{found_even}
@@ -18,19 +18,14 @@ returns-in_default g c =
     let F : Option (SideRun g.row.A.Denot) → Type 0 = λ found. IsFound (script_of c.args.script.now) (assertion_of c.args.question.now.asked.now) h c.args.style.now.reach (option_map side_run_of found) in
     inr (None, subst F c.in_default.is c.in_ok-found.ensures, c.in_ok-push_mark.ensures)
 
-pub spread_side-requires : goal.spread_side-requires
-spread_side-requires g c =
+pub spread_side-requires-clause-even : goal.spread_side-requires-clause-even
+spread_side-requires-clause-even g c =
     let script = script_of c.args.script.now in
     let a = assertion_of c.args.question.now.asked.now in
     let h = hindrance_of c.args.hindrance in
     let run = side_run_of c.in-Some.run' in
     let F : Option (SideRun g.row.A.Denot) → Type 0 = λ found. IsFound script a h c.args.style.now.reach (option_map side_run_of found) in
-    let is : IsFound script a h c.args.style.now.reach (Some run) = subst F c.in-Some.is c.in_ok-found.ensures in
-    let even : IsEven run = found_even script a h c.args.style.now.reach run is in
-    elim g.met.A.AllocHandle.small [
-      | inl e ↦ rw (e.0, e.1) (search (lit≤, lit<, c.requires.written, even))
-      | inr e ↦ rw (e.0, e.1) (search (lit≤, lit<, c.requires.written, even))
-    ]
+    found_even script a h c.args.style.now.reach run (subst F c.in-Some.is c.in_ok-found.ensures)
 
 pub returns-in-Some-spread : goal.returns-in-Some-spread
 returns-in-Some-spread g c =
@@ -49,8 +44,8 @@ returns-in-Some-spread g c =
     let spread : IsSpreadSide script w run told = subst S c.in-Some-spread.is c.in_ok-spread.ensures in
     on_ok_so c.push_side_run.result (new ≡ old ++ fault_run_text style script h told) (TellsFound style script w a (Some h) old new) (λ put. inl (run, told, is, spread, put)) c.push_side_run.ensures
 
-pub returns-in-None : goal.returns-in-None
-returns-in-None g c =
+pub returns : goal.returns
+returns g c =
     let style = style_of c.args.style.now in
     let script = script_of c.args.script.now in
     let w = assertion_of c.args.question.now.written.now in
@@ -66,8 +61,26 @@ returns-in-None g c =
 pub drop-run-requires-room-T-Destruct : goal.drop-run-requires-room-T-Destruct
 drop-run-requires-room-T-Destruct g c κs within = elim g.met.A.AllocHandle.small [ inl e ↦ rw (e.0, e.1) (lit< tt) | inr e ↦ rw (e.0, e.1) (lit< tt) ]
 
-pub drop-run-requires-in-Some-2-room-T-Destruct : goal.drop-run-requires-in-Some-2-room-T-Destruct
-drop-run-requires-in-Some-2-room-T-Destruct g c κs within = elim g.met.A.AllocHandle.small [ inl e ↦ rw (e.0, e.1) (lit< tt) | inr e ↦ rw (e.0, e.1) (lit< tt) ]
+pub drop-run-requires-in_err-spread-2-room-T-Destruct : goal.drop-run-requires-in_err-spread-2-room-T-Destruct
+drop-run-requires-in_err-spread-2-room-T-Destruct g c κs within = elim g.met.A.AllocHandle.small [ inl e ↦ rw (e.0, e.1) (lit< tt) | inr e ↦ rw (e.0, e.1) (lit< tt) ]
 
-pub drop-run-requires-in-Some-2-3-room-T-Destruct : goal.drop-run-requires-in-Some-2-3-room-T-Destruct
-drop-run-requires-in-Some-2-3-room-T-Destruct g c κs within = elim g.met.A.AllocHandle.small [ inl e ↦ rw (e.0, e.1) (lit< tt) | inr e ↦ rw (e.0, e.1) (lit< tt) ]
+pub drop-run-requires-in_err-spread-2-3-room-T-Destruct : goal.drop-run-requires-in_err-spread-2-3-room-T-Destruct
+drop-run-requires-in_err-spread-2-3-room-T-Destruct g c κs within = elim g.met.A.AllocHandle.small [ inl e ↦ rw (e.0, e.1) (lit< tt) | inr e ↦ rw (e.0, e.1) (lit< tt) ]
+
+pub drop-told-requires-in-Some-spread-2-room-T-Destruct : goal.drop-told-requires-in-Some-spread-2-room-T-Destruct
+drop-told-requires-in-Some-spread-2-room-T-Destruct g c κs within = elim g.met.A.AllocHandle.small [ inl e ↦ rw (e.0, e.1) (lit< tt) | inr e ↦ rw (e.0, e.1) (lit< tt) ]
+
+pub drop-told-requires-in-Some-spread-2-3-room-T-Destruct : goal.drop-told-requires-in-Some-spread-2-3-room-T-Destruct
+drop-told-requires-in-Some-spread-2-3-room-T-Destruct g c κs within = elim g.met.A.AllocHandle.small [ inl e ↦ rw (e.0, e.1) (lit< tt) | inr e ↦ rw (e.0, e.1) (lit< tt) ]
+
+pub drop-run-requires-in-Some-spread-3-room-T-Destruct : goal.drop-run-requires-in-Some-spread-3-room-T-Destruct
+drop-run-requires-in-Some-spread-3-room-T-Destruct g c κs within = elim g.met.A.AllocHandle.small [ inl e ↦ rw (e.0, e.1) (lit< tt) | inr e ↦ rw (e.0, e.1) (lit< tt) ]
+
+pub drop-run-requires-in-Some-spread-2-3-room-T-Destruct : goal.drop-run-requires-in-Some-spread-2-3-room-T-Destruct
+drop-run-requires-in-Some-spread-2-3-room-T-Destruct g c κs within = elim g.met.A.AllocHandle.small [ inl e ↦ rw (e.0, e.1) (lit< tt) | inr e ↦ rw (e.0, e.1) (lit< tt) ]
+
+pub drop-run-requires-in-None-3-room-T-Destruct : goal.drop-run-requires-in-None-3-room-T-Destruct
+drop-run-requires-in-None-3-room-T-Destruct g c κs within = elim g.met.A.AllocHandle.small [ inl e ↦ rw (e.0, e.1) (lit< tt) | inr e ↦ rw (e.0, e.1) (lit< tt) ]
+
+pub drop-run-requires-in-None-2-3-room-T-Destruct : goal.drop-run-requires-in-None-2-3-room-T-Destruct
+drop-run-requires-in-None-2-3-room-T-Destruct g c κs within = elim g.met.A.AllocHandle.small [ inl e ↦ rw (e.0, e.1) (lit< tt) | inr e ↦ rw (e.0, e.1) (lit< tt) ]

@@ -1,14 +1,8 @@
 -- Where names are unfolded at once, a run is looked for.
-use Rattle.std.proofs.Common.{◌≡◌, sym, ◌∙◌, ap, inl, inr, lit<, lit≤}
+use Rattle.std.proofs.Common.{◌∙◌, sym, ap}
 use Rattle.theory_syntax.specs.Models.{unfolding_of}
-use Rattle.theory_syntax.specs.Process.{AtOnce, Script}
-use Rattle.csp_term.specs.Script.{script_of}
+use Rattle.theory_syntax.specs.Process.{Script}
 use Rattle.explanation.proofs.spread_sides.spread_side.Goals as goal
 
-pub spread_at_once-requires : goal.spread_at_once-requires
-spread_at_once-requires g c =
-    let read : (script_of c.args.script.now).unfolds ≡ AtOnce = ap (λ (s : Script). s.unfolds) (sym c.parts.ensures.value) ∙ ap unfolding_of c.in-AtOnce.is in
-    elim g.met.A.AllocHandle.small [
-      | inl e ↦ rw (e.0, e.1) (search (lit≤, lit<, read, c.requires.terms, c.requires.even))
-      | inr e ↦ rw (e.0, e.1) (search (lit≤, lit<, read, c.requires.terms, c.requires.even))
-    ]
+pub spread_at_once-requires-clause-at_once : goal.spread_at_once-requires-clause-at_once
+spread_at_once-requires-clause-at_once g c = ap (λ (s : Script). s.unfolds) (sym c.parts.ensures.value) ∙ ap unfolding_of c.in-AtOnce.is

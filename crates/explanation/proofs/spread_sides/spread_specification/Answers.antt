@@ -1,5 +1,5 @@
 -- The specification as it is written is the start, if there is one.
-use Rattle.std.proofs.Common.{◌≡◌, Option, Some, IfSome, sym, subst, inl, inr, lit<, lit≤}
+use Rattle.std.proofs.Common.{◌≡◌, Option, Some, IfSome, sym, subst}
 use Rattle.std.specs.Borrow.{Bor}
 use Rattle.theory_syntax.specs.Process.{Process, specification_of}
 use Rattle.theory_semantics.specs.Kinds.Scripts.{IsTermOf}
@@ -11,18 +11,14 @@ use Rattle.explanation.specs.ToldRuns.{SpreadsTold}
 use Rattle.explanation.specs.declared.told_run.ToldRun.{ToldRun}
 use Rattle.explanation.proofs.spread_sides.spread_specification.Goals as goal
 
-pub spread_told-requires : goal.spread_told-requires
-spread_told-requires g c =
+pub spread_told-requires-clause-closed : goal.spread_told-requires-clause-closed
+spread_told-requires-clause-closed g c =
     let script = script_of c.args.script.now in
     let start = c.in-Some.start in
     let I : Option (Bor (Term g.row.A.Denot)) → Type 0 = λ o. specification_in o ≡ specification_of (assertion_of c.args.written.now).property in
     let there : Some (process_of start.now) ≡ specification_of (assertion_of c.args.written.now).property = subst I c.in-Some.is c.specification-start.ensures in
     let S : Option Process → Type 0 = λ s. IfSome s (IsTermOf script) in
-    let closed : IsTermOf script (process_of start.now) = subst S (sym there) c.requires.terms.specification in
-    elim g.met.A.AllocHandle.small [
-      | inl e ↦ rw (e.0, e.1) (search (lit≤, lit<, c.requires.at_once, closed, c.requires.even))
-      | inr e ↦ rw (e.0, e.1) (search (lit≤, lit<, c.requires.at_once, closed, c.requires.even))
-    ]
+    subst S (sym there) c.requires.terms.specification
 
 pub returns-in-Some-spread : goal.returns-in-Some-spread
 returns-in-Some-spread g c =

@@ -1,5 +1,5 @@
 -- What is found spreads the run, and its steps come from what is told.
-use Rattle.std.proofs.Common.{◌≡◌, suc, List, Option, IfSome, length, map, sym, ap, subst, inl, inr, lit<, lit≤, arith}
+use Rattle.std.proofs.Common.{◌≡◌, suc, List, Option, IfSome, length, map, sym, ap, subst, inl, inr, lit≤, arith}
 use Rattle.std.proofs.lemmas.List.{length-map}
 use Rattle.theory_syntax.specs.Process.{Script}
 use Rattle.theory_syntax.specs.Readings.{by_tau}
@@ -30,7 +30,7 @@ spread_run-requires g c =
     let states = ap length c.deref-2.ensures.value in
     let long = c.requires.even in
     let even : length c.deref-2.result.now ≡ suc (length c.deref.result.now) = omega (arith, path, states, long) in
-    elim g.met.A.AllocHandle.small [ inl e ↦ rw (e.0, e.1) (search (lit≤, lit<, closed, even)) | inr e ↦ rw (e.0, e.1) (search (lit≤, lit<, closed, even)) ]
+    elim g.met.A.AllocHandle.small [ inl e ↦ rw (e.0, e.1) (search (lit≤, closed, even)) | inr e ↦ rw (e.0, e.1) (search (lit≤, closed, even)) ]
 
 pub told_run-requires : goal.told_run-requires
 told_run-requires g c =

@@ -3,7 +3,7 @@ use Rattle.std.proofs.Common.{◌≡◌, ◌++◌, inl, inr, subst, lit<, lit≤
 use Rattle.std.specs.String.{string_bytes}
 use Rattle.theory_explanation.specs.Comparing.{counterexample_text, wide_end_text}
 use Rattle.theory_explanation.specs.Counterexamples.{HasWideEnd, IsCounterexample}
-use Rattle.theory_explanation.specs.Telling.{TellsCounterexample, TellsViolation}
+use Rattle.theory_explanation.specs.Telling.{TellsViolation}
 use Rattle.csp_term.specs.Script.{assertion_of, script_of}
 use Rattle.verdict.specs.Outcome.{violation_of}
 use Rattle.counterexample.specs.Counterexample.{GoesRound, TellsReplayed, counterexample_of}

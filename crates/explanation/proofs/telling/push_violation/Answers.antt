@@ -19,8 +19,8 @@ use Rattle.explanation.proofs.telling.push_violation.Goals as goal
 pub spread_counterexample_of-requires : goal.spread_counterexample_of-requires
 spread_counterexample_of-requires g c =
     elim g.met.A.AllocHandle.small [
-      | inl e ↦ rw (e.0, e.1) (lit< tt, (c.requires.terms, c.requires.written.implementation))
-      | inr e ↦ rw (e.0, e.1) (lit< tt, (c.requires.terms, c.requires.written.implementation))
+      | inl e ↦ rw (e.0, e.1) (lit< tt, (lit< tt, (c.requires.terms, c.requires.written.implementation)))
+      | inr e ↦ rw (e.0, e.1) (lit< tt, (lit< tt, (c.requires.terms, c.requires.written.implementation)))
     ]
 
 pub push_counterexample-requires : goal.push_counterexample-requires
@@ -70,5 +70,23 @@ returns-in-None g c =
     let new = string_bytes c.push_replayed.new.text in
     on_ok_so c.push_replayed.result (TellsViolation style script a v old new) (TellsFailing style script w a v old new) (λ told. inr told) c.push_replayed.ensures
 
-pub drop-spread-requires-in-Some-room-T-Destruct : goal.drop-spread-requires-in-Some-room-T-Destruct
-drop-spread-requires-in-Some-room-T-Destruct g c κs within = elim g.met.A.AllocHandle.small [ inl e ↦ rw (e.0, e.1) (lit< tt) | inr e ↦ rw (e.0, e.1) (lit< tt) ]
+pub drop-spread-requires-room-T-Destruct : goal.drop-spread-requires-room-T-Destruct
+drop-spread-requires-room-T-Destruct g c κs within = elim g.met.A.AllocHandle.small [ inl e ↦ rw (e.0, e.1) (lit< tt) | inr e ↦ rw (e.0, e.1) (lit< tt) ]
+
+pub array_drop-spread-requires : goal.array_drop-spread-requires
+array_drop-spread-requires g c = elim g.met.A.AllocHandle.small [ inl e ↦ rw (e.0, e.1) (lit< tt) | inr e ↦ rw (e.0, e.1) (lit< tt) ]
+
+pub drop-requires-in-Some-2-room-T-Destruct : goal.drop-requires-in-Some-2-room-T-Destruct
+drop-requires-in-Some-2-room-T-Destruct g c κs within = elim g.met.A.AllocHandle.small [ inl e ↦ rw (e.0, e.1) (lit< tt) | inr e ↦ rw (e.0, e.1) (lit< tt) ]
+
+pub drop-spread-requires-in-Some-2-room-T-Destruct : goal.drop-spread-requires-in-Some-2-room-T-Destruct
+drop-spread-requires-in-Some-2-room-T-Destruct g c κs within = elim g.met.A.AllocHandle.small [ inl e ↦ rw (e.0, e.1) (lit< tt) | inr e ↦ rw (e.0, e.1) (lit< tt) ]
+
+pub drop-spread-requires-in-Some-4-room-T-Destruct : goal.drop-spread-requires-in-Some-4-room-T-Destruct
+drop-spread-requires-in-Some-4-room-T-Destruct g c κs within = elim g.met.A.AllocHandle.small [ inl e ↦ rw (e.0, e.1) (lit< tt) | inr e ↦ rw (e.0, e.1) (lit< tt) ]
+
+pub drop-spread-requires-in-Some-5-room-T-Destruct : goal.drop-spread-requires-in-Some-5-room-T-Destruct
+drop-spread-requires-in-Some-5-room-T-Destruct g c κs within = elim g.met.A.AllocHandle.small [ inl e ↦ rw (e.0, e.1) (lit< tt) | inr e ↦ rw (e.0, e.1) (lit< tt) ]
+
+pub drop-spread-requires-in-Some-7-room-T-Destruct : goal.drop-spread-requires-in-Some-7-room-T-Destruct
+drop-spread-requires-in-Some-7-room-T-Destruct g c κs within = elim g.met.A.AllocHandle.small [ inl e ↦ rw (e.0, e.1) (lit< tt) | inr e ↦ rw (e.0, e.1) (lit< tt) ]
