@@ -28,6 +28,9 @@ use verdict::{Outcome, Shown};
 /// there is no answer for a state, `stop` is the path of the implementation that stopped the search, and with none no search
 /// was begun, for the specification's sake.
 ///
+/// Where names are unfolded at once, each such run is told by one of the script as it is written, if one is found: with more
+/// taus that does the same events, and comes to the same state.
+///
 /// `Memory` says that there is no room to tell.
 pub fn tell<A: AllocHandle>(
     alloc: A,
