@@ -3,6 +3,7 @@
 ghost use Rattle.std.specs.Prelude.{◌≡◌, ◌++◌, OnOk, Some, map};
 ghost use Rattle.std.specs.Option.{option_map};
 ghost use Rattle.std.specs.String.{string_bytes};
+ghost use Rattle.theory_syntax.specs.Models.{unfolding_of};
 ghost use Rattle.theory_search.specs.Terms.{IsAssertionOf};
 ghost use Rattle.csp_term.specs.Script.{assertion_of, script_of};
 ghost use Rattle.csp_term.specs.Term.{process_of};
@@ -26,7 +27,7 @@ use crate::told_run::ToldRun;
 use counterexample::{Run, Style, push_mark, push_path};
 use csp_print::Names;
 use csp_replay::Hindrance;
-use csp_term::{Action, AllocHandle, Memory, Script, Term};
+use csp_term::{Action, AllocHandle, Memory, Script, Term, Unfolding};
 use verdict::Why;
 
 /// Why there is no answer, and a run to a state that is faulty or large, where that is why.
@@ -174,8 +175,19 @@ fn push_stuck<A: AllocHandle>(
     match hindrance {
         Hindrance::Fault(_) => push_blame(alloc, names, script, states, text),
         Hindrance::Size => {
-            push_mark("  there it is too large, or what a step leads to\n", text)?;
+            push_mark(size_line(script.parts().unfolds), text)?;
             Ok(())
         }
+    }
+}
+
+// That the last state is too large, or what a step leads to, as names are read.
+fn size_line(unfolds: Unfolding) -> &'static str
+    ensures { result.now ≡ faults.size_line (unfolding_of unfolds) }
+{
+    match unfolds {
+        Unfolding::ByTau => "  there it is too large, or what a step leads to\n",
+        Unfolding::AtOnce =>
+            "  there it is too large, or what a step leads to, with its names unfolded\n",
     }
 }

@@ -1,7 +1,7 @@
 -- Runs of a side to a state that is faulty or large, by which an assertion has no answer.
 use Rattle.std.specs.Prelude.{◌≡◌, ℕ, List, [], ◌++◌, codes, Option, Some, None}
 use Rattle.theory_syntax.specs.Value.{Action}
-use Rattle.theory_syntax.specs.Process.{Process, Assertion, specification_of, AtOnce, Script}
+use Rattle.theory_syntax.specs.Process.{Process, Assertion, specification_of, ByTau, AtOnce, Script, Unfolding}
 use Rattle.theory_syntax.specs.Readings.{by_tau}
 use Rattle.theory_search.specs.Counting.{AreMoreThan}
 use Rattle.theory_search.specs.Outcome.{Why, TooManyPairs, TooManyNodes, LargeTerm, Fault, NoMemory}
@@ -63,10 +63,15 @@ IsSpreadSide script a run told = ⊥
 
 -- ---- the text
 
+-- that the last state is too large, or what a step leads to, as names are read
+abbrev pub size_line : Unfolding → List ℕ
+size_line ByTau = codes "  there it is too large, or what a step leads to\n"
+size_line AtOnce = codes "  there it is too large, or what a step leads to, with its names unfolded\n"
+
 -- what the last state of the run is stuck by: what is to blame there, or its size
 abbrev pub stuck_line : Names → Script → Hindrance → List Process → List ℕ
 stuck_line names script (ByCause c) states = blame_line names (last_culprit script states)
-stuck_line names script BySize states = codes "  there it is too large, or what a step leads to\n"
+stuck_line names script BySize states = size_line script.unfolds
 
 -- the side, its run state by state, and what is wrong at the end
 abbrev pub fault_run_text : Style → Script → Hindrance → SideRun → List ℕ

@@ -11,7 +11,7 @@ ghost use Rattle.theory_syntax.specs.Expression.{Add, Apply, Combine, Head, Modu
 ghost use Rattle.theory_syntax.specs.Value.{Action, Integer, Tau, Tick};
 ghost use Rattle.theory_faults.specs.Culprit.{NoChoice, OfChannel, OfConstructor, Outside, Valueless};
 ghost use Rattle.theory_faults.specs.Truth.{IsToBlame};
-ghost use Rattle.theory_syntax.specs.Readings.{by_tau};
+ghost use Rattle.theory_syntax.specs.Readings.{at_once, by_tau};
 ghost use Rattle.theory_semantics.specs.Laws.Terms.{digits};
 ghost use Rattle.theory_semantics.specs.Meaning.Runs.{trace};
 ghost use Rattle.theory_semantics.specs.Meaning.Evaluation.{BadModulus, Cause, EmptySequence, OutOfRange, Overflow};
@@ -113,6 +113,8 @@ pub fn texts_of_stops()
         ≡ codes "  the implementation comes there by\n  0 start\n      STOP\n  1 c.1\n      c.2 -> STOP\n  there field 1 of `c` is given `2`, which lies outside of its set\n" }
     ensures specification { found_text told digits BySize (Some (OfSpecification [] (p ∷ []) []))
         ≡ codes "  the specification comes there by\n  0 start\n      P\n  there it is too large, or what a step leads to\n" }
+    ensures at_once { found_text told (at_once digits) BySize (Some (OfSpecification [] (p ∷ []) []))
+        ≡ codes "  the specification comes there by\n  0 start\n      P\n  there it is too large, or what a step leads to, with its names unfolded\n" }
     ensures none { found_text told digits BySize None
         ≡ codes "  the specification comes there, and has too many states to tell how\n" }
 {}

@@ -9,3 +9,7 @@ returns-clause-implementation c = refl
 pub returns-clause-specification : goal.returns-clause-specification
 unfolding digits
 returns-clause-specification c = refl
+
+pub returns-clause-at_once : goal.returns-clause-at_once
+unfolding digits
+returns-clause-at_once c = refl
