@@ -26,6 +26,9 @@ pub(crate) struct Walk<A: AllocHandle> {
 /// How many taus are looked for behind a step, at most. Each unfolds a name, and states have fewer parts.
 const MOST_TAUS: u32 = 1_000;
 
+/// How many nodes a term within the limits has, at most.
+const MOST_NODES: u32 = 2_000;
+
 /// The walk that stands at the term.
 pub(crate) fn walk_at<A: AllocHandle>(alloc: A, term: &Term<A>) -> Result<Walk<A>, Memory>
     ensures { IfOk result (IsAt (process_of term.now)) }
@@ -81,9 +84,21 @@ pub(crate) fn taus_to<A: AllocHandle>(
         let Some(next) = found else {
             return Ok(None);
         };
+        if is_larger(&next, target) {
+            return Ok(None);
+        }
         walk = one_on(walk, tau, next)?;
     }
     Ok(None)
+}
+
+// Whether the term has more nodes than the other one, so that no names that are unfolded at once lead to that: these make no
+// term smaller.
+fn is_larger<A: AllocHandle>(term: &Term<A>, other: &Term<A>) -> bool {
+    match other.room_left(MOST_NODES) {
+        Some(rest) => term.room_left(MOST_NODES - rest).is_none(),
+        None => false,
+    }
 }
 
 /// The walk, gone on by a step by the action, and taus behind it, to the target, or `None` where none are found.

@@ -39,3 +39,6 @@ drop-walk-requires-in_default-room-T-Destruct g c κs within = elim g.met.A.Allo
 
 pub drop-walk-requires-2-room-T-Destruct : goal.drop-walk-requires-2-room-T-Destruct
 drop-walk-requires-2-room-T-Destruct g c κs within = elim g.met.A.AllocHandle.small [ inl e ↦ rw (e.0, e.1) (lit< tt) | inr e ↦ rw (e.0, e.1) (lit< tt) ]
+
+pub drop-walk-requires-then-is_larger-room-T-Destruct : goal.drop-walk-requires-then-is_larger-room-T-Destruct
+drop-walk-requires-then-is_larger-room-T-Destruct g c κs within = elim g.met.A.AllocHandle.small [ inl e ↦ rw (e.0, e.1) (lit< tt) | inr e ↦ rw (e.0, e.1) (lit< tt) ]
