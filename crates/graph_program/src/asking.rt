@@ -32,12 +32,14 @@ pub(crate) fn asked_text<A: AllocHandle>(
     if assertions.len() <= place {
         return Err(Stop::NoAssertion);
     }
-    let asked = settled_assertion(alloc, script.parts(), &assertions[place])?;
+    let written = &assertions[place];
+    let asked = settled_assertion(alloc, script.parts(), written)?;
     let Some(start) = side_of(settings.specification, &asked) else {
         return Err(Stop::NoSpecification);
     };
     let graph = graph_of(alloc, script, start, settings.max_states)?;
-    Ok(text_of(alloc, settings.format, script, &graph)?)
+    let text = text_of(alloc, settings.format, script, &graph)?;
+    Ok(text)
 }
 
 // The specification of the assertion, if it has one, or the implementation.

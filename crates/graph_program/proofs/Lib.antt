@@ -1,0 +1,4 @@
+mod Asking
+mod Sides
+mod Stopping
+mod Texts
