@@ -92,6 +92,9 @@ pub(crate) fn told_by<'w, R: Threads + Wait + Sync>(
         ["explain", rest @ ..] => {
             explain_program::run(&resources, rest, &mut files, &mut out, &mut err)
         }
+        ["graph", rest @ ..] => {
+            graph_program::run(&resources, rest, &mut files, &mut out, &mut err)
+        }
         [_, rest @ ..] => program::run(&resources, rest, &mut files, &mut out, &mut err),
         [] => 3,
     };

@@ -1,4 +1,4 @@
-mod Asking
+mod Requests
 mod Sides
 mod Stopping
 mod Texts

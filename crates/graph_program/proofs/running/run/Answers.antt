@@ -4,7 +4,7 @@ use Rattle.graph_settings.specs.Faults.{IsFaultOf}
 use Rattle.program.specs.Running.{texts_of}
 use Rattle.graph_program.specs.Asking.{request_of}
 use Rattle.graph_program.specs.Running as running
-use Rattle.graph_program.proofs.Asking.{asked}
+use Rattle.graph_program.proofs.Requests.{asked}
 use Rattle.graph_program.proofs.running.run.Goals as goal
 
 pub returns-in-Ok-clause-served : goal.returns-in-Ok-clause-served
