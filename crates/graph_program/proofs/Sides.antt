@@ -30,7 +30,7 @@ lacks_specification : (script : Script) (specification : Bool) (a : Assertion) �
 lacks_specification script true a none = (refl, unsettled script a.property none)
 lacks_specification script false a none = absurd (cc none)
 
-none_of : {X Y : Type 0} (f : X → Y) (o : Option X) → ((x : X) → o ≡ Some x → ⊥) → option_map f o ≡ None
+pub none_of : {X Y : Type 0} (f : X → Y) (o : Option X) → ((x : X) → o ≡ Some x → ⊥) → option_map f o ≡ None
 none_of f None never = refl
 none_of f (Some x) never = absurd (never x refl)
 
