@@ -22,7 +22,7 @@ not_above Less falls = refl
 not_above Equal falls = refl
 not_above Greater falls = absurd (falls refl)
 
-abbrev actions : List Step → List ActionId
+abbrev pub actions : List Step → List ActionId
 actions ss = map (λ s. s.action) ss
 
 sorted_actions : (ss : List Step) → NeverFall ss → IsSorted number_cmp (actions ss)
@@ -34,7 +34,7 @@ sorted_actions (s ∷ t ∷ ts) falls (suc k) d low lt =
     let e : suc (k + 1) ≡ suc k + 1 = omega arith in
     subst (λ (m : ℕ). is_lt (number_cmp (get_or all m d) (get_or all (suc k) d)) ≡ false) e (sorted_actions (t ∷ ts) falls.1 k d (omega arith) (omega (arith, lt)))
 
-abbrev Ties : ActionId → ActionId → Bool
+abbrev pub Ties : ActionId → ActionId → Bool
 Ties x y = is_eq (number_cmp x y)
 
 pub actions_once : (ss : List Step) (all once : List ActionId) → all ≡ actions ss → once ≡ dedup Ties all → NeverFall ss → AreActionsOf ss once

@@ -1,4 +1,6 @@
 pub mod Pools
+pub mod Stacks
+pub mod KeptAlone
 pub mod Jointly
 pub mod Shares
 pub mod Composing
@@ -24,6 +26,7 @@ pub mod ActionOrder
 pub mod Rows
 pub mod Ordered
 pub mod Acting
+pub mod Nothing
 pub mod Loops
 pub mod Counting
 pub mod RowsOfParts

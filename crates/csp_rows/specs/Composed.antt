@@ -1,17 +1,18 @@
 -- The steps of two sides.
-use Rattle.std.specs.Prelude.{◌≡◌, ℕ, Bool, cond, ◌&&◌, List, [], ◌∷◌, length, None}
+use Rattle.std.specs.Prelude.{◌≡◌, ◌≤◌, ℕ, Bool, cond, ◌&&◌, List, [], ◌∷◌, length, None}
 use Rattle.theory_syntax.specs.Value.{Tick}
 use Rattle.theory_syntax.specs.Process.{Script}
 use Rattle.theory_shapes.specs.Shape.{Composition}
 use Rattle.theory_shapes.specs.Combining.{Sides, StepsTo, composed_steps, is_left_free, is_right_free, is_shared}
 use Rattle.theory_shapes.specs.Moves.{both_changes}
 use Rattle.csp_rows.specs.declared.changes.Change.{Change}
-use Rattle.csp_rows.specs.declared.composed.Side.{Side}
+use Rattle.csp_rows.specs.declared.composed.Side as placed
 use Rattle.csp_rows.specs.declared.composed.SideBits.{SideBits}
 use Rattle.csp_rows.specs.declared.numbers.ActionId.TheVariants as by_number
 use Rattle.csp_rows.specs.declared.step.Step.{Step}
+use Rattle.csp_rows.specs.Stacks.{ArePlacesIn, between}
 use Rattle.csp_rows.specs.Numbering.{AreBitsOf, Numbering}
-use Rattle.csp_rows.specs.Runs.{AreNumbered, AreToldIn, IsGrown, KeepsParts, Told, steps_of, told_of}
+use Rattle.csp_rows.specs.Runs.{AreNumbered, AreToldIn, IsGrown, KeepsParts, Side, Told, steps_of, side_of, told_of}
 
 -- the bits are those of the events that each side does alone, and that both do together
 pub record AreSideBitsOf {A : Type 0} (z : Numbering) (script : Script) (c : Composition) (bits : SideBits A) : Type 0 where
@@ -20,7 +21,7 @@ pub record AreSideBitsOf {A : Type 0} (z : Numbering) (script : Script) (c : Com
   pub shared : AreBitsOf z (is_shared script c) bits.shared.marks.items
 
 -- the changes of two sides are those of the whole
-abbrev pub told_sides : {A : Type 0} → Numbering → List Change → Side A → Side A → Sides Told
+abbrev pub told_sides : Numbering → List Change → Side → Side → Sides Told
 told_sides z pool left right = record {
   on_left = λ o. o;
   on_right = λ o. o;
@@ -38,10 +39,23 @@ abbrev pub ends_of : Bool → Bool → StepsTo Told
 ends_of left right = cond (left && right) ((Tick, None) ∷ []) []
 
 -- These are the steps of the composition of two sides where the bits are its bits. The pool has grown.
-pub record IsComposed {A : Type 0} (bits : SideBits A) (left right : Side A) (pool after : List Change) (steps : List Step) : Type 0 where
+pub record IsComposed {A : Type 0} (bits : SideBits A) (left right : Side) (pool after : List Change) (steps : List Step) : Type 0 where
   pub grown : IsGrown pool after
   pub keeps : KeepsParts pool after
   pub inside : AreToldIn (length after) steps
-  pub numbered : (events : ℕ) → AreNumbered events left.steps.items → AreNumbered events right.steps.items → AreNumbered events steps
-  pub made : (z : Numbering) (script : Script) (c : Composition) → AreSideBitsOf z script c bits → AreNumbered z.events left.steps.items → AreNumbered z.events right.steps.items
-      → steps_of z after steps ≡ composed_steps script c (told_sides z pool left right) (steps_of z pool left.steps.items) (steps_of z pool right.steps.items) (ends_of left.has_ended right.has_ended)
+  pub numbered : (events : ℕ) → AreNumbered events left.steps → AreNumbered events right.steps → AreNumbered events steps
+  pub made : (z : Numbering) (script : Script) (c : Composition) → AreSideBitsOf z script c bits → AreNumbered z.events left.steps → AreNumbered z.events right.steps
+      → steps_of z after steps ≡ composed_steps script c (told_sides z pool left right) (steps_of z pool left.steps) (steps_of z pool right.steps) (ends_of left.has_ended right.has_ended)
+
+-- ---- sides on a stack
+
+-- the side whose steps stand at its places
+abbrev pub side_at : placed.Side → List Step → Side
+side_at side ss = side_of (between side.steps ss) side.end
+
+-- The right side stands on top of so many, and the left one below it.
+pub record AreOnTop (below above : placed.Side) (n : ℕ) : Type 0 where
+  pub left : below.steps.from ≤ below.steps.to
+  pub meets : below.steps.to ≡ above.steps.from
+  pub right : ArePlacesIn n above.steps
+  pub top : above.steps.to ≡ n

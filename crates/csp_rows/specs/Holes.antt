@@ -5,12 +5,11 @@ use Rattle.theory_shapes.specs.Combining.{StepsTo}
 use Rattle.theory_shapes.specs.ShapeSteps.{put_in}
 use Rattle.csp_rows.specs.declared.changes.Change.{Change}
 use Rattle.csp_rows.specs.declared.changes.Run.{Run}
-use Rattle.csp_rows.specs.declared.composed.Side.{Side}
 use Rattle.csp_rows.specs.declared.numbers.PartId.{PartId}
 use Rattle.csp_rows.specs.declared.step.PartStep.{PartStep}
 use Rattle.csp_rows.specs.declared.step.Step.{Step}
 use Rattle.csp_rows.specs.Numbering.{Numbering}
-use Rattle.csp_rows.specs.Runs.{AreAmong, AreNumbered, AreToldIn, IsGrown, IsSideIn, Told, steps_of, told_of}
+use Rattle.csp_rows.specs.Runs.{AreAmong, AreNumbered, AreToldIn, IsGrown, IsSideIn, Side, Told, steps_of, told_of}
 use Rattle.csp_rows.specs.Rows.{AreStepsNumbered, AreTargetsAmong, ended_at, part_steps_of}
 
 -- the run has this change, at the end of the grown pool
@@ -24,19 +23,19 @@ abbrev pub put_steps : Numbering → ℕ → List PartStep → StepsTo Told
 put_steps z hole known = map (λ s. (s.0, put_in hole s.1)) (part_steps_of z known)
 
 -- What is added are the steps of a part, as changes of its hole. The pool has grown.
-pub record AddsKnown (hole : ℕ) (known : List PartStep) (pool : List Change) (old : List Step) (after : List Change) (new : List Step) : Type 0 where
+pub record AreKnownIn (hole : ℕ) (known : List PartStep) (pool after : List Change) (added : List Step) : Type 0 where
   pub grown : IsGrown pool after
   pub keeps : (n : ℕ) → AreTargetsAmong n known → AreAmong n pool → AreAmong n after
-  pub inside : AreToldIn (length after) new
-  pub numbered : (events : ℕ) → AreStepsNumbered events known → AreNumbered events old → AreNumbered events new
-  pub made : (z : Numbering) → steps_of z after new ≡ steps_of z pool old ++ put_steps z hole known
+  pub inside : AreToldIn (length after) added
+  pub numbered : (events : ℕ) → AreStepsNumbered events known → AreNumbered events added
+  pub made : (z : Numbering) → steps_of z after added ≡ put_steps z hole known
 
 -- The side is that of a hole whose part has these steps.
-pub record IsHoleSide {A : Type 0} (hole : ℕ) (row : List PartId) (known : List PartStep) (pool after : List Change) (side : Side A) : Type 0 where
+pub record IsHoleSide (hole : ℕ) (row : List PartId) (known : List PartStep) (pool after : List Change) (side : Side) : Type 0 where
   pub grown : IsGrown pool after
   pub keeps : (n : ℕ) → 0 < n → AreTargetsAmong n known → AreAmong n pool → AreAmong n after
   pub inside : IsSideIn (length after) side
-  pub numbered : (events : ℕ) → AreStepsNumbered events known → AreNumbered events side.steps.items
-  pub made : (z : Numbering) → steps_of z after side.steps.items ≡ put_steps z hole known
+  pub numbered : (events : ℕ) → AreStepsNumbered events known → AreNumbered events side.steps
+  pub made : (z : Numbering) → steps_of z after side.steps ≡ put_steps z hole known
   pub ending : (z : Numbering) → told_of z after side.ending ≡ put_in hole Omega
   pub has_ended : side.has_ended ≡ ended_at row hole

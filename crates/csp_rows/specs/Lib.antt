@@ -1,5 +1,6 @@
 pub mod Numbering
 pub mod Runs
+pub mod Stacks
 pub mod Adding
 pub mod Composed
 pub mod Framed

@@ -1,12 +1,12 @@
 -- Changes of a pool, and steps that have some of them.
-use Rattle.std.specs.Prelude.{◌≡◌, ◌<◌, ◌≤◌, ℕ, ◌-◌, ⊤, List, [], ◌++◌, length, map, drop, take, Option, Some, None}
+use Rattle.std.specs.Prelude.{◌≡◌, ◌<◌, ◌≤◌, ℕ, Bool, ◌-◌, ⊤, List, [], ◌++◌, length, map, drop, take, Option, Some, None}
 use Rattle.std.specs.List.{AllByRecursion}
 use Rattle.theory_syntax.specs.Value.{Action}
 use Rattle.theory_shapes.specs.Changes as pure
 use Rattle.csp_rows.specs.declared.changes.Change.{Change}
 use Rattle.csp_rows.specs.declared.changes.Run.{Run}
 use Rattle.csp_rows.specs.declared.step.Step.{Step}
-use Rattle.csp_rows.specs.declared.composed.Side.{Side}
+use Rattle.csp_rows.specs.declared.composed.End.{End}
 use Rattle.csp_rows.specs.Numbering.{IsNumbered, Numbering, action_at}
 
 -- what is told by changes, where there are some
@@ -57,8 +57,17 @@ IsToldIn n (Some r) = IsRunIn n r
 abbrev pub AreToldIn : ℕ → List Step → Type 0
 AreToldIn n ss = AllByRecursion (λ s. IsToldIn n s.changes) ss
 
-pub record IsSideIn {A : Type 0} (n : ℕ) (side : Side A) : Type 0 where
-  pub steps : AreToldIn n side.steps.items
+-- the steps of one side of an operator, and how it ends
+pub record Side : Type 0 where
+  pub steps : List Step
+  pub ending : Option Run
+  pub has_ended : Bool
+
+abbrev pub side_of : List Step → End → Side
+side_of ss end = record { steps = ss; ending = end.ending; has_ended = end.has_ended }
+
+pub record IsSideIn (n : ℕ) (side : Side) : Type 0 where
+  pub steps : AreToldIn n side.steps
   pub ending : IsToldIn n side.ending
 
 -- ---- numbers

@@ -6,7 +6,6 @@ use Rattle.theory_semantics.specs.Meaning.Stepping.{Steps}
 use Rattle.theory_shapes.specs.Shape as pure
 use Rattle.theory_shapes.specs.ShapeSteps as pure_steps
 use Rattle.csp_rows.specs.declared.changes.Change.{Change}
-use Rattle.csp_rows.specs.declared.composed.Side.{Side}
 use Rattle.csp_rows.specs.declared.composed.SideBits.{SideBits}
 use Rattle.csp_rows.specs.declared.framed.Frame.{Frame}
 use Rattle.csp_rows.specs.declared.numbers.PartId.{PartId}
@@ -16,7 +15,7 @@ use Rattle.csp_rows.specs.declared.shape.Shape.TheOpen as layer
 use Rattle.csp_rows.specs.declared.shape.Shape.TheFolds.{fold-Shape}
 use Rattle.csp_rows.specs.declared.step.Step.{Step}
 use Rattle.csp_rows.specs.Numbering.{Numbering}
-use Rattle.csp_rows.specs.Runs.{AreAmong, AreNumbered, AreToldIn, IsGrown, IsSideIn, steps_of, told_of}
+use Rattle.csp_rows.specs.Runs.{AreAmong, AreNumbered, AreToldIn, IsGrown, IsSideIn, Side, steps_of, told_of}
 use Rattle.csp_rows.specs.Composed.{AreSideBitsOf}
 use Rattle.csp_rows.specs.Framed.{IsFrameOf}
 use Rattle.csp_rows.specs.Rows.{ArePartsAmong, ArePartsNumbered, row_parts, row_steps}
@@ -48,14 +47,14 @@ is_omega Omega = true
 is_omega p = false
 
 -- The side is what the steps of a shape with parts in its holes are told by, and how it ends.
-pub record IsToldBy {A : Type 0} (z : Numbering) (script : Script) (n : ℕ) (s : pure.Shape) (parts : List Process) (known : List Steps) (pool : List Change) (side : Side A) : Type 0 where
-  pub numbered : AreNumbered z.events side.steps.items
-  pub steps : steps_of z pool side.steps.items ≡ pure_steps.steps_from script n s parts known
+pub record IsToldBy (z : Numbering) (script : Script) (n : ℕ) (s : pure.Shape) (parts : List Process) (known : List Steps) (pool : List Change) (side : Side) : Type 0 where
+  pub numbered : AreNumbered z.events side.steps
+  pub steps : steps_of z pool side.steps ≡ pure_steps.steps_from script n s parts known
   pub ending : told_of z pool side.ending ≡ pure_steps.ended_side n s
   pub has_ended : side.has_ended ≡ is_omega (pure.fill_from n s parts)
 
 -- The side is that of the shape, whatever the numbers stand for. The pool has grown.
-pub record IsShapeSide {A : Type 0} (shape : Tree A) (row : List PartId) (parts : List (Part A)) (pool after : List Change) (side : Side A) : Type 0 where
+pub record IsShapeSide {A : Type 0} (shape : Tree A) (row : List PartId) (parts : List (Part A)) (pool after : List Change) (side : Side) : Type 0 where
   pub grown : IsGrown pool after
   pub keeps : (n : ℕ) → 0 < n → ArePartsAmong n parts → AreAmong n pool → AreAmong n after
   pub inside : IsSideIn (length after) side

@@ -1,11 +1,13 @@
 //! The steps of a process in a frame.
 
-ghost use Rattle.std.specs.Prelude.{◌≡◌, ◌++◌, IfOk, OnOk, map};
+ghost use Rattle.std.specs.Prelude.{◌≡◌, ◌≤◌, ◌++◌, OnOk, drop, length, map, take};
+ghost use Rattle.csp_rows.specs.Stacks.{ArePlacesIn, IsOnTop, between};
 ghost use Rattle.csp_rows.specs.Framed.{IsFramed, hidden_step, image_steps, images_at, renamed_step, renamed_steps};
 
 use crate::bits::Bits;
 use crate::changes::Run;
 use crate::numbers::{ActionId, EventId};
+use crate::stack::{Places, let_go};
 use crate::step::Step;
 use std::alloc::{AllocError, Allocator};
 
@@ -48,20 +50,16 @@ fn hide_one<A: Allocator>(step: Step, hidden: &Bits<A>) -> Step
     }
 }
 
-/// The steps where the events of a set are hidden.
-fn hide<A: Allocator>(
-    alloc: A,
-    steps: &[Step],
-    hidden: &Bits<A>,
-) -> Result<Vec<Step, A>, AllocError>
-    ensures { IfOk result (λ all. all.items ≡ map (hidden_step hidden.now.marks.items) steps.now) }
+/// Hides the events of a set in the steps between the places, each in its place.
+fn hide<A: Allocator>(steps: &mut Vec<Step, A>, body: Places, hidden: &Bits<A>)
+    requires { ArePlacesIn (length steps.now.items) body }
+    ensures { steps.new.items ≡ take body.from steps.old.items
+        ++ (map (hidden_step hidden.now.marks.items) (between body steps.old.items)
+        ++ drop body.to steps.old.items) }
 {
-    let mut all = Vec::with_capacity(alloc, steps.len())?;
-    for step in steps {
-        let seen = hide_one(*step, hidden);
-        all.push(seen)?;
+    for place in body.from..body.to {
+        steps[place] = hide_one(steps[place], hidden);
     }
-    Ok(all)
 }
 
 /// What an event is done as: nothing, if there are no images of its number.
@@ -113,31 +111,42 @@ fn add_renamed<A: Allocator>(
     }
 }
 
-/// The steps where events are renamed.
+/// Renames the events of the steps between the places, which are all on top.
 fn rename<A: Allocator>(
-    alloc: A,
-    steps: &[Step],
+    steps: &mut Vec<Step, A>,
+    body: Places,
     images: &Images<A>,
-) -> Result<Vec<Step, A>, AllocError>
-    ensures { IfOk result (λ all. all.items ≡ renamed_steps images.now.images.items steps.now) }
+) -> Result<(), AllocError>
+    requires in_bounds { ArePlacesIn (length steps.now.items) body }
+    requires top { body.to ≡ length steps.now.items }
+    ensures { OnOk result (steps.new.items ≡ take body.from steps.old.items
+        ++ renamed_steps images.now.images.items (between body steps.old.items)) }
 {
-    let mut all = Vec::with_capacity(alloc, steps.len())?;
-    for step in steps {
-        add_renamed(&mut all, *step, images)?;
+    for place in body.from..body.to {
+        let step = steps[place];
+        add_renamed(steps, step, images)?;
     }
-    Ok(all)
+    let_go(steps, body);
+    Ok(())
 }
 
-/// The steps of a process in a frame.
+/// Puts a frame round the process whose steps stand from a place on: they are those of the frame then.
 pub(crate) fn enframe<A: Allocator>(
-    alloc: A,
-    steps: &[Step],
+    steps: &mut Vec<Step, A>,
+    from: usize,
     frame: &Frame<A>,
-) -> Result<Vec<Step, A>, AllocError>
-    ensures { IfOk result (λ all. IsFramed frame.now steps.now all.items) }
+) -> Result<(), AllocError>
+    requires { from ≤ length steps.now.items }
+    ensures { OnOk result (IsOnTop (take from steps.old.items)
+        (IsFramed frame.now (drop from steps.old.items)) steps.new.items) }
 {
+    let to = steps.len();
+    let body = Places { from, to };
     match frame {
-        Frame::Hidden(hidden) => hide(alloc, steps, hidden),
-        Frame::Renamed(images) => rename(alloc, steps, images),
+        Frame::Hidden(hidden) => {
+            hide(steps, body, hidden);
+            Ok(())
+        }
+        Frame::Renamed(images) => rename(steps, body, images),
     }
 }

@@ -1,12 +1,13 @@
 //! The steps of the part in a hole, as changes of that hole.
 
-ghost use Rattle.std.specs.Prelude.{IfOk, OnOk, length};
-ghost use Rattle.csp_rows.specs.Runs.{AreToldIn};
-ghost use Rattle.csp_rows.specs.Holes.{AddsKnown, IsAdded, IsHoleSide};
+ghost use Rattle.std.specs.Prelude.{IfOk, OnOk};
+ghost use Rattle.csp_rows.specs.Stacks.{IsOnTop};
+ghost use Rattle.csp_rows.specs.Runs.{side_of};
+ghost use Rattle.csp_rows.specs.Holes.{AreKnownIn, IsAdded, IsHoleSide};
 ghost use Rattle.csp_rows.specs.Rows.{steps_at};
 
 use crate::changes::{Change, Run};
-use crate::composed::Side;
+use crate::composed::End;
 use crate::numbers::PartId;
 use crate::part::{Part, has_ended, known_steps};
 use crate::step::{PartStep, Step};
@@ -29,9 +30,8 @@ fn add_known<A: Allocator>(
     hole: u32,
     known: &[PartStep],
 ) -> Result<(), AllocError>
-    requires { AreToldIn (length pool.now.items) steps.now.items }
-    ensures { OnOk result (AddsKnown hole known.now pool.old.items steps.old.items pool.new.items
-        steps.new.items) }
+    ensures { OnOk result (IsOnTop steps.old.items
+        (AreKnownIn hole known.now pool.old.items pool.new.items) steps.new.items) }
 {
     for step in known {
         let part = step.target;
@@ -42,26 +42,21 @@ fn add_known<A: Allocator>(
     Ok(())
 }
 
-/// The side that a hole is. Where its part ends, it becomes the process that has ended.
-pub(crate) fn hole_side<A: Allocator>(
-    alloc: A,
+/// Puts the steps of a hole on top, and tells its end: where its part ends, it becomes the process that has ended.
+pub(crate) fn add_hole<A: Allocator>(
     hole: u32,
     row: &[PartId],
     parts: &[Part<A>],
     pool: &mut Vec<Change, A>,
-) -> Result<Side<A>, AllocError>
-    ensures { IfOk result (IsHoleSide hole row.now (steps_at parts.now row.now hole) pool.old.items
-        pool.new.items) }
+    steps: &mut Vec<Step, A>,
+) -> Result<End, AllocError>
+    ensures { IfOk result (λ end. IsOnTop steps.old.items
+        (λ top. IsHoleSide hole row.now (steps_at parts.now row.now hole)
+        pool.old.items pool.new.items (side_of top end)) steps.new.items) }
 {
-    let known = known_steps(row, parts, hole);
-    let mut steps = Vec::with_capacity(alloc, known.len())?;
-    add_known(pool, &mut steps, hole, known)?;
+    add_known(pool, steps, hole, known_steps(row, parts, hole))?;
     let part = PartId::OMEGA;
     let ending = Some(add_change(pool, Change { hole, part })?);
     let has_ended = has_ended(row, hole);
-    Ok(Side {
-        steps,
-        ending,
-        has_ended,
-    })
+    Ok(End { ending, has_ended })
 }

@@ -33,6 +33,7 @@ pub mod row_laws;
 mod shape;
 mod split_laws;
 mod splitting;
+mod stack;
 mod step;
 mod steps;
 mod targets;

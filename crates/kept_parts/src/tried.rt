@@ -10,6 +10,10 @@ const MOST_TRIED: usize = 64;
 // How many of these may be let go for others.
 const MOST_LET_GO: usize = 32;
 
+// What the spelling of a term begins with where an operator that stays is at its head:
+// interleaving, generalised and alphabetised parallel, hiding, renaming.
+static STANDING_HEADS: [u8; 5] = [0x0b, 0x0d, 0x0e, 0x0f, 0x10];
+
 /// The parts that are tried in each hole, in turn, where a term is known by its bytes.
 #[derive(Drop)]
 pub(crate) struct Tried<A: Allocator> {
@@ -64,6 +68,18 @@ fn mark<A: Allocator>(marks: &mut Vec<bool, A>, part: PartId) -> Result<bool, Me
     }
     marks[place] = true;
     Ok(true)
+}
+
+/// Whether an operator that stays is at the head of a part. Such a part is taken apart, and does
+/// not stand in a hole.
+fn is_composed<A: Allocator>(parts: &[Part<A>], part: PartId) -> bool {
+    let Some(part) = parts.get(part.0 as usize) else {
+        return false;
+    };
+    match part.spelling.as_slice() {
+        [head, ..] => STANDING_HEADS.contains(head),
+        [] => false,
+    }
 }
 
 /// The steps that are kept of a part.
@@ -127,14 +143,17 @@ impl<A: Allocator + Copy> Tried<A> {
         Ok(())
     }
 
-    /// Tries what the steps of a part lead to in a hole, unless that was done before.
+    /// Tries what the steps of a part lead to in a hole, but for terms to be taken apart, unless
+    /// that was done before.
     fn follow(&mut self, hole: usize, part: PartId, parts: &[Part<A>]) -> Result<(), Memory> {
         if hole >= self.holes.len() || hole >= self.followed.len() {
             return Ok(());
         }
         if mark(&mut self.followed[hole], part)? {
             for step in steps_of(parts, part) {
-                try_part(&mut self.holes[hole], step.target)?;
+                if !is_composed(parts, step.target) {
+                    try_part(&mut self.holes[hole], step.target)?;
+                }
             }
         }
         Ok(())

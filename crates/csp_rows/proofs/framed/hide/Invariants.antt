@@ -1,6 +1,6 @@
-use Rattle.std.proofs.Common.{◌≡◌, map, take}
 use Rattle.csp_rows.specs.Framed.{hidden_step}
+use Rattle.csp_rows.proofs.Frames.{HiddenUpTo}
 use Rattle.csp_rows.proofs.framed.hide.Given as goal
 
-abbrev pub invariant-loop-step : goal.invariant-loop-step
-invariant-loop-step g l = l.all.items ≡ map (hidden_step l.hidden.marks.items) (take l.step-index l.steps)
+abbrev pub invariant-loop-place : goal.invariant-loop-place
+invariant-loop-place g l = HiddenUpTo (hidden_step l.hidden.marks.items) l.fn.steps.items l.steps.items l.fn.body l.place

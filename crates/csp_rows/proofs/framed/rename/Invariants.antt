@@ -1,6 +1,5 @@
-use Rattle.std.proofs.Common.{◌≡◌, take}
-use Rattle.csp_rows.specs.Framed.{renamed_steps}
+use Rattle.csp_rows.proofs.Frames.{RenamedUpTo}
 use Rattle.csp_rows.proofs.framed.rename.Given as goal
 
-abbrev pub invariant-loop-step : goal.invariant-loop-step
-invariant-loop-step g l = l.all.items ≡ renamed_steps l.images.images.items (take l.step-index l.steps)
+abbrev pub invariant-loop-place : goal.invariant-loop-place
+invariant-loop-place g l = RenamedUpTo l.images.images.items l.fn.steps.items l.steps.items l.fn.body l.place

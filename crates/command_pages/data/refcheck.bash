@@ -1,0 +1,14 @@
+# Completion of refcheck for bash: source this file, or lay it under bash-completion's folder as `refcheck`.
+_refcheck() {
+    local word=${COMP_WORDS[COMP_CWORD]} before=${COMP_WORDS[COMP_CWORD-1]}
+    case $before in
+        --workers) COMPREPLY=($(compgen -W '1 2 4 8 16 32 64' -- "$word")); return ;;
+        --max-pairs) COMPREPLY=($(compgen -W '100000 1000000' -- "$word")); return ;;
+        --max-nodes) COMPREPLY=($(compgen -W '10000 100000' -- "$word")); return ;;
+    esac
+    case $word in
+        -*) COMPREPLY=($(compgen -W '--unfold --workers --max-pairs --max-nodes --help --version' -- "$word")) ;;
+        *) COMPREPLY=($(compgen -f -X '!*.csp' -- "$word") $(compgen -d -- "$word")) ;;
+    esac
+}
+complete -o filenames -F _refcheck refcheck
