@@ -10,7 +10,7 @@ ghost use Rattle.explain_program.specs.Explaining.{IsExplained};
 use crate::explaining::explain_script;
 use crate::reader::read;
 use crate::refusals::{refuse_text, refuse_unread};
-use crate::stop::report_stop;
+use crate::stop::{Stop, report_stop};
 use csp_term::AllocHandle;
 use explain_settings::Settings;
 use program::{Files, Refusal, Resources, refuse, refuse_words, show};
@@ -83,19 +83,19 @@ fn explain<A: AllocHandle + Send + Sync, R: Threads + Wait + Sync, F: Files<A>, 
 {
     let text = match files.read(settings.file) {
         Ok(text) => text,
-        Err(fault) => return refuse_unread(resources.alloc, settings.file, fault, err),
+        Err(fault) => return refuse_unread(resources.alloc, settings, fault, err),
     };
     if !resources.stack.takes(text.len()) {
-        return refuse(Refusal::Thread, err);
+        return report_stop(settings.format, Stop::Refused(Refusal::Thread), err);
     }
     let (alloc, rt) = (resources.alloc, resources.rt);
     let named = match read(alloc, &text) {
         Ok(named) => named,
-        Err(why) => return refuse_text(alloc, settings.file, &text, why, err),
+        Err(why) => return refuse_text(alloc, settings, &text, why, err),
     };
     let named = named.as_asked(settings.at_once);
     match explain_script(alloc, rt, settings, &named, out) {
         Ok(status) => status,
-        Err(why) => report_stop(why, err),
+        Err(why) => report_stop(settings.format, why, err),
     }
 }

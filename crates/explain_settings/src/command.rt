@@ -1,9 +1,9 @@
 //! The arguments of the command line, as `clap` takes them.
 
-ghost use Rattle.std.specs.Prelude.{◌≡◌, ◌≤◌, IfOk, false};
+ghost use Rattle.std.specs.Prelude.{◌≡◌, ◌≤◌, IfOk, codes, false};
 ghost use Rattle.clap.specs.Words.{app_of, rule_of};
 ghost use Rattle.settings.specs.CommandLine.{file_rule, number_rule};
-ghost use Rattle.explain_settings.specs.CommandLine.{command_line, count_rule};
+ghost use Rattle.explain_settings.specs.CommandLine.{command_line, count_rule, format_rule};
 
 use crate::help::{ABOUT, STATUS, VERSION};
 use clap::{Arg, ArgAction, Command};
@@ -42,10 +42,9 @@ pub(crate) fn command_line<'a>(alloc: Global) -> Result<Command<'a>, AllocError>
     let counted = flag(alloc, "count", COUNT);
     let events = flag(alloc, "events", EVENTS);
     let steps = flag(alloc, "steps", STEPS);
+    let format = format(alloc);
     let file = file(alloc);
-    let assertion = count(alloc, "assertion", "0", MOST).help(
-        "The number of the assertion to tell of, or 0 for each",
-    );
+    let assertion = assertion(alloc);
     Command::new(alloc, "explain")
         .no_binary_name(true)
         .version(VERSION)
@@ -59,6 +58,7 @@ pub(crate) fn command_line<'a>(alloc: Global) -> Result<Command<'a>, AllocError>
         .arg(counted)?
         .arg(events)?
         .arg(steps)?
+        .arg(format)?
         .arg(file)?
         .arg(assertion)
 }
@@ -69,9 +69,29 @@ fn file<'a>(alloc: Global) -> Arg<'a>
 {
     Arg::new(alloc, "file")
         .value_name("FILE")
-        .help("The script to check")
+        .help("The script to check, or - for standard input")
         .required(true)
         .action(ArgAction::Set)
+}
+
+fn format<'a>(alloc: Global) -> Arg<'a>
+    ensures rule { rule_of result ≡ format_rule }
+    ensures local { result.global ≡ false }
+{
+    Arg::new(alloc, "format")
+        .long("format")
+        .value_name("FORMAT")
+        .help("How it is told: text, or json, a line of JSON for each assertion")
+        .action(ArgAction::Set)
+        .value_parser(clap::value_parser!(String))
+        .default_value("text")
+}
+
+fn assertion<'a>(alloc: Global) -> Arg<'a>
+    ensures rule { rule_of result ≡ count_rule (codes "assertion") (codes "0") 1000000 }
+    ensures local { result.global ≡ false }
+{
+    count(alloc, "assertion", "0", MOST).help("The number of the assertion to tell of, or 0 for each")
 }
 
 // An option that takes a number from 1 to `most`.

@@ -31,7 +31,7 @@ mod words;
 pub use beginning::{MOST_BYTES, read_beginning};
 pub use files::{Files, Lack, Unread};
 pub use large_stack::on_large_stack;
-pub use machine::MachineFiles;
+pub use machine::{MachineFiles, is_standard_input};
 pub use one_text::OneText;
 pub use reader::read;
 pub use refusal::Refusal;

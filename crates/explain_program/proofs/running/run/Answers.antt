@@ -12,13 +12,13 @@ pub returns-in-Ok-clause-served : goal.returns-in-Ok-clause-served
 returns-in-Ok-clause-served g c below =
     let says = c.in-Ok.ensures in
     let settings = c.in-Ok.settings in
-    running.explained (request_of settings) (asked (texts_of c.args.words.now) settings says.taken says.file says.pairs says.nodes says.at_once says.width says.count says.events says.steps says.assertion) (c.explain.ensures.explained below)
+    running.explained (request_of settings) (asked (texts_of c.args.words.now) settings says.taken says.file says.pairs says.nodes says.at_once says.width says.count says.events says.steps says.format says.assertion) (c.explain.ensures.explained below)
 
 pub returns-in-Ok-clause-refused : goal.returns-in-Ok-clause-refused
 returns-in-Ok-clause-refused g c three =
     let says = c.in-Ok.ensures in
     let settings = c.in-Ok.settings in
-    running.of_request (request_of settings) (asked (texts_of c.args.words.now) settings says.taken says.file says.pairs says.nodes says.at_once says.width says.count says.events says.steps says.assertion) (c.explain.ensures.stopped three)
+    running.of_request (request_of settings) (asked (texts_of c.args.words.now) settings says.taken says.file says.pairs says.nodes says.at_once says.width says.count says.events says.steps says.format says.assertion) (c.explain.ensures.stopped three)
 
 pub returns-in-Err-Help-clause-served : goal.returns-in-Err-Help-clause-served
 returns-in-Err-Help-clause-served g c below =

@@ -4,7 +4,7 @@ use Rattle.clap.specs.Simple.{app_of_fields, new_app, on_top, with_rule}
 use Rattle.clap.specs.Words.{Rule, app_of, rule_of}
 use Rattle.clap.specs.declared.builder.arg.Arg.{Arg}
 use Rattle.settings.specs.CommandLine.{number_rule}
-use Rattle.explain_settings.specs.CommandLine.{count_option, count_rule}
+use Rattle.explain_settings.specs.CommandLine.{count_option}
 use Rattle.explain_settings.proofs.command.command_line.Goals as goal
 
 pub returns : goal.returns
@@ -15,8 +15,6 @@ returns c =
     let width_is : rule_of c.help-width.result ≡ count_option (codes "width") (codes "200") 1000000 =
     ap rule_of c.help-width.ensures ∙ ap rule_of c.long.ensures ∙ ap (λ (r : Rule). record r { long = Some (codes "width") }) c.count.ensures.rule in
     let width_local : c.help-width.result.global ≡ false = ap (λ (a : Arg). a.global) c.help-width.ensures ∙ ap (λ (a : Arg). a.global) c.long.ensures ∙ c.count.ensures.local in
-    let assertion_is : rule_of c.help-assertion.result ≡ count_rule (codes "assertion") (codes "0") 1000000 = ap rule_of c.help-assertion.ensures ∙ c.count-2.ensures.rule in
-    let assertion_local : c.help-assertion.result.global ≡ false = ap (λ (a : Arg). a.global) c.help-assertion.ensures ∙ c.count-2.ensures.local in
     let named : app_of c.after_help.result ≡ on_top (λ s. record s { no_binary_name = true; has_version = true }) (new_app (codes "explain")) =
     ap app_of_fields c.after_help.ensures ∙ ap app_of_fields c.about.ensures ∙ ap app_of_fields c.version.ensures
     ∙ ap (on_top (λ s. record s { has_version = true })) (ap app_of_fields c.no_binary_name.ensures ∙ ap (on_top (λ s. record s { no_binary_name = true })) c.new.ensures.app) in
@@ -28,5 +26,6 @@ returns c =
     let six = c.in_ok-arg-6.ensures.shape c.flag-counted.ensures.local ∙ ap₂ with_rule five c.flag-counted.ensures.rule in
     let seven = c.in_ok-arg-7.ensures.shape c.flag-events.ensures.local ∙ ap₂ with_rule six c.flag-events.ensures.rule in
     let eight = c.in_ok-arg-8.ensures.shape c.flag-steps.ensures.local ∙ ap₂ with_rule seven c.flag-steps.ensures.rule in
-    let nine = c.in_ok-arg-9.ensures.shape c.file-file.ensures.local ∙ ap₂ with_rule eight c.file-file.ensures.rule in
-    IfOk-weaker c.arg-10.result _ _ (λ x h. h.shape assertion_local ∙ ap₂ with_rule nine assertion_is) c.arg-10.ensures
+    let nine = c.in_ok-arg-9.ensures.shape c.format-format.ensures.local ∙ ap₂ with_rule eight c.format-format.ensures.rule in
+    let ten = c.in_ok-arg-10.ensures.shape c.file-file.ensures.local ∙ ap₂ with_rule nine c.file-file.ensures.rule in
+    IfOk-weaker c.arg-11.result _ _ (λ x h. h.shape c.assertion-assertion.ensures.local ∙ ap₂ with_rule ten c.assertion-assertion.ensures.rule) c.arg-11.ensures

@@ -11,4 +11,4 @@ of_short (Ok bytes) few = of_itself (λ x. ⊤) bytes.items tt few
 of_short (Err e) few = tt
 
 pub returns-clause-holds : goal.returns-clause-holds
-returns-clause-holds g c = of_short c.read_beginning.result c.read_beginning.ensures.few
+returns-clause-holds g c = of_short c.read_named.result c.read_named.ensures
