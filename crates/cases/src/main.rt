@@ -2,7 +2,8 @@
 //!
 //! The words are the names of tables, each a text: what it is about, and then its cases, by the lines
 //!
-//! - `@@ ` with the words of a command line, `refcheck` or `explain` first, and behind it the text of the file `script`;
+//! - `@@ ` with the words of a command line, `refcheck` or `explain` first, and behind it the text of the file `script`, or of
+//!   standard input where the words name that by `-`;
 //! - `@@ ` with the status, and behind it what the run gives: to its output, or, with the status 3, to its errors. `fine`
 //!   stands for any status but 3, whatever the run gives, and `alike` for the words that the first run of the case gives:
 //!   its lines, each up to the trace that it shows.

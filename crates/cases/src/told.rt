@@ -69,7 +69,16 @@ impl fmt::Display for Told {
     }
 }
 
-/// What the program of these words gives, where the file `script` holds the text.
+// The name of the one file: that of standard input where the words name that, and else `script`.
+fn file_name(words: &[&str]) -> &'static str {
+    if words.iter().any(|word| *word == "-") {
+        "-"
+    } else {
+        "script"
+    }
+}
+
+/// What the program of these words gives, where the file `script` holds the text, or where they name standard input that.
 pub(crate) fn told_by<'w, R: Threads + Wait + Sync>(
     rt: &R,
     alloc: Global,
@@ -83,7 +92,7 @@ pub(crate) fn told_by<'w, R: Threads + Wait + Sync>(
         stack: Stack::Large,
     };
     let mut files = OneText {
-        name: "script",
+        name: file_name(words),
         text,
         alloc,
     };

@@ -20,7 +20,7 @@ ghost use Rattle.explain_program.specs.Asking.{bounds_asked, request_of, style_f
 ghost use Rattle.explain_program.specs.Sizes.{IsSizeFor};
 ghost use Rattle.explain_program.specs.Stops.{stop_kept};
 ghost use Rattle.explain_program.specs.Naming.{labels_of};
-ghost use Rattle.explain_program.specs.Telling.{IsToldAsAsked, answered, place_at, size_asked, sizes_asked};
+ghost use Rattle.explain_program.specs.Telling.{IsToldAsAsked, answered, place_at, size_asked, sizes_asked, sizes_of};
 
 use crate::counting::with_size;
 use crate::reader::NamedScript;
@@ -76,7 +76,7 @@ pub(crate) fn explanation_text<A: AllocHandle>(
     )?;
     match settings.format {
         Format::Text => in_words(settings, question, answer, text),
-        Format::Json => Ok(object_line(alloc, settings, named, question, answer, &text)?),
+        Format::Json => Ok(object_line(alloc, settings, named, question, answer, text.as_str())?),
     }
 }
 
@@ -141,18 +141,15 @@ fn place_at(places: &[Place], number: usize) -> Option<Place>
 fn size_told(count: bool, size: Option<SearchSize>) -> Option<Size>
     ensures { (property : Property) → sizes_told property result ≡ sizes_asked count property size }
 {
-    match size {
-        Some(size) => if count { Some(size_of(size)) } else { None },
-        None => None,
-    }
+    if count { size_of(size) } else { None }
 }
 
-fn size_of(size: SearchSize) -> Size
-    ensures { (result.pairs ≡ size.pairs) × (result.nodes ≡ size.nodes) }
+fn size_of(size: Option<SearchSize>) -> Option<Size>
+    ensures { (property : Property) → sizes_told property result ≡ sizes_of property size }
 {
-    Size {
-        pairs: size.pairs,
-        nodes: size.nodes,
+    match size {
+        Some(SearchSize { pairs, nodes }) => Some(Size { pairs, nodes }),
+        None => None,
     }
 }
 

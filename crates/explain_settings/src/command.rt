@@ -91,7 +91,9 @@ fn assertion<'a>(alloc: Global) -> Arg<'a>
     ensures rule { rule_of result ≡ count_rule (codes "assertion") (codes "0") 1000000 }
     ensures local { result.global ≡ false }
 {
-    count(alloc, "assertion", "0", MOST).help("The number of the assertion to tell of, or 0 for each")
+    count(alloc, "assertion", "0", MOST).help(
+        "The number of the assertion to tell of, or 0 for each",
+    )
 }
 
 // An option that takes a number from 1 to `most`.

@@ -40,8 +40,9 @@ fn put_violation<A: AllocHandle>(
     ensures { Puts result writer.old writer.new
         (found_fields (names_of names.now) (Fails (violation_of shown.now))) }
 {
-    put_trace(alloc, names, "trace", &shown.path, writer)?;
-    put_actions(alloc, names, "path", &shown.path, writer)?;
+    let path = shown.path.as_slice();
+    put_trace(alloc, names, "trace", path, writer)?;
+    put_actions(alloc, names, "path", path, writer)?;
     put_evidence(alloc, names, &shown.evidence, writer)
 }
 
@@ -61,7 +62,7 @@ fn put_evidence<A: AllocHandle>(
         }
         Evidence::Offers(offers) => {
             put_text("evidence", "offers", writer)?;
-            put_actions(alloc, names, "offers", offers, writer)
+            put_actions(alloc, names, "offers", offers.as_slice(), writer)
         }
         Evidence::Deadlock => put_text("evidence", "deadlock", writer),
         Evidence::Divergence => put_text("evidence", "divergence", writer),

@@ -5,4 +5,5 @@ use Rattle.explain_program.specs.Naming.{assertion_places}
 use Rattle.explain_program.proofs.reader.assertion_places.Given as goal
 
 abbrev pub invariant-loop-declaration : goal.invariant-loop-declaration
-invariant-loop-declaration g l = map place_of l.places.items ++ assertion_places (map declaration_of (drop l.declaration-index l.declaration-items)) ≡ assertion_places (map declaration_of l.declaration-items)
+invariant-loop-declaration g l =
+    map place_of l.places.items ++ assertion_places (map declaration_of (drop l.declaration-index l.declaration-items)) ≡ assertion_places (map declaration_of l.declaration-items)

@@ -56,4 +56,4 @@ returns-in_ok-object_line-in-Json g c =
     let W : Style → Type 0 = λ style. IsTold style script n w a o words in
     let F : List ℕ → Type 0 = λ ws. string_bytes c.in_ok-object_line-in-Json.field-0 ≡ object_line (answer_fields labels.names (answered labels n w found ws) (sizes_asked c.args.settings.now.count w.property c.args.answer.now.size)) in
     told_by_object (request_of c.args.settings.now) script labels n w a o (string_bytes c.in_ok-object_line-in-Json.field-0) words found c.args.answer.now.size c.in-Json.is refl c.requires.shown
-    (subst W c.style-style.ensures c.in_ok-text.ensures) c.requires.size (subst F c.deref.ensures.value c.in_ok-object_line-in-Json.ensures)
+    (subst W c.style-style.ensures c.in_ok-text.ensures) c.requires.size (subst F c.as_str.ensures.value c.in_ok-object_line-in-Json.ensures)
