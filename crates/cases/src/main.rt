@@ -5,7 +5,8 @@
 //! - `@@ ` with the words of a command line, `refcheck` or `explain` first, and behind it the text of the file `script`, or of
 //!   standard input where the words name that by `-`;
 //! - `@@ ` with the status, and behind it what the run gives: to its output, or, with the status 3, to its errors. `fine`
-//!   stands for any status but 3, whatever the run gives, and `alike` for the words that the first run of the case gives:
+//!   stands for any status but 3, whatever the run gives, `noted` for the status 0 with what the run gives to its errors
+//!   alone, and `alike` for the words that the first run of the case gives:
 //!   its lines, each up to the trace that it shows.
 //!
 //! With `--workers=*` a case is run by several numbers of workers, and with `[--unfold]` without and with this word. A

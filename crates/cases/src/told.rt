@@ -52,7 +52,7 @@ impl Told {
     pub(crate) fn is_as_said(&self, case: &Case<'_>) -> bool {
         match (case.status, self.status) {
             ("fine", status) => status < 3,
-            ("3", 3) => self.out.is_empty() && is_text(&self.err, case.told),
+            ("3", 3) | ("noted", 0) => self.out.is_empty() && is_text(&self.err, case.told),
             ("0", 0) | ("1", 1) | ("2", 2) => {
                 self.err.is_empty() && is_text(&self.out, case.told)
             }

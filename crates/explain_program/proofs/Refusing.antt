@@ -1,6 +1,6 @@
 -- The objects of refusals.
-use Rattle.std.proofs.Common.{◌≡◌, ℕ, List, [], ◌∷◌, codes, refl, sym, ap, ◌∙◌}
-use Rattle.std.specs.Prelude.{Result, Ok, Err, IfOk}
+use Rattle.std.proofs.Common.{◌≡◌, ℕ, List, [], ◌∷◌, refl, sym, ap, ◌∙◌}
+use Rattle.std.specs.Prelude.{Result, Ok, Err, IfOk, codes}
 use Rattle.std.specs.List.{concat}
 use Rattle.std.specs.String.{string_bytes}
 use Rattle.std.specs.declared.string.String.{String}
@@ -15,7 +15,7 @@ use Rattle.diagnostics.specs.declared.faults.Refusal as text
 use Rattle.explain_settings.specs.declared.format.Format.{Format}
 use Rattle.explain_settings.specs.declared.format.Format.TheVariants as format
 use Rattle.program.specs.declared.refusal.Refusal.TheVariants as refusal
-use Rattle.explain_program.specs.Refusals.{refused_line, stop_word}
+use Rattle.explain_program.specs.Refusals.{none_text, refused_line, stop_word}
 use Rattle.explain_program.specs.declared.stop.Stop.{Stop}
 use Rattle.explain_program.specs.declared.stop.Stop.TheVariants as stop
 
@@ -42,6 +42,11 @@ in_pieces (stop.Refused refusal.Memory) = refl
 in_pieces (stop.Refused refusal.Thread) = refl
 in_pieces (stop.Refused refusal.Output) = refl
 in_pieces stop.NoAssertion = refl
+
+-- the object of a note, as it is written
+pub note_in_json : codes "{\"note\":\"the script has no assertion\"}\n" ≡ none_text format.Json
+unfolding json_on_literals
+note_in_json = refl
 
 -- the object of a refused text, where it is asked for
 pub by_object : {E A : Type 0} (f : Format) (made : Result (String A) E) (file bytes message : List ℕ) (refused : text.Refusal) → f ≡ format.Json → IsMessage file bytes refused message →

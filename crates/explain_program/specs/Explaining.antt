@@ -1,5 +1,5 @@
 -- Explanations of the assertions of a file.
-use Rattle.std.specs.Prelude.{◌≤◌, ◌<◌, ℕ, List, length, take}
+use Rattle.std.specs.Prelude.{◌≡◌, ◌≤◌, ◌<◌, ℕ, List, [], length, take}
 use Rattle.theory_syntax.specs.Process.{Script}
 use Rattle.theory_syntax.specs.Readings.{reading}
 use Rattle.report.specs.Sending.{Sends, Breaks}
@@ -52,3 +52,10 @@ pub record LacksAssertion (given : Given) (request : Request) : Type 0 where
   pub labels : Labels
   pub of_file : IsNamedFile given.may_hold request.name script labels
   pub fewer : length script.assertions < request.number
+
+-- The file's script has no assertion.
+pub record LacksAny (given : Given) (request : Request) : Type 0 where
+  pub script : Script
+  pub labels : Labels
+  pub of_file : IsNamedFile given.may_hold request.name script labels
+  pub none : script.assertions ≡ []

@@ -1,6 +1,6 @@
 -- What is told of a refusal, in words or by an object.
-use Rattle.std.specs.Prelude.{◌≡◌, ℕ, List, Option, None, Some, codes}
-use Rattle.theory_objects.specs.Fields.{object_line}
+use Rattle.std.specs.Prelude.{◌≡◌, ℕ, List, [], ◌∷◌, Option, None, Some, codes}
+use Rattle.theory_objects.specs.Fields.{object_line, text_field}
 use Rattle.theory_objects.specs.Refusals.{refusal_fields, text_fields, unread_fields}
 use Rattle.csp_lex.specs.Places.{place_of}
 use Rattle.diagnostics.specs.Faults.{fault_number, fault_rule}
@@ -47,6 +47,11 @@ stop_line format.Text stop.NoAssertion = codes "refused assertion\n"
 stop_line format.Json why = object_line (refusal_fields (stop_word why))
 
 -- ---- what is told beyond that
+
+-- of a script that has no assertion
+abbrev pub none_text : Format → List ℕ
+none_text format.Text = codes "the script has no assertion\n"
+none_text format.Json = object_line (text_field (codes "note") (codes "the script has no assertion") ∷ [])
 
 -- of a file that cannot be read
 abbrev pub unread_text : Format → List ℕ → Lack → List ℕ

@@ -11,6 +11,7 @@ mod answering;
 mod counting;
 mod explaining;
 mod file_name;
+mod notes;
 mod reader;
 mod refusals;
 mod running;
