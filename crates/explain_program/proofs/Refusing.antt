@@ -13,7 +13,7 @@ use Rattle.csp_names.specs.declared.refusals.KindFault.TheVariants as kinds
 use Rattle.diagnostics.specs.Messages.{IsMessage}
 use Rattle.diagnostics.specs.declared.faults.Refusal as text
 use Rattle.explain_settings.specs.declared.format.Format.{Format}
-use Rattle.explain_settings.specs.declared.format.Format.TheVariants as format
+use Rattle.explain_settings.specs.declared.format.Format.TheVariants as formats
 use Rattle.program.specs.declared.refusal.Refusal.TheVariants as refusal
 use Rattle.explain_program.specs.Refusals.{none_text, refused_line, stop_word}
 use Rattle.explain_program.specs.declared.stop.Stop.{Stop}
@@ -44,12 +44,12 @@ in_pieces (stop.Refused refusal.Output) = refl
 in_pieces stop.NoAssertion = refl
 
 -- the object of a note, as it is written
-pub note_in_json : codes "{\"note\":\"the script has no assertion\"}\n" ≡ none_text format.Json
+pub note_in_json : codes "{\"note\":\"the script has no assertion\"}\n" ≡ none_text formats.Json
 unfolding json_on_literals
 note_in_json = refl
 
 -- the object of a refused text, where it is asked for
-pub by_object : {E A : Type 0} (f : Format) (made : Result (String A) E) (file bytes message : List ℕ) (refused : text.Refusal) → f ≡ format.Json → IsMessage file bytes refused message →
-    IfOk made (λ line. string_bytes line ≡ refused_line format.Json file refused message) → IfOk made (λ words. (told : List ℕ) × IsMessage file bytes refused told × (string_bytes words ≡ refused_line f file refused told))
+pub by_object : {E A : Type 0} (f : Format) (made : Result (String A) E) (file bytes message : List ℕ) (refused : text.Refusal) → f ≡ formats.Json → IsMessage file bytes refused message →
+    IfOk made (λ line. string_bytes line ≡ refused_line formats.Json file refused message) → IfOk made (λ words. (told : List ℕ) × IsMessage file bytes refused told × (string_bytes words ≡ refused_line f file refused told))
 by_object f (Ok made) file bytes message refused json is line = (message, is, line ∙ ap (λ g. refused_line g file refused message) (sym json))
 by_object f (Err e) file bytes message refused json is line = tt

@@ -13,7 +13,7 @@ use Rattle.theory_explanation.specs.Telling.{IsTold}
 use Rattle.theory_objects.specs.Answers.{answer_fields}
 use Rattle.theory_objects.specs.Fields.{object_line}
 use Rattle.explain_settings.specs.declared.format.Format.{Format}
-use Rattle.explain_settings.specs.declared.format.Format.TheVariants as format
+use Rattle.explain_settings.specs.declared.format.Format.TheVariants as formats
 use Rattle.explanation.specs.Running.{HasViolation}
 use Rattle.report.specs.Sending.{Sends, Breaks}
 use Rattle.report.proofs.Sending.{appends_nothing, both, later}
@@ -35,7 +35,7 @@ module _ (request : Request) (script : Script) (labels : Labels) (n : ℕ) (writ
   by_count false words text size told is whole = subst (IsTold (style_for request labels.names) script n written a o) (sym (whole ∙ append-nil words)) told
 
   -- in words, where that is asked for
-  pub told_in_words : {E A : Type 0} (made : Result (String A) E) (words : List ℕ) (size : Option SearchSize) → request.format ≡ format.Text → IsTold (style_for request labels.names) script n written a o words →
+  pub told_in_words : {E A : Type 0} (made : Result (String A) E) (words : List ℕ) (size : Option SearchSize) → request.format ≡ formats.Text → IsTold (style_for request labels.names) script n written a o words →
       IsSizeFor script a request.bounds o size → IfOk made (λ all. string_bytes all ≡ words ++ size_asked request.count a.property size) → IfOk made (λ all. IsToldAsAsked request script labels n written a o (string_bytes all))
   told_in_words (Ok all) words size asked told is whole =
       let T : Format → Type 0 = λ f. IsToldIn f request script labels n written a o (string_bytes all) in
@@ -43,7 +43,7 @@ module _ (request : Request) (script : Script) (labels : Labels) (n : ℕ) (writ
   told_in_words (Err e) words size asked told is whole = tt
 
   -- by an object, where that is asked for
-  pub told_by_object : (text words : List ℕ) (found : Outcome) (size : Option SearchSize) → request.format ≡ format.Json → o ≡ as_written written.negated found → HasViolation script a found →
+  pub told_by_object : (text words : List ℕ) (found : Outcome) (size : Option SearchSize) → request.format ≡ formats.Json → o ≡ as_written written.negated found → HasViolation script a found →
       IsTold (style_for request labels.names) script n written a o words → IsSizeFor script a request.bounds o size →
       text ≡ object_line (answer_fields labels.names (answered labels n written found words) (sizes_asked request.count written.property size)) → IsToldAsAsked request script labels n written a o text
   told_by_object text words found size asked is_found violation told is line =

@@ -8,7 +8,7 @@ use Rattle.diagnostics.specs.Messages.{IsMessage}
 use Rattle.diagnostics.specs.declared.faults.Fault.TheVariants as fault
 use Rattle.diagnostics.specs.declared.faults.Refusal as text
 use Rattle.explain_settings.specs.declared.format.Format.{Format}
-use Rattle.explain_settings.specs.declared.format.Format.TheVariants as format
+use Rattle.explain_settings.specs.declared.format.Format.TheVariants as formats
 use Rattle.program.specs.Given.{Sent}
 use Rattle.program.specs.Refusal.{of_file, refusal_line}
 use Rattle.program.specs.Running.{IsGiven}
@@ -42,26 +42,26 @@ stop_word (stop.Refused refusal.Output) = codes "output"
 stop_word stop.NoAssertion = codes "assertion"
 
 abbrev pub stop_line : Format → Stop → List ℕ
-stop_line format.Text (stop.Refused why) = refusal_line why
-stop_line format.Text stop.NoAssertion = codes "refused assertion\n"
-stop_line format.Json why = object_line (refusal_fields (stop_word why))
+stop_line formats.Text (stop.Refused why) = refusal_line why
+stop_line formats.Text stop.NoAssertion = codes "refused assertion\n"
+stop_line formats.Json why = object_line (refusal_fields (stop_word why))
 
 -- ---- what is told beyond that
 
 -- of a script that has no assertion
 abbrev pub none_text : Format → List ℕ
-none_text format.Text = codes "the script has no assertion\n"
-none_text format.Json = object_line (text_field (codes "note") (codes "the script has no assertion") ∷ [])
+none_text formats.Text = codes "the script has no assertion\n"
+none_text formats.Json = object_line (text_field (codes "note") (codes "the script has no assertion") ∷ [])
 
 -- of a file that cannot be read
 abbrev pub unread_text : Format → List ℕ → Lack → List ℕ
-unread_text format.Text name why = unread_line name why
-unread_text format.Json name why = object_line (unread_fields (shown_name name) (lack_text why))
+unread_text formats.Text name why = unread_line name why
+unread_text formats.Json name why = object_line (unread_fields (shown_name name) (lack_text why))
 
 -- of a text that is refused, by its message
 abbrev pub refused_line : Format → List ℕ → text.Refusal → List ℕ → List ℕ
-refused_line format.Text name refused message = message
-refused_line format.Json name refused message = object_line (text_fields name (fault_number refused.fault) (fault_rule refused.fault) (place_of refused.place) message)
+refused_line formats.Text name refused message = message
+refused_line formats.Json name refused message = object_line (text_fields name (fault_number refused.fault) (fault_rule refused.fault) (place_of refused.place) message)
 
 -- The line of the refusal was given, or where a text is refused what is told by its message on these bytes of the file, by the
 -- name that is shown.

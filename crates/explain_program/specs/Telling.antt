@@ -10,7 +10,7 @@ use Rattle.theory_unfolding.specs.Assertions.{settled_assertion}
 use Rattle.theory_objects.specs.Answers.{Answered, answer_fields, size_fields}
 use Rattle.theory_objects.specs.Fields.{Field, object_line}
 use Rattle.explain_settings.specs.declared.format.Format.{Format}
-use Rattle.explain_settings.specs.declared.format.Format.TheVariants as format
+use Rattle.explain_settings.specs.declared.format.Format.TheVariants as formats
 use Rattle.explanation.specs.Running.{HasViolation}
 use Rattle.explain_program.specs.Asking.{Request, style_for}
 use Rattle.explain_program.specs.Naming.{Labels}
@@ -77,8 +77,8 @@ pub record IsObjectOf (request : Request) (script : Script) (labels : Labels) (n
 -- ---- as is asked
 
 abbrev pub IsToldIn : Format → Request → Script → Labels → ℕ → Assertion → Assertion → Outcome → List ℕ → Type 0
-IsToldIn format.Text request script labels n written a o text = IsToldBy request.count request script labels n written a o text
-IsToldIn format.Json request script labels n written a o text = IsObjectOf request script labels n written a o text
+IsToldIn formats.Text request script labels n written a o text = IsToldBy request.count request script labels n written a o text
+IsToldIn formats.Json request script labels n written a o text = IsObjectOf request script labels n written a o text
 
 -- the text tells of the assertion with this number and outcome, which is written as the first one, what the request asks for
 abbrev pub IsToldAsAsked : Request → Script → Labels → ℕ → Assertion → Assertion → Outcome → List ℕ → Type 0

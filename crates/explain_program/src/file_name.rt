@@ -3,7 +3,7 @@
 ghost use Rattle.std.specs.Prelude.{◌≡◌, IfOk};
 ghost use Rattle.std.specs.String.{string_bytes};
 ghost use Rattle.diagnostics.specs.Excerpts.{shown_character};
-ghost use Rattle.explain_settings.specs.declared.format.Format.TheVariants as format;
+ghost use Rattle.explain_settings.specs.declared.format.Format.TheVariants as formats;
 ghost use Rattle.explain_program.specs.FileNames.{lack_text, shown_name, unread_line};
 ghost use Rattle.explain_program.specs.Refusals.{unread_text};
 
@@ -46,7 +46,7 @@ pub(crate) fn unread_object<A: Allocator + Copy>(
     name: &str,
     why: Lack,
 ) -> Result<String<A>, AllocError>
-    ensures { IfOk result (λ line. string_bytes line ≡ unread_text format.Json name.now why) }
+    ensures { IfOk result (λ line. string_bytes line ≡ unread_text formats.Json name.now why) }
 {
     let shown = shown_name(alloc, name)?;
     explanation_objects::unread_line(alloc, shown.as_str(), lack_text(why))

@@ -3,7 +3,7 @@
 ghost use Rattle.std.specs.Prelude.{◌≡◌, IfOk, List, false, ℕ};
 ghost use Rattle.std.specs.String.{string_bytes};
 ghost use Rattle.diagnostics.specs.Messages.{IsMessage};
-ghost use Rattle.explain_settings.specs.declared.format.Format.TheVariants as format;
+ghost use Rattle.explain_settings.specs.declared.format.Format.TheVariants as formats;
 ghost use Rattle.program.specs.Given.{sent};
 ghost use Rattle.program.specs.declared.files.Unread.TheVariants as unread;
 ghost use Rattle.explain_program.specs.FileNames.{shown_name};
@@ -120,7 +120,7 @@ fn refused_object<A: Allocator>(
     words: &str,
 ) -> Result<String<A>, AllocError>
     ensures { IfOk result (λ line. string_bytes line
-        ≡ refused_line format.Json file.now refused words.now) }
+        ≡ refused_line formats.Json file.now refused words.now) }
 {
     let it = RefusedText {
         file,

@@ -3,7 +3,7 @@
 ghost use Rattle.std.specs.Prelude.{◌≡◌, false};
 ghost use Rattle.program.specs.Given.{sent};
 ghost use Rattle.program.specs.Running.{IsGiven};
-ghost use Rattle.explain_settings.specs.declared.format.Format.TheVariants as format;
+ghost use Rattle.explain_settings.specs.declared.format.Format.TheVariants as formats;
 ghost use Rattle.explain_program.specs.Refusals.{stop_line, stop_word};
 
 use crate::untold::Untold;
@@ -37,7 +37,7 @@ fn report_in_words<E: Sink>(why: Stop, err: &mut E) -> u8
     requires { E.has_failed err.old ≡ false }
     ensures status { result ≡ 3 }
     ensures line { IsGiven (sent E.taken E.has_failed err.old err.new)
-        (stop_line format.Text why) }
+        (stop_line formats.Text why) }
 {
     match why {
         Stop::Refused(why) => refuse(why, err),
@@ -49,7 +49,7 @@ fn report_by_object<E: Sink>(why: Stop, err: &mut E) -> u8
     requires { E.has_failed err.old ≡ false }
     ensures status { result ≡ 3 }
     ensures line { IsGiven (sent E.taken E.has_failed err.old err.new)
-        (stop_line format.Json why) }
+        (stop_line formats.Json why) }
 {
     let texts = [
         "{\"answer\":\"refused\",\"refusal\":\"",

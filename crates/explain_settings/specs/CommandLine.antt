@@ -6,7 +6,7 @@ use Rattle.clap.specs.declared.builder.action.ArgAction.TheVariants.{Set}
 use Rattle.clap.specs.declared.builder.value_parser.ValueParser.TheVariants as vp
 use Rattle.settings.specs.CommandLine.{file_rule, flag_rule, number_rule}
 use Rattle.explain_settings.specs.declared.format.Format.{Format}
-use Rattle.explain_settings.specs.declared.format.Format.TheVariants as format
+use Rattle.explain_settings.specs.declared.format.Format.TheVariants as formats
 
 -- an argument that is a number up to `most`, and is `default` where no word gives it
 abbrev pub count_rule : Text → Text → ℕ → Rule
@@ -33,8 +33,8 @@ format_rule = record (new_rule (codes "format")) {
 
 -- the word of a format
 abbrev pub format_word : Format → Text
-format_word format.Text = codes "text"
-format_word format.Json = codes "json"
+format_word formats.Text = codes "text"
+format_word formats.Json = codes "json"
 
 abbrev pub command_rules : List Rule
 command_rules = number_rule (codes "workers") (codes "1") 64

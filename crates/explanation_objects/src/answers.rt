@@ -87,7 +87,7 @@ fn put_head<A: AllocHandle>(
 {
     let mut assertion = String::new(alloc);
     push_assertion(alloc, names, answered.assertion, &mut assertion)?;
-    put_number("number", answered.number, writer)?;
+    put_number("number", answered.number as u64, writer)?;
     put_placed(answered.place, writer)?;
     put_text("assertion", assertion.as_str(), writer)?;
     put_text(

@@ -22,11 +22,11 @@ pub(crate) fn put_text<A: Allocator>(
 /// Puts a field that is this number.
 pub(crate) fn put_number<A: Allocator>(
     name: &str,
-    number: usize,
+    number: u64,
     writer: &mut Writer<A>,
 ) -> Result<(), AllocError>
     ensures { Puts result writer.old writer.new (number_field name.now number ∷ []) }
 {
     writer.key(name)?;
-    writer.u64(number as u64)
+    writer.u64(number)
 }

@@ -19,11 +19,12 @@ pub(crate) fn begin_line<A: Allocator>(alloc: A) -> Result<Writer<A>, AllocError
 }
 
 /// The text of the object, as a line.
-pub(crate) fn end_line<A: Allocator>(mut writer: Writer<A>) -> Result<String<A>, AllocError>
-    requires { writer.entry.before ≡ [] }
-    ensures { let tokens = writer.entry.tokens ++ end_object ∷ [] in
+pub(crate) fn end_line<A: Allocator>(writer: Writer<A>) -> Result<String<A>, AllocError>
+    requires { writer.before ≡ [] }
+    ensures { let tokens = writer.tokens ++ end_object ∷ [] in
         IfOk result (λ line. string_bytes line ≡ print tokens ++ codes "\n") }
 {
+    let mut writer = writer;
     writer.end_object()?;
     let mut line = String::from_utf8(writer.into_inner()).unwrap();
     line.push_str("\n")?;

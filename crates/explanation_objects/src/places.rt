@@ -16,6 +16,6 @@ pub(crate) fn put_place<A: Allocator>(
 ) -> Result<(), AllocError>
     ensures { Puts result writer.old writer.new (place_fields (place_of place)) }
 {
-    put_number("line", place.line, writer)?;
-    put_number("column", place.column, writer)
+    put_number("line", place.line as u64, writer)?;
+    put_number("column", place.column as u64, writer)
 }

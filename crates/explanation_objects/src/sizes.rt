@@ -43,11 +43,11 @@ fn put_known<A: AllocHandle>(
 {
     match property {
         Property::Refinement { .. } => {
-            put_number("pairs", size.pairs, writer)?;
-            put_number("nodes", size.nodes, writer)
+            put_number("pairs", size.pairs as u64, writer)?;
+            put_number("nodes", size.nodes as u64, writer)
         }
         Property::DeadlockFree | Property::DivergenceFree => {
-            put_number("pairs", size.pairs, writer)
+            put_number("pairs", size.pairs as u64, writer)
         }
     }
 }

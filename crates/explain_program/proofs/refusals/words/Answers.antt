@@ -4,7 +4,7 @@ use Rattle.std.specs.Prelude.{IfOk}
 use Rattle.std.specs.String.{string_bytes}
 use Rattle.diagnostics.specs.Messages.{IsMessage}
 use Rattle.explain_settings.specs.declared.format.Format.{Format}
-use Rattle.explain_settings.specs.declared.format.Format.TheVariants as format
+use Rattle.explain_settings.specs.declared.format.Format.TheVariants as formats
 use Rattle.explain_program.specs.FileNames.{shown_name}
 use Rattle.explain_program.specs.Refusals.{refused_line}
 use Rattle.explain_program.proofs.Refusing.{by_object}
@@ -24,7 +24,7 @@ returns-in-Json g c =
     let refused = c.args.refused in
     let r = c.refused_object.result in
     let M : List ℕ → Type 0 = λ name. IsMessage name c.args.text.now refused told in
-    let N : List ℕ → Type 0 = λ name. IfOk r (λ line. string_bytes line ≡ refused_line format.Json name refused c.as_str-3.result.now) in
-    let W : List ℕ → Type 0 = λ words. IfOk r (λ line. string_bytes line ≡ refused_line format.Json file refused words) in
+    let N : List ℕ → Type 0 = λ name. IfOk r (λ line. string_bytes line ≡ refused_line formats.Json name refused c.as_str-3.result.now) in
+    let W : List ℕ → Type 0 = λ words. IfOk r (λ line. string_bytes line ≡ refused_line formats.Json file refused words) in
     by_object c.args.settings.now.format r file c.args.text.now told refused c.in-Json.is (subst M (c.as_str.ensures.value ∙ c.in_ok-name.ensures) c.in_ok-told.ensures)
     (subst W c.as_str-3.ensures.value (subst N (c.as_str-2.ensures.value ∙ c.in_ok-name.ensures) c.refused_object.ensures))

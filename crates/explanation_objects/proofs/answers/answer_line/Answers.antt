@@ -3,7 +3,7 @@ use Rattle.theory_objects.specs.Answers.{answer_fields}
 use Rattle.csp_term.specs.Script.{property_of}
 use Rattle.csp_print.specs.Names.{names_of}
 use Rattle.explanation_objects.specs.Answers.{answered_of, sizes_told}
-use Rattle.explanation_objects.proofs.Lines.{closed}
+use Rattle.explanation_objects.proofs.Closing.{closed}
 use Rattle.explanation_objects.proofs.answers.answer_line.Goals as goal
 
 pub returns : goal.returns

@@ -1,7 +1,7 @@
 -- The line has the fields in braces.
 use Rattle.theory_objects.specs.Refusals.{text_fields}
 use Rattle.csp_lex.specs.Places.{place_of}
-use Rattle.explanation_objects.proofs.Lines.{closed}
+use Rattle.explanation_objects.proofs.Closing.{closed}
 use Rattle.explanation_objects.proofs.refusals.text_line.Goals as goal
 
 pub returns : goal.returns

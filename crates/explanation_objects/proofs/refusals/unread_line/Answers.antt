@@ -1,6 +1,6 @@
 -- The line has the fields in braces.
 use Rattle.theory_objects.specs.Refusals.{unread_fields}
-use Rattle.explanation_objects.proofs.Lines.{closed}
+use Rattle.explanation_objects.proofs.Closing.{closed}
 use Rattle.explanation_objects.proofs.refusals.unread_line.Goals as goal
 
 pub returns : goal.returns
