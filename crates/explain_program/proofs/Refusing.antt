@@ -1,6 +1,7 @@
 -- The objects of refusals.
-use Rattle.std.proofs.Common.{◌≡◌, ℕ, List, [], ◌∷◌, refl, sym, ap, ◌∙◌}
-use Rattle.std.specs.Prelude.{Result, Ok, Err, IfOk, codes}
+use Rattle.std.proofs.Common.{◌≡◌, ℕ, true, List, [], ◌∷◌, length, refl, sym, ap, ◌∙◌, arith}
+use Rattle.std.proofs.lemmas.Bool.{eqb-true}
+use Rattle.std.specs.Prelude.{◌==◌, Result, Ok, Err, IfOk, codes}
 use Rattle.std.specs.List.{concat}
 use Rattle.std.specs.String.{string_bytes}
 use Rattle.std.specs.declared.string.String.{String}
@@ -42,6 +43,11 @@ in_pieces (stop.Refused refusal.Memory) = refl
 in_pieces (stop.Refused refusal.Thread) = refl
 in_pieces (stop.Refused refusal.Output) = refl
 in_pieces stop.NoAssertion = refl
+
+-- what has no length has no items
+pub nothing_in : {X : Type 0} (xs : List X) → (length xs == 0) ≡ true → xs ≡ []
+nothing_in [] empty = refl
+nothing_in (x ∷ xs) empty = absurd (let some : length (x ∷ xs) ≡ 0 = eqb-true (length (x ∷ xs)) 0 empty in omega (arith, some))
 
 -- the object of a note, as it is written
 pub note_in_json : codes "{\"note\":\"the script has no assertion\"}\n" ≡ none_text formats.Json

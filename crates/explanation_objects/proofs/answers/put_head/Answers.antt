@@ -1,5 +1,5 @@
 -- Each field behind the other.
-use Rattle.std.proofs.Common.{◌≡◌, ℕ, List, [], ◌∷◌, ◌++◌, ap, subst, ◌∙◌}
+use Rattle.std.proofs.Common.{◌≡◌, ℕ, List, [], ◌∷◌, ◌++◌, ap, subst, ◌∙◌, inl, inr, lit<}
 use Rattle.std.specs.Prelude.{codes, option_map}
 use Rattle.theory_search.specs.Answer.{as_written}
 use Rattle.theory_explanation.specs.Headline.{assertion_text, outcome_word}
@@ -32,3 +32,10 @@ returns g c =
     let last = subst (λ (t : List ℕ). Puts r three new (answer t)) c.answer_word.ensures c.put_text-2.ensures in
     both r c.args.writer.now one new number (placed ++ (said text ++ answer word)) c.in_ok-put_number.ensures
     (both r one two new placed (said text ++ answer word) c.in_ok-put_placed.ensures (both r two three new (said text) (answer word) third last))
+
+pub answer_word-requires : goal.answer_word-requires
+answer_word-requires g c =
+    elim g.met.A.AllocHandle.small [
+      | inl e ↦ rw (e.0, e.1) (lit< tt)
+      | inr e ↦ rw (e.0, e.1) (lit< tt)
+    ]

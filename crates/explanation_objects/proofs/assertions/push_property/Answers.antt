@@ -17,7 +17,7 @@ returns-in_ok-push_first_side-in-DeadlockFree g c =
     let p = process_of c.args.implementation.now in
     let r = c.push_str-in-DeadlockFree.result in
     let start = string_bytes c.args.text.now in
-    let all = string_bytes c.push_str-in-DeadlockFree.new.text in
+    let all = string_bytes c.push_str-in-DeadlockFree.new.self in
     let T : Property g.row.A.Denot → Type 0 = λ q. OnOk r (all ≡ start ++ property_text names (property_of q) p) in
     subst T (sym c.in-DeadlockFree.is)
     (behind r start (string_bytes c.push_first_side-in-DeadlockFree.new.text) all (first_side (process_text names p)) (codes " :[deadlock free]") c.in_ok-push_first_side-in-DeadlockFree.ensures c.push_str-in-DeadlockFree.ensures)

@@ -1,5 +1,5 @@
 -- The trace, the path, and what is wrong at its end.
-use Rattle.std.proofs.Common.{List, [], ◌∷◌, ◌++◌, map, subst}
+use Rattle.std.proofs.Common.{List, [], ◌∷◌, ◌++◌, map, subst, inl, inr, lit<}
 use Rattle.std.specs.Prelude.{codes}
 use Rattle.theory_semantics.specs.Meaning.Runs.{trace}
 use Rattle.theory_objects.specs.Answers.{action_texts, evidence_fields}
@@ -25,3 +25,17 @@ returns g c =
     let first = subst (λ p. HasPut c.args.writer.now one (field_tokens (seen p))) c.as_slice-path.ensures.value c.in_ok-put_trace.ensures in
     let second = subst (λ p. HasPut one two (field_tokens (all p))) c.as_slice-path.ensures.value c.in_ok-put_actions.ensures in
     both r c.args.writer.now one new (seen path) (all path ++ evidence) first (both r one two new (all path) evidence second c.put_evidence.ensures)
+
+pub put_trace-requires : goal.put_trace-requires
+put_trace-requires g c =
+    elim g.met.A.AllocHandle.small [
+      | inl e ↦ rw (e.0, e.1) (lit< tt)
+      | inr e ↦ rw (e.0, e.1) (lit< tt)
+    ]
+
+pub put_actions-requires : goal.put_actions-requires
+put_actions-requires g c =
+    elim g.met.A.AllocHandle.small [
+      | inl e ↦ rw (e.0, e.1) (lit< tt)
+      | inr e ↦ rw (e.0, e.1) (lit< tt)
+    ]

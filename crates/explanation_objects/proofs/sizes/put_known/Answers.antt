@@ -11,10 +11,10 @@ use Rattle.explanation_objects.proofs.sizes.put_known.Goals as goal
 
 pub returns-in_ok-put_number-in-Refinement : goal.returns-in_ok-put_number-in-Refinement
 returns-in_ok-put_number-in-Refinement g c =
-    let r = c.put_number-in-Refinement-2.result in
+    let r = c.put_number-in-Refinement.result in
     let one = c.put_number.new.writer in
-    let new = c.put_number-in-Refinement-2.new.writer in
+    let new = c.put_number-in-Refinement.new.writer in
     let pairs = number_field (codes "pairs") c.args.size.pairs ∷ [] in
     let nodes = number_field (codes "nodes") c.args.size.nodes ∷ [] in
     let P : Property g.row.A.Denot → Type 0 = λ p. Puts r c.args.writer.now new (size_fields (property_of p) c.args.size.pairs c.args.size.nodes) in
-    subst P (sym c.in-Refinement.is) (both r c.args.writer.now one new pairs nodes c.in_ok-put_number.ensures c.put_number-in-Refinement-2.ensures)
+    subst P (sym c.in-Refinement.is) (both r c.args.writer.now one new pairs nodes c.in_ok-put_number-in-Refinement.ensures c.put_number-in-Refinement.ensures)
