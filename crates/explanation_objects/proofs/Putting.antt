@@ -1,5 +1,7 @@
 -- Tokens and fields that are put one behind the other.
 use Rattle.std.proofs.Common.{◌≡◌, ℕ, List, [], ◌∷◌, ◌++◌, Result, Ok, Err, OnOk, refl, sym, ap, subst, ◌∙◌, append-nil, append_assoc, map}
+use Rattle.std.specs.Prelude.{if◌then◌else◌}
+use Rattle.std.specs.Result.{is_ok}
 use Rattle.json.specs.Token.{Token, begin_array, end_array, key, string}
 use Rattle.json.specs.Tree.{items_tokens}
 use Rattle.json.specs.Written.{Written, Writes}
@@ -32,6 +34,11 @@ both r old mid new fs gs first second = subst (PutsTokens r old new) (sym (token
 -- nothing
 pub nothing : (w : Written) → HasPut w w []
 nothing w = (refl, sym (append-nil w.tokens))
+
+-- a text that was pushed behind another one
+pub pushed : {T E : Type 0} (r : Result T E) (old new x : List ℕ) → new ≡ (if is_ok r then old ++ x else old) → OnOk r (new ≡ old ++ x)
+pushed (Ok t) old new x is = is
+pushed (Err e) old new x is = tt
 
 -- ---- arrays of texts
 

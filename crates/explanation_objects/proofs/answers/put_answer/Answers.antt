@@ -1,5 +1,5 @@
 -- Each group of fields behind the other.
-use Rattle.std.proofs.Common.{[], ◌∷◌, ◌++◌}
+use Rattle.std.proofs.Common.{[], ◌∷◌, ◌++◌, inl, inr, lit<}
 use Rattle.std.specs.Prelude.{codes}
 use Rattle.theory_objects.specs.Answers.{found_fields, head_fields}
 use Rattle.theory_objects.specs.Fields.{text_field}
@@ -25,3 +25,10 @@ returns g c =
     let words = text_field (codes "words") a.words.now ∷ [] in
     both r c.args.writer.now one new head (found ++ (size ++ words)) c.in_ok-put_head.ensures
     (both r one two new found (size ++ words) c.in_ok-put_found.ensures (both r two three new size words c.in_ok-put_size.ensures c.put_text.ensures))
+
+pub put_found-requires : goal.put_found-requires
+put_found-requires g c =
+    elim g.met.A.AllocHandle.small [
+      | inl e ↦ rw (e.0, e.1) (lit< tt)
+      | inr e ↦ rw (e.0, e.1) (lit< tt)
+    ]

@@ -9,6 +9,7 @@ use Rattle.theory_explanation.specs.Headline.{first_side, property_text}
 use Rattle.theory_notation.specs.Processes.{process_text}
 use Rattle.csp_print.specs.Names.{names_of}
 use Rattle.csp_print.proofs.Writing.{behind}
+use Rattle.explanation_objects.proofs.Putting.{pushed}
 use Rattle.explanation_objects.proofs.assertions.push_property.Goals as goal
 
 pub returns-in_ok-push_first_side-in-DeadlockFree : goal.returns-in_ok-push_first_side-in-DeadlockFree
@@ -20,4 +21,5 @@ returns-in_ok-push_first_side-in-DeadlockFree g c =
     let all = string_bytes c.push_str-in-DeadlockFree.new.self in
     let T : Property g.row.A.Denot → Type 0 = λ q. OnOk r (all ≡ start ++ property_text names (property_of q) p) in
     subst T (sym c.in-DeadlockFree.is)
-    (behind r start (string_bytes c.push_first_side-in-DeadlockFree.new.text) all (first_side (process_text names p)) (codes " :[deadlock free]") c.in_ok-push_first_side-in-DeadlockFree.ensures c.push_str-in-DeadlockFree.ensures)
+    (behind r start (string_bytes c.push_first_side-in-DeadlockFree.new.text) all (first_side (process_text names p)) (codes " :[deadlock free]") c.in_ok-push_first_side-in-DeadlockFree.ensures
+    (pushed r (string_bytes c.push_first_side-in-DeadlockFree.new.text) all (codes " :[deadlock free]") c.push_str-in-DeadlockFree.ensures.bytes))

@@ -12,7 +12,7 @@ use Rattle.csp_print.specs.Names.{names_of}
 use Rattle.verdict.specs.Outcome.{outcome_of}
 use Rattle.explanation_objects.specs.Answers.{sizes_told}
 use Rattle.explain_program.specs.Telling.{place_at}
-use Rattle.explain_program.proofs.telling.object_line.Goals as goal
+use Rattle.explain_program.proofs.objects.object_line.Goals as goal
 
 pub returns : goal.returns
 returns g c =
