@@ -105,10 +105,11 @@ fn words<A: Allocator + Copy>(
         × (string_bytes words ≡ refused_line settings.now.format file refused told)) }
 {
     let name = shown_name(alloc, settings.file)?;
-    let told = message(alloc, name.as_str(), text, refused)?;
+    let file = name.as_str();
+    let told = message(alloc, file, text, refused)?;
     match settings.format {
         Format::Text => Ok(told),
-        Format::Json => refused_object(alloc, name.as_str(), refused, told.as_str()),
+        Format::Json => refused_object(alloc, file, refused, told.as_str()),
     }
 }
 

@@ -15,7 +15,7 @@ returns-in-Text g c =
     let told = string_bytes c.in_ok-told.told in
     let file = shown_name c.args.settings.now.file.now in
     let M : List ℕ → Type 0 = λ name. IsMessage name c.args.text.now c.args.refused told in
-    (told, subst M (c.as_str.ensures.value ∙ c.in_ok-name.ensures) c.in_ok-told.ensures, ap (λ (f : Format). refused_line f file c.args.refused told) (sym c.in-Text.is))
+    (told, subst M (c.as_str-file.ensures.value ∙ c.in_ok-name.ensures) c.in_ok-told.ensures, ap (λ (f : Format). refused_line f file c.args.refused told) (sym c.in-Text.is))
 
 pub returns-in-Json : goal.returns-in-Json
 returns-in-Json g c =
@@ -24,7 +24,7 @@ returns-in-Json g c =
     let refused = c.args.refused in
     let r = c.refused_object.result in
     let M : List ℕ → Type 0 = λ name. IsMessage name c.args.text.now refused told in
-    let N : List ℕ → Type 0 = λ name. IfOk r (λ line. string_bytes line ≡ refused_line formats.Json name refused c.as_str-3.result.now) in
+    let N : List ℕ → Type 0 = λ name. IfOk r (λ line. string_bytes line ≡ refused_line formats.Json name refused c.as_str.result.now) in
     let W : List ℕ → Type 0 = λ words. IfOk r (λ line. string_bytes line ≡ refused_line formats.Json file refused words) in
-    by_object c.args.settings.now.format r file c.args.text.now told refused c.in-Json.is (subst M (c.as_str.ensures.value ∙ c.in_ok-name.ensures) c.in_ok-told.ensures)
-    (subst W c.as_str-3.ensures.value (subst N (c.as_str-2.ensures.value ∙ c.in_ok-name.ensures) c.refused_object.ensures))
+    by_object c.args.settings.now.format r file c.args.text.now told refused c.in-Json.is (subst M (c.as_str-file.ensures.value ∙ c.in_ok-name.ensures) c.in_ok-told.ensures)
+    (subst W c.as_str.ensures.value (subst N (c.as_str-file.ensures.value ∙ c.in_ok-name.ensures) c.refused_object.ensures))
