@@ -1,5 +1,5 @@
 -- The fault of a parse that fails, and of a format that there is not.
-use Rattle.std.proofs.Common.{◌≡◌, ◌⊎◌, List, subst, inl, inr}
+use Rattle.std.proofs.Common.{◌≡◌, ◌⊎◌, List, Option, None, Some, refl, subst, inl, inr}
 use Rattle.clap.specs.Walk.{Text}
 use Rattle.clap.specs.Kinds.{IsAmong}
 use Rattle.clap.specs.declared.error.kind.ErrorKind.{ErrorKind}
@@ -23,3 +23,8 @@ refused words (Help text) lacks is = absurd is
 refused words (Version text) lacks is = absurd is
 refused words (Refused text) lacks is = inr lacks
 refused words Memory lacks is = tt
+
+-- an option that is no value is none
+pub none_of : {X : Type 0} (o : Option X) → ((x : X) → o ≡ Some x → ⊥) → o ≡ None
+none_of None never = refl
+none_of (Some x) never = absurd (never x refl)

@@ -3,7 +3,7 @@
 ghost use Rattle.std.specs.Prelude.{◌≡◌, ◌≤◌, IfOk, codes, false};
 ghost use Rattle.clap.specs.Words.{app_of, rule_of};
 ghost use Rattle.settings.specs.CommandLine.{file_rule, number_rule};
-ghost use Rattle.explain_settings.specs.CommandLine.{command_line, count_rule, format_rule};
+ghost use Rattle.explain_settings.specs.CommandLine.{command_line, count_rule, format_rule, line_of, option_rules};
 
 use crate::help::{ABOUT, STATUS, VERSION};
 use clap::{Arg, ArgAction, Command};
@@ -26,6 +26,15 @@ const STEPS: &str = "Tell steps that unfold a name one by one; with --events tha
 pub(crate) fn command_line<'a>(alloc: Global) -> Result<Command<'a>, AllocError>
     ensures { IfOk result (λ c. app_of c ≡ command_line) }
 {
+    let file = file(alloc);
+    let assertion = assertion(alloc);
+    options_line(alloc)?.arg(file)?.arg(assertion)
+}
+
+// The same with its options alone.
+fn options_line<'a>(alloc: Global) -> Result<Command<'a>, AllocError>
+    ensures { IfOk result (λ c. app_of c ≡ line_of option_rules) }
+{
     let workers = option(alloc, "workers", "1", MAX_WORKERS).help(
         "How many workers search, 1 to 64; they change no line",
     );
@@ -43,8 +52,6 @@ pub(crate) fn command_line<'a>(alloc: Global) -> Result<Command<'a>, AllocError>
     let events = flag(alloc, "events", EVENTS);
     let steps = flag(alloc, "steps", STEPS);
     let format = format(alloc);
-    let file = file(alloc);
-    let assertion = assertion(alloc);
     Command::new(alloc, "explain")
         .no_binary_name(true)
         .version(VERSION)
@@ -58,9 +65,7 @@ pub(crate) fn command_line<'a>(alloc: Global) -> Result<Command<'a>, AllocError>
         .arg(counted)?
         .arg(events)?
         .arg(steps)?
-        .arg(format)?
-        .arg(file)?
-        .arg(assertion)
+        .arg(format)
 }
 
 fn file<'a>(alloc: Global) -> Arg<'a>
