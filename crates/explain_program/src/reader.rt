@@ -125,7 +125,10 @@ fn push_place<A: Allocator>(
         OnOk result (map place_of places.new.items ≡ map place_of places.old.items ++ more) }
 {
     match declaration {
-        Declaration::Assertion { place, .. } => places.push(*place),
+        Declaration::Assertion { place, .. } => {
+            places.push(*place)?;
+            Ok(())
+        }
         Declaration::Datatype { .. }
         | Declaration::Nametype { .. }
         | Declaration::Channels { .. }
