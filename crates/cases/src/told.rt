@@ -53,7 +53,7 @@ impl Told {
         match (case.status, self.status) {
             ("fine", status) => status < 3,
             ("begins", 0) => self.err.is_empty() && self.out.starts_with(case.told.as_bytes()),
-            ("3", 3) => self.out.is_empty() && is_text(&self.err, case.told),
+            ("3", 3) | ("noted", 0) => self.out.is_empty() && is_text(&self.err, case.told),
             ("0", 0) | ("1", 1) | ("2", 2) => {
                 self.err.is_empty() && is_text(&self.out, case.told)
             }

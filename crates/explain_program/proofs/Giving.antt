@@ -3,7 +3,6 @@ use Rattle.std.proofs.Common.{◌≡◌, ℕ, zero, suc, ◌<◌, Bool, List, []
 use Rattle.std.specs.Prelude.{Option}
 use Rattle.theory_syntax.specs.Process.{Script, Assertion}
 use Rattle.theory_search.specs.Outcome.{Bounds, Outcome, Holds, Fails, Unknown, Denied}
-use Rattle.theory_notation.specs.Names.{Names}
 use Rattle.theory_search.specs.Truth.{IsRight, IsRightAsWritten}
 use Rattle.explanation.specs.Running.{HasViolation}
 use Rattle.report.specs.Sending.{Sends}
@@ -12,6 +11,7 @@ use Rattle.program.specs.Running.{outcome_status}
 use Rattle.program.proofs.Answering.{right_read}
 use Rattle.explain_program.specs.Asking.{Request, one_at}
 use Rattle.explain_program.specs.Giving.{AreTold, GoesOut}
+use Rattle.explain_program.specs.Naming.{Labels}
 use Rattle.explain_program.specs.Telling.{IsToldAsAsked}
 
 -- the assertion at the place is the only one there
@@ -21,10 +21,10 @@ alone_at assertion_of (x ∷ xs) zero a within read = ap (λ y. assertion_of y �
 alone_at assertion_of (x ∷ xs) (suc i) a within read = alone_at assertion_of xs i a (omega (arith, within)) read
 
 -- a right outcome of one assertion, told in a text
-pub one_told : (request : Request) (script : Script) (names : Names) (n : ℕ) (asked : List Assertion) (a : Assertion) (o : Outcome) (Q : List Outcome → List ℕ → Type 0) → asked ≡ a ∷ [] →
-    IsRightAsWritten script (settled_assertion script a) request.bounds o → (text : List ℕ) → IsToldAsAsked request script names n a (settled_assertion script a) o text → Q (o ∷ []) text → AreTold request script names n asked Q
-one_told request script names n asked a o Q alone right text told out =
-    let T : List Assertion → Type 0 = λ xs. AreTold request script names n xs Q in
+pub one_told : (request : Request) (script : Script) (labels : Labels) (n : ℕ) (asked : List Assertion) (a : Assertion) (o : Outcome) (Q : List Outcome → List ℕ → Type 0) → asked ≡ a ∷ [] →
+    IsRightAsWritten script (settled_assertion script a) request.bounds o → (text : List ℕ) → IsToldAsAsked request script labels n a (settled_assertion script a) o text → Q (o ∷ []) text → AreTold request script labels n asked Q
+one_told request script labels n asked a o Q alone right text told out =
+    let T : List Assertion → Type 0 = λ xs. AreTold request script labels n xs Q in
     subst T (sym alone) (record {
       outcomes = o ∷ [];
       text = text;

@@ -1,6 +1,8 @@
 pub mod Asking
 pub mod Beginnings
 pub mod Giving
+pub mod Placing
+pub mod Refusing
 pub mod Sizes
 pub mod Stopping
 pub mod Stops

@@ -1,5 +1,5 @@
 -- Explanations that are told one behind the other.
-use Rattle.std.proofs.Common.{◌≡◌, ℕ, zero, suc, ◌+◌, ◌<◌, ◌≤◌, max, Bool, true, false, List, [], ◌∷◌, ◌++◌, length, take, refl, sym, ◌∙◌, ap, subst, append_assoc, arith}
+use Rattle.std.proofs.Common.{◌≡◌, ℕ, zero, suc, ◌+◌, ◌<◌, ◌≤◌, max, Bool, true, false, List, [], ◌∷◌, ◌++◌, length, take, refl, sym, ◌∙◌, ap, subst, append_assoc, append-nil, arith}
 use Rattle.std.specs.Prelude.{Option, Result, Ok, Err, IfOk}
 use Rattle.std.specs.String.{string_bytes}
 use Rattle.std.specs.declared.string.String.{String}
@@ -7,44 +7,57 @@ use Rattle.std.specs.List.{AllZip}
 use Rattle.std.proofs.lemmas.List.{length-take-le}
 use Rattle.theory_syntax.specs.Process.{Script, Assertion}
 use Rattle.theory_syntax.specs.Readings.{by_tau}
+use Rattle.theory_search.specs.Answer.{as_written}
 use Rattle.theory_search.specs.Outcome.{Outcome}
-use Rattle.theory_notation.specs.Names.{Names}
 use Rattle.theory_explanation.specs.Telling.{IsTold}
+use Rattle.theory_objects.specs.Answers.{answer_fields}
+use Rattle.theory_objects.specs.Fields.{object_line}
+use Rattle.explain_settings.specs.declared.format.Format.{Format}
+use Rattle.explain_settings.specs.declared.format.Format.TheVariants as formats
+use Rattle.explanation.specs.Running.{HasViolation}
 use Rattle.report.specs.Sending.{Sends, Breaks}
 use Rattle.report.proofs.Sending.{appends_nothing, both, later}
 use Rattle.program.specs.Answering.{IsRightRead}
 use Rattle.program.specs.Running.{status_of}
 use Rattle.explain_program.specs.Asking.{Request, one_at, style_for}
 use Rattle.explain_program.specs.Giving.{AreTold, GoesOut}
+use Rattle.explain_program.specs.Naming.{Labels}
 use Rattle.explain_program.specs.Sizes.{IsSizeFor}
-use Rattle.explain_program.specs.Telling.{IsToldAsAsked, IsToldBy, TellsEach, size_text}
+use Rattle.explain_program.specs.Telling.{IsToldAsAsked, IsToldBy, IsToldIn, TellsEach, answered, size_asked, sizes_asked}
 use Rattle.explain_program.specs.declared.search_size.SearchSize.{SearchSize}
 
 -- ---- one of them
 
-module _ (request : Request) (script : Script) (names : Names) (n : ℕ) (written a : Assertion) (o : Outcome) where
-  -- alone, where that is asked for
-  pub told_alone : (told : List ℕ) → request.count ≡ false → IsTold (style_for request names) script n written a o told → IsToldAsAsked request script names n written a o told
-  told_alone told alone is =
-      let T : Bool → Type 0 = λ count. IsToldBy count request script names n written a o told in
-      subst T (sym alone) is
+module _ (request : Request) (script : Script) (labels : Labels) (n : ℕ) (written a : Assertion) (o : Outcome) where
+  by_count : (count : Bool) (words text : List ℕ) (size : Option SearchSize) → IsTold (style_for request labels.names) script n written a o words → IsSizeFor script a request.bounds o size →
+      text ≡ words ++ size_asked count a.property size → IsToldBy count request script labels n written a o text
+  by_count true words text size told is whole = record { told = words; is_told = told; size = size; is_size = is; whole = whole }
+  by_count false words text size told is whole = subst (IsTold (style_for request labels.names) script n written a o) (sym (whole ∙ append-nil words)) told
 
-  -- with the size of its search
-  pub told_with_size : {E A : Type 0} (made : Result (String A) E) (told : List ℕ) (size : Option SearchSize) → request.count ≡ true → IsTold (style_for request names) script n written a o told →
-      IsSizeFor script a request.bounds o size → IfOk made (λ all. string_bytes all ≡ told ++ size_text a.property size) → IfOk made (λ all. IsToldAsAsked request script names n written a o (string_bytes all))
-  told_with_size (Ok all) told size counted is is_size whole =
-      let T : Bool → Type 0 = λ count. IsToldBy count request script names n written a o (string_bytes all) in
-      subst T (sym counted) (record { told = told; is_told = is; size = size; is_size = is_size; whole = whole })
-  told_with_size (Err e) told size counted is is_size whole = tt
+  -- in words, where that is asked for
+  pub told_in_words : {E A : Type 0} (made : Result (String A) E) (words : List ℕ) (size : Option SearchSize) → request.format ≡ formats.Text → IsTold (style_for request labels.names) script n written a o words →
+      IsSizeFor script a request.bounds o size → IfOk made (λ all. string_bytes all ≡ words ++ size_asked request.count a.property size) → IfOk made (λ all. IsToldAsAsked request script labels n written a o (string_bytes all))
+  told_in_words (Ok all) words size asked told is whole =
+      let T : Format → Type 0 = λ f. IsToldIn f request script labels n written a o (string_bytes all) in
+      subst T (sym asked) (by_count request.count words (string_bytes all) size told is whole)
+  told_in_words (Err e) words size asked told is whole = tt
+
+  -- by an object, where that is asked for
+  pub told_by_object : (text words : List ℕ) (found : Outcome) (size : Option SearchSize) → request.format ≡ formats.Json → o ≡ as_written written.negated found → HasViolation script a found →
+      IsTold (style_for request labels.names) script n written a o words → IsSizeFor script a request.bounds o size →
+      text ≡ object_line (answer_fields labels.names (answered labels n written found words) (sizes_asked request.count written.property size)) → IsToldAsAsked request script labels n written a o text
+  told_by_object text words found size asked is_found violation told is line =
+      let T : Format → Type 0 = λ f. IsToldIn f request script labels n written a o text in
+      subst T (sym asked) (record { found = found; is_found = is_found; violation = violation; words = words; is_told = told; size = size; is_size = is; line = line })
 
 -- ---- lists of them
 
-module _ (request : Request) (script : Script) (names : Names) where
+module _ (request : Request) (script : Script) (labels : Labels) where
   tells_both : (n m : ℕ) (asked others : List Assertion) (os ps : List Outcome) (text more : List ℕ) → m ≡ n + length asked →
-      TellsEach request script names n asked os text → TellsEach request script names m others ps more → TellsEach request script names n (asked ++ others) (os ++ ps) (text ++ more)
+      TellsEach request script labels n asked os text → TellsEach request script labels m others ps more → TellsEach request script labels n (asked ++ others) (os ++ ps) (text ++ more)
   tells_both n m [] others [] ps text more at none told =
       let here : m ≡ n = omega (arith, at) in
-      rw none (subst (λ k. TellsEach request script names k others ps more) here told)
+      rw none (subst (λ k. TellsEach request script labels k others ps more) here told)
   tells_both n m [] others (p ∷ os) ps text more at none told = absurd none
   tells_both n m (b ∷ asked) others [] ps text more at none told = absurd none
   tells_both n m (b ∷ asked) others (p ∷ os) ps text more at tells told =
@@ -72,17 +85,17 @@ take_one_more (suc i) (x ∷ xs) = ap (λ ys. x ∷ ys) (take_one_more i xs)
 -- ---- what went out
 
 -- what is told of the assertion at the place, behind what is told of those before it
-pub both_told : (request : Request) (script : Script) (names : Names) (place : ℕ) (P Q R : List Outcome → List ℕ → Type 0) → place ≤ length script.assertions →
-    AreTold request script names 1 (take place script.assertions) P → AreTold request script names (suc place) (one_at place script.assertions) Q →
-    ((os ps : List Outcome) (t u : List ℕ) → P os t → Q ps u → R (os ++ ps) (t ++ u)) → AreTold request script names 1 (take (suc place) script.assertions) R
-both_told request script names place P Q R within first second joined =
+pub both_told : (request : Request) (script : Script) (labels : Labels) (place : ℕ) (P Q R : List Outcome → List ℕ → Type 0) → place ≤ length script.assertions →
+    AreTold request script labels 1 (take place script.assertions) P → AreTold request script labels (suc place) (one_at place script.assertions) Q →
+    ((os ps : List Outcome) (t u : List ℕ) → P os t → Q ps u → R (os ++ ps) (t ++ u)) → AreTold request script labels 1 (take (suc place) script.assertions) R
+both_told request script labels place P Q R within first second joined =
     let asked = take place script.assertions in
     let one = one_at place script.assertions in
     let whole = take_one_more place script.assertions in
     let long : length asked ≡ place = length-take-le place script.assertions within in
     let at : suc place ≡ 1 + length asked = omega (arith, long) in
     let right = zip_both (IsRightRead script.unfolds (by_tau script) request.bounds) asked one first.outcomes second.outcomes first.right second.right in
-    let told = tells_both request script names 1 (suc place) asked one first.outcomes second.outcomes first.text second.text at first.told second.told in
+    let told = tells_both request script labels 1 (suc place) asked one first.outcomes second.outcomes first.text second.text at first.told second.told in
     record {
       outcomes = first.outcomes ++ second.outcomes;
       text = first.text ++ second.text;
@@ -92,8 +105,8 @@ both_told request script names place P Q R within first second joined =
     }
 
 -- nothing is told of no assertion
-pub none_told : (request : Request) (script : Script) (names : Names) (n : ℕ) (P : List Outcome → List ℕ → Type 0) → P [] [] → AreTold request script names n [] P
-none_told request script names n P went_out = record { outcomes = []; text = []; right = tt; told = refl; went_out = went_out }
+pub none_told : (request : Request) (script : Script) (labels : Labels) (n : ℕ) (P : List Outcome → List ℕ → Type 0) → P [] [] → AreTold request script labels n [] P
+none_told request script labels n P went_out = record { outcomes = []; text = []; right = tt; told = refl; went_out = went_out }
 
 -- no text went out
 pub no_text : (a : Option (List ℕ)) (failed : Bool) → failed ≡ false → Sends a a failed []
@@ -103,9 +116,9 @@ pub none_out : (a : Option (List ℕ)) (failed : Bool) → failed ≡ false → 
 none_out a failed works = record { bytes = no_text a failed works; status_is = refl }
 
 -- what went out is weakened
-pub told_so : (request : Request) (script : Script) (names : Names) (n : ℕ) (asked : List Assertion) (P Q : List Outcome → List ℕ → Type 0) → AreTold request script names n asked P →
-    ((os : List Outcome) (t : List ℕ) → P os t → Q os t) → AreTold request script names n asked Q
-told_so request script names n asked P Q told weaker = record {
+pub told_so : (request : Request) (script : Script) (labels : Labels) (n : ℕ) (asked : List Assertion) (P Q : List Outcome → List ℕ → Type 0) → AreTold request script labels n asked P →
+    ((os : List Outcome) (t : List ℕ) → P os t → Q os t) → AreTold request script labels n asked Q
+told_so request script labels n asked P Q told weaker = record {
   outcomes = told.outcomes;
   text = told.text;
   right = told.right;
@@ -121,15 +134,15 @@ both_out {a} {b} {c} {f} {g} s t all is os ps x y first second =
     record { bytes = both {a = a} {b = b} {c = c} first.bytes second.bytes; status_is = omega (arith, whole, one, other, is) }
 
 -- one explanation more went out
-pub one_more : (request : Request) (script : Script) (names : Names) (place : ℕ) (a b c : Option (List ℕ)) (f g : Bool) (s t all : ℕ) → place < length script.assertions → all ≡ max s t →
-    AreTold request script names 1 (take place script.assertions) (GoesOut a b f s) → AreTold request script names (suc place) (one_at place script.assertions) (GoesOut b c g t) →
-    AreTold request script names 1 (take (suc place) script.assertions) (GoesOut a c g all)
-one_more request script names place a b c f g s t all within is first second =
-    both_told request script names place (GoesOut a b f s) (GoesOut b c g t) (GoesOut a c g all) (omega (arith, within)) first second (both_out {a = a} {b = b} {c = c} {f = f} {g = g} s t all is)
+pub one_more : (request : Request) (script : Script) (labels : Labels) (place : ℕ) (a b c : Option (List ℕ)) (f g : Bool) (s t all : ℕ) → place < length script.assertions → all ≡ max s t →
+    AreTold request script labels 1 (take place script.assertions) (GoesOut a b f s) → AreTold request script labels (suc place) (one_at place script.assertions) (GoesOut b c g t) →
+    AreTold request script labels 1 (take (suc place) script.assertions) (GoesOut a c g all)
+one_more request script labels place a b c f g s t all within is first second =
+    both_told request script labels place (GoesOut a b f s) (GoesOut b c g t) (GoesOut a c g all) (omega (arith, within)) first second (both_out {a = a} {b = b} {c = c} {f = f} {g = g} s t all is)
 
 -- one more was cut off
-pub one_cut : (request : Request) (script : Script) (names : Names) (place : ℕ) (a b c : Option (List ℕ)) (f g : Bool) (s : ℕ) → place < length script.assertions →
-    AreTold request script names 1 (take place script.assertions) (GoesOut a b f s) → AreTold request script names (suc place) (one_at place script.assertions) (λ os text. Breaks b c g text) →
-    AreTold request script names 1 (take (suc place) script.assertions) (λ os text. Breaks a c g text)
-one_cut request script names place a b c f g s within first second =
-    both_told request script names place (GoesOut a b f s) (λ os text. Breaks b c g text) (λ os text. Breaks a c g text) (omega (arith, within)) first second (λ os ps x y out broken. later out.bytes broken)
+pub one_cut : (request : Request) (script : Script) (labels : Labels) (place : ℕ) (a b c : Option (List ℕ)) (f g : Bool) (s : ℕ) → place < length script.assertions →
+    AreTold request script labels 1 (take place script.assertions) (GoesOut a b f s) → AreTold request script labels (suc place) (one_at place script.assertions) (λ os text. Breaks b c g text) →
+    AreTold request script labels 1 (take (suc place) script.assertions) (λ os text. Breaks a c g text)
+one_cut request script labels place a b c f g s within first second =
+    both_told request script labels place (GoesOut a b f s) (λ os text. Breaks b c g text) (λ os text. Breaks a c g text) (omega (arith, within)) first second (λ os ps x y out broken. later out.bytes broken)

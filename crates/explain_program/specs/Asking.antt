@@ -7,13 +7,14 @@ use Rattle.theory_explanation.specs.Cutting.{Width, Whole, UpTo}
 use Rattle.theory_explanation.specs.Folding.{ByEvents, EachStep, Folded, Telling}
 use Rattle.theory_explanation.specs.Styles.{Style}
 use Rattle.settings.specs.CommandLine.{HasNumber}
-use Rattle.explain_settings.specs.CommandLine.{IsUsed, value}
+use Rattle.explain_settings.specs.CommandLine.{IsUsed, format_word, value}
 use Rattle.explain_settings.specs.Faults.{AskForHelp, AskForVersion, faults_of}
+use Rattle.explain_settings.specs.declared.format.Format.{Format}
 use Rattle.explain_settings.specs.declared.options.Settings.{Settings}
 use Rattle.program.specs.Running.{names_read}
 
 -- a file, limits, how names are read, how much of a state is told, how steps are, whether it is told how large a search was,
--- and the number of an assertion, or 0 for each
+-- in which format, and the number of an assertion, or 0 for each
 pub record Request : Type 0 where
   pub name : List ℕ
   pub bounds : Bounds
@@ -21,6 +22,7 @@ pub record Request : Type 0 where
   pub width : Width
   pub telling : Telling
   pub count : Bool
+  pub format : Format
   pub number : ℕ
 
 abbrev pub bounds_asked : Settings → Bounds
@@ -56,6 +58,7 @@ request_of settings = record {
   width = width_of_number settings.width;
   telling = telling_for settings.events settings.steps;
   count = settings.count;
+  format = settings.format;
   number = settings.assertion;
 }
 
@@ -81,6 +84,7 @@ pub record AskForExplanation (words : List (List ℕ)) (request : Request) : Typ
   pub width : (n : ℕ) × HasNumber (value (codes "width") words) n × IsWidthOf request.width n
   pub telling : AskForTelling words request.telling
   pub count : IsTrue request.count ↔ IsUsed (codes "count") words
+  pub format : value (codes "format") words ≡ Some (format_word request.format)
   pub number : HasNumber (value (codes "assertion") words) request.number
 
 -- the words ask for a text, the help or the version

@@ -1,5 +1,5 @@
 -- What a run of the program prints and answers.
-use Rattle.std.specs.Prelude.{◌≡◌, ◌⊎◌, ℕ, List, codes}
+use Rattle.std.specs.Prelude.{◌≡◌, ◌⊎◌, ℕ, List}
 use Rattle.program.specs.Beginning.{IsBeginning}
 use Rattle.report.specs.Sending.{Sends, Breaks}
 use Rattle.explain_settings.specs.Faults.{AreWrong}
@@ -10,18 +10,12 @@ use Rattle.program.specs.declared.files.Lack.{Lack}
 use Rattle.program.specs.declared.refusal.Refusal.{Refusal}
 use Rattle.program.specs.declared.refusal.Refusal.TheVariants as refusal
 use Rattle.explain_program.specs.Asking.{Request, AskForExplanation, AskForText}
-use Rattle.explain_program.specs.Explaining.{IsBegun, IsExplained, LacksAssertion}
-use Rattle.explain_program.specs.FileNames.{unread_line}
-use Rattle.explain_program.specs.Refusals.{TellsRefusal}
+use Rattle.explain_program.specs.Explaining.{IsBegun, IsExplained, LacksAny, LacksAssertion}
+use Rattle.explain_program.specs.Refusals.{TellsRefusal, none_text, stop_line, unread_text}
 use Rattle.explain_program.specs.declared.untold.Untold.{Untold}
 use Rattle.explain_program.specs.declared.untold.Untold.TheVariants as untold
 use Rattle.explain_program.specs.declared.stop.Stop.{Stop}
 use Rattle.explain_program.specs.declared.stop.Stop.TheVariants as stop
-
--- the line of what stops a run
-abbrev pub stop_line : Stop → List ℕ
-stop_line (stop.Refused why) = refusal_line why
-stop_line stop.NoAssertion = codes "refused assertion\n"
 
 -- what stops a run where an explanation did not go out
 abbrev pub of_untold : Untold → Stop
@@ -32,6 +26,14 @@ of_untold untold.Output = stop.Refused refusal.Output
 pub data IsServed (given : Given) (words : List (List ℕ)) (out : Sent) (status : ℕ) : Type 0 where
   shown : (text : List ℕ) → AskForText words → Sends out.old out.new out.failed text → status ≡ 0 → IsServed given words out status
   explained : (request : Request) → AskForExplanation words request → IsExplained given request out status → IsServed given words out status
+
+-- where a request is met the error output is given nothing, or is told that the file's script has no assertion
+abbrev pub IsNoted : Given → Request → Sent → Type 0
+IsNoted given request err = err.Unchanged ⊎ (LacksAny given request × IsGiven err (none_text request.format))
+
+-- the error output is given nothing, or what it is given where the words ask for this and it is met
+abbrev pub IsQuiet : Given → List (List ℕ) → Sent → Type 0
+IsQuiet given words err = err.Unchanged ⊎ ((request : Request) × AskForExplanation words request × IsNoted given request err)
 
 -- why the request is not met
 abbrev pub IsStopCause : Given → Request → Stop → Type 0
@@ -45,19 +47,19 @@ Leaves given request (stop.Refused refusal.Output) out = IsBegun given request (
 Leaves given request (stop.Refused refusal.Memory) out = out.Unchanged ⊎ IsBegun given request (Sends out.old out.new out.failed)
 Leaves given request _ out = out.Unchanged
 
--- What is told of what stops a run: its line, of a file that cannot be read the same with its name and the reason, or of a text
--- that is refused the message on what is read of the file.
-pub data TellsStop (given : Given) (name : List ℕ) (why : Stop) (err : Sent) : Type 0 where
-  by_line : IsGiven err (stop_line why) → TellsStop given name why err
-  of_name : (lack : Lack) → why ≡ stop.Refused (refusal.File lack) → IsGiven err (unread_line name lack) → TellsStop given name why err
-  of_text : (refused : Refusal) (bytes : List ℕ) → why ≡ stop.Refused refused → IsBeginning (given.may_hold name) bytes → TellsRefusal name bytes refused err → TellsStop given name why err
+-- What is told of what stops a run: its line; of a file that cannot be read its name and the reason too; or of a text that is
+-- refused what is told by the message on what is read of the file.
+pub data TellsStop (given : Given) (request : Request) (why : Stop) (err : Sent) : Type 0 where
+  by_line : IsGiven err (stop_line request.format why) → TellsStop given request why err
+  of_name : (lack : Lack) → why ≡ stop.Refused (refusal.File lack) → IsGiven err (unread_text request.format request.name lack) → TellsStop given request why err
+  of_text : (refused : Refusal) (bytes : List ℕ) → why ≡ stop.Refused refused → IsBeginning (given.may_hold request.name) bytes → TellsRefusal request.format request.name bytes refused err → TellsStop given request why err
 
 -- A request is not met, with the cause, which the error output is told, and the other one is left so.
 pub record IsStopped (given : Given) (request : Request) (out err : Sent) : Type 0 where
   pub why : Stop
   pub cause : IsStopCause given request why
   pub output : Leaves given request why out
-  pub told : TellsStop given request.name why err
+  pub told : TellsStop given request why err
 
 -- A run is refused: its words are wrong, and the command line's own text was given to the error output; memory was
 -- refused for the words; the text that they ask for was cut off; or what they ask for is stopped.

@@ -2,11 +2,11 @@
 
 ghost use Rattle.std.specs.Prelude.{◌≡◌, ◌≤◌, ◌<◌, length, suc, false, IfOk, IfErr};
 ghost use Rattle.csp_term.specs.Script.{script_of};
-ghost use Rattle.csp_print.specs.Names.{names_of};
 ghost use Rattle.program.specs.Given.{sent};
 ghost use Rattle.explain_program.specs.Asking.{one_at, request_of};
 ghost use Rattle.explain_program.specs.Explaining.{StopsBy, TellsAll};
 ghost use Rattle.explain_program.specs.Giving.{AreTold, GoesOut, LeavesText};
+ghost use Rattle.explain_program.specs.Naming.{labels_of};
 
 use crate::answering::{answer, outcome_status};
 use crate::reader::NamedScript;
@@ -32,14 +32,14 @@ pub(crate) fn explain_script<A: AllocHandle + Send + Sync, R: Threads + Wait + S
     requires { O.has_failed out.old ≡ false }
     ensures told { let request = request_of settings.now in
         let it = script_of named.now.script in
-        let names = names_of named.now.names in
+        let labels = labels_of named.now in
         let output = sent O.taken O.has_failed out.old out.new in
-        IfOk result (λ status. (status ≤ 2) × TellsAll request it names output status) }
+        IfOk result (λ status. (status ≤ 2) × TellsAll request it labels output status) }
     ensures stopped { let request = request_of settings.now in
         let it = script_of named.now.script in
-        let names = names_of named.now.names in
+        let labels = labels_of named.now in
         let output = sent O.taken O.has_failed out.old out.new in
-        IfErr result (λ why. StopsBy request it names why output) }
+        IfErr result (λ why. StopsBy request it labels why output) }
 {
     if settings.assertion == 0 {
         return explain_each(alloc, rt, settings, named, out);
@@ -64,14 +64,14 @@ fn explain_each<A: AllocHandle + Send + Sync, R: Threads + Wait + Sync, O: Sink>
     requires each { settings.now.assertion ≡ 0 }
     ensures told { let request = request_of settings.now in
         let it = script_of named.now.script in
-        let names = names_of named.now.names in
+        let labels = labels_of named.now in
         let output = sent O.taken O.has_failed out.old out.new in
-        IfOk result (λ status. (status ≤ 2) × TellsAll request it names output status) }
+        IfOk result (λ status. (status ≤ 2) × TellsAll request it labels output status) }
     ensures stopped { let request = request_of settings.now in
         let it = script_of named.now.script in
-        let names = names_of named.now.names in
+        let labels = labels_of named.now in
         let output = sent O.taken O.has_failed out.old out.new in
-        IfErr result (λ why. StopsBy request it names why output) }
+        IfErr result (λ why. StopsBy request it labels why output) }
 {
     let count = named.script.assertions().len();
     let mut status = 0;
@@ -95,17 +95,17 @@ fn explain_one<A: AllocHandle + Send + Sync, R: Threads + Wait + Sync, O: Sink>(
     requires there { place < length (script_of named.now.script).assertions }
     ensures told { let request = request_of settings.now in
         let it = script_of named.now.script in
-        let names = names_of named.now.names in
+        let labels = labels_of named.now in
         let output = sent O.taken O.has_failed out.old out.new in
         IfOk result (λ status. (status ≤ 2)
-        × AreTold request it names (suc place) (one_at place it.assertions)
+        × AreTold request it labels (suc place) (one_at place it.assertions)
         (GoesOut output.old output.new output.failed status)) }
     ensures left { let request = request_of settings.now in
         let it = script_of named.now.script in
-        let names = names_of named.now.names in
+        let labels = labels_of named.now in
         let output = sent O.taken O.has_failed out.old out.new in
         IfErr result (λ why. LeavesText why
-        (λ WentOut. AreTold request it names (suc place) (one_at place it.assertions)
+        (λ WentOut. AreTold request it labels (suc place) (one_at place it.assertions)
         (λ _ text. WentOut text)) output) }
 {
     let assertions = named.script.assertions();

@@ -3,7 +3,9 @@
 ghost use Rattle.std.specs.Prelude.{◌≡◌, IfOk};
 ghost use Rattle.std.specs.String.{string_bytes};
 ghost use Rattle.diagnostics.specs.Excerpts.{shown_character};
+ghost use Rattle.explain_settings.specs.declared.format.Format.TheVariants as formats;
 ghost use Rattle.explain_program.specs.FileNames.{lack_text, shown_name, unread_line};
+ghost use Rattle.explain_program.specs.Refusals.{unread_text};
 
 use program::Lack;
 use std::alloc::{AllocError, Allocator};
@@ -36,6 +38,18 @@ pub(crate) fn unread_line<A: Allocator + Copy>(
 {
     let shown = shown_name(alloc, name)?;
     format!(in alloc; "{shown}: refused file: {}\n", lack_text(why))
+}
+
+/// The line of the object of such a file.
+pub(crate) fn unread_object<A: Allocator + Copy>(
+    alloc: A,
+    name: &str,
+    why: Lack,
+) -> Result<String<A>, AllocError>
+    ensures { IfOk result (λ line. string_bytes line ≡ unread_text formats.Json name.now why) }
+{
+    let shown = shown_name(alloc, name)?;
+    explanation_objects::unread_line(alloc, shown.as_str(), lack_text(why))
 }
 
 // The reason, in words.

@@ -2,15 +2,19 @@
 //!
 //! The contract of `run` says that the explanations of right outcomes went out, one for each assertion that the words ask
 //! for, and the status is that of the outcomes; or the status is 3 and a refusal went to the error stream, with its cause:
-//! that of a script in words, with its place and line, and any other as a line. Each explanation goes out as soon as its
-//! assertion is answered. So where memory is refused later, or the output fails, the explanations before stand there, and
-//! of the last one a beginning may.
+//! that of a script in words, with its place and line, and any other as a line. Where the words ask for objects, each of
+//! these is an object of JSON.
+//!
+//! Each explanation goes out as soon as its assertion is answered. So where memory is refused later, or the output fails,
+//! the explanations before stand there, and of the last one a beginning may.
 #![tactic(auto)]
 
 mod answering;
 mod counting;
 mod explaining;
 mod file_name;
+mod notes;
+mod objects;
 mod reader;
 mod refusals;
 mod running;

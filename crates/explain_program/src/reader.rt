@@ -1,6 +1,6 @@
 //! From a text to its script and names.
 
-ghost use Rattle.std.specs.Prelude.{◌≡◌, IfOk, IfErr};
+ghost use Rattle.std.specs.Prelude.{◌≡◌, ◌∷◌, ◌++◌, [], map, IfOk, IfErr, OnOk};
 ghost use Rattle.theory_syntax.specs.Process.{ByTau};
 ghost use Rattle.theory_syntax.specs.Readings.{reading};
 ghost use Rattle.theory_notation.specs.Names.{names_in, with_types};
@@ -10,17 +10,18 @@ ghost use Rattle.csp_term.specs.Script.{script_of};
 ghost use Rattle.csp_print.specs.Names.{names_of};
 ghost use Rattle.program.specs.Reading.{IsRefusalOf};
 ghost use Rattle.program.specs.Running.{names_read};
-ghost use Rattle.explain_program.specs.Naming.{IsNamedText};
+ghost use Rattle.csp_lex.specs.Places.{place_of};
+ghost use Rattle.explain_program.specs.Naming.{IsNamedText, assertion_places, labels_of};
 
 use csp_expression::TypeTable;
 use csp_kinds::check;
-use csp_lex::tokens;
-use csp_parse::{Raw, parse};
+use csp_lex::{Place, tokens};
+use csp_parse::{Declaration, Raw, parse};
 use csp_print::Names;
 use csp_term::{Memory, Script, TryCopy};
 use printed_names::names_of;
 use program::Refusal;
-use std::alloc::Allocator;
+use std::alloc::{AllocError, Allocator};
 
 /// A checked script, with the names of its text.
 #[derive(Drop)]
@@ -29,6 +30,8 @@ pub struct NamedScript<'t, A: Allocator> {
     pub script: Script<A>,
     /// The spellings of its names, and its types, by which values are told.
     pub names: Names<'t, A>,
+    /// Where its assertions begin, in their order.
+    pub places: Vec<Place, A>,
 }
 
 impl<'t, A: Allocator> NamedScript<'t, A> {
@@ -37,12 +40,20 @@ impl<'t, A: Allocator> NamedScript<'t, A> {
         ensures script { let read = names_read at_once in
             (script_of self.entry.script).unfolds ≡ ByTau
             → script_of result.script ≡ reading read (script_of self.entry.script) }
-        ensures names { names_of result.names ≡ names_of self.entry.names }
+        ensures labels { labels_of result ≡ labels_of self.entry }
     {
         if at_once {
-            let NamedScript { script, names } = self;
+            let NamedScript {
+                script,
+                names,
+                places,
+            } = self;
             let script = script.at_once();
-            NamedScript { script, names }
+            NamedScript {
+                script,
+                names,
+                places,
+            }
         } else {
             self
         }
@@ -58,7 +69,7 @@ pub fn read<'t, A: Allocator + Copy>(
     text: &'t [u8],
 ) -> Result<NamedScript<'t, A>, Refusal>
     ensures named { IfOk result (λ named. IsNamedText text.now (script_of named.script)
-        (names_of named.names)) }
+        (labels_of named)) }
     ensures refused { IfErr result (λ why. IsRefusalOf text.now why) }
 {
     let list = tokens(alloc, text)?;
@@ -67,7 +78,14 @@ pub fn read<'t, A: Allocator + Copy>(
     let Ok(names) = telling_names(alloc, &tree, script.types()) else {
         return Err(Refusal::Memory);
     };
-    Ok(NamedScript { script, names })
+    let Ok(places) = assertion_places(alloc, &tree) else {
+        return Err(Refusal::Memory);
+    };
+    Ok(NamedScript {
+        script,
+        names,
+        places,
+    })
 }
 
 // The names of the tree, by which values are told with these types.
@@ -81,4 +99,39 @@ fn telling_names<'t, A: Allocator + Copy>(
 {
     let names = names_of(alloc, tree)?;
     Ok(names.with_types(types.try_copy(alloc)?))
+}
+
+// Where the assertions of the tree begin.
+fn assertion_places<A: Allocator + Copy>(
+    alloc: A,
+    tree: &Raw<'_, A>,
+) -> Result<Vec<Place, A>, AllocError>
+    ensures { IfOk result (λ places. map place_of places.items
+        ≡ assertion_places (raw.script_of tree.now)) }
+{
+    let mut places = Vec::new(alloc);
+    for declaration in &tree.declarations {
+        push_place(declaration, &mut places)?;
+    }
+    Ok(places)
+}
+
+// The place of the declaration, behind the others, if it is an assertion.
+fn push_place<A: Allocator>(
+    declaration: &Declaration<'_, A>,
+    places: &mut Vec<Place, A>,
+) -> Result<(), AllocError>
+    ensures { let more = assertion_places (raw.declaration_of declaration.now ∷ []) in
+        OnOk result (map place_of places.new.items ≡ map place_of places.old.items ++ more) }
+{
+    match declaration {
+        Declaration::Assertion { place, .. } => {
+            places.push(*place)?;
+            Ok(())
+        }
+        Declaration::Datatype { .. }
+        | Declaration::Nametype { .. }
+        | Declaration::Channels { .. }
+        | Declaration::Equation { .. } => Ok(()),
+    }
 }

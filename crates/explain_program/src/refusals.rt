@@ -1,16 +1,20 @@
 //! Refusals of a file or a script, in words.
 
-ghost use Rattle.std.specs.Prelude.{◌≡◌, IfOk, false};
+ghost use Rattle.std.specs.Prelude.{◌≡◌, IfOk, List, false, ℕ};
 ghost use Rattle.std.specs.String.{string_bytes};
 ghost use Rattle.diagnostics.specs.Messages.{IsMessage};
+ghost use Rattle.explain_settings.specs.declared.format.Format.TheVariants as formats;
 ghost use Rattle.program.specs.Given.{sent};
 ghost use Rattle.program.specs.declared.files.Unread.TheVariants as unread;
 ghost use Rattle.explain_program.specs.FileNames.{shown_name};
-ghost use Rattle.explain_program.specs.Refusals.{TellsRefusal, TellsUnread, refused_text};
+ghost use Rattle.explain_program.specs.Refusals.{TellsRefusal, TellsUnread, refused_line, refused_text, unread_text};
 
-use crate::file_name::{shown_name, unread_line};
+use crate::file_name::{shown_name, unread_line, unread_object};
+use crate::stop::{Stop, report_stop};
 use diagnostics::{Fault, message};
-use program::{Lack, Refusal, Unread, refuse, refuse_words};
+use explain_settings::{Format, Settings};
+use explanation_objects::{RefusedText, text_line};
+use program::{Lack, Refusal, Unread, refuse_words};
 use report::Sink;
 use std::alloc::{AllocError, Allocator};
 
@@ -18,30 +22,51 @@ use std::alloc::{AllocError, Allocator};
 /// name and with the reason, unless memory is refused for it.
 pub(crate) fn refuse_unread<A: Allocator + Copy, E: Sink>(
     alloc: A,
-    file: &str,
+    settings: &Settings<'_>,
     fault: Unread,
     err: &mut E,
 ) -> u8
     requires { E.has_failed err.old ≡ false }
     ensures status { result ≡ 3 }
-    ensures told { TellsUnread file.now fault (sent E.taken E.has_failed err.old err.new) }
+    ensures told { let errors = sent E.taken E.has_failed err.old err.new in
+        TellsUnread settings.now.format settings.now.file.now fault errors }
 {
     match fault {
-        Unread::File(why) => refuse_name(alloc, file, why, err),
-        Unread::Memory => refuse(Refusal::Memory, err),
+        Unread::File(why) => refuse_name(alloc, settings, why, err),
+        Unread::Memory => report_stop(settings.format, Stop::Refused(Refusal::Memory), err),
     }
 }
 
 // The same of a file that cannot be read, for this reason.
-fn refuse_name<A: Allocator + Copy, E: Sink>(alloc: A, file: &str, why: Lack, err: &mut E) -> u8
+fn refuse_name<A: Allocator + Copy, E: Sink>(
+    alloc: A,
+    settings: &Settings<'_>,
+    why: Lack,
+    err: &mut E,
+) -> u8
     requires { E.has_failed err.old ≡ false }
     ensures status { result ≡ 3 }
     ensures told { let errors = sent E.taken E.has_failed err.old err.new in
-        TellsUnread file.now (unread.File why) errors }
+        TellsUnread settings.now.format settings.now.file.now (unread.File why) errors }
 {
-    match unread_line(alloc, file, why) {
-        Ok(line) => refuse_words(line.as_str(), err),
-        Err(_) => refuse(Refusal::File(why), err),
+    match unread_text(alloc, settings, why) {
+        Ok(text) => refuse_words(text.as_str(), err),
+        Err(_) => report_stop(settings.format, Stop::Refused(Refusal::File(why)), err),
+    }
+}
+
+// What is told of it, in the format.
+fn unread_text<A: Allocator + Copy>(
+    alloc: A,
+    settings: &Settings<'_>,
+    why: Lack,
+) -> Result<String<A>, AllocError>
+    ensures { IfOk result (λ text. string_bytes text
+        ≡ unread_text settings.now.format settings.now.file.now why) }
+{
+    match settings.format {
+        Format::Text => unread_line(alloc, settings.file, why),
+        Format::Json => unread_object(alloc, settings.file, why),
     }
 }
 
@@ -49,36 +74,63 @@ fn refuse_name<A: Allocator + Copy, E: Sink>(alloc: A, file: &str, why: Lack, er
 /// memory is refused for them by its line.
 pub(crate) fn refuse_text<A: Allocator + Copy, E: Sink>(
     alloc: A,
-    file: &str,
+    settings: &Settings<'_>,
     text: &[u8],
     why: Refusal,
     err: &mut E,
 ) -> u8
     requires { E.has_failed err.old ≡ false }
     ensures status { result ≡ 3 }
-    ensures told { TellsRefusal file.now text.now why (sent E.taken E.has_failed err.old err.new) }
+    ensures told { let errors = sent E.taken E.has_failed err.old err.new in
+        TellsRefusal settings.now.format settings.now.file.now text.now why errors }
 {
     let Some(refused) = refused_text(why) else {
-        return refuse(why, err);
+        return report_stop(settings.format, Stop::Refused(why), err);
     };
-    match words(alloc, file, text, refused) {
+    match words(alloc, settings, text, refused) {
         Ok(words) => refuse_words(words.as_str(), err),
-        Err(_) => refuse(why, err),
+        Err(_) => report_stop(settings.format, Stop::Refused(why), err),
     }
 }
 
-// The refusal in words, with the file's name as it is shown.
+// The refusal in words, or its object, with the file's name as it is shown.
 fn words<A: Allocator + Copy>(
     alloc: A,
-    file: &str,
+    settings: &Settings<'_>,
     text: &[u8],
     refused: diagnostics::Refusal,
 ) -> Result<String<A>, AllocError>
-    ensures { IfOk result (λ words. IsMessage (shown_name file.now) text.now refused
-        (string_bytes words)) }
+    ensures { let file = shown_name settings.now.file.now in
+        IfOk result (λ words. (told : List ℕ) × IsMessage file text.now refused told
+        × (string_bytes words ≡ refused_line settings.now.format file refused told)) }
 {
-    let name = shown_name(alloc, file)?;
-    message(alloc, name.as_str(), text, refused)
+    let name = shown_name(alloc, settings.file)?;
+    let file = name.as_str();
+    let told = message(alloc, file, text, refused)?;
+    match settings.format {
+        Format::Text => Ok(told),
+        Format::Json => refused_object(alloc, file, refused, told.as_str()),
+    }
+}
+
+// The line of the object of a refused text, with what is told of it in words.
+fn refused_object<A: Allocator>(
+    alloc: A,
+    file: &str,
+    refused: diagnostics::Refusal,
+    words: &str,
+) -> Result<String<A>, AllocError>
+    ensures { IfOk result (λ line. string_bytes line
+        ≡ refused_line formats.Json file.now refused words.now) }
+{
+    let it = RefusedText {
+        file,
+        number: refused.fault.number(),
+        rule: refused.fault.rule(),
+        place: refused.place,
+        words,
+    };
+    text_line(alloc, &it)
 }
 
 // What is refused of a text, where that is what is refused.

@@ -4,13 +4,14 @@ ghost use Rattle.std.specs.Prelude.{◌≡◌, ◌≤◌, ◌<◌, false};
 ghost use Rattle.program.specs.Given.{given_of, sent};
 ghost use Rattle.program.specs.Running.{texts_of};
 ghost use Rattle.explain_program.specs.Asking.{request_of};
-ghost use Rattle.explain_program.specs.Running.{IsRefused, IsServed, IsStopped};
+ghost use Rattle.explain_program.specs.Running.{IsNoted, IsQuiet, IsRefused, IsServed, IsStopped};
 ghost use Rattle.explain_program.specs.Explaining.{IsExplained};
 
 use crate::explaining::explain_script;
+use crate::notes::note_none;
 use crate::reader::read;
 use crate::refusals::{refuse_text, refuse_unread};
-use crate::stop::report_stop;
+use crate::stop::{Stop, report_stop};
 use csp_term::AllocHandle;
 use explain_settings::Settings;
 use program::{Files, Refusal, Resources, refuse, refuse_words, show};
@@ -24,7 +25,7 @@ use std::thread::Threads;
 /// refused, of a script in words. Where the words ask for the help or the version, this text goes to `out`.
 ///
 /// Answers the status: 3 where anything was refused, else 2 where an assertion has no answer within the limits, else 1
-/// where one fails, else 0. The words are looked at first, then the file, whether its text is too long for the stack, the
+/// where one fails, else 0. Where each assertion is asked for and there is none, `err` is told so. The words are looked at first, then the file, whether its text is too long for the stack, the
 /// script, the number of the assertion, and then each assertion in turn. A failure of `err` changes nothing.
 pub fn run<
     'w,
@@ -46,7 +47,9 @@ pub fn run<
     ensures served { let given = given_of F.may_hold F.may_lack files.old resources.now.stack in
         let output = sent O.taken O.has_failed out.old out.new in
         result < 3 → IsServed given (texts_of words.entry.now) output result }
-    ensures silent { result < 3 → err.new ≡ err.old }
+    ensures quiet { let given = given_of F.may_hold F.may_lack files.old resources.now.stack in
+        let errors = sent E.taken E.has_failed err.old err.new in
+        result < 3 → IsQuiet given (texts_of words.entry.now) errors }
     ensures refused { let given = given_of F.may_hold F.may_lack files.old resources.now.stack in
         let output = sent O.taken O.has_failed out.old out.new in
         let errors = sent E.taken E.has_failed err.old err.new in
@@ -75,7 +78,9 @@ fn explain<A: AllocHandle + Send + Sync, R: Threads + Wait + Sync, F: Files<A>, 
     ensures explained { let given = given_of F.may_hold F.may_lack files.old resources.now.stack in
         let output = sent O.taken O.has_failed out.old out.new in
         result < 3 → IsExplained given (request_of settings.now) output result }
-    ensures silent { result < 3 → err.new ≡ err.old }
+    ensures noted { let given = given_of F.may_hold F.may_lack files.old resources.now.stack in
+        let errors = sent E.taken E.has_failed err.old err.new in
+        result < 3 → IsNoted given (request_of settings.now) errors }
     ensures stopped { let given = given_of F.may_hold F.may_lack files.old resources.now.stack in
         let output = sent O.taken O.has_failed out.old out.new in
         let errors = sent E.taken E.has_failed err.old err.new in
@@ -83,19 +88,22 @@ fn explain<A: AllocHandle + Send + Sync, R: Threads + Wait + Sync, F: Files<A>, 
 {
     let text = match files.read(settings.file) {
         Ok(text) => text,
-        Err(fault) => return refuse_unread(resources.alloc, settings.file, fault, err),
+        Err(fault) => return refuse_unread(resources.alloc, settings, fault, err),
     };
     if !resources.stack.takes(text.len()) {
-        return refuse(Refusal::Thread, err);
+        return report_stop(settings.format, Stop::Refused(Refusal::Thread), err);
     }
     let (alloc, rt) = (resources.alloc, resources.rt);
     let named = match read(alloc, &text) {
         Ok(named) => named,
-        Err(why) => return refuse_text(alloc, settings.file, &text, why, err),
+        Err(why) => return refuse_text(alloc, settings, &text, why, err),
     };
     let named = named.as_asked(settings.at_once);
     match explain_script(alloc, rt, settings, &named, out) {
-        Ok(status) => status,
-        Err(why) => report_stop(why, err),
+        Ok(status) => {
+            note_none(settings.format, &named.script, err);
+            status
+        }
+        Err(why) => report_stop(settings.format, why, err),
     }
 }

@@ -1,10 +1,10 @@
 //! What is told of one assertion.
 
-ghost use Rattle.std.specs.Prelude.{◌≡◌, IfOk};
+ghost use Rattle.std.specs.Prelude.{◌≡◌, ◌++◌, IfOk};
 ghost use Rattle.std.specs.String.{string_bytes};
 ghost use Rattle.theory_search.specs.Answer.{as_written};
 ghost use Rattle.theory_search.specs.Terms.{IsAssertionOf};
-ghost use Rattle.csp_term.specs.Script.{assertion_of, script_of};
+ghost use Rattle.csp_term.specs.Script.{assertion_of, property_of, script_of};
 ghost use Rattle.csp_print.specs.Names.{names_of};
 ghost use Rattle.counterexample.specs.Folding.{telling_of};
 ghost use Rattle.counterexample.specs.Styles.{style_of};
@@ -14,18 +14,21 @@ ghost use Rattle.verdict.specs.Outcome.{outcome_of};
 ghost use Rattle.explain_program.specs.Asking.{bounds_asked, request_of, style_for, taus_told, telling_for, width_of_number};
 ghost use Rattle.explain_program.specs.Sizes.{IsSizeFor};
 ghost use Rattle.explain_program.specs.Stops.{stop_kept};
-ghost use Rattle.explain_program.specs.Telling.{IsToldAsAsked};
+ghost use Rattle.explain_program.specs.Naming.{labels_of};
+ghost use Rattle.explain_program.specs.Telling.{IsToldAsAsked, size_asked};
 
 use crate::counting::with_size;
+use crate::objects::object_line;
 use crate::reader::NamedScript;
 use crate::searching::Answer;
 use counterexample::{Style, Telling, Width};
 use csp_print::Names;
 use csp_term::{Action, AllocHandle, Memory};
-use explain_settings::Settings;
+use explain_settings::{Format, Settings};
 use explanation::{Question, tell};
 
-/// What is told of the assertion with this answer, and where it is asked for, how large the search was.
+/// What is told of the assertion with this answer, in the format that is asked for, and where it is asked for, how large the
+/// search was.
 pub(crate) fn explanation_text<A: AllocHandle>(
     alloc: A,
     settings: &Settings<'_>,
@@ -47,11 +50,11 @@ pub(crate) fn explanation_text<A: AllocHandle>(
         let asked = assertion_of question.now.asked.now in
         HasStop it asked (outcome_of answer.now.found) (stop_kept answer.now.stop) }
     ensures { let it = script_of named.now.script in
-        let names = names_of named.now.names in
+        let labels = labels_of named.now in
         let written = assertion_of question.now.written.now in
         let asked = assertion_of question.now.asked.now in
         let outcome = as_written written.negated (outcome_of answer.now.found) in
-        let told = IsToldAsAsked (request_of settings.now) it names question.now.number in
+        let told = IsToldAsAsked (request_of settings.now) it labels question.now.number in
         IfOk result (λ text. told written asked outcome (string_bytes text)) }
 {
     let style = style(settings, &named.names);
@@ -63,10 +66,27 @@ pub(crate) fn explanation_text<A: AllocHandle>(
         &answer.found,
         lent(&answer.stop),
     )?;
+    match settings.format {
+        Format::Text => in_words(settings, question, answer, text),
+        Format::Json => Ok(object_line(alloc, settings, named, question, answer, text.as_str())?),
+    }
+}
+
+// The words, and behind them where it is asked for how large the search was.
+fn in_words<A: AllocHandle>(
+    settings: &Settings<'_>,
+    question: &Question<'_, A>,
+    answer: &Answer<A>,
+    words: String<A>,
+) -> Result<String<A>, Memory>
+    ensures { let property = property_of question.now.asked.now.property in
+        let size = size_asked settings.now.count property answer.now.size in
+        IfOk result (λ text. string_bytes text ≡ string_bytes words ++ size) }
+{
     if settings.count {
-        with_size(&question.asked.property, answer.size, text)
+        with_size(&question.asked.property, answer.size, words)
     } else {
-        Ok(text)
+        Ok(words)
     }
 }
 

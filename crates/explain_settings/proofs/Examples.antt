@@ -52,3 +52,19 @@ names_at_once = refl
 names_by_tau : value (codes "unfold") (codes "--count" ∷ codes "f" ∷ []) ≡ Some (codes "false")
 unfolding clap_on_literals
 names_by_tau = refl
+
+format_given : value (codes "format") (codes "--format" ∷ codes "json" ∷ codes "f" ∷ []) ≡ Some (codes "json")
+unfolding clap_on_literals
+format_given = refl
+
+format_by_default : value (codes "format") (codes "f" ∷ []) ≡ Some (codes "text")
+unfolding clap_on_literals
+format_by_default = refl
+
+standard_input : value (codes "file") (codes "-" ∷ []) ≡ Some (codes "-")
+unfolding clap_on_literals
+standard_input = refl
+
+hyphen_taken : faults_of (codes "-" ∷ []) ≡ []
+unfolding clap_on_literals
+hyphen_taken = refl

@@ -8,12 +8,13 @@ use Rattle.clap.specs.Facts.{WantsDefault, args_of, least_values, unwrap_or_rang
 use Rattle.clap.specs.Texts.{items_of}
 use Rattle.clap.specs.Built.{IsAuto, IsParsedFrom, IsPlain, IsPlainArg}
 use Rattle.clap.specs.Matches.{first_value, found_of, one_text}
-use Rattle.clap.specs.Values.{IsUnsignedIn}
+use Rattle.clap.specs.Values.{Accepts, IsUnsignedIn, read_as, reading_of}
 use Rattle.clap.specs.Walk.{Rule, Text, first_of, rows_of, rule_of}
 use Rattle.clap.specs.Simple.{App, HasMatchesOf, IsSimple, app_of, is_ready, is_ready_leaf, is_simple, matches_of}
 use Rattle.clap.specs.declared.builder.action.ArgAction.TheVariants.{Set}
 use Rattle.clap.specs.declared.builder.arg.Arg.{Arg}
 use Rattle.clap.specs.declared.builder.command.Command.{Command}
+use Rattle.clap.specs.declared.builder.value_parser.ValueParser.{ValueParser}
 use Rattle.clap.specs.declared.builder.value_parser.ValueParser.TheVariants as vp
 use Rattle.clap.specs.declared.parser.matches.ArgMatches.{ArgMatches}
 use Rattle.clap.proofs.CallerLemmas.{default_present, required_has_value}
@@ -40,7 +41,7 @@ module _ (c : Command) (m : ArgMatches) (words : List Text) (is : app_of c ≡ c
   rule_at : (j : ℕ) (d : Arg) → rule_of (slice_index_or (args_of c) j d) ≡ slice_index_or command_rules j (rule_of d)
   rule_at j d = sym (get_or-map rule_of (args_of c) j d) ∙ ap (λ rs. slice_index_or rs j (rule_of d)) rules_are
 
-  count : length (args_of c) ≡ 10
+  count : length (args_of c) ≡ 11
   count = sym (length-map (args_of c) rule_of) ∙ ap length rules_are
 
   -- some argument of the command
@@ -74,13 +75,17 @@ module _ (c : Command) (m : ArgMatches) (words : List Text) (is : app_of c ≡ c
   abbrev pub IsNumberText : Text → ℕ → ℕ → Text → Type 0
   IsNumberText name least most t = (one_text (found_of m) name ≡ Some t) × (value name words ≡ Some t) × IsUnsignedIn least most t
 
-  -- the rule is one of a number in a range, with a default
-  abbrev IsNumber : Text → ℕ → ℕ → Rule → Type 0
-  IsNumber name least most r = (default : Text) × (r.id ≡ name) × (r.defaults ≡ default ∷ []) × (r.parser ≡ Some (vp.Unsigned least most)) × (r.action ≡ Some Set) × (r.range ≡ None)
+  -- what is known of the text of an argument with this parser
+  abbrev IsRead : Text → ValueParser → (place : ℕ) → Text → Type 0
+  IsRead name q k t = (one_text (found_of m) name ≡ Some (read_as (reading_of q) t)) × (value name words ≡ Some t) × Accepts (slice_index_or (args_of c) k first_arg).ignore_case q t
 
-  number_text : (k : ℕ) (name : Text) (least most : ℕ) → k < 10 → is_only_at name k command_rules ≡ true → is_own name ≡ false
-      → IsNumber name least most (slice_index_or command_rules k (rule_of first_arg)) → (t : Text) × IsNumberText name least most t
-  number_text k name least most below only own_name r =
+  -- the rule is one of a value with this parser, and with a default
+  abbrev HasDefault : Text → ValueParser → Rule → Type 0
+  HasDefault name q r = (default : Text) × (r.id ≡ name) × (r.defaults ≡ default ∷ []) × (r.parser ≡ Some q) × (r.action ≡ Some Set) × (r.range ≡ None)
+
+  text_read : (k : ℕ) (name : Text) (q : ValueParser) → k < 11 → is_only_at name k command_rules ≡ true → is_own name ≡ false
+      → HasDefault name q (slice_index_or command_rules k (rule_of first_arg)) → (t : Text) × IsRead name q k t
+  text_read k name q below only own_name r =
       let d = first_arg in
       let lt : k < length (args_of c) = subst (λ n. k < n) (sym count) below in
       let at = rule_at k d in
@@ -96,15 +101,19 @@ module _ (c : Command) (m : ArgMatches) (words : List Text) (is : app_of c ≡ c
       let filled : (slice_index_or (args_of c) k d).id.now ≡ [] → ⊥ = λ e. differ name [] apart.0 (sym id ∙ e) in
       let own : IsAuto (slice_index_or (args_of c) k d) → ⊥ = λ auto. elim auto [ inl h ↦ differ name (codes "help") flags.0 (sym id ∙ h) | inr h ↦ differ name (codes "version") flags.1 (sym id ∙ h) ] in
       let has = has_entry c m p plain simple.globals k d lt unique filled own (default_present c m p simple.globals k d lt wants) in
-      let got = reads c m p plain simple.globals k d lt unique filled own (vp.Unsigned least most) (ap (λ (x : Rule). x.parser) at ∙ r.3) (ap (λ (x : Rule). x.action) at ∙ r.4)
+      let got = reads c m p plain simple.globals k d lt unique filled own q (ap (λ (x : Rule). x.parser) at ∙ r.3) (ap (λ (x : Rule). x.action) at ∙ r.4)
       (simple.args k d lt).delimiter enough has in (
         got.0,
         (
-          subst (λ t. one_text (found_of m) t ≡ Some got.0) id got.1.0,
+          subst (λ t. one_text (found_of m) t ≡ Some (read_as (reading_of q) got.0)) id got.1.0,
           value_is name got.0 (subst (λ t. first_value (found_of m) t ≡ Some got.0) id got.1.1),
           got.1.2,
         ),
       )
+
+  number_text : (k : ℕ) (name : Text) (least most : ℕ) → k < 11 → is_only_at name k command_rules ≡ true → is_own name ≡ false
+      → HasDefault name (vp.Unsigned least most) (slice_index_or command_rules k (rule_of first_arg)) → (t : Text) × IsNumberText name least most t
+  number_text k name least most below only own_name r = text_read k name (vp.Unsigned least most) below only own_name r
 
   pub workers : (t : Text) × IsNumberText (codes "workers") 1 64 t
   workers = number_text 0 (codes "workers") 1 64 (omega arith) refl refl (codes "1", refl, refl, refl, refl, refl)
@@ -119,19 +128,25 @@ module _ (c : Command) (m : ArgMatches) (words : List Text) (is : app_of c ≡ c
   width = number_text 4 (codes "width") 0 1000000 (omega arith) refl refl (codes "200", refl, refl, refl, refl, refl)
 
   pub assertion : (t : Text) × IsNumberText (codes "assertion") 0 1000000 t
-  assertion = number_text 9 (codes "assertion") 0 1000000 (omega arith) refl refl (codes "0", refl, refl, refl, refl, refl)
+  assertion = number_text 10 (codes "assertion") 0 1000000 (omega arith) refl refl (codes "0", refl, refl, refl, refl, refl)
+
+  -- the text of the format is the one that the words give
+  pub format : (t : Text) × (first_value (found_of m) (codes "format") ≡ Some t) × (value (codes "format") words ≡ Some t)
+  format =
+      let got = text_read 8 (codes "format") vp.String (omega arith) refl refl (codes "text", refl, refl, refl, refl, refl) in
+      (got.0, same_value (codes "format") ∙ got.1.1, got.1.1)
 
   file_has_value : is_some (first_value (found_of m) (codes "file")) ≡ true
   file_has_value =
-      let lt : 8 < length (args_of c) = subst (λ n. 8 < n) (sym count) (omega arith) in
-      let at : rule_of (slice_index_or (args_of c) 8 first_arg) ≡ file_rule = rule_at 8 first_arg in
-      let id : (slice_index_or (args_of c) 8 first_arg).id.now ≡ codes "file" = ap (λ (x : Rule). x.id) at in
-      let enough : 1 ≤ least_values (slice_index_or (args_of c) 8 first_arg) =
+      let lt : 9 < length (args_of c) = subst (λ n. 9 < n) (sym count) (omega arith) in
+      let at : rule_of (slice_index_or (args_of c) 9 first_arg) ≡ file_rule = rule_at 9 first_arg in
+      let id : (slice_index_or (args_of c) 9 first_arg).id.now ≡ codes "file" = ap (λ (x : Rule). x.id) at in
+      let enough : 1 ≤ least_values (slice_index_or (args_of c) 9 first_arg) =
       subst (λ o. 1 ≤ (unwrap_or_range o).start_inclusive) (sym (ap (λ (x : Rule). x.range) at)) (omega arith) in
       subst (λ t. is_some (first_value (found_of m) t) ≡ true) id
-      (required_has_value c m p plain simple.globals (ap (λ (a : App). a.top.subcommand_negates_reqs) is) 8 first_arg lt
-      (ap (λ (x : Rule). x.required) at) (ap (λ (x : Rule). x.action) at) (simple.args 8 first_arg lt).delimiter enough
-      (unique_at 8 first_arg (codes "file") id refl)
+      (required_has_value c m p plain simple.globals (ap (λ (a : App). a.top.subcommand_negates_reqs) is) 9 first_arg lt
+      (ap (λ (x : Rule). x.required) at) (ap (λ (x : Rule). x.action) at) (simple.args 9 first_arg lt).delimiter enough
+      (unique_at 9 first_arg (codes "file") id refl)
       (λ e. differ (codes "file") [] refl (sym id ∙ e))
       (λ auto. elim auto [
         | inl h ↦ differ (codes "file") (codes "help") refl (sym id ∙ h)

@@ -1,9 +1,9 @@
 //! The arguments of the command line, as `clap` takes them.
 
-ghost use Rattle.std.specs.Prelude.{◌≡◌, ◌≤◌, IfOk, false};
+ghost use Rattle.std.specs.Prelude.{◌≡◌, ◌≤◌, IfOk, codes, false};
 ghost use Rattle.clap.specs.Words.{app_of, rule_of};
 ghost use Rattle.settings.specs.CommandLine.{file_rule, number_rule};
-ghost use Rattle.explain_settings.specs.CommandLine.{command_line, count_rule};
+ghost use Rattle.explain_settings.specs.CommandLine.{command_line, count_rule, format_rule, line_of, option_rules};
 
 use crate::help::{ABOUT, STATUS, VERSION};
 use clap::{Arg, ArgAction, Command};
@@ -26,6 +26,15 @@ const STEPS: &str = "Tell steps that unfold a name one by one; with --events tha
 pub(crate) fn command_line<'a>(alloc: Global) -> Result<Command<'a>, AllocError>
     ensures { IfOk result (λ c. app_of c ≡ command_line) }
 {
+    let file = file(alloc);
+    let assertion = assertion(alloc);
+    options_line(alloc)?.arg(file)?.arg(assertion)
+}
+
+// The same with its options alone.
+fn options_line<'a>(alloc: Global) -> Result<Command<'a>, AllocError>
+    ensures { IfOk result (λ c. app_of c ≡ line_of option_rules) }
+{
     let workers = option(alloc, "workers", "1", MAX_WORKERS).help(
         "How many workers search, 1 to 64; they change no line",
     );
@@ -42,10 +51,7 @@ pub(crate) fn command_line<'a>(alloc: Global) -> Result<Command<'a>, AllocError>
     let counted = flag(alloc, "count", COUNT);
     let events = flag(alloc, "events", EVENTS);
     let steps = flag(alloc, "steps", STEPS);
-    let file = file(alloc);
-    let assertion = count(alloc, "assertion", "0", MOST).help(
-        "The number of the assertion to tell of, or 0 for each",
-    );
+    let format = format(alloc);
     Command::new(alloc, "explain")
         .no_binary_name(true)
         .version(VERSION)
@@ -59,8 +65,7 @@ pub(crate) fn command_line<'a>(alloc: Global) -> Result<Command<'a>, AllocError>
         .arg(counted)?
         .arg(events)?
         .arg(steps)?
-        .arg(file)?
-        .arg(assertion)
+        .arg(format)
 }
 
 fn file<'a>(alloc: Global) -> Arg<'a>
@@ -69,9 +74,31 @@ fn file<'a>(alloc: Global) -> Arg<'a>
 {
     Arg::new(alloc, "file")
         .value_name("FILE")
-        .help("The script to check")
+        .help("The script to check, or - for standard input")
         .required(true)
         .action(ArgAction::Set)
+}
+
+fn format<'a>(alloc: Global) -> Arg<'a>
+    ensures rule { rule_of result ≡ format_rule }
+    ensures local { result.global ≡ false }
+{
+    Arg::new(alloc, "format")
+        .long("format")
+        .value_name("FORMAT")
+        .help("How it is told: text, or json, a line of JSON for each assertion")
+        .action(ArgAction::Set)
+        .value_parser(clap::value_parser!(String))
+        .default_value("text")
+}
+
+fn assertion<'a>(alloc: Global) -> Arg<'a>
+    ensures rule { rule_of result ≡ count_rule (codes "assertion") (codes "0") 1000000 }
+    ensures local { result.global ≡ false }
+{
+    count(alloc, "assertion", "0", MOST).help(
+        "The number of the assertion to tell of, or 0 for each",
+    )
 }
 
 // An option that takes a number from 1 to `most`.

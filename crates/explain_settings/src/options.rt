@@ -5,10 +5,11 @@ ghost use Rattle.clap.specs.Walk.{texts};
 ghost use Rattle.clap.specs.Words.{kind_of};
 ghost use Rattle.settings.specs.CommandLine.{HasNumber};
 ghost use Rattle.settings.specs.Faults.{IsAnswerOf};
-ghost use Rattle.explain_settings.specs.CommandLine.{IsUsed, value};
-ghost use Rattle.explain_settings.specs.Faults.{IsFaultOf, faults_of};
+ghost use Rattle.explain_settings.specs.CommandLine.{IsUsed, format_word, value};
+ghost use Rattle.explain_settings.specs.Faults.{IsFaultOf, Refuses, faults_of};
 
 use crate::command::command_line;
+use crate::format::{Format, format_of};
 use crate::help::with_refusals;
 use settings::{CommandLineFault, is_used, number};
 use std::alloc::Global;
@@ -32,6 +33,8 @@ pub struct Settings<'a> {
     pub events: bool,
     /// Whether steps that unfold a name are told one by one, where each step is told.
     pub steps: bool,
+    /// How it is told.
+    pub format: Format,
     /// The name of the script's file.
     pub file: &'a str,
     /// The number of the assertion to tell of, or 0 for each.
@@ -44,8 +47,8 @@ pub struct Settings<'a> {
 /// The settings of the words after the program's name.
 ///
 /// The words may ask for the help (`Help`) or the version (`Version`), or be none of the command line's (`Refused`): a
-/// word that is no option, an option that is used twice, a value that is no number or lies out of its range, no file, or
-/// too many words.
+/// word that is no option, an option that is used twice, a value that is no number or lies out of its range, a format that
+/// there is not, no file, or too many words.
 pub fn read<'a>(alloc: Global, words: &'a [&'a str]) -> Result<Settings<'a>, CommandLineFault>
     ensures taken { IfOk result (λ _. faults_of (texts words.entry.now) ≡ []) }
     ensures workers { IfOk result (λ s. HasNumber (value (codes "workers") (texts words.entry.now))
@@ -64,6 +67,8 @@ pub fn read<'a>(alloc: Global, words: &'a [&'a str]) -> Result<Settings<'a>, Com
         ↔ IsUsed (codes "events") (texts words.entry.now)) }
     ensures steps { IfOk result (λ s. IsTrue s.steps
         ↔ IsUsed (codes "steps") (texts words.entry.now)) }
+    ensures format { IfOk result (λ s. value (codes "format") (texts words.entry.now)
+        ≡ Some (format_word s.format)) }
     ensures file { IfOk result (λ s. value (codes "file") (texts words.entry.now)
         ≡ Some s.file.now) }
     ensures assertion { IfOk result (λ s. HasNumber
@@ -74,6 +79,10 @@ pub fn read<'a>(alloc: Global, words: &'a [&'a str]) -> Result<Settings<'a>, Com
         Ok(matches) => matches,
         Err(error) => return Err(fault(alloc, &error)),
     };
+    let word = matches.get_str("format").unwrap();
+    let Some(format) = format_of(word) else {
+        return Err(no_format(alloc, word));
+    };
     Ok(Settings {
         workers: number(&matches, "workers"),
         max_pairs: number(&matches, "max-pairs"),
@@ -83,6 +92,7 @@ pub fn read<'a>(alloc: Global, words: &'a [&'a str]) -> Result<Settings<'a>, Com
         count: is_used(&matches, "count"),
         events: is_used(&matches, "events"),
         steps: is_used(&matches, "steps"),
+        format,
         file: matches.get_str("file").unwrap(),
         assertion: number(&matches, "assertion"),
     })
@@ -98,5 +108,18 @@ fn fault(alloc: Global, error: &clap::Error) -> CommandLineFault
             Err(_) => CommandLineFault::Memory,
         },
         other => other,
+    }
+}
+
+// What is said of a word that names no format, as `clap` says it.
+fn no_format(alloc: Global, word: &str) -> CommandLineFault
+    ensures { Refuses result }
+{
+    let text = format!(in alloc;
+        "error: invalid value '{word}' for '--format <FORMAT>'\n  [possible values: text, json]\n\nFor more information, try '--help'.\n"
+    );
+    match text {
+        Ok(text) => CommandLineFault::Refused(text),
+        Err(_) => CommandLineFault::Memory,
     }
 }

@@ -6,7 +6,6 @@ use Rattle.std.specs.String.{string_bytes}
 use Rattle.theory_syntax.specs.Process as pure
 use Rattle.theory_search.specs.Answer.{as_written}
 use Rattle.csp_term.specs.Script.{HasSidesOf, assertion_of, script_of}
-use Rattle.csp_print.specs.Names.{names_of}
 use Rattle.explore.proofs.Exchanging.{right_as_written}
 use Rattle.report.specs.Sending.{Breaks, Sends}
 use Rattle.verdict.specs.Outcome.{outcome_of}
@@ -19,6 +18,7 @@ use Rattle.program.proofs.Answering.{sides_at}
 use Rattle.program.proofs.Reporting.{status_at_most}
 use Rattle.explain_program.specs.Asking.{one_at, request_of}
 use Rattle.explain_program.specs.Giving.{AreTold, GoesOut}
+use Rattle.explain_program.specs.Naming.{labels_of}
 use Rattle.explain_program.specs.Sizes.{IsSizeFor}
 use Rattle.explain_program.specs.Telling.{IsToldAsAsked}
 use Rattle.explain_program.proofs.Giving.{alone_at, one_told, right_has_violation, went_out}
@@ -88,7 +88,7 @@ pub returns-in-Ok-clause-told : goal.returns-in-Ok-clause-told
 returns-in-Ok-clause-told g c =
     let request = request_of c.args.settings.now in
     let script = script_of c.args.named.now.script in
-    let names = names_of c.args.named.now.names in
+    let labels = labels_of c.args.named.now in
     let place = c.args.place in
     let items = c.assertions-assertions.result.now in
     let a = assertion_of c.index-assertions-place.result in
@@ -103,9 +103,9 @@ returns-in-Ok-clause-told g c =
     let bytes = string_bytes c.in_ok-text.text in
     let b = assertion_of c.in_ok-asked.asked in
     let is : b ≡ settled_assertion script a = c.in_ok-asked.ensures ∙ ap (λ s. settled_assertion s a) c.parts.ensures.value in
-    let N : ℕ → Type 0 = λ n. IsToldAsAsked request script names n a b o bytes in
+    let N : ℕ → Type 0 = λ n. IsToldAsAsked request script labels n a b o bytes in
     let next : place + 1 ≡ suc place = omega arith in
-    let B : pure.Assertion → Type 0 = λ x. IsToldAsAsked request script names (suc place) a x o bytes in
+    let B : pure.Assertion → Type 0 = λ x. IsToldAsAsked request script labels (suc place) a x o bytes in
     let told = subst B is (subst N next c.in_ok-text.ensures) in
     let R : pure.Assertion → Type 0 = λ x. IsRightAsWritten script x request.bounds (as_written x.negated found) in
     let right = subst R is (right_as_written script b request.bounds found c.answer-answer.ensures.right) in
@@ -114,18 +114,18 @@ returns-in-Ok-clause-told g c =
     let failed = g.O.Sink.has_failed c.push_all.new.sink in
     let S : List ℕ → Type 0 = λ ts. Sends old new failed ts in
     let sends = subst S (c.as_bytes.ensures.value ∙ c.as_str.ensures.value) c.in-Ok.ensures.whole in
-    let T : ℕ → Type 0 = λ s. AreTold request script names (suc place) (one_at place script.assertions) (GoesOut old new failed s) in
+    let T : ℕ → Type 0 = λ s. AreTold request script labels (suc place) (one_at place script.assertions) (GoesOut old new failed s) in
     let is = c.outcome_status.ensures in
     let most = status_at_most (o ∷ []) in (
       omega (arith, is, most),
-      subst T (sym is) (one_told request script names (suc place) (one_at place script.assertions) a o (GoesOut old new failed (outcome_status o)) alone right bytes told (went_out o old new failed bytes sends)),
+      subst T (sym is) (one_told request script labels (suc place) (one_at place script.assertions) a o (GoesOut old new failed (outcome_status o)) alone right bytes told (went_out o old new failed bytes sends)),
     )
 
 pub returns-clause-left : goal.returns-clause-left
 returns-clause-left g c =
     let request = request_of c.args.settings.now in
     let script = script_of c.args.named.now.script in
-    let names = names_of c.args.named.now.names in
+    let labels = labels_of c.args.named.now in
     let place = c.args.place in
     let items = c.assertions-assertions.result.now in
     let a = assertion_of c.index-assertions-place.result in
@@ -140,9 +140,9 @@ returns-clause-left g c =
     let bytes = string_bytes c.in_ok-text.text in
     let b = assertion_of c.in_ok-asked.asked in
     let is : b ≡ settled_assertion script a = c.in_ok-asked.ensures ∙ ap (λ s. settled_assertion s a) c.parts.ensures.value in
-    let N : ℕ → Type 0 = λ n. IsToldAsAsked request script names n a b o bytes in
+    let N : ℕ → Type 0 = λ n. IsToldAsAsked request script labels n a b o bytes in
     let next : place + 1 ≡ suc place = omega arith in
-    let B : pure.Assertion → Type 0 = λ x. IsToldAsAsked request script names (suc place) a x o bytes in
+    let B : pure.Assertion → Type 0 = λ x. IsToldAsAsked request script labels (suc place) a x o bytes in
     let told = subst B is (subst N next c.in_ok-text.ensures) in
     let R : pure.Assertion → Type 0 = λ x. IsRightAsWritten script x request.bounds (as_written x.negated found) in
     let right = subst R is (right_as_written script b request.bounds found c.answer-answer.ensures.right) in
@@ -151,7 +151,7 @@ returns-clause-left g c =
     let failed = g.O.Sink.has_failed c.push_all.new.sink in
     let S : List ℕ → Type 0 = λ ts. Breaks old new failed ts in
     let breaks = subst S (c.as_bytes.ensures.value ∙ c.as_str.ensures.value) c.in-Err.ensures.beginning in
-    one_told request script names (suc place) (one_at place script.assertions) a o (λ os text. Breaks old new failed text) alone right bytes told breaks
+    one_told request script labels (suc place) (one_at place script.assertions) a o (λ os text. Breaks old new failed text) alone right bytes told breaks
 
 pub drop-answer-requires-room-T-Destruct : goal.drop-answer-requires-room-T-Destruct
 drop-answer-requires-room-T-Destruct g c κs within = elim (g.met.A.AllocHandle g.world.𝓛 g.world.𝓜 g.world.𝓡 ((λ s x. x), (λ x. x), (λ x. x), λ x. x)).small [ inl e ↦ rw (e.0, e.1) (lit< tt) | inr e ↦ rw (e.0, e.1) (lit< tt) ]

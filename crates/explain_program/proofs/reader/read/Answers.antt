@@ -1,11 +1,13 @@
-use Rattle.std.proofs.Common.{◌∙◌, ap, map}
+use Rattle.std.proofs.Common.{◌∙◌, ap, ap₂, List, map}
 use Rattle.theory_text.specs.Reading.{IsRead, read}
-use Rattle.theory_notation.specs.Names.{names_in, with_types}
+use Rattle.theory_text.specs.Place.{Place}
+use Rattle.theory_notation.specs.Names.{Names, names_in, with_types}
 use Rattle.csp_lex.specs.Places.{place_of}
 use Rattle.csp_lex.specs.Tokens.{placed_token}
 use Rattle.csp_parse.specs.Declarations as raw
 use Rattle.program.specs.Reading.{IsRefusalOf}
 use Rattle.program.proofs.Refusing.{handed, of_tokens, of_tree}
+use Rattle.explain_program.specs.Naming.{Labels}
 use Rattle.explain_program.proofs.reader.read.Goals as goal
 
 pub returns-clause-named : goal.returns-clause-named
@@ -13,7 +15,9 @@ returns-clause-named g c =
     let list = c.in_ok-list.list in
     let tree = raw.script_of c.in_ok-tree.tree in
     let is_read : IsRead c.args.text.now tree = read {tokens = map placed_token list.tokens.items} {end = place_of list.end} c.in_ok-list.ensures.tokens (c.in_ok-tree.ensures.tree, c.in_ok-tree.ensures.low) in
-    record { tree = tree; read = is_read; checked = c.in_ok-script.ensures.script; named = c.in-Ok.ensures ∙ ap (λ types. with_types types (names_in tree)) c.types.ensures }
+    let label : Names → List Place → Labels = λ ns ps. record { names = ns; places = ps } in
+    let named = c.in-Ok.ensures ∙ ap (λ types. with_types types (names_in tree)) c.types.ensures in
+    record { tree = tree; read = is_read; checked = c.in_ok-script.ensures.script; named = ap₂ label named c.in-Ok-assertion_places.ensures }
 
 pub returns-in_err-script-clause-refused : goal.returns-in_err-script-clause-refused
 returns-in_err-script-clause-refused g c =

@@ -12,4 +12,4 @@ returns-in-Ok-clause-told g c =
     refusals.by_name c.args.why refl (subst P (c.as_str.ensures.value ∙ c.in-Ok.ensures) c.refuse_words.ensures.text)
 
 pub returns-in-Err-clause-told : goal.returns-in-Err-clause-told
-returns-in-Err-clause-told g c = refusals.by_line c.refuse.ensures.line
+returns-in-Err-clause-told g c = refusals.by_line c.report_stop.ensures.line

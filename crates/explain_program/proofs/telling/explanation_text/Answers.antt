@@ -1,16 +1,19 @@
 -- What is told stands with its size, or alone.
-use Rattle.std.proofs.Common.{List, Option, sym, subst, inl, inr, lit<}
+use Rattle.std.proofs.Common.{◌≡◌, ℕ, List, Option, refl, sym, subst, inl, inr, lit<}
 use Rattle.std.specs.String.{string_bytes}
 use Rattle.theory_syntax.specs.Value.{Action}
 use Rattle.theory_search.specs.Answer.{as_written}
 use Rattle.theory_explanation.specs.Styles.{Style}
 use Rattle.theory_explanation.specs.Telling.{IsTold}
+use Rattle.theory_objects.specs.Answers.{answer_fields}
+use Rattle.theory_objects.specs.Fields.{object_line}
 use Rattle.csp_term.specs.Script.{assertion_of, script_of}
-use Rattle.csp_print.specs.Names.{names_of}
 use Rattle.explanation.specs.Running.{HasStop}
 use Rattle.verdict.specs.Outcome.{outcome_of}
 use Rattle.explain_program.specs.Asking.{request_of}
-use Rattle.explain_program.proofs.Tellings.{told_alone, told_with_size}
+use Rattle.explain_program.specs.Naming.{labels_of}
+use Rattle.explain_program.specs.Telling.{answered, sizes_asked}
+use Rattle.explain_program.proofs.Tellings.{told_by_object, told_in_words}
 use Rattle.explain_program.proofs.telling.explanation_text.Goals as goal
 
 pub lent-requires : goal.lent-requires
@@ -29,23 +32,28 @@ tell-requires g c =
       | inr e ↦ rw (e.0, e.1) (lit< tt, (lit< tt, (c.requires.terms, (c.requires.written, (c.requires.shown, stop)))))
     ]
 
-pub returns-then-settings : goal.returns-then-settings
-returns-then-settings g c =
+pub returns-in-Text : goal.returns-in-Text
+returns-in-Text g c =
     let script = script_of c.args.named.now.script in
     let w = assertion_of c.args.question.now.written.now in
     let a = assertion_of c.args.question.now.asked.now in
     let o = as_written c.args.question.now.written.now.negated (outcome_of c.args.answer.now.found) in
-    let told = string_bytes c.in_ok-text.text in
-    let W : Style → Type 0 = λ style. IsTold style script c.args.question.now.number w a o told in
-    told_with_size (request_of c.args.settings.now) script (names_of c.args.named.now.names) c.args.question.now.number w a o c.with_size.result told c.args.answer.now.size c.if-settings.true
-    (subst W c.style-style.ensures c.in_ok-text.ensures) c.requires.size c.with_size.ensures
+    let words = string_bytes c.in_ok-text.text in
+    let W : Style → Type 0 = λ style. IsTold style script c.args.question.now.number w a o words in
+    told_in_words (request_of c.args.settings.now) script (labels_of c.args.named.now) c.args.question.now.number w a o c.in_words.result words c.args.answer.now.size c.in-Text.is
+    (subst W c.style-style.ensures c.in_ok-text.ensures) c.requires.size c.in_words.ensures
 
-pub returns-else-settings : goal.returns-else-settings
-returns-else-settings g c =
+pub returns-in_ok-object_line-in-Json : goal.returns-in_ok-object_line-in-Json
+returns-in_ok-object_line-in-Json g c =
     let script = script_of c.args.named.now.script in
+    let labels = labels_of c.args.named.now in
+    let n = c.args.question.now.number in
     let w = assertion_of c.args.question.now.written.now in
     let a = assertion_of c.args.question.now.asked.now in
-    let o = as_written c.args.question.now.written.now.negated (outcome_of c.args.answer.now.found) in
-    let told = string_bytes c.in_ok-text.text in
-    let W : Style → Type 0 = λ style. IsTold style script c.args.question.now.number w a o told in
-    told_alone (request_of c.args.settings.now) script (names_of c.args.named.now.names) c.args.question.now.number w a o told c.if-settings.false (subst W c.style-style.ensures c.in_ok-text.ensures)
+    let found = outcome_of c.args.answer.now.found in
+    let o = as_written w.negated found in
+    let words = string_bytes c.in_ok-text.text in
+    let W : Style → Type 0 = λ style. IsTold style script n w a o words in
+    let F : List ℕ → Type 0 = λ ws. string_bytes c.in_ok-object_line-in-Json.field-0 ≡ object_line (answer_fields labels.names (answered labels n w found ws) (sizes_asked c.args.settings.now.count w.property c.args.answer.now.size)) in
+    told_by_object (request_of c.args.settings.now) script labels n w a o (string_bytes c.in_ok-object_line-in-Json.field-0) words found c.args.answer.now.size c.in-Json.is refl c.requires.shown
+    (subst W c.style-style.ensures c.in_ok-text.ensures) c.requires.size (subst F c.as_str.ensures.value c.in_ok-object_line-in-Json.ensures)

@@ -1,12 +1,13 @@
 use Rattle.std.proofs.Common.{◌≡◌, ◌∙◌, List, Option, Some, ap, codes, subst, sym}
-use Rattle.std.specs.Prelude.{◌↔◌, ℕ, IsTrue, option_map}
+use Rattle.std.specs.Prelude.{◌↔◌, ℕ, [], IsTrue, option_map, unwrap_or}
 use Rattle.clap.specs.Kinds.{HasKind}
 use Rattle.clap.specs.Simple.{App}
 use Rattle.clap.specs.Values.{kind_of}
 use Rattle.clap.specs.Walk.{texts}
 use Rattle.clap.specs.Faults.{fault_of, is_simple_and_free}
 use Rattle.settings.proofs.Numbers.{some_of}
-use Rattle.explain_settings.proofs.Answered.{answered}
+use Rattle.explain_settings.specs.CommandLine.{format_word}
+use Rattle.explain_settings.proofs.Answered.{answered, none_of, refused}
 use Rattle.explain_settings.proofs.Taken as taken
 use Rattle.explain_settings.proofs.options.read.Goals as goal
 
@@ -25,10 +26,20 @@ number-requires-4 c = taken.is_numeric c.in_ok-command_line.field-0 c.in-Ok.matc
 pub number-requires-5 : goal.number-requires-5
 number-requires-5 c = taken.is_numeric c.in_ok-command_line.field-0 c.in-Ok.matches (texts c.args.words.now) c.in_ok-command_line.ensures c.in-Ok.ensures.parsed c.in-Ok.ensures.matches (codes "assertion") 0 1000000 (taken.assertion c.in_ok-command_line.field-0 c.in-Ok.matches (texts c.args.words.now) c.in_ok-command_line.ensures c.in-Ok.ensures.parsed c.in-Ok.ensures.matches)
 
+pub unwrap-word-requires : goal.unwrap-word-requires
+unwrap-word-requires c =
+    let text = taken.format c.in_ok-command_line.field-0 c.in-Ok.matches (texts c.args.words.now) c.in_ok-command_line.ensures c.in-Ok.ensures.parsed c.in-Ok.ensures.matches in
+    some_of _ c.get_str.result text.0 (c.get_str.ensures ∙ text.1)
+
 pub unwrap-requires : goal.unwrap-requires
 unwrap-requires c =
     let text = taken.file c.in_ok-command_line.field-0 c.in-Ok.matches (texts c.args.words.now) c.in_ok-command_line.ensures c.in-Ok.ensures.parsed c.in-Ok.ensures.matches in
-    some_of _ c.get_str.result text.0 (c.get_str.ensures ∙ text.1)
+    some_of _ c.get_str-2.result text.0 (c.get_str-2.ensures ∙ text.1)
+
+pub returns-clause-format : goal.returns-clause-format
+returns-clause-format c =
+    let text = taken.format c.in_ok-command_line.field-0 c.in-Ok.matches (texts c.args.words.now) c.in_ok-command_line.ensures c.in-Ok.ensures.parsed c.in-Ok.ensures.matches in
+    text.2 ∙ sym text.1 ∙ sym c.get_str.ensures ∙ ap (option_map (λ s. s.now)) c.unwrap-word.ensures ∙ ap (λ t. Some t) c.in-Some.ensures.known
 
 pub invariant_of-result : goal.invariant_of-result
 invariant_of-result c = record {
@@ -78,10 +89,18 @@ returns-clause-steps c =
 pub returns-clause-file : goal.returns-clause-file
 returns-clause-file c =
     let text = taken.file c.in_ok-command_line.field-0 c.in-Ok.matches (texts c.args.words.now) c.in_ok-command_line.ensures c.in-Ok.ensures.parsed c.in-Ok.ensures.matches in
-    text.2 ∙ sym text.1 ∙ sym c.get_str.ensures ∙ ap (option_map (λ s. s.now)) c.unwrap.ensures
+    text.2 ∙ sym text.1 ∙ sym c.get_str-2.ensures ∙ ap (option_map (λ s. s.now)) c.unwrap.ensures
 
 pub returns-in-Err-clause-fault : goal.returns-in-Err-clause-fault
 returns-in-Err-clause-fault c =
     answered (texts c.args.words.now) (kind_of c.in-Err.error) c.fault.result
     (subst (λ (a : App). HasKind (fault_of a (texts c.args.words.now)) c.in-Err.error) c.in_ok-command_line.ensures (c.in-Err.ensures.kinds (ap is_simple_and_free c.in_ok-command_line.ensures)))
     c.fault.ensures
+
+pub returns-in_default-clause-fault : goal.returns-in_default-clause-fault
+returns-in_default-clause-fault c =
+    let text = taken.format c.in_ok-command_line.field-0 c.in-Ok.matches (texts c.args.words.now) c.in_ok-command_line.ensures c.in-Ok.ensures.parsed c.in-Ok.ensures.matches in
+    let whole = sym (ap (λ (a : App). fault_of a (texts c.args.words.now)) c.in_ok-command_line.ensures) ∙ c.in-Ok.ensures.kinds (ap is_simple_and_free c.in_ok-command_line.ensures) in
+    let word = text.2 ∙ sym text.1 ∙ sym c.get_str.ensures ∙ ap (option_map (λ s. s.now)) c.unwrap-word.ensures in
+    let unknown = c.format_of.ensures.unknown (none_of c.format_of.result c.in_default.not-Some) in
+    refused (texts c.args.words.now) c.no_format.result (whole, λ format given. unknown format (ap (λ o. unwrap_or o []) (sym word ∙ given))) c.no_format.ensures
