@@ -9,6 +9,7 @@ _arguments -s \
     '--count[tell how large each search was]' \
     '--events[tell the events alone, and the last state]' \
     '--steps[tell steps that unfold a name one by one]' \
+    '--format[how it is told]:format:(text json)' \
     '(- *)'{-h,--help}'[print the options, statuses and refusals]' \
     '(- *)'{-V,--version}'[print the version]' \
     '1:script:_files -g "*.csp"' \
