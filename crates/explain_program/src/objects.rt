@@ -1,6 +1,6 @@
 //! Answered assertions as objects.
 
-ghost use Rattle.std.specs.Prelude.{◌≡◌, IfOk, map, option_map};
+ghost use Rattle.std.specs.Prelude.{◌≡◌, IfOk, map, option_map, slice_get};
 ghost use Rattle.std.specs.String.{string_bytes};
 ghost use Rattle.theory_syntax.specs.Process.{Property};
 ghost use Rattle.theory_objects.specs.Answers.{answer_fields};
@@ -55,10 +55,15 @@ fn place_at(places: &[Place], number: usize) -> Option<Place>
     ensures { option_map place_of result ≡ place_at (map place_of places.now) number }
 {
     if number == 0 {
-        None
-    } else {
-        places.get(number - 1).copied()
+        return None;
     }
+    place_of_index(places, number - 1)
+}
+
+fn place_of_index(places: &[Place], index: usize) -> Option<Place>
+    ensures { result ≡ slice_get places.now index }
+{
+    places.get(index).copied()
 }
 
 // How large the search was, where it is asked for.

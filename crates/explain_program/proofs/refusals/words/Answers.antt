@@ -17,8 +17,8 @@ returns-in-Text g c =
     let M : List ℕ → Type 0 = λ name. IsMessage name c.args.text.now c.args.refused told in
     (told, subst M (c.as_str-file.ensures.value ∙ c.in_ok-name.ensures) c.in_ok-told.ensures, ap (λ (f : Format). refused_line f file c.args.refused told) (sym c.in-Text.is))
 
-pub returns-in-Json : goal.returns-in-Json
-returns-in-Json g c =
+pub returns : goal.returns
+returns g c =
     let told = string_bytes c.in_ok-told.told in
     let file = shown_name c.args.settings.now.file.now in
     let refused = c.args.refused in
