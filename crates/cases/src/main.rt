@@ -1,12 +1,13 @@
-//! Runs `refcheck` and `explain` over cases that stand in files, and tells each that is answered otherwise than it says.
+//! Runs `refcheck`, `explain` and `graph` over cases that stand in files, and tells each that is answered otherwise than it
+//! says.
 //!
 //! The words are the names of tables, each a text: what it is about, and then its cases, by the lines
 //!
-//! - `@@ ` with the words of a command line, `refcheck` or `explain` first, and behind it the text of the file `script`, or of
+//! - `@@ ` with the words of a command line, the program's name first, and behind it the text of the file `script`, or of
 //!   standard input where the words name that by `-`;
 //! - `@@ ` with the status, and behind it what the run gives: to its output, or, with the status 3, to its errors. `fine`
-//!   stands for any status but 3, whatever the run gives, and `alike` for the words that the first run of the case gives:
-//!   its lines, each up to the trace that it shows.
+//!   stands for any status but 3, whatever the run gives, `begins` for 0 with a beginning of what it gives, and `alike`
+//!   for the words that the first run of the case gives: its lines, each up to the trace that it shows.
 //!
 //! With `--workers=*` a case is run by several numbers of workers, and with `[--unfold]` without and with this word. A
 //! case costs no proof, so that one more is some lines of text. What a table cannot show, as a memory that refuses or an

@@ -52,6 +52,7 @@ impl Told {
     pub(crate) fn is_as_said(&self, case: &Case<'_>) -> bool {
         match (case.status, self.status) {
             ("fine", status) => status < 3,
+            ("begins", 0) => self.err.is_empty() && self.out.starts_with(case.told.as_bytes()),
             ("3", 3) => self.out.is_empty() && is_text(&self.err, case.told),
             ("0", 0) | ("1", 1) | ("2", 2) => {
                 self.err.is_empty() && is_text(&self.out, case.told)
@@ -100,6 +101,9 @@ pub(crate) fn told_by<'w, R: Threads + Wait + Sync>(
     let status = match words {
         ["explain", rest @ ..] => {
             explain_program::run(&resources, rest, &mut files, &mut out, &mut err)
+        }
+        ["graph", rest @ ..] => {
+            graph_program::run(&resources, rest, &mut files, &mut out, &mut err)
         }
         [_, rest @ ..] => program::run(&resources, rest, &mut files, &mut out, &mut err),
         [] => 3,

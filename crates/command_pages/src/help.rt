@@ -28,6 +28,9 @@ pub(crate) fn help_of<R: Threads + Wait + Sync>(rt: &R, alloc: Global, program: 
         "explain" => {
             explain_program::run(&resources, &words, &mut files, &mut out, &mut err);
         }
+        "graph" => {
+            graph_program::run(&resources, &words, &mut files, &mut out, &mut err);
+        }
         _ => {}
     }
     out.bytes

@@ -1,0 +1,4 @@
+mod Requests
+mod Sides
+mod Stopping
+mod Texts

@@ -1,0 +1,13 @@
+-- A text is refused by its message.
+use Rattle.std.proofs.Common.{ℕ, List, sym, subst}
+use Rattle.std.specs.String.{string_bytes}
+use Rattle.program.specs.Given.{sent}
+use Rattle.program.specs.Running.{IsGiven}
+use Rattle.told_refusals.specs.Refusals as refusals
+use Rattle.told_refusals.proofs.refusals.refuse_text.Goals as goal
+
+pub returns-in-Ok-clause-told : goal.returns-in-Ok-clause-told
+returns-in-Ok-clause-told g c =
+    let new = c.refuse_words.new.err in
+    let P : List ℕ → Type 0 = λ words. IsGiven (sent g.E.Sink.taken g.E.Sink.has_failed c.args.err.now new) words in
+    refusals.in_words c.in-Some.refused (string_bytes c.in-Ok.words) (sym c.in-Some.ensures) c.in-Ok.ensures (subst P c.as_str.ensures.value c.refuse_words.ensures.text)

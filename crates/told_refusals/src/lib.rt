@@ -1,0 +1,11 @@
+//! Refusals of a file or its text, in words.
+//!
+//! `refuse_unread` tells a file that cannot be read by its name and with the reason, and `refuse_text` a text that is no
+//! script with the place, the rule and its line. Where memory is refused for the words, the line of the refusal is given.
+//! Each answers the status of a refusal.
+#![tactic(auto)]
+
+mod file_name;
+mod refusals;
+
+pub use refusals::{refuse_text, refuse_unread};
