@@ -43,8 +43,8 @@ returns-in-Text g c =
     told_in_words (request_of c.args.settings.now) script (labels_of c.args.named.now) c.args.question.now.number w a o c.in_words.result words c.args.answer.now.size c.in-Text.is
     (subst W c.style-style.ensures c.in_ok-text.ensures) c.requires.size c.in_words.ensures
 
-pub returns : goal.returns
-returns g c =
+pub returns-in_ok-object_line-in-Json : goal.returns-in_ok-object_line-in-Json
+returns-in_ok-object_line-in-Json g c =
     let script = script_of c.args.named.now.script in
     let labels = labels_of c.args.named.now in
     let n = c.args.question.now.number in
