@@ -18,11 +18,16 @@ use std::sync::Wait;
 use std::thread::Threads;
 use std::{env, fs};
 
+// Whether the option is one of these.
+fn is_among(option: &str, others: &[&str]) -> bool {
+    others.iter().any(|other| *other == option)
+}
+
 /// Whether all options of the one are options of the other. Each that is not is told.
 fn are_among<R: Print>(rt: &R, name: &str, options: &[&str], others: &[&str]) -> Result<bool> {
     let mut are_among = true;
     for option in options {
-        if !others.contains(option) {
+        if !is_among(option, others) {
             println!(rt; "{name}: only one of the page and the help has {option}")?;
             are_among = false;
         }
