@@ -13,7 +13,9 @@
 //! the implementation, state by state, with where each tau comes from and the first few states of the specification
 //! beside each of its own, what is wrong at its end, and what the specification has there, its initials or its least
 //! acceptances with what is lacking of each. `push_path` puts a path there alone, with the states on its way and where
-//! its steps come from. Where memory is refused, a beginning of the text may have been put there.
+//! its steps come from. `push_state`, `push_action` and `push_step` put the texts of one state, of what a step does and of
+//! one step there, by the names of the parts that `put_unfolded` keeps. Where memory is refused, a beginning of the text
+//! may have been put there.
 #![tactic(auto)]
 
 mod actions;
@@ -52,14 +54,18 @@ mod waiting_text;
 mod ways;
 mod width;
 
+pub use actions::push_action;
 pub use counterexamples::{Counterexample, Replayed, counterexample_of};
 pub use counterparts::Counterpart;
 pub use looping::Looping;
 pub use marks::{push_amount, push_mark, push_number};
 pub use origins::origins_along;
+pub use part_names::{PartName, put_unfolded};
 pub use paths::push_path;
 pub use run::Run;
 pub use spreading::{Spread, spread_counterexample_of};
+pub use states::push_state;
+pub use step::{Step, push_step};
 pub use style::Style;
 pub use telling::Telling;
 pub use text::push_counterexample;

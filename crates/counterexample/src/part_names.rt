@@ -16,11 +16,11 @@ use std::alloc::AllocError;
 
 /// The equation that was unfolded last at a way.
 #[derive(Drop)]
-pub(crate) struct PartName<A: AllocHandle> {
+pub struct PartName<A: AllocHandle> {
     /// The sides on the way, from the outermost one on.
-    pub(crate) way: Vec<Side, A>,
+    pub way: Vec<Side, A>,
     /// The equation.
-    pub(crate) equation: EquationId,
+    pub equation: EquationId,
 }
 
 /// The equation by which the part at the way is told, if there is one.
@@ -52,7 +52,7 @@ pub(crate) fn names_along<A: AllocHandle>(
 }
 
 /// Puts in what a step unfolds, if its origin is told: so the names are those behind it.
-pub(crate) fn put_unfolded<A: AllocHandle>(
+pub fn put_unfolded<A: AllocHandle>(
     alloc: A,
     origin: &Option<Origin<A>>,
     parts: &mut Vec<PartName<A>, A>,

@@ -19,7 +19,7 @@ use csp_term::{AllocHandle, Term};
 use std::alloc::AllocError;
 
 /// The line of the state, behind the string.
-pub(crate) fn push_state<A: AllocHandle>(
+pub fn push_state<A: AllocHandle>(
     alloc: A,
     names: &Names<'_, A>,
     width: Width,

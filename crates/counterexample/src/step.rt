@@ -23,20 +23,20 @@ use std::alloc::AllocError;
 
 /// A step of a run.
 #[derive(Clone, Copy, Drop)]
-pub(crate) struct Step<'r, A: AllocHandle> {
+pub struct Step<'r, A: AllocHandle> {
     /// The number of the state that it leads to.
-    pub(crate) number: usize,
+    pub number: usize,
     /// What is done.
-    pub(crate) action: &'r Action<A>,
+    pub action: &'r Action<A>,
     /// Where that comes from, if it is known.
-    pub(crate) origin: &'r Option<Origin<A>>,
+    pub origin: &'r Option<Origin<A>>,
     /// The equations whose names are unfolded behind it, and told with it.
-    pub(crate) equations: &'r [EquationId],
+    pub equations: &'r [EquationId],
 }
 
 /// The number of the step, its action, where that comes from, by the names of the parts, and the names that are unfolded
 /// behind it.
-pub(crate) fn push_step<A: AllocHandle>(
+pub fn push_step<A: AllocHandle>(
     alloc: A,
     names: &Names<'_, A>,
     parts: &[PartName<A>],

@@ -1,6 +1,5 @@
 pub mod Asking
 pub mod Explaining
-pub mod FileNames
 pub mod Giving
 pub mod Naming
 pub mod Refusals

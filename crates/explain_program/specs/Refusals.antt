@@ -1,5 +1,5 @@
 -- What is told of a refusal, in words or by an object.
-use Rattle.std.specs.Prelude.{◌≡◌, ℕ, List, [], ◌∷◌, Option, None, Some, codes}
+use Rattle.std.specs.Prelude.{◌≡◌, ℕ, List, [], ◌∷◌, Some, codes}
 use Rattle.theory_objects.specs.Fields.{object_line, text_field}
 use Rattle.theory_objects.specs.Refusals.{refusal_fields, text_fields, unread_fields}
 use Rattle.csp_lex.specs.Places.{place_of}
@@ -17,16 +17,10 @@ use Rattle.program.specs.declared.files.Unread.{Unread}
 use Rattle.program.specs.declared.files.Unread.TheVariants as unread
 use Rattle.program.specs.declared.refusal.Refusal.{Refusal}
 use Rattle.program.specs.declared.refusal.Refusal.TheVariants as refusal
-use Rattle.explain_program.specs.FileNames.{lack_text, shown_name, unread_line}
+use Rattle.told_refusals.specs.FileNames.{lack_text, shown_name, unread_line}
+use Rattle.told_refusals.specs.Refusals.{refused_text}
 use Rattle.explain_program.specs.declared.stop.Stop.{Stop}
 use Rattle.explain_program.specs.declared.stop.Stop.TheVariants as stop
-
--- what is refused of a text, where that is what is refused
-abbrev pub refused_text : Refusal → Option text.Refusal
-refused_text (refusal.Text f p) = Some (record { fault = fault.Text f; place = p })
-refused_text (refusal.Grammar f p) = Some (record { fault = fault.Grammar f; place = p })
-refused_text (refusal.Kinds f p) = Some (record { fault = fault.Kinds f; place = p })
-refused_text _ = None
 
 -- ---- the line of what stops a run
 

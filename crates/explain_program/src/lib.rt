@@ -12,7 +12,6 @@
 mod answering;
 mod counting;
 mod explaining;
-mod file_name;
 mod notes;
 mod objects;
 mod reader;

@@ -6,17 +6,17 @@ ghost use Rattle.diagnostics.specs.Messages.{IsMessage};
 ghost use Rattle.explain_settings.specs.declared.format.Format.TheVariants as formats;
 ghost use Rattle.program.specs.Given.{sent};
 ghost use Rattle.program.specs.declared.files.Unread.TheVariants as unread;
-ghost use Rattle.explain_program.specs.FileNames.{shown_name};
-ghost use Rattle.explain_program.specs.Refusals.{TellsRefusal, TellsUnread, refused_line, refused_text, unread_text};
+ghost use Rattle.told_refusals.specs.FileNames.{shown_name};
+ghost use Rattle.explain_program.specs.Refusals.{TellsRefusal, TellsUnread, refused_line, unread_text};
 
-use crate::file_name::{shown_name, unread_line, unread_object};
 use crate::stop::{Stop, report_stop};
-use diagnostics::{Fault, message};
+use diagnostics::message;
 use explain_settings::{Format, Settings};
 use explanation_objects::{RefusedText, text_line};
 use program::{Lack, Refusal, Unread, refuse_words};
 use report::Sink;
 use std::alloc::{AllocError, Allocator};
+use told_refusals::{lack_text, refused_text, shown_name, unread_line};
 
 /// Tells `err` why the file is not read, and answers the status of a refusal. A file that cannot be read is told by its
 /// name and with the reason, unless memory is refused for it.
@@ -68,6 +68,18 @@ fn unread_text<A: Allocator + Copy>(
         Format::Text => unread_line(alloc, settings.file, why),
         Format::Json => unread_object(alloc, settings.file, why),
     }
+}
+
+// The line of the object of such a file.
+fn unread_object<A: Allocator + Copy>(
+    alloc: A,
+    name: &str,
+    why: Lack,
+) -> Result<String<A>, AllocError>
+    ensures { IfOk result (λ line. string_bytes line ≡ unread_text formats.Json name.now why) }
+{
+    let shown = shown_name(alloc, name)?;
+    explanation_objects::unread_line(alloc, shown.as_str(), lack_text(why))
 }
 
 /// Tells `err` why the text of this file is refused, and answers the status of a refusal. It is told in words, or where
@@ -131,17 +143,4 @@ fn refused_object<A: Allocator>(
         words,
     };
     text_line(alloc, &it)
-}
-
-// What is refused of a text, where that is what is refused.
-fn refused_text(why: Refusal) -> Option<diagnostics::Refusal>
-    ensures { result ≡ refused_text why }
-{
-    let (fault, place) = match why {
-        Refusal::Text { fault, place } => (Fault::Text(fault), place),
-        Refusal::Grammar { fault, place } => (Fault::Grammar(fault), place),
-        Refusal::Kinds { fault, place } => (Fault::Kinds(fault), place),
-        Refusal::File(_) | Refusal::Memory | Refusal::Thread | Refusal::Output => return None,
-    };
-    Some(diagnostics::Refusal { fault, place })
 }

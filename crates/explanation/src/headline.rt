@@ -67,8 +67,8 @@ fn outcome_word<A: AllocHandle>(found: &Outcome<A>, negated: bool) -> &'static s
     }
 }
 
-// The assertion, as it is written.
-fn push_assertion<A: AllocHandle>(
+/// The assertion as it is written, behind the string.
+pub fn push_assertion<A: AllocHandle>(
     alloc: A,
     names: &Names<'_, A>,
     assertion: &Assertion<A>,

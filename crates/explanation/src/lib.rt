@@ -6,6 +6,7 @@
 //! there; and where it has no answer, the reason, and where a state that is faulty or large is why, a run of a side to
 //! such a state, told in the same way, with what is to blame in a faulty one. Where names are unfolded at once,
 //! the runs that are told are those of the script as it is written, if such are found. The text is made whole or not at all.
+//! `push_assertion` puts the text of an assertion behind another.
 #![tactic(auto)]
 
 mod blame;
@@ -19,5 +20,6 @@ mod spread_sides;
 mod telling;
 mod told_run;
 
+pub use headline::push_assertion;
 pub use question::Question;
 pub use telling::tell;

@@ -13,7 +13,6 @@ ghost use Rattle.verdict.specs.Outcome.{outcome_of};
 ghost use Rattle.explanation_objects.specs.Answers.{answered_of, sizes_told};
 ghost use Rattle.explanation_objects.specs.Putting.{Puts};
 
-use crate::assertions::push_assertion;
 use crate::fields::{put_number, put_text};
 use crate::found::put_found;
 use crate::lines::{begin_line, end_line};
@@ -22,6 +21,7 @@ use crate::sizes::{Size, put_size};
 use csp_lex::Place;
 use csp_print::Names;
 use csp_term::{AllocHandle, Assertion};
+use explanation::push_assertion;
 use json::Writer;
 use std::alloc::AllocError;
 use verdict::Outcome;

@@ -7,7 +7,6 @@
 
 mod actions;
 mod answers;
-mod assertions;
 mod fields;
 mod found;
 mod lines;

@@ -2,7 +2,8 @@
 //!
 //! `write` gives a sink the bytes of the report as the definitions say them, whole and in order. It answers an error
 //! only where the sink has failed, or took nothing, and then a beginning of the report went out and no more. It takes
-//! no memory. `push_all` does so for any text, and `push_each` for several.
+//! no memory. `push_all` does so for any text, `push_each` for several, `push_number` for a number, and
+//! `push_fields` for values.
 #![tactic(auto)]
 
 mod pushing;
@@ -10,6 +11,7 @@ mod report;
 mod sink;
 mod values;
 
-pub use pushing::{push_all, push_each};
+pub use pushing::{push_all, push_each, push_number};
 pub use report::{WriteFault, write};
 pub use sink::{Buffer, Failed, Out, Sink};
+pub use values::push_fields;

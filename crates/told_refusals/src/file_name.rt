@@ -9,7 +9,7 @@ use program::Lack;
 use std::alloc::{AllocError, Allocator};
 
 /// The name, with a space for each control character, so that it takes one line and does nothing to a terminal.
-pub(crate) fn shown_name<A: Allocator>(alloc: A, name: &str) -> Result<String<A>, AllocError>
+pub fn shown_name<A: Allocator>(alloc: A, name: &str) -> Result<String<A>, AllocError>
     ensures { IfOk result (λ shown. string_bytes shown ≡ shown_name name.now) }
 {
     name.chars().map(shown_character).collect(alloc)
@@ -27,7 +27,7 @@ fn shown_character(character: char) -> char
 }
 
 /// What is told of a file of this name that cannot be read, for this reason.
-pub(crate) fn unread_line<A: Allocator + Copy>(
+pub fn unread_line<A: Allocator + Copy>(
     alloc: A,
     name: &str,
     why: Lack,
@@ -38,8 +38,8 @@ pub(crate) fn unread_line<A: Allocator + Copy>(
     format!(in alloc; "{shown}: refused file: {}\n", lack_text(why))
 }
 
-// The reason, in words.
-fn lack_text(why: Lack) -> &'static str
+/// Why a file cannot be read, in words.
+pub fn lack_text(why: Lack) -> &'static str
     ensures { result.now ≡ lack_text why }
 {
     match why {

@@ -81,8 +81,8 @@ fn words<A: Allocator + Copy>(
     message(alloc, name.as_str(), text, refused)
 }
 
-// What is refused of a text, where that is what is refused.
-fn refused_text(why: Refusal) -> Option<diagnostics::Refusal>
+/// What is refused of a text, where that is what is refused.
+pub fn refused_text(why: Refusal) -> Option<diagnostics::Refusal>
     ensures { result ≡ refused_text why }
 {
     let (fault, place) = match why {

@@ -5,7 +5,7 @@ use Rattle.std.specs.String.{string_bytes}
 use Rattle.diagnostics.specs.Messages.{IsMessage}
 use Rattle.explain_settings.specs.declared.format.Format.{Format}
 use Rattle.explain_settings.specs.declared.format.Format.TheVariants as formats
-use Rattle.explain_program.specs.FileNames.{shown_name}
+use Rattle.told_refusals.specs.FileNames.{shown_name}
 use Rattle.explain_program.specs.Refusals.{refused_line}
 use Rattle.explain_program.proofs.Refusing.{by_object}
 use Rattle.explain_program.proofs.refusals.words.Goals as goal
