@@ -8,18 +8,23 @@
 //! - `@@ ` with the status, and behind it what the run gives: to its output, or, with the status 3, to its errors. `fine`
 //!   stands for any status but 3, whatever the run gives, `begins` for 0 with a beginning of what it gives, `noted` for 0
 //!   with what it gives to its errors alone, and `alike` for the words that the first run of the case gives: its lines,
-//!   each up to the trace that it shows.
+//!   each up to the trace that it shows. `judged` stands for the same, where besides each assertion of refinement is judged
+//!   by brute force from the graphs of its sides, as `graph` prints them, and has this answer.
 //!
 //! With `--workers=*` a case is run by several numbers of workers, and with `[--unfold]` without and with this word. A
 //! case costs no proof, so that one more is some lines of text. What a table cannot show, as a memory that refuses or an
 //! output that breaks off, is left to the tests.
 #![tactic(auto)]
 
+mod aldebaran;
 mod case;
+mod judge;
+mod judging;
 mod told;
 
 use anyhow::Result;
 use case::{Case, cases_of};
+use judging::are_judged_so;
 use std::alloc::Global;
 use std::process::ExitCode;
 use std::rt::Files;
@@ -36,6 +41,9 @@ const UNFOLD: &str = "[--unfold]";
 
 /// What stands in place of a status where all runs of a case are to give the same words.
 const ALIKE: &str = "alike";
+
+/// The same, where the graphs of both sides are to bear out each answer besides.
+const JUDGED: &str = "judged";
 
 /// How one run of a case reads its words.
 #[derive(Clone, Copy)]
@@ -99,6 +107,7 @@ fn is_as_said<R: Threads + Wait + Sync + Print>(
         let told = run(rt, alloc, case, Reading { workers, unfolds })?;
         let is_said = match case.status {
             ALIKE => told.is_alike(&first),
+            JUDGED => told.is_alike(&first) && are_judged_so(rt, alloc, case.text, &told)?,
             _ => told.is_as_said(case),
         };
         if !is_said {

@@ -43,6 +43,15 @@ fn are_alike(report: &[u8], other: &[u8]) -> bool {
 }
 
 impl Told {
+    /// What the run gave to its output, where nothing was refused and that is a text.
+    pub(crate) fn given(&self) -> Option<&str> {
+        if self.status < 3 {
+            str::from_utf8(&self.out).ok()
+        } else {
+            None
+        }
+    }
+
     /// Whether the run gave the words that another run of the same case gave, and a report.
     pub(crate) fn is_alike(&self, other: &Told) -> bool {
         self.status < 3 && self.status == other.status && are_alike(&self.out, &other.out)
