@@ -46,7 +46,17 @@ static ROWS: &[Row] = &[
         definitions: "",
         process: "a -> STOP ||| b -> STOP",
         aldebaran: "des (0, 4, 4)\n(0, \"a\", 1)\n(0, \"b\", 2)\n(1, \"b\", 3)\n(2, \"a\", 3)\n",
-        graphviz: "digraph {\n  0 [label=\"0\"];\n  1 [label=\"1\"];\n  2 [label=\"2\"];\n  3 [label=\"3 deadlocked\", color=red];\n  0 -> 1 [label=\"a\"];\n  0 -> 2 [label=\"b\"];\n  1 -> 3 [label=\"b\"];\n  2 -> 3 [label=\"a\"];\n}\n",
+        graphviz: "digraph {
+  0 [label=\"0\"];
+  1 [label=\"1\"];
+  2 [label=\"2\"];
+  3 [label=\"3 deadlocked\", color=red];
+  0 -> 1 [label=\"a\"];
+  0 -> 2 [label=\"b\"];
+  1 -> 3 [label=\"b\"];
+  2 -> 3 [label=\"a\"];
+}
+",
     },
     // Two events lead to the same state.
     Row {
@@ -60,14 +70,31 @@ static ROWS: &[Row] = &[
         definitions: "P = P",
         process: "STOP |~| P",
         aldebaran: "des (0, 3, 3)\n(0, \"tau\", 1)\n(0, \"tau\", 2)\n(2, \"tau\", 2)\n",
-        graphviz: "digraph {\n  0 [label=\"0 diverging\", color=blue];\n  1 [label=\"1 deadlocked\", color=red];\n  2 [label=\"2 diverging\", color=blue];\n  0 -> 1 [label=\"tau\"];\n  0 -> 2 [label=\"tau\"];\n  2 -> 2 [label=\"tau\"];\n}\n",
+        graphviz: "digraph {
+  0 [label=\"0 diverging\", color=blue];
+  1 [label=\"1 deadlocked\", color=red];
+  2 [label=\"2 diverging\", color=blue];
+  0 -> 1 [label=\"tau\"];
+  0 -> 2 [label=\"tau\"];
+  2 -> 2 [label=\"tau\"];
+}
+",
     },
     // An event is hidden, and one of the channel `tau` is told from it.
     Row {
         definitions: "",
         process: "(a -> tau -> tick -> STOP) \\ {a}",
         aldebaran: "des (0, 3, 4)\n(0, \"tau\", 1)\n(1, \"event tau\", 2)\n(2, \"event tick\", 3)\n",
-        graphviz: "digraph {\n  0 [label=\"0\"];\n  1 [label=\"1\"];\n  2 [label=\"2\"];\n  3 [label=\"3 deadlocked\", color=red];\n  0 -> 1 [label=\"tau\"];\n  1 -> 2 [label=\"event tau\"];\n  2 -> 3 [label=\"event tick\"];\n}\n",
+        graphviz: "digraph {
+  0 [label=\"0\"];
+  1 [label=\"1\"];
+  2 [label=\"2\"];
+  3 [label=\"3 deadlocked\", color=red];
+  0 -> 1 [label=\"tau\"];
+  1 -> 2 [label=\"event tau\"];
+  2 -> 3 [label=\"event tick\"];
+}
+",
     },
 ];
 
