@@ -14,7 +14,8 @@ use std::alloc::{AllocError, Global};
 pub(crate) const MOST: usize = 1_000_000;
 
 // What is told of the option `--count`.
-const COUNT: &str = "Tell how many pairs and nodes the search of each assertion had";
+const COUNT: &str =
+    "Tell how many pairs and nodes the search of each assertion had, its time and the most memory";
 
 // What is told of the option `--events`.
 const EVENTS: &str = "Tell of each path its events alone, seen and hidden, and its last state";
