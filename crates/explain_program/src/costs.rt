@@ -1,6 +1,6 @@
 //! The line that tells what a search took.
 
-ghost use Rattle.std.specs.Prelude.{Some};
+ghost use Rattle.std.specs.Prelude.{None, Some};
 ghost use Rattle.csp_print.specs.Writing.{Writes};
 ghost use Rattle.explain_program.specs.Costs.{amounts_text, cost_text, memory_text, time_text};
 
@@ -15,19 +15,34 @@ const MEGABYTE: u64 = 1024;
 pub(crate) fn push_cost<A: Allocator>(cost: Cost, text: &mut String<A>) -> Result<(), AllocError>
     ensures { Writes result text.old text.new (cost_text cost) }
 {
-    match (cost.milliseconds, cost.kilobytes) {
-        (Some(milliseconds), Some(kilobytes)) => push_both(milliseconds, kilobytes, text),
-        (Some(milliseconds), None) => {
-            push_mark("  ", text)?;
-            push_time(milliseconds, text)?;
-            push_mark("\n", text)
-        }
-        (None, Some(kilobytes)) => {
-            push_mark("  ", text)?;
-            push_memory(kilobytes, text)?;
-            push_mark("\n", text)
-        }
-        (None, None) => Ok(()),
+    match cost.milliseconds {
+        Some(milliseconds) => push_timed(milliseconds, cost.kilobytes, text),
+        None => push_untimed(cost.kilobytes, text),
+    }
+}
+
+fn push_timed<A: Allocator>(
+    milliseconds: u64,
+    kilobytes: Option<u64>,
+    text: &mut String<A>,
+) -> Result<(), AllocError>
+    ensures { Writes result text.old text.new (amounts_text (Some milliseconds) kilobytes) }
+{
+    match kilobytes {
+        Some(kilobytes) => push_both(milliseconds, kilobytes, text),
+        None => push_time_alone(milliseconds, text),
+    }
+}
+
+fn push_untimed<A: Allocator>(
+    kilobytes: Option<u64>,
+    text: &mut String<A>,
+) -> Result<(), AllocError>
+    ensures { Writes result text.old text.new (amounts_text None kilobytes) }
+{
+    match kilobytes {
+        Some(kilobytes) => push_memory_alone(kilobytes, text),
+        None => Ok(()),
     }
 }
 
@@ -41,6 +56,22 @@ fn push_both<A: Allocator>(
     push_mark("  ", text)?;
     push_time(milliseconds, text)?;
     push_mark(", ", text)?;
+    push_memory(kilobytes, text)?;
+    push_mark("\n", text)
+}
+
+fn push_time_alone<A: Allocator>(milliseconds: u64, text: &mut String<A>) -> Result<(), AllocError>
+    ensures { Writes result text.old text.new (amounts_text (Some milliseconds) None) }
+{
+    push_mark("  ", text)?;
+    push_time(milliseconds, text)?;
+    push_mark("\n", text)
+}
+
+fn push_memory_alone<A: Allocator>(kilobytes: u64, text: &mut String<A>) -> Result<(), AllocError>
+    ensures { Writes result text.old text.new (amounts_text None (Some kilobytes)) }
+{
+    push_mark("  ", text)?;
     push_memory(kilobytes, text)?;
     push_mark("\n", text)
 }

@@ -1,6 +1,6 @@
 //! The lines that tell how large a search was, and what it took.
 
-ghost use Rattle.std.specs.Prelude.{◌≡◌, ◌++◌, IfOk};
+ghost use Rattle.std.specs.Prelude.{◌≡◌, ◌++◌, IfOk, Some};
 ghost use Rattle.std.specs.String.{string_bytes};
 ghost use Rattle.csp_term.specs.Script.{property_of};
 ghost use Rattle.theory_explanation.specs.Counting.{count_text, nodes_text};
@@ -25,11 +25,23 @@ pub(crate) fn with_size<A: AllocHandle>(
     match size {
         None => Ok(text),
         Some(size) => {
-            push_count(property, size, &mut text)?;
-            push_cost(size.cost, &mut text)?;
+            push_size(property, size, &mut text)?;
             Ok(text)
         }
     }
+}
+
+// The lines of the search.
+fn push_size<A: AllocHandle>(
+    property: &Property<A>,
+    size: SearchSize,
+    text: &mut String<A>,
+) -> Result<(), AllocError>
+    ensures { Writes result text.old text.new
+        (size_text (property_of property.now) (Some size)) }
+{
+    push_count(property, size, text)?;
+    push_cost(size.cost, text)
 }
 
 // The line of how large the search was.

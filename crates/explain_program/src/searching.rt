@@ -63,8 +63,16 @@ pub(crate) fn answer<A: AllocHandle + Send + Sync, R: Threads + Wait + Sync, W: 
     let begun = watch.elapsed();
     let is_watched = settings.progress || watch.is_watched();
     let gate = SearchProgress::begin(alloc, watch, number, is_watched);
-    let (limits, workers) = (limits(settings), settings.workers);
-    match ended_together(alloc, rt, script, assertion, limits, workers, &gate) {
+    let limits = limits(settings);
+    match ended_together(
+        alloc,
+        rt,
+        script,
+        assertion,
+        limits,
+        settings.workers,
+        &gate,
+    ) {
         Ok(Some(store)) => concluded(alloc, &store, cost_since(watch, begun)),
         Ok(None) => answer_alone(alloc, watch, begun, script, assertion, limits),
         Err(why) => Answer {
