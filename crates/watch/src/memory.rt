@@ -1,9 +1,10 @@
 //! The memory that a run has had, as the machine tells it.
 
 ghost use Rattle.std.specs.Prelude.{IfSome};
-ghost use Rattle.watch.specs.Memory.{IsToldIn};
+ghost use Rattle.watch.specs.Memory.{IsToldIn, StandsBetween};
 
 use std::fs::File;
+use std::io::Read;
 use std::rt::Files;
 use std::str;
 
@@ -18,14 +19,23 @@ pub(crate) fn most_memory<R: Files>(machine: &R) -> Option<u64> {
     let mut bytes = [0; MOST_STATUS];
     let mut file = File::open(machine, STATUS).ok()?;
     let count = file.read(&mut bytes).ok()?;
-    kilobytes_in(str::from_utf8(bytes.get(..count)?).ok()?)
+    let status = str::from_utf8(bytes.get(..count)?).ok()?;
+    kilobytes_in(status)
 }
 
 /// The number of kilobytes in the text behind `VmHWM:`, if there is one: that of the most memory which was there at once.
 pub fn kilobytes_in(status: &str) -> Option<u64>
     ensures { IfSome result (IsToldIn status.now) }
 {
-    let (_, behind) = status.split_once("VmHWM:")?;
-    let (number, _) = behind.split_once("kB")?;
+    let number = between(status, "VmHWM:", "kB")?;
     number.trim().parse().ok()
+}
+
+// What stands in the text behind the first of the one, and before the first of the other behind that.
+fn between<'t>(text: &'t str, opening: &str, closing: &str) -> Option<&'t str>
+    ensures { IfSome result (λ middle. StandsBetween text.now opening.now closing.now middle.now) }
+{
+    let (_, behind) = text.split_once(opening)?;
+    let (middle, _) = behind.split_once(closing)?;
+    Some(middle)
 }
