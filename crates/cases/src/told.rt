@@ -7,6 +7,7 @@ use std::alloc::Global;
 use std::fmt;
 use std::sync::Wait;
 use std::thread::Threads;
+use watch::Unwatched;
 
 /// The status of a run, and what it gave to its two outputs.
 #[derive(Drop)]
@@ -109,10 +110,10 @@ pub(crate) fn told_by<'w, R: Threads + Wait + Sync>(
     let (mut out, mut err) = (Buffer::new(alloc), Buffer::new(alloc));
     let status = match words {
         ["explain", rest @ ..] => {
-            explain_program::run(&resources, rest, &mut files, &mut out, &mut err)
+            explain_program::run(&resources, rest, &mut files, &Unwatched, &mut out, &mut err)
         }
         ["graph", rest @ ..] => {
-            graph_program::run(&resources, rest, &mut files, &mut out, &mut err)
+            graph_program::run(&resources, rest, &mut files, &Unwatched, &mut out, &mut err)
         }
         [_, rest @ ..] => program::run(&resources, rest, &mut files, &mut out, &mut err),
         [] => 3,

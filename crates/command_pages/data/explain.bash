@@ -10,7 +10,7 @@ _explain() {
     esac
     case $word in
         -*) COMPREPLY=($(compgen -W '--unfold --workers --max-pairs --max-nodes --width --count --events --steps
-            --format --help --version' -- "$word")) ;;
+            --progress --format --help --version' -- "$word")) ;;
         *) COMPREPLY=($(compgen -f -X '!*.csp' -- "$word") $(compgen -d -- "$word")) ;;
     esac
 }

@@ -6,7 +6,7 @@ _graph() {
         --max-states) COMPREPLY=($(compgen -W '1000 100000 1000000' -- "$word")); return ;;
     esac
     case $word in
-        -*) COMPREPLY=($(compgen -W '--format --specification --max-states --unfold --help --version' -- "$word")) ;;
+        -*) COMPREPLY=($(compgen -W '--format --specification --max-states --unfold --progress --help --version' -- "$word")) ;;
         *) COMPREPLY=($(compgen -f -X '!*.csp' -- "$word") $(compgen -d -- "$word")) ;;
     esac
 }

@@ -5,6 +5,7 @@ use report::Buffer;
 use std::alloc::Global;
 use std::sync::Wait;
 use std::thread::Threads;
+use watch::Unwatched;
 
 /// What the program of that name gives where its help is asked for; nothing where there is no such program.
 pub(crate) fn help_of<R: Threads + Wait + Sync>(rt: &R, alloc: Global, program: &str) -> Vec<u8> {
@@ -26,10 +27,14 @@ pub(crate) fn help_of<R: Threads + Wait + Sync>(rt: &R, alloc: Global, program: 
             program::run(&resources, &words, &mut files, &mut out, &mut err);
         }
         "explain" => {
-            explain_program::run(&resources, &words, &mut files, &mut out, &mut err);
+            explain_program::run(
+                &resources, &words, &mut files, &Unwatched, &mut out, &mut err,
+            );
         }
         "graph" => {
-            graph_program::run(&resources, &words, &mut files, &mut out, &mut err);
+            graph_program::run(
+                &resources, &words, &mut files, &Unwatched, &mut out, &mut err,
+            );
         }
         _ => {}
     }

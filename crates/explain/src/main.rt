@@ -1,7 +1,7 @@
 //! `explain FILE [ASSERTION]` answers the assertions of a script as `refcheck` does, and tells why each has its answer.
 //!
-//! `explain_program::run` is the whole program, over words, files and streams. Here it is handed those of the machine, and
-//! a thread with a large stack, if there can be one.
+//! `explain_program::run` is the whole program, over words, files and streams. Here it is handed those of the machine,
+//! its clock, and a thread with a large stack, if there can be one.
 #![tactic(auto)]
 
 ghost use Rattle.std.specs.Prelude.{◌≡◌, false};
@@ -9,7 +9,9 @@ ghost use Rattle.std.specs.Prelude.{◌≡◌, false};
 use explain_program::run;
 use program::{MachineFiles, Resources, command_words, on_large_stack, start};
 use report::Out;
+use std::io::IsTerminal;
 use std::process::ExitCode;
+use watch::MachineWatch;
 
 fn main(rt: HostRuntime) -> ExitCode {
     ExitCode::from(on_large_stack(&rt, move |stack| {
@@ -29,7 +31,9 @@ fn main(rt: HostRuntime) -> ExitCode {
                     rt: &rt,
                     stack,
                 };
-                run(&resources, words, &mut MachineFiles::new(&rt), out, err)
+                let watch = MachineWatch::begin(&rt, rt.stderr().is_terminal());
+                let mut files = MachineFiles::new(&rt);
+                run(&resources, words, &mut files, &watch, out, err)
             },
         )
     }))

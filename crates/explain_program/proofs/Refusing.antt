@@ -1,5 +1,5 @@
 -- The objects of refusals.
-use Rattle.std.proofs.Common.{◌≡◌, ℕ, true, List, [], ◌∷◌, length, refl, sym, ap, ◌∙◌, arith}
+use Rattle.std.proofs.Common.{◌≡◌, ℕ, true, false, List, [], ◌∷◌, length, map, refl, sym, ap, ◌∙◌, arith}
 use Rattle.std.proofs.lemmas.Bool.{eqb-true}
 use Rattle.std.specs.Prelude.{◌==◌, Result, Ok, Err, IfOk, codes}
 use Rattle.std.specs.List.{concat}
@@ -48,6 +48,11 @@ in_pieces stop.NoAssertion = refl
 pub nothing_in : {X : Type 0} (xs : List X) → (length xs == 0) ≡ true → xs ≡ []
 nothing_in [] empty = refl
 nothing_in (x ∷ xs) empty = absurd (let some : length (x ∷ xs) ≡ 0 = eqb-true (length (x ∷ xs)) 0 empty in omega (arith, some))
+
+-- what has a length has items
+pub something_in : {X Y : Type 0} (f : X → Y) (xs : List X) → (length xs == 0) ≡ false → map f xs ≡ [] → ⊥
+something_in f [] some none = cc some
+something_in f (x ∷ xs) some none = cc none
 
 -- the object of a note, as it is written
 pub note_in_json : codes "{\"note\":\"the script has no assertion\"}\n" ≡ none_text formats.Json

@@ -1,4 +1,5 @@
 pub mod Asking
+pub mod Costs
 pub mod Explaining
 pub mod Giving
 pub mod Naming

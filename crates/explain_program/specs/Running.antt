@@ -10,8 +10,8 @@ use Rattle.program.specs.declared.files.Lack.{Lack}
 use Rattle.program.specs.declared.refusal.Refusal.{Refusal}
 use Rattle.program.specs.declared.refusal.Refusal.TheVariants as refusal
 use Rattle.explain_program.specs.Asking.{Request, AskForExplanation, AskForText}
-use Rattle.explain_program.specs.Explaining.{IsBegun, IsExplained, LacksAny, LacksAssertion}
-use Rattle.explain_program.specs.Refusals.{TellsRefusal, none_text, stop_line, unread_text}
+use Rattle.explain_program.specs.Explaining.{IsBegun, IsExplained, LacksAssertion}
+use Rattle.explain_program.specs.Refusals.{TellsRefusal, stop_line, unread_text}
 use Rattle.explain_program.specs.declared.untold.Untold.{Untold}
 use Rattle.explain_program.specs.declared.untold.Untold.TheVariants as untold
 use Rattle.explain_program.specs.declared.stop.Stop.{Stop}
@@ -22,18 +22,11 @@ abbrev pub of_untold : Untold → Stop
 of_untold untold.Memory = stop.Refused refusal.Memory
 of_untold untold.Output = stop.Refused refusal.Output
 
--- the words ask for a text, which went out; or they ask for explanations, which did
-pub data IsServed (given : Given) (words : List (List ℕ)) (out : Sent) (status : ℕ) : Type 0 where
-  shown : (text : List ℕ) → AskForText words → Sends out.old out.new out.failed text → status ≡ 0 → IsServed given words out status
-  explained : (request : Request) → AskForExplanation words request → IsExplained given request out status → IsServed given words out status
-
--- where a request is met the error output is given nothing, or is told that the file's script has no assertion
-abbrev pub IsNoted : Given → Request → Sent → Type 0
-IsNoted given request err = err.Unchanged ⊎ (LacksAny given request × IsGiven err (none_text request.format))
-
--- the error output is given nothing, or what it is given where the words ask for this and it is met
-abbrev pub IsQuiet : Given → List (List ℕ) → Sent → Type 0
-IsQuiet given words err = err.Unchanged ⊎ ((request : Request) × AskForExplanation words request × IsNoted given request err)
+-- The words ask for a text, which went out, and nothing to the error output; or they ask for explanations, which did, and to
+-- that nothing but the note on a script without assertions.
+pub data IsServed (given : Given) (words : List (List ℕ)) (out err : Sent) (status : ℕ) : Type 0 where
+  shown : (text : List ℕ) → AskForText words → Sends out.old out.new out.failed text → err.Unchanged → status ≡ 0 → IsServed given words out err status
+  explained : (request : Request) → AskForExplanation words request → IsExplained given request out err status → IsServed given words out err status
 
 -- why the request is not met
 abbrev pub IsStopCause : Given → Request → Stop → Type 0

@@ -1,4 +1,5 @@
--- What is told of assertions, in words or by objects, with how large their searches were where that is asked for.
+-- What is told of assertions, in words or by objects, with how large their searches were and what they took where that is
+-- asked for.
 use Rattle.std.specs.Prelude.{◌≡◌, ℕ, zero, suc, Bool, true, false, List, [], ◌∷◌, ◌++◌, Option, Some, None, slice_get}
 use Rattle.theory_syntax.specs.Process.{Property, Assertion, Script}
 use Rattle.theory_search.specs.Answer.{as_written}
@@ -7,21 +8,22 @@ use Rattle.theory_text.specs.Place.{Place}
 use Rattle.theory_explanation.specs.Counting.{count_text}
 use Rattle.theory_explanation.specs.Telling.{IsTold}
 use Rattle.theory_unfolding.specs.Assertions.{settled_assertion}
-use Rattle.theory_objects.specs.Answers.{Answered, answer_fields, size_fields}
+use Rattle.theory_objects.specs.Answers.{Answered, answer_fields, cost_fields, size_fields}
 use Rattle.theory_objects.specs.Fields.{Field, object_line}
 use Rattle.explain_settings.specs.declared.format.Format.{Format}
 use Rattle.explain_settings.specs.declared.format.Format.TheVariants as formats
 use Rattle.explanation.specs.Running.{HasViolation}
 use Rattle.explain_program.specs.Asking.{Request, style_for}
+use Rattle.explain_program.specs.Costs.{cost_text}
 use Rattle.explain_program.specs.Naming.{Labels}
 use Rattle.explain_program.specs.Sizes.{IsSizeFor}
 use Rattle.explain_program.specs.declared.search_size.SearchSize.{SearchSize}
 
 -- ---- in words
 
--- how large the search was, in words, if there was one
+-- how large the search was, and what it took, in words, if there was one
 abbrev pub size_text : Property → Option SearchSize → List ℕ
-size_text property (Some size) = count_text property size.pairs size.nodes
+size_text property (Some size) = count_text property size.pairs size.nodes ++ cost_text size.cost
 size_text property None = []
 
 -- the same where it is asked for
@@ -29,7 +31,8 @@ abbrev pub size_asked : Bool → Property → Option SearchSize → List ℕ
 size_asked true property size = size_text property size
 size_asked false property size = []
 
--- Behind what is told of the assertion with this number and outcome stands how large the search for the outcome was.
+-- Behind what is told of the assertion with this number and outcome stands how large the search for the outcome was, and what
+-- it took: no definition says what that is.
 pub record IsToldWithSize (request : Request) (script : Script) (labels : Labels) (n : ℕ) (written a : Assertion) (o : Outcome) (text : List ℕ) : Type 0 where
   pub told : List ℕ
   pub is_told : IsTold (style_for request labels.names) script n written a o told
@@ -44,9 +47,9 @@ IsToldBy false request script labels n written a o text = IsTold (style_for requ
 
 -- ---- by an object
 
--- how large the search was, as fields, if there was one
+-- how large the search was, and what it took, as fields, if there was one
 abbrev pub sizes_of : Property → Option SearchSize → List Field
-sizes_of property (Some size) = size_fields property size.pairs size.nodes
+sizes_of property (Some size) = size_fields property size.pairs size.nodes ++ cost_fields size.cost.milliseconds size.cost.kilobytes
 sizes_of property None = []
 
 -- the same where it is asked for

@@ -1,18 +1,19 @@
-//! The line that tells how large a search was.
+//! The lines that tell how large a search was, and what it took.
 
-ghost use Rattle.std.specs.Prelude.{◌≡◌, ◌++◌, IfOk};
+ghost use Rattle.std.specs.Prelude.{◌≡◌, ◌++◌, IfOk, Some};
 ghost use Rattle.std.specs.String.{string_bytes};
 ghost use Rattle.csp_term.specs.Script.{property_of};
 ghost use Rattle.theory_explanation.specs.Counting.{count_text, nodes_text};
 ghost use Rattle.csp_print.specs.Writing.{Writes};
 ghost use Rattle.explain_program.specs.Telling.{size_text};
 
+use crate::costs::push_cost;
 use crate::search_size::SearchSize;
 use counterexample::{push_amount, push_mark};
 use csp_term::{AllocHandle, Memory, Property};
 use std::alloc::AllocError;
 
-/// The text with the line of the search behind it, if there was one.
+/// The text with the lines of the search behind it, if there was one.
 pub(crate) fn with_size<A: AllocHandle>(
     property: &Property<A>,
     size: Option<SearchSize>,
@@ -24,13 +25,26 @@ pub(crate) fn with_size<A: AllocHandle>(
     match size {
         None => Ok(text),
         Some(size) => {
-            push_count(property, size, &mut text)?;
+            push_size(property, size, &mut text)?;
             Ok(text)
         }
     }
 }
 
-// The line of the search.
+// The lines of the search.
+fn push_size<A: AllocHandle>(
+    property: &Property<A>,
+    size: SearchSize,
+    text: &mut String<A>,
+) -> Result<(), AllocError>
+    ensures { Writes result text.old text.new
+        (size_text (property_of property.now) (Some size)) }
+{
+    push_count(property, size, text)?;
+    push_cost(size.cost, text)
+}
+
+// The line of how large the search was.
 fn push_count<A: AllocHandle>(
     property: &Property<A>,
     size: SearchSize,

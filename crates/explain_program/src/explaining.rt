@@ -8,8 +8,9 @@ ghost use Rattle.explain_program.specs.Explaining.{StopsBy, TellsAll};
 ghost use Rattle.explain_program.specs.Giving.{AreTold, GoesOut, LeavesText};
 ghost use Rattle.explain_program.specs.Naming.{labels_of};
 
-use crate::answering::{answer, outcome_status};
 use crate::reader::NamedScript;
+use crate::searching::answer;
+use crate::statuses::outcome_status;
 use crate::stop::Stop;
 use crate::telling::explanation_text;
 use crate::untold::Untold;
@@ -17,14 +18,21 @@ use csp_settling::settled_assertion;
 use csp_term::AllocHandle;
 use explain_settings::Settings;
 use explanation::Question;
+use program::Resources;
 use report::{Sink, push_all};
 use std::sync::Wait;
 use std::thread::Threads;
+use watch::Watch;
 
 /// Explains the assertions of the script that the settings ask for. The status is at most 2.
-pub(crate) fn explain_script<A: AllocHandle + Send + Sync, R: Threads + Wait + Sync, O: Sink>(
-    alloc: A,
-    rt: &R,
+pub(crate) fn explain_script<
+    A: AllocHandle + Send + Sync,
+    R: Threads + Wait + Sync,
+    W: Watch,
+    O: Sink,
+>(
+    resources: &Resources<'_, A, R>,
+    watch: &W,
     settings: &Settings<'_>,
     named: &NamedScript<'_, A>,
     out: &mut O,
@@ -42,20 +50,20 @@ pub(crate) fn explain_script<A: AllocHandle + Send + Sync, R: Threads + Wait + S
         IfErr result (λ why. StopsBy request it labels why output) }
 {
     if settings.assertion == 0 {
-        return explain_each(alloc, rt, settings, named, out);
+        return explain_each(resources, watch, settings, named, out);
     }
     let place = settings.assertion - 1;
     let count = named.script.assertions().len();
     if count <= place {
         return Err(Stop::NoAssertion);
     }
-    Ok(explain_one(alloc, rt, settings, named, place, out)?)
+    Ok(explain_one(resources, watch, settings, named, place, out)?)
 }
 
 // Explains each assertion of the script.
-fn explain_each<A: AllocHandle + Send + Sync, R: Threads + Wait + Sync, O: Sink>(
-    alloc: A,
-    rt: &R,
+fn explain_each<A: AllocHandle + Send + Sync, R: Threads + Wait + Sync, W: Watch, O: Sink>(
+    resources: &Resources<'_, A, R>,
+    watch: &W,
     settings: &Settings<'_>,
     named: &NamedScript<'_, A>,
     out: &mut O,
@@ -76,16 +84,16 @@ fn explain_each<A: AllocHandle + Send + Sync, R: Threads + Wait + Sync, O: Sink>
     let count = named.script.assertions().len();
     let mut status = 0;
     for place in 0..count {
-        let here = explain_one(alloc, rt, settings, named, place, out)?;
+        let here = explain_one(resources, watch, settings, named, place, out)?;
         status = status.max(here);
     }
     Ok(status)
 }
 
 // Explains the assertion at the place.
-fn explain_one<A: AllocHandle + Send + Sync, R: Threads + Wait + Sync, O: Sink>(
-    alloc: A,
-    rt: &R,
+fn explain_one<A: AllocHandle + Send + Sync, R: Threads + Wait + Sync, W: Watch, O: Sink>(
+    resources: &Resources<'_, A, R>,
+    watch: &W,
     settings: &Settings<'_>,
     named: &NamedScript<'_, A>,
     place: usize,
@@ -108,10 +116,11 @@ fn explain_one<A: AllocHandle + Send + Sync, R: Threads + Wait + Sync, O: Sink>(
         (λ WentOut. AreTold request it labels (suc place) (one_at place it.assertions)
         (λ _ text. WentOut text)) output) }
 {
+    let alloc = resources.alloc;
     let assertions = named.script.assertions();
     let written = &assertions[place];
     let asked = settled_assertion(alloc, named.script.parts(), written)?;
-    let answer = answer(alloc, rt, settings, &named.script, &asked);
+    let answer = answer(resources, watch, settings, &named.script, &asked, place + 1);
     let question = Question {
         number: place + 1,
         written,

@@ -9,7 +9,7 @@
 //! the explanations before stand there, and of the last one a beginning may.
 #![tactic(auto)]
 
-mod answering;
+mod costs;
 mod counting;
 mod explaining;
 mod notes;
@@ -19,6 +19,7 @@ mod refusals;
 mod running;
 mod search_size;
 mod searching;
+mod statuses;
 mod stop;
 mod telling;
 mod untold;

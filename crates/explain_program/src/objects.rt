@@ -66,7 +66,7 @@ fn place_of_index(places: &[Place], index: usize) -> Option<Place>
     places.get(index).copied()
 }
 
-// How large the search was, where it is asked for.
+// How large the search was, and what it took, where it is asked for.
 fn size_told(count: bool, size: Option<SearchSize>) -> Option<Size>
     ensures { (property : Property) → sizes_told property result ≡ sizes_asked count property size }
 {
@@ -77,7 +77,7 @@ fn size_of(size: Option<SearchSize>) -> Option<Size>
     ensures { (property : Property) → sizes_told property result ≡ sizes_of property size }
 {
     match size {
-        Some(SearchSize { pairs, nodes }) => Some(Size { pairs, nodes }),
+        Some(SearchSize { pairs, nodes, cost }) => Some(Size { pairs, nodes, cost }),
         None => None,
     }
 }

@@ -4,7 +4,7 @@ ghost use Rattle.std.specs.Prelude.{◌≡◌, ◌≤◌, ◌<◌, false};
 ghost use Rattle.program.specs.Given.{given_of, sent};
 ghost use Rattle.program.specs.Running.{texts_of};
 ghost use Rattle.explain_program.specs.Asking.{request_of};
-ghost use Rattle.explain_program.specs.Running.{IsNoted, IsQuiet, IsRefused, IsServed, IsStopped};
+ghost use Rattle.explain_program.specs.Running.{IsRefused, IsServed, IsStopped};
 ghost use Rattle.explain_program.specs.Explaining.{IsExplained};
 
 use crate::explaining::explain_script;
@@ -19,25 +19,32 @@ use report::Sink;
 use settings::CommandLineFault;
 use std::sync::Wait;
 use std::thread::Threads;
+use watch::Watch;
 
 /// The whole program: answers the assertions that the words ask for, of the script in the file that they name and within
 /// the limits that they choose, and gives to `out` what is told of each as soon as it is answered; or tells `err` what is
 /// refused, of a script in words. Where the words ask for the help or the version, this text goes to `out`.
 ///
 /// Answers the status: 3 where anything was refused, else 2 where an assertion has no answer within the limits, else 1
-/// where one fails, else 0. Where each assertion is asked for and there is none, `err` is told so. The words are looked at first, then the file, whether its text is too long for the stack, the
-/// script, the number of the assertion, and then each assertion in turn. A failure of `err` changes nothing.
+/// where one fails, else 0. Where each assertion is asked for and there is none, `err` is told so. The words are looked at
+/// first, then the file, whether its text is too long for the stack, the script, the number of the assertion, and then each
+/// assertion in turn. A failure of `err` changes nothing.
+///
+/// The watch is told how far a search is, where the words ask for that or someone watches. It takes these lines itself,
+/// beside `out` and `err`; no answer depends on it, but for what a search took, where the words ask how large it was.
 pub fn run<
     'w,
     A: AllocHandle + Send + Sync,
     R: Threads + Wait + Sync,
     F: Files<A>,
+    W: Watch,
     O: Sink,
     E: Sink,
 >(
     resources: &Resources<'_, A, R>,
     words: &'w [&'w str],
     files: &mut F,
+    watch: &W,
     out: &mut O,
     err: &mut E,
 ) -> u8
@@ -46,17 +53,15 @@ pub fn run<
     ensures status { result ≤ 3 }
     ensures served { let given = given_of F.may_hold F.may_lack files.old resources.now.stack in
         let output = sent O.taken O.has_failed out.old out.new in
-        result < 3 → IsServed given (texts_of words.entry.now) output result }
-    ensures quiet { let given = given_of F.may_hold F.may_lack files.old resources.now.stack in
         let errors = sent E.taken E.has_failed err.old err.new in
-        result < 3 → IsQuiet given (texts_of words.entry.now) errors }
+        result < 3 → IsServed given (texts_of words.entry.now) output errors result }
     ensures refused { let given = given_of F.may_hold F.may_lack files.old resources.now.stack in
         let output = sent O.taken O.has_failed out.old out.new in
         let errors = sent E.taken E.has_failed err.old err.new in
         result ≡ 3 → IsRefused given (texts_of words.entry.now) output errors }
 {
     match explain_settings::read(resources.command_line, words) {
-        Ok(settings) => explain(resources, &settings, files, out, err),
+        Ok(settings) => explain(resources, &settings, files, watch, out, err),
         Err(CommandLineFault::Help(text)) => show(text.as_str(), out, err),
         Err(CommandLineFault::Version(text)) => show(text.as_str(), out, err),
         Err(CommandLineFault::Refused(text)) => refuse_words(text.as_str(), err),
@@ -65,10 +70,18 @@ pub fn run<
 }
 
 // Explains what the settings ask for.
-fn explain<A: AllocHandle + Send + Sync, R: Threads + Wait + Sync, F: Files<A>, O: Sink, E: Sink>(
+fn explain<
+    A: AllocHandle + Send + Sync,
+    R: Threads + Wait + Sync,
+    F: Files<A>,
+    W: Watch,
+    O: Sink,
+    E: Sink,
+>(
     resources: &Resources<'_, A, R>,
     settings: &Settings<'_>,
     files: &mut F,
+    watch: &W,
     out: &mut O,
     err: &mut E,
 ) -> u8
@@ -77,10 +90,8 @@ fn explain<A: AllocHandle + Send + Sync, R: Threads + Wait + Sync, F: Files<A>, 
     ensures status { result ≤ 3 }
     ensures explained { let given = given_of F.may_hold F.may_lack files.old resources.now.stack in
         let output = sent O.taken O.has_failed out.old out.new in
-        result < 3 → IsExplained given (request_of settings.now) output result }
-    ensures noted { let given = given_of F.may_hold F.may_lack files.old resources.now.stack in
         let errors = sent E.taken E.has_failed err.old err.new in
-        result < 3 → IsNoted given (request_of settings.now) errors }
+        result < 3 → IsExplained given (request_of settings.now) output errors result }
     ensures stopped { let given = given_of F.may_hold F.may_lack files.old resources.now.stack in
         let output = sent O.taken O.has_failed out.old out.new in
         let errors = sent E.taken E.has_failed err.old err.new in
@@ -93,13 +104,13 @@ fn explain<A: AllocHandle + Send + Sync, R: Threads + Wait + Sync, F: Files<A>, 
     if !resources.stack.takes(text.len()) {
         return report_stop(settings.format, Stop::Refused(Refusal::Thread), err);
     }
-    let (alloc, rt) = (resources.alloc, resources.rt);
+    let alloc = resources.alloc;
     let named = match read(alloc, &text) {
         Ok(named) => named,
         Err(why) => return refuse_text(alloc, settings, &text, why, err),
     };
     let named = named.as_asked(settings.at_once);
-    match explain_script(alloc, rt, settings, &named, out) {
+    match explain_script(resources, watch, settings, &named, out) {
         Ok(status) => {
             note_none(settings.format, &named.script, err);
             status

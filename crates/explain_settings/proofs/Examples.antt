@@ -45,6 +45,14 @@ no_steps : value (codes "steps") (codes "--events" ∷ codes "f" ∷ []) ≡ Som
 unfolding clap_on_literals
 no_steps = refl
 
+progress_asked : value (codes "progress") (codes "--progress" ∷ codes "f" ∷ []) ≡ Some (codes "true")
+unfolding clap_on_literals
+progress_asked = refl
+
+no_progress : value (codes "progress") (codes "--count" ∷ codes "f" ∷ []) ≡ Some (codes "false")
+unfolding clap_on_literals
+no_progress = refl
+
 names_at_once : value (codes "unfold") (codes "--unfold" ∷ codes "f" ∷ codes "2" ∷ []) ≡ Some (codes "true")
 unfolding clap_on_literals
 names_at_once = refl

@@ -41,7 +41,7 @@ module _ (c : Command) (m : ArgMatches) (words : List Text) (is : app_of c ≡ c
   rule_at : (j : ℕ) (d : Arg) → rule_of (slice_index_or (args_of c) j d) ≡ slice_index_or command_rules j (rule_of d)
   rule_at j d = sym (get_or-map rule_of (args_of c) j d) ∙ ap (λ rs. slice_index_or rs j (rule_of d)) rules_are
 
-  count : length (args_of c) ≡ 11
+  count : length (args_of c) ≡ 12
   count = sym (length-map (args_of c) rule_of) ∙ ap length rules_are
 
   -- some argument of the command
@@ -83,7 +83,7 @@ module _ (c : Command) (m : ArgMatches) (words : List Text) (is : app_of c ≡ c
   abbrev HasDefault : Text → ValueParser → Rule → Type 0
   HasDefault name q r = (default : Text) × (r.id ≡ name) × (r.defaults ≡ default ∷ []) × (r.parser ≡ Some q) × (r.action ≡ Some Set) × (r.range ≡ None)
 
-  text_read : (k : ℕ) (name : Text) (q : ValueParser) → k < 11 → is_only_at name k command_rules ≡ true → is_own name ≡ false
+  text_read : (k : ℕ) (name : Text) (q : ValueParser) → k < 12 → is_only_at name k command_rules ≡ true → is_own name ≡ false
       → HasDefault name q (slice_index_or command_rules k (rule_of first_arg)) → (t : Text) × IsRead name q k t
   text_read k name q below only own_name r =
       let d = first_arg in
@@ -111,7 +111,7 @@ module _ (c : Command) (m : ArgMatches) (words : List Text) (is : app_of c ≡ c
         ),
       )
 
-  number_text : (k : ℕ) (name : Text) (least most : ℕ) → k < 11 → is_only_at name k command_rules ≡ true → is_own name ≡ false
+  number_text : (k : ℕ) (name : Text) (least most : ℕ) → k < 12 → is_only_at name k command_rules ≡ true → is_own name ≡ false
       → HasDefault name (vp.Unsigned least most) (slice_index_or command_rules k (rule_of first_arg)) → (t : Text) × IsNumberText name least most t
   number_text k name least most below only own_name r = text_read k name (vp.Unsigned least most) below only own_name r
 
@@ -128,7 +128,7 @@ module _ (c : Command) (m : ArgMatches) (words : List Text) (is : app_of c ≡ c
   width = number_text 4 (codes "width") 0 1000000 (omega arith) refl refl (codes "200", refl, refl, refl, refl, refl)
 
   pub assertion : (t : Text) × IsNumberText (codes "assertion") 0 1000000 t
-  assertion = number_text 10 (codes "assertion") 0 1000000 (omega arith) refl refl (codes "0", refl, refl, refl, refl, refl)
+  assertion = number_text 11 (codes "assertion") 0 1000000 (omega arith) refl refl (codes "0", refl, refl, refl, refl, refl)
 
   -- the text of the format is the one that the words give
   pub format : (t : Text) × (first_value (found_of m) (codes "format") ≡ Some t) × (value (codes "format") words ≡ Some t)
@@ -138,15 +138,15 @@ module _ (c : Command) (m : ArgMatches) (words : List Text) (is : app_of c ≡ c
 
   file_has_value : is_some (first_value (found_of m) (codes "file")) ≡ true
   file_has_value =
-      let lt : 9 < length (args_of c) = subst (λ n. 9 < n) (sym count) (omega arith) in
-      let at : rule_of (slice_index_or (args_of c) 9 first_arg) ≡ file_rule = rule_at 9 first_arg in
-      let id : (slice_index_or (args_of c) 9 first_arg).id.now ≡ codes "file" = ap (λ (x : Rule). x.id) at in
-      let enough : 1 ≤ least_values (slice_index_or (args_of c) 9 first_arg) =
+      let lt : 10 < length (args_of c) = subst (λ n. 10 < n) (sym count) (omega arith) in
+      let at : rule_of (slice_index_or (args_of c) 10 first_arg) ≡ file_rule = rule_at 10 first_arg in
+      let id : (slice_index_or (args_of c) 10 first_arg).id.now ≡ codes "file" = ap (λ (x : Rule). x.id) at in
+      let enough : 1 ≤ least_values (slice_index_or (args_of c) 10 first_arg) =
       subst (λ o. 1 ≤ (unwrap_or_range o).start_inclusive) (sym (ap (λ (x : Rule). x.range) at)) (omega arith) in
       subst (λ t. is_some (first_value (found_of m) t) ≡ true) id
-      (required_has_value c m p plain simple.globals (ap (λ (a : App). a.top.subcommand_negates_reqs) is) 9 first_arg lt
-      (ap (λ (x : Rule). x.required) at) (ap (λ (x : Rule). x.action) at) (simple.args 9 first_arg lt).delimiter enough
-      (unique_at 9 first_arg (codes "file") id refl)
+      (required_has_value c m p plain simple.globals (ap (λ (a : App). a.top.subcommand_negates_reqs) is) 10 first_arg lt
+      (ap (λ (x : Rule). x.required) at) (ap (λ (x : Rule). x.action) at) (simple.args 10 first_arg lt).delimiter enough
+      (unique_at 10 first_arg (codes "file") id refl)
       (λ e. differ (codes "file") [] refl (sym id ∙ e))
       (λ auto. elim auto [
         | inl h ↦ differ (codes "file") (codes "help") refl (sym id ∙ h)

@@ -36,7 +36,7 @@ abbrev pub format_word : Format → Text
 format_word formats.Text = codes "text"
 format_word formats.Json = codes "json"
 
--- the options
+-- the options that say what is checked and what is told of it
 abbrev pub option_rules : List Rule
 option_rules = number_rule (codes "workers") (codes "1") 64
     ∷ number_rule (codes "max-pairs") (codes "100000") 1000000
@@ -46,9 +46,9 @@ option_rules = number_rule (codes "workers") (codes "1") 64
     ∷ flag_rule (codes "count") ∷ flag_rule (codes "events") ∷ flag_rule (codes "steps")
     ∷ format_rule ∷ []
 
--- the options, the file, and the number of an assertion
+-- the options, of which the last asks how far a search is, the file, and the number of an assertion
 abbrev pub command_rules : List Rule
-command_rules = option_rules ++ (file_rule ∷ count_rule (codes "assertion") (codes "0") 1000000 ∷ [])
+command_rules = option_rules ++ (flag_rule (codes "progress") ∷ file_rule ∷ count_rule (codes "assertion") (codes "0") 1000000 ∷ [])
 
 -- a command with these arguments, whose words do not begin with the program's name
 abbrev pub line_of : List Rule → App

@@ -14,10 +14,15 @@ use std::alloc::{AllocError, Global};
 pub(crate) const MOST: usize = 1_000_000;
 
 // What is told of the option `--count`.
-const COUNT: &str = "Tell how many pairs and nodes the search of each assertion had";
+const COUNT: &str =
+    "Tell how many pairs and nodes the search of each assertion had, its time and the most memory";
 
 // What is told of the option `--events`.
 const EVENTS: &str = "Tell of each path its events alone, seen and hidden, and its last state";
+
+// What is told of the option `--progress`.
+const PROGRESS: &str =
+    "Tell on standard error once a second how far a search is, as is done on a terminal";
 
 // What is told of the option `--steps`.
 const STEPS: &str = "Tell steps that unfold a name one by one; with --events that changes nothing";
@@ -26,12 +31,16 @@ const STEPS: &str = "Tell steps that unfold a name one by one; with --events tha
 pub(crate) fn command_line<'a>(alloc: Global) -> Result<Command<'a>, AllocError>
     ensures { IfOk result (λ c. app_of c ≡ command_line) }
 {
+    let progress = flag(alloc, "progress", PROGRESS);
     let file = file(alloc);
     let assertion = assertion(alloc);
-    options_line(alloc)?.arg(file)?.arg(assertion)
+    options_line(alloc)?
+        .arg(progress)?
+        .arg(file)?
+        .arg(assertion)
 }
 
-// The same with its options alone.
+// The same with the options alone that say what is checked and what is told of it.
 fn options_line<'a>(alloc: Global) -> Result<Command<'a>, AllocError>
     ensures { IfOk result (λ c. app_of c ≡ line_of option_rules) }
 {

@@ -33,6 +33,8 @@ pub struct Settings<'a> {
     pub events: bool,
     /// Whether steps that unfold a name are told one by one, where each step is told.
     pub steps: bool,
+    /// Whether it is told how far a search is, also where that is no terminal.
+    pub progress: bool,
     /// How it is told.
     pub format: Format,
     /// The name of the script's file.
@@ -67,6 +69,8 @@ pub fn read<'a>(alloc: Global, words: &'a [&'a str]) -> Result<Settings<'a>, Com
         ↔ IsUsed (codes "events") (texts words.entry.now)) }
     ensures steps { IfOk result (λ s. IsTrue s.steps
         ↔ IsUsed (codes "steps") (texts words.entry.now)) }
+    ensures progress { IfOk result (λ s. IsTrue s.progress
+        ↔ IsUsed (codes "progress") (texts words.entry.now)) }
     ensures format { IfOk result (λ s. value (codes "format") (texts words.entry.now)
         ≡ Some (format_word s.format)) }
     ensures file { IfOk result (λ s. value (codes "file") (texts words.entry.now)
@@ -92,6 +96,7 @@ pub fn read<'a>(alloc: Global, words: &'a [&'a str]) -> Result<Settings<'a>, Com
         count: is_used(&matches, "count"),
         events: is_used(&matches, "events"),
         steps: is_used(&matches, "steps"),
+        progress: is_used(&matches, "progress"),
         format,
         file: matches.get_str("file").unwrap(),
         assertion: number(&matches, "assertion"),

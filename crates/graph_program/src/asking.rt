@@ -14,12 +14,15 @@ use crate::stop::Stop;
 use csp_settling::settled_assertion;
 use csp_term::{AllocHandle, Assertion, Script, Term};
 use graph_settings::Settings;
+use progress::GraphProgress;
 use state_graph::graph_of;
+use watch::Watch;
 
 /// The text of the graph that the settings ask for, of the side of an assertion of the script. With names at once the
-/// side is settled first.
-pub(crate) fn asked_text<A: AllocHandle>(
+/// side is settled first. Where it is asked for, or someone watches, the watch is told how many states are found.
+pub(crate) fn asked_text<A: AllocHandle, W: Watch>(
     alloc: A,
+    watch: &W,
     settings: &Settings<'_>,
     script: &Script<A>,
 ) -> Result<Vec<u8, A>, Stop>
@@ -37,7 +40,9 @@ pub(crate) fn asked_text<A: AllocHandle>(
     let Some(start) = side_of(settings.specification, &asked) else {
         return Err(Stop::NoSpecification);
     };
-    let graph = graph_of(alloc, script, start, settings.max_states)?;
+    let is_watched = settings.progress || watch.is_watched();
+    let progress = GraphProgress::begin(alloc, watch, is_watched);
+    let graph = graph_of(alloc, script, start, settings.max_states, &progress)?;
     let text = text_of(alloc, settings.format, script, &graph)?;
     Ok(text)
 }

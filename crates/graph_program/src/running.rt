@@ -18,6 +18,7 @@ use program::{Files, Refusal, Resources, refuse, refuse_words, show};
 use report::{Sink, push_all};
 use settings::CommandLineFault;
 use told_refusals::{refuse_text, refuse_unread};
+use watch::Watch;
 
 /// The whole program: gives to `out` the text of the graph that the words ask for, of a side of an assertion of the script
 /// in the file that they name; or tells `err` what is refused, of a script in words. Where the words ask for the help or
@@ -26,10 +27,14 @@ use told_refusals::{refuse_text, refuse_unread};
 /// Answers the status: 0 where that went out, and 3 where anything was refused. The words are looked at first, then the
 /// file, whether its text is too long for the stack, the script, the number of the assertion, whether it has the side, the
 /// graph, and the output. A failure of `err` changes nothing.
-pub fn run<'w, A: AllocHandle, R, F: Files<A>, O: Sink, E: Sink>(
+///
+/// The watch is told how many states are found, where the words ask for that or someone watches. It takes these lines
+/// itself, beside `out` and `err`, and nothing else depends on it.
+pub fn run<'w, A: AllocHandle, R, F: Files<A>, W: Watch, O: Sink, E: Sink>(
     resources: &Resources<'_, A, R>,
     words: &'w [&'w str],
     files: &mut F,
+    watch: &W,
     out: &mut O,
     err: &mut E,
 ) -> u8
@@ -46,7 +51,7 @@ pub fn run<'w, A: AllocHandle, R, F: Files<A>, O: Sink, E: Sink>(
         result ≡ 3 → IsRefused given (texts_of words.entry.now) output errors }
 {
     match graph_settings::read(resources.command_line, words) {
-        Ok(settings) => draw(resources, &settings, files, out, err),
+        Ok(settings) => draw(resources, &settings, files, watch, out, err),
         Err(CommandLineFault::Help(text)) => show(text.as_str(), out, err),
         Err(CommandLineFault::Version(text)) => show(text.as_str(), out, err),
         Err(CommandLineFault::Refused(text)) => refuse_words(text.as_str(), err),
@@ -55,10 +60,11 @@ pub fn run<'w, A: AllocHandle, R, F: Files<A>, O: Sink, E: Sink>(
 }
 
 // Prints the graph that the settings ask for.
-fn draw<A: AllocHandle, R, F: Files<A>, O: Sink, E: Sink>(
+fn draw<A: AllocHandle, R, F: Files<A>, W: Watch, O: Sink, E: Sink>(
     resources: &Resources<'_, A, R>,
     settings: &Settings<'_>,
     files: &mut F,
+    watch: &W,
     out: &mut O,
     err: &mut E,
 ) -> u8
@@ -87,7 +93,7 @@ fn draw<A: AllocHandle, R, F: Files<A>, O: Sink, E: Sink>(
         Err(why) => return refuse_text(alloc, settings.file, &text, why, err),
     };
     let script = as_asked(script, settings.at_once);
-    match print_graph(alloc, settings, &script, out) {
+    match print_graph(alloc, watch, settings, &script, out) {
         Ok(()) => 0,
         Err(why) => report_stop(why, err),
     }
@@ -102,8 +108,9 @@ fn as_asked<A: AllocHandle>(script: Script<A>, at_once: bool) -> Script<A>
 }
 
 // Gives `out` the text of the graph that the settings ask for.
-fn print_graph<A: AllocHandle, O: Sink>(
+fn print_graph<A: AllocHandle, W: Watch, O: Sink>(
     alloc: A,
+    watch: &W,
     settings: &Settings<'_>,
     script: &Script<A>,
     out: &mut O,
@@ -114,7 +121,7 @@ fn print_graph<A: AllocHandle, O: Sink>(
     ensures unprinted { let output = sent O.taken O.has_failed out.old out.new in
         IfErr result (λ why. IsUnprinted (request_of settings.now) (script_of script.now) why output) }
 {
-    let text = asked_text(alloc, settings, script)?;
+    let text = asked_text(alloc, watch, settings, script)?;
     match push_all(&text, out) {
         Ok(()) => Ok(()),
         Err(_) => Err(Stop::Refused(Refusal::Output)),

@@ -41,7 +41,7 @@ module _ (c : Command) (m : ArgMatches) (words : List Text) (is : app_of c ≡ c
   rule_at : (j : ℕ) (d : Arg) → rule_of (slice_index_or (args_of c) j d) ≡ slice_index_or command_rules j (rule_of d)
   rule_at j d = sym (get_or-map rule_of (args_of c) j d) ∙ ap (λ rs. slice_index_or rs j (rule_of d)) rules_are
 
-  count : length (args_of c) ≡ 6
+  count : length (args_of c) ≡ 7
   count = sym (length-map (args_of c) rule_of) ∙ ap length rules_are
 
   -- some argument of the command
@@ -51,7 +51,7 @@ module _ (c : Command) (m : ArgMatches) (words : List Text) (is : app_of c ≡ c
   abbrev arg_at : ℕ → Arg
   arg_at k = slice_index_or (args_of c) k first_arg
 
-  inside : (k : ℕ) → k < 6 → k < length (args_of c)
+  inside : (k : ℕ) → k < 7 → k < length (args_of c)
   inside k below = subst (λ n. k < n) (sym count) below
 
   plain_arg : All IsPlainArg (args_of c)
@@ -81,7 +81,7 @@ module _ (c : Command) (m : ArgMatches) (words : List Text) (is : app_of c ≡ c
 
   -- the place of an argument that is not one of `clap` itself
   abbrev IsPlaceOf : ℕ → Text → Type 0
-  IsPlaceOf k name = (k < 6) × ((arg_at k).id.now ≡ name) × (is_only_at name k command_rules ≡ true) × (is_own name ≡ false)
+  IsPlaceOf k name = (k < 7) × ((arg_at k).id.now ≡ name) × (is_only_at name k command_rules ≡ true) × (is_own name ≡ false)
 
   filled : (k : ℕ) (name : Text) → IsPlaceOf k name → (arg_at k).id.now ≡ [] → ⊥
   filled k name at e = differ name [] (neither (bytes_eq name []) _ at.3).0 (sym at.1 ∙ e)
@@ -129,7 +129,7 @@ module _ (c : Command) (m : ArgMatches) (words : List Text) (is : app_of c ≡ c
   same_rule : (k : ℕ) → rule_of (arg_at k) ≡ rule_there k
   same_rule k = rule_at k first_arg
 
-  place : (k : ℕ) (name : Text) → k < 6 → (rule_there k).id ≡ name → is_only_at name k command_rules ≡ true → is_own name ≡ false → IsPlaceOf k name
+  place : (k : ℕ) (name : Text) → k < 7 → (rule_there k).id ≡ name → is_only_at name k command_rules ≡ true → is_own name ≡ false → IsPlaceOf k name
   place k name below id only free = (below, ap (λ (r : Rule). r.id) (same_rule k) ∙ id, only, free)
 
   -- ---- numbers
@@ -147,10 +147,10 @@ module _ (c : Command) (m : ArgMatches) (words : List Text) (is : app_of c ≡ c
 
   pub assertion : (t : Text) × IsNumberText (codes "assertion") 1 1000000 t
   assertion =
-      let at = place 5 (codes "assertion") (omega arith) refl refl refl in
-      let same = same_rule 5 in
-      text_read 5 (codes "assertion") (vp.Unsigned 1 1000000) at (ap (λ (r : Rule). r.parser) same) (ap (λ (r : Rule). r.action) same) (ap (λ (r : Rule). r.range) same)
-      (by_need 5 (codes "assertion") at (ap (λ (r : Rule). r.required) same))
+      let at = place 6 (codes "assertion") (omega arith) refl refl refl in
+      let same = same_rule 6 in
+      text_read 6 (codes "assertion") (vp.Unsigned 1 1000000) at (ap (λ (r : Rule). r.parser) same) (ap (λ (r : Rule). r.action) same) (ap (λ (r : Rule). r.range) same)
+      (by_need 6 (codes "assertion") at (ap (λ (r : Rule). r.required) same))
 
   -- a number that is read of its text is the one of its value
   pub is_numeric : (name : Text) (least most : ℕ) → ((t : Text) × IsNumberText name least most t) → IsNumeric (one_text (found_of m) name)
@@ -178,14 +178,14 @@ module _ (c : Command) (m : ArgMatches) (words : List Text) (is : app_of c ≡ c
 
   file_has_value : is_some (first_value (found_of m) (codes "file")) ≡ true
   file_has_value =
-      let at = place 4 (codes "file") (omega arith) refl refl refl in
-      let lt = inside 4 at.0 in
-      let same : rule_of (arg_at 4) ≡ file_rule = same_rule 4 in
-      let enough : 1 ≤ least_values (arg_at 4) = subst (λ o. 1 ≤ (unwrap_or_range o).start_inclusive) (sym (ap (λ (r : Rule). r.range) same)) (omega arith) in
+      let at = place 5 (codes "file") (omega arith) refl refl refl in
+      let lt = inside 5 at.0 in
+      let same : rule_of (arg_at 5) ≡ file_rule = same_rule 5 in
+      let enough : 1 ≤ least_values (arg_at 5) = subst (λ o. 1 ≤ (unwrap_or_range o).start_inclusive) (sym (ap (λ (r : Rule). r.range) same)) (omega arith) in
       subst (λ t. is_some (first_value (found_of m) t) ≡ true) at.1
-      (required_has_value c m p plain simple.globals (ap (λ (a : App). a.top.subcommand_negates_reqs) is) 4 first_arg lt
-      (ap (λ (r : Rule). r.required) same) (ap (λ (r : Rule). r.action) same) (simple.args 4 first_arg lt).delimiter enough
-      (unique_at 4 first_arg (codes "file") at.1 at.2) (filled 4 (codes "file") at) (own 4 (codes "file") at))
+      (required_has_value c m p plain simple.globals (ap (λ (a : App). a.top.subcommand_negates_reqs) is) 5 first_arg lt
+      (ap (λ (r : Rule). r.required) same) (ap (λ (r : Rule). r.action) same) (simple.args 5 first_arg lt).delimiter enough
+      (unique_at 5 first_arg (codes "file") at.1 at.2) (filled 5 (codes "file") at) (own 5 (codes "file") at))
 
   pub file : (t : Text) × IsTextOf (codes "file") t
   file = let t = text_of _ file_has_value in (t.0, (t.1, value_is (codes "file") t.0 t.1))

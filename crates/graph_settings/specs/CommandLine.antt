@@ -32,7 +32,8 @@ assertion_rule = record (new_rule (codes "assertion")) {
 }
 
 abbrev pub command_rules : List Rule
-command_rules = format_rule ∷ states_rule ∷ flag_rule (codes "unfold") ∷ flag_rule (codes "specification") ∷ file_rule ∷ assertion_rule ∷ []
+command_rules = format_rule ∷ states_rule ∷ flag_rule (codes "unfold") ∷ flag_rule (codes "specification")
+    ∷ flag_rule (codes "progress") ∷ file_rule ∷ assertion_rule ∷ []
 
 -- the command, whose words do not begin with the program's name
 abbrev pub command_line : App

@@ -23,6 +23,10 @@ const UNFOLD: &str = "Unfold names at once, as FDR does: a graph with fewer taus
 const SPECIFICATION: &str =
     "Print the graph of the specification, in place of the implementation's";
 
+// What is told of the option `--progress`.
+const PROGRESS: &str =
+    "Tell on standard error once a second how many states are found, as is done on a terminal";
+
 /// The command line of the program, without the program's name.
 pub(crate) fn command_line<'a>(alloc: Global) -> Result<Command<'a>, AllocError>
     ensures { IfOk result (λ c. app_of c ≡ command_line) }
@@ -31,6 +35,7 @@ pub(crate) fn command_line<'a>(alloc: Global) -> Result<Command<'a>, AllocError>
     let states = states_option(alloc);
     let unfolded = flag(alloc, "unfold", UNFOLD);
     let specification = flag(alloc, "specification", SPECIFICATION);
+    let progress = flag(alloc, "progress", PROGRESS);
     let file = file_argument(alloc);
     let assertion = assertion_argument(alloc);
     Command::new(alloc, "graph")
@@ -42,6 +47,7 @@ pub(crate) fn command_line<'a>(alloc: Global) -> Result<Command<'a>, AllocError>
         .arg(states)?
         .arg(unfolded)?
         .arg(specification)?
+        .arg(progress)?
         .arg(file)?
         .arg(assertion)
 }

@@ -1,4 +1,4 @@
-//! The command line of `graph`: a file, the number of an assertion, a format, a limit and two flags.
+//! The command line of `graph`: a file, the number of an assertion, a format, a limit and three flags.
 //!
 //! `read` makes the settings of the words after the program's name, or answers why there are none. Which value a word
 //! gives to which argument is said in the words of `clap`, of which the command here is a simple one.

@@ -22,6 +22,8 @@ pub struct Settings<'a> {
     pub at_once: bool,
     /// Whether the graph is that of the specification, and not that of the implementation.
     pub specification: bool,
+    /// Whether it is told how many states are found, also where that is no terminal.
+    pub progress: bool,
     /// The name of the script's file.
     pub file: &'a str,
     /// The number of the assertion.
@@ -45,6 +47,8 @@ pub fn read<'a>(alloc: Global, words: &'a [&'a str]) -> Result<Settings<'a>, Com
         ↔ IsUsed (codes "unfold") (texts words.entry.now)) }
     ensures specification { IfOk result (λ s. IsTrue s.specification
         ↔ IsUsed (codes "specification") (texts words.entry.now)) }
+    ensures progress { IfOk result (λ s. IsTrue s.progress
+        ↔ IsUsed (codes "progress") (texts words.entry.now)) }
     ensures file { IfOk result (λ s. value (codes "file") (texts words.entry.now)
         ≡ Some s.file.now) }
     ensures assertion { IfOk result (λ s. HasNumber
@@ -64,6 +68,7 @@ pub fn read<'a>(alloc: Global, words: &'a [&'a str]) -> Result<Settings<'a>, Com
         max_states: number(&matches, "max-states"),
         at_once: is_used(&matches, "unfold"),
         specification: is_used(&matches, "specification"),
+        progress: is_used(&matches, "progress"),
         file: matches.get_str("file").unwrap(),
         assertion: number(&matches, "assertion"),
     })

@@ -29,7 +29,7 @@ pub(crate) fn command_line<'a>(alloc: Global) -> Result<Command<'a>, AllocError>
     let unfolded = flag(alloc, "unfold", UNFOLD);
     let file = Arg::new(alloc, "file")
         .value_name("FILE")
-        .help("The script to check")
+        .help("The script to check, or - for standard input")
         .required(true)
         .action(ArgAction::Set);
     Command::new(alloc, "refcheck")

@@ -10,6 +10,7 @@ use std::io::Write;
 use std::sync::Wait;
 use std::test::Fail;
 use std::thread::Threads;
+use watch::Unwatched;
 
 const TEXT: &str = "channel a\nassert a -> STOP [T= STOP\nassert STOP [T= a -> STOP\n";
 
@@ -41,6 +42,7 @@ fn is_cut_off<'w, R: Threads + Wait + Sync, W: Write + Drop>(
         &resources(Stack::Large, alloc, alloc, rt),
         words,
         &mut files,
+        &Unwatched,
         &mut out,
         &mut err,
     );

@@ -7,6 +7,7 @@ use report::Buffer;
 use std::alloc::Global;
 use std::sync::Wait;
 use std::thread::Threads;
+use watch::Unwatched;
 
 /// What a run answered and gave to its two outputs.
 #[derive(Drop)]
@@ -42,7 +43,7 @@ fn run_with<'w, A: AllocHandle + Send + Sync, R: Threads + Wait + Sync, F: Files
 ) -> Told {
     let mut out = Buffer::new(resources.command_line);
     let mut err = Buffer::new(resources.command_line);
-    let status = run(resources, words, files, &mut out, &mut err);
+    let status = run(resources, words, files, &Unwatched, &mut out, &mut err);
     Told {
         status,
         out: out.bytes,

@@ -3,7 +3,7 @@
 use crate::implementations::implementation;
 use crate::scripts::script;
 use csp_term::Fault;
-use state_graph::{Stop, graph_of};
+use state_graph::{Stop, Unobserved, graph_of};
 use std::alloc::{AllocError, Global};
 use std::test::Fail;
 
@@ -78,7 +78,13 @@ fn is_told(alloc: Global, stop: Stop, text: &str) -> Result<bool, AllocError> {
 /// Whether the process has no graph because of this.
 fn is_refused(alloc: Global, row: &Refusal) -> Result<bool, Fail> {
     let script = script(alloc, row.definitions, row.process)?;
-    match graph_of(alloc, &script, implementation(&script)?, row.most) {
+    match graph_of(
+        alloc,
+        &script,
+        implementation(&script)?,
+        row.most,
+        &Unobserved,
+    ) {
         Ok(_) => Ok(false),
         Err(stop) => Ok(is_told(alloc, stop, row.why)?),
     }

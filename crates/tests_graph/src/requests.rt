@@ -7,7 +7,7 @@ use csp_lex::{TokenList, tokens};
 use csp_parse::parse;
 use csp_term::Script;
 use refusing_memory::RefusesOnce;
-use state_graph::{Stop, graph_of};
+use state_graph::{Stop, Unobserved, graph_of};
 use std::alloc::Global;
 use std::process::Abort;
 use std::test::Fail;
@@ -53,7 +53,7 @@ fn counts<'m>(
     memory: OneRefused<'m>,
     script: &Script<OneRefused<'m>>,
 ) -> Result<Option<(usize, usize)>, Fail> {
-    match graph_of(memory, script, implementation(script)?, 9) {
+    match graph_of(memory, script, implementation(script)?, 9, &Unobserved) {
         Ok(graph) => Ok(Some((graph.states.len(), graph.steps))),
         Err(Stop::Memory) => Ok(None),
         Err(_) => Err(Fail::new("another reason")),

@@ -4,7 +4,7 @@ use crate::implementations::implementation;
 use crate::scripts::script;
 use graph_text::{push_aldebaran, push_graphviz};
 use report::Buffer;
-use state_graph::{fates_of, graph_of};
+use state_graph::{Unobserved, fates_of, graph_of};
 use std::alloc::Global;
 use std::str;
 use std::test::Fail;
@@ -106,7 +106,7 @@ fn rows() -> &'static [Row] {
 /// Whether the graph of the process has both texts, with at most so many states.
 fn has_texts(alloc: Global, row: &Row, most: usize) -> Result<bool, Fail> {
     let script = script(alloc, row.definitions, row.process)?;
-    let graph = graph_of(alloc, &script, implementation(&script)?, most)?;
+    let graph = graph_of(alloc, &script, implementation(&script)?, most, &Unobserved)?;
     let fates = fates_of(alloc, &graph)?;
     let mut aldebaran = Buffer::new(alloc);
     push_aldebaran(&script, &graph, &mut aldebaran)?;

@@ -36,7 +36,9 @@ impl Counting {
 }
 
 impl Gate for Counting {
-    fn claimed(&self, _worker: usize) {}
+    fn begins(&self, _level: usize, _pairs: usize) {}
+
+    fn claimed(&self, _worker: usize, _rows: usize) {}
 
     fn fired(&self, _worker: usize, parts: usize, tally: &Tally) {
         self.told.fetch_add(1, SeqCst);

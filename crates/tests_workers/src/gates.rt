@@ -61,7 +61,9 @@ impl Holding {
 }
 
 impl Gate for Holding {
-    fn claimed(&self, _worker: usize) {
+    fn begins(&self, _level: usize, _pairs: usize) {}
+
+    fn claimed(&self, _worker: usize, _rows: usize) {
         self.claims.fetch_add(1, SeqCst);
     }
 

@@ -67,7 +67,9 @@ impl Gathering {
 }
 
 impl Gate for Gathering {
-    fn claimed(&self, worker: usize) {
+    fn begins(&self, _level: usize, _pairs: usize) {}
+
+    fn claimed(&self, worker: usize, _rows: usize) {
         if self.claims.fetch_add(1, SeqCst) > 0 {
             self.count(worker);
             self.wait();

@@ -55,6 +55,15 @@ size_fields (RefinementOf model spec) pairs nodes = number_field (codes "pairs")
 size_fields DeadlockFree pairs nodes = number_field (codes "pairs") pairs ∷ []
 size_fields DivergenceFree pairs nodes = number_field (codes "pairs") pairs ∷ []
 
+-- a field of the number, if it is known
+abbrev pub known_fields : List ℕ → Option ℕ → List Field
+known_fields name (Some n) = number_field name n ∷ []
+known_fields name None = []
+
+-- what the search took, as far as it is known: the time, and the most memory that the run has had
+abbrev pub cost_fields : (milliseconds kilobytes : Option ℕ) → List Field
+cost_fields milliseconds kilobytes = known_fields (codes "milliseconds") milliseconds ++ known_fields (codes "kilobytes") kilobytes
+
 -- An answered assertion: its number, where it stands in the text, the assertion, what is found of it but for a `not`, and
 -- what is told of it in words.
 pub record Answered : Type 0 where
@@ -70,6 +79,6 @@ head_fields names a =
     number_field (codes "number") a.number ∷ (placed_fields a.place ++ (text_field (codes "assertion") (assertion_text names a.assertion)
     ∷ text_field (codes "answer") (outcome_word (as_written a.assertion.negated a.found)) ∷ []))
 
--- the object, with these fields on the size of the search
+-- the object, with these fields on the size of the search and on what it took
 abbrev pub answer_fields : Names → Answered → List Field → List Field
 answer_fields names a size = head_fields names a ++ (found_fields names a.found ++ (size ++ (text_field (codes "words") a.words ∷ [])))

@@ -4,10 +4,11 @@
 //! spaces; `specs/Answers` has the object of an answered assertion, and `specs/Refusals` those of refusals.
 #![tactic(auto)]
 
-ghost use Rattle.std.specs.Prelude.{◌≡◌, ◌≤◌, ◌∷◌, [], codes, List, Some};
+ghost use Rattle.std.specs.Prelude.{◌≡◌, ◌≤◌, ◌∷◌, [], codes, List, None, Some};
 ghost use Rattle.json.specs.Json.{document};
 ghost use Rattle.json.specs.Print.{print};
 ghost use Rattle.json.specs.Tree.{HasNumbers, depth, json_tokens};
+ghost use Rattle.theory_objects.specs.Answers.{cost_fields};
 ghost use Rattle.theory_objects.specs.Fields.{Field, number_field, object_line, object_of, text_field, texts_field};
 ghost use Rattle.theory_objects.specs.Refusals.{refusal_fields, unread_fields};
 
@@ -19,6 +20,9 @@ pub fn lines_of_small_objects()
         ≡ codes "{\"n\":70,\"of\":[\"a.1\",\"b\"]}\n" }
     ensures escaped { object_line (text_field (codes "P") (codes "Q \\ {\"\n") ∷ [])
         ≡ codes "{\"P\":\"Q \\\\ {\\\"\\n\"}\n" }
+    ensures cost { object_line (cost_fields (Some 1532) (Some 216064))
+        ≡ codes "{\"milliseconds\":1532,\"kilobytes\":216064}\n" }
+    ensures time { object_line (cost_fields (Some 1532) None) ≡ codes "{\"milliseconds\":1532}\n" }
     ensures refused { object_line (refusal_fields (codes "memory"))
         ≡ codes "{\"answer\":\"refused\",\"refusal\":\"memory\"}\n" }
     ensures unread { object_line (unread_fields (codes "a b") (codes "it is a folder"))

@@ -15,6 +15,14 @@ pub returns-clause-escaped : goal.returns-clause-escaped
 unfolding json_on_literals
 returns-clause-escaped c = refl
 
+pub returns-clause-cost : goal.returns-clause-cost
+unfolding json_on_literals digits
+returns-clause-cost c = refl
+
+pub returns-clause-time : goal.returns-clause-time
+unfolding json_on_literals digits
+returns-clause-time c = refl
+
 pub returns-clause-refused : goal.returns-clause-refused
 unfolding json_on_literals
 returns-clause-refused c = refl

@@ -1,5 +1,5 @@
 -- What is told of the file's script is told of the file.
-use Rattle.std.proofs.Common.{ℕ, List, subst, sym, ap, ◌∙◌, inl, inr, refl, rules}
+use Rattle.std.proofs.Common.{ℕ, List, subst, sym, ap, ◌∙◌, refl, rules}
 use Rattle.theory_syntax.specs.Process.{Script}
 use Rattle.theory_syntax.specs.Readings.{reading}
 use Rattle.csp_term.specs.Script.{script_of}
@@ -67,33 +67,18 @@ returns-in-Ok-explain_script-clause-explained g c below =
     let output = sent g.O.Sink.taken g.O.Sink.has_failed c.args.out.now c.explain_script.new.out in
     let N : Labels → Type 0 = λ ns. TellsAll request (script_of c.as_asked-named.result.script) ns output c.in-Ok-explain_script.status in
     let R : Script → Type 0 = λ s. TellsAll request s labels output c.in-Ok-explain_script.status in
+    let read = c.as_asked-named.ensures.script named.checked.script_of.unfolds in
+    let same = ap (λ (s : Script). s.assertions) read in
     record {
       script = script;
       labels = labels;
       of_file = named_file (g.F.Files.may_hold c.args.files.now) request.name c.in-Ok.text.items script labels c.in-Ok.ensures.holds named;
-      told = subst R (c.as_asked-named.ensures.script named.checked.script_of.unfolds) (subst N c.as_asked-named.ensures.labels c.in-Ok-explain_script.ensures.told.1);
+      told = subst R read (subst N c.as_asked-named.ensures.labels c.in-Ok-explain_script.ensures.told.1);
+      noted = record {
+        none = λ none. c.note_none.ensures.none (same ∙ none);
+        some = λ some. c.note_none.ensures.some (λ none. some (sym same ∙ none));
+      };
     }
-
-pub returns-in-Ok-explain_script-clause-noted : goal.returns-in-Ok-explain_script-clause-noted
-returns-in-Ok-explain_script-clause-noted g c below =
-    let request = request_of c.args.settings.now in
-    let script = script_of c.in-Ok-read.named.script in
-    let labels = labels_of c.in-Ok-read.named in
-    let named = subst (λ bs. IsNamedText bs script labels) c.deref.ensures.value c.in-Ok-read.ensures.named in
-    let read = c.as_asked-named.ensures.script named.checked.script_of.unfolds in
-    elim c.note_none.ensures [
-      | inl same ↦ inl same
-      | inr none ↦
-          inr (
-            record {
-              script = script;
-              labels = labels;
-              of_file = named_file (g.F.Files.may_hold c.args.files.now) request.name c.in-Ok.text.items script labels c.in-Ok.ensures.holds named;
-              none = ap (λ (s : Script). s.assertions) (sym read) ∙ none.0;
-            },
-            none.1,
-          )
-    ]
 
 pub returns-clause-stopped : goal.returns-clause-stopped
 returns-clause-stopped g c three =

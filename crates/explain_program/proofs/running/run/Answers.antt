@@ -14,13 +14,6 @@ returns-in-Ok-clause-served g c below =
     let settings = c.in-Ok.settings in
     running.explained (request_of settings) (asked (texts_of c.args.words.now) settings says.taken says.file says.pairs says.nodes says.at_once says.width says.count says.events says.steps says.format says.assertion) (c.explain.ensures.explained below)
 
-pub returns-in-Ok-clause-quiet : goal.returns-in-Ok-clause-quiet
-returns-in-Ok-clause-quiet g c below =
-    let says = c.in-Ok.ensures in
-    let settings = c.in-Ok.settings in
-    let asks = asked (texts_of c.args.words.now) settings says.taken says.file says.pairs says.nodes says.at_once says.width says.count says.events says.steps says.format says.assertion in
-    inr (request_of settings, asks, c.explain.ensures.noted below)
-
 pub returns-in-Ok-clause-refused : goal.returns-in-Ok-clause-refused
 returns-in-Ok-clause-refused g c three =
     let says = c.in-Ok.ensures in
@@ -30,10 +23,7 @@ returns-in-Ok-clause-refused g c three =
 pub returns-in-Err-Help-clause-served : goal.returns-in-Err-Help-clause-served
 returns-in-Err-Help-clause-served g c below =
     let zero = zero_below c.show.result c.show.ensures.status below in
-    running.shown c.as_str.result.now (inl (subst (IsFaultOf (texts_of c.args.words.now)) c.in-Err-Help.field-0-is c.in-Err-Help.ensures.fault)) (c.show.ensures.shown zero) zero
-
-pub returns-in-Err-Help-clause-quiet : goal.returns-in-Err-Help-clause-quiet
-returns-in-Err-Help-clause-quiet g c below = inl (c.show.ensures.silent (zero_below c.show.result c.show.ensures.status below))
+    running.shown c.as_str.result.now (inl (subst (IsFaultOf (texts_of c.args.words.now)) c.in-Err-Help.field-0-is c.in-Err-Help.ensures.fault)) (c.show.ensures.shown zero) (c.show.ensures.silent zero) zero
 
 pub returns-in-Err-Help-clause-refused : goal.returns-in-Err-Help-clause-refused
 returns-in-Err-Help-clause-refused g c three =
@@ -42,10 +32,7 @@ returns-in-Err-Help-clause-refused g c three =
 pub returns-in-Err-Version-clause-served : goal.returns-in-Err-Version-clause-served
 returns-in-Err-Version-clause-served g c below =
     let zero = zero_below c.show-in-Err-Version.result c.show-in-Err-Version.ensures.status below in
-    running.shown c.as_str-in-Err-Version.result.now (inr (subst (IsFaultOf (texts_of c.args.words.now)) c.in-Err-Version.field-0-is c.in-Err-Version.ensures.fault)) (c.show-in-Err-Version.ensures.shown zero) zero
-
-pub returns-in-Err-Version-clause-quiet : goal.returns-in-Err-Version-clause-quiet
-returns-in-Err-Version-clause-quiet g c below = inl (c.show-in-Err-Version.ensures.silent (zero_below c.show-in-Err-Version.result c.show-in-Err-Version.ensures.status below))
+    running.shown c.as_str-in-Err-Version.result.now (inr (subst (IsFaultOf (texts_of c.args.words.now)) c.in-Err-Version.field-0-is c.in-Err-Version.ensures.fault)) (c.show-in-Err-Version.ensures.shown zero) (c.show-in-Err-Version.ensures.silent zero) zero
 
 pub returns-in-Err-Version-clause-refused : goal.returns-in-Err-Version-clause-refused
 returns-in-Err-Version-clause-refused g c three =

@@ -86,6 +86,11 @@ returns-clause-steps c =
     let P : Option (List ℕ) → Type 0 = λ found. IsTrue c.is_used-4.result ↔ (found ≡ Some (codes "true")) in
     subst P (taken.same_value c.in_ok-command_line.field-0 c.in-Ok.matches (texts c.args.words.now) c.in_ok-command_line.ensures c.in-Ok.ensures.parsed c.in-Ok.ensures.matches (codes "steps")) c.is_used-4.ensures
 
+pub returns-clause-progress : goal.returns-clause-progress
+returns-clause-progress c =
+    let P : Option (List ℕ) → Type 0 = λ found. IsTrue c.is_used-5.result ↔ (found ≡ Some (codes "true")) in
+    subst P (taken.same_value c.in_ok-command_line.field-0 c.in-Ok.matches (texts c.args.words.now) c.in_ok-command_line.ensures c.in-Ok.ensures.parsed c.in-Ok.ensures.matches (codes "progress")) c.is_used-5.ensures
+
 pub returns-clause-file : goal.returns-clause-file
 returns-clause-file c =
     let text = taken.file c.in_ok-command_line.field-0 c.in-Ok.matches (texts c.args.words.now) c.in_ok-command_line.ensures c.in-Ok.ensures.parsed c.in-Ok.ensures.matches in

@@ -14,5 +14,6 @@ returns c =
     let two = c.in_ok-arg-2.ensures.shape c.states_option-states.ensures.local ∙ ap₂ with_rule one c.states_option-states.ensures.rule in
     let three = c.in_ok-arg-3.ensures.shape c.flag-unfolded.ensures.local ∙ ap₂ with_rule two c.flag-unfolded.ensures.rule in
     let four = c.in_ok-arg-4.ensures.shape c.flag-specification.ensures.local ∙ ap₂ with_rule three c.flag-specification.ensures.rule in
-    let five = c.in_ok-arg-5.ensures.shape c.file_argument-file.ensures.local ∙ ap₂ with_rule four c.file_argument-file.ensures.rule in
-    IfOk-weaker c.arg-6.result _ _ (λ x h. h.shape c.assertion_argument-assertion.ensures.local ∙ ap₂ with_rule five c.assertion_argument-assertion.ensures.rule) c.arg-6.ensures
+    let five = c.in_ok-arg-5.ensures.shape c.flag-progress.ensures.local ∙ ap₂ with_rule four c.flag-progress.ensures.rule in
+    let six = c.in_ok-arg-6.ensures.shape c.file_argument-file.ensures.local ∙ ap₂ with_rule five c.file_argument-file.ensures.rule in
+    IfOk-weaker c.arg-7.result _ _ (λ x h. h.shape c.assertion_argument-assertion.ensures.local ∙ ap₂ with_rule six c.assertion_argument-assertion.ensures.rule) c.arg-7.ensures

@@ -58,6 +58,11 @@ returns-clause-specification c =
     let P : Option (List ℕ) → Type 0 = λ found. IsTrue c.is_used-2.result ↔ (found ≡ Some (codes "true")) in
     subst P (taken.same_value c.in_ok-command_line.field-0 c.in-Ok.matches (texts c.args.words.now) c.in_ok-command_line.ensures c.in-Ok.ensures.parsed c.in-Ok.ensures.matches (codes "specification")) c.is_used-2.ensures
 
+pub returns-clause-progress : goal.returns-clause-progress
+returns-clause-progress c =
+    let P : Option (List ℕ) → Type 0 = λ found. IsTrue c.is_used-3.result ↔ (found ≡ Some (codes "true")) in
+    subst P (taken.same_value c.in_ok-command_line.field-0 c.in-Ok.matches (texts c.args.words.now) c.in_ok-command_line.ensures c.in-Ok.ensures.parsed c.in-Ok.ensures.matches (codes "progress")) c.is_used-3.ensures
+
 pub returns-clause-file : goal.returns-clause-file
 returns-clause-file c =
     let text = taken.file c.in_ok-command_line.field-0 c.in-Ok.matches (texts c.args.words.now) c.in_ok-command_line.ensures c.in-Ok.ensures.parsed c.in-Ok.ensures.matches in
