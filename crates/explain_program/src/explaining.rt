@@ -28,7 +28,7 @@ use watch::Watch;
 pub(crate) fn explain_script<
     A: AllocHandle + Send + Sync,
     R: Threads + Wait + Sync,
-    W: Watch,
+    W: Watch + Sync,
     O: Sink,
 >(
     resources: &Resources<'_, A, R>,
@@ -61,7 +61,7 @@ pub(crate) fn explain_script<
 }
 
 // Explains each assertion of the script.
-fn explain_each<A: AllocHandle + Send + Sync, R: Threads + Wait + Sync, W: Watch, O: Sink>(
+fn explain_each<A: AllocHandle + Send + Sync, R: Threads + Wait + Sync, W: Watch + Sync, O: Sink>(
     resources: &Resources<'_, A, R>,
     watch: &W,
     settings: &Settings<'_>,
@@ -91,7 +91,7 @@ fn explain_each<A: AllocHandle + Send + Sync, R: Threads + Wait + Sync, W: Watch
 }
 
 // Explains the assertion at the place.
-fn explain_one<A: AllocHandle + Send + Sync, R: Threads + Wait + Sync, W: Watch, O: Sink>(
+fn explain_one<A: AllocHandle + Send + Sync, R: Threads + Wait + Sync, W: Watch + Sync, O: Sink>(
     resources: &Resources<'_, A, R>,
     watch: &W,
     settings: &Settings<'_>,

@@ -37,7 +37,7 @@ pub fn run<
     A: AllocHandle + Send + Sync,
     R: Threads + Wait + Sync,
     F: Files<A>,
-    W: Watch,
+    W: Watch + Sync,
     O: Sink,
     E: Sink,
 >(
@@ -74,7 +74,7 @@ fn explain<
     A: AllocHandle + Send + Sync,
     R: Threads + Wait + Sync,
     F: Files<A>,
-    W: Watch,
+    W: Watch + Sync,
     O: Sink,
     E: Sink,
 >(

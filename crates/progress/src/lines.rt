@@ -7,6 +7,7 @@ ghost use Rattle.progress.specs.Lines.{graph_line, search_line};
 use std::alloc::{AllocError, Allocator};
 
 /// How far a search is.
+#[derive(Clone, Copy, Drop)]
 pub(crate) struct SearchState {
     /// The number of its assertion.
     pub(crate) assertion: u64,

@@ -56,7 +56,7 @@ impl<'w, W: Watch, A: Allocator + Copy> SearchProgress<'w, W, A> {
     }
 }
 
-impl<W: Watch, A: Allocator + Copy + Sync> Gate for SearchProgress<'_, W, A> {
+impl<W: Watch + Sync, A: Allocator + Copy + Sync> Gate for SearchProgress<'_, W, A> {
     fn begins(&self, level: usize, pairs: usize) {
         self.level.store(level as u64, SeqCst);
         self.stored.store(pairs as u64, SeqCst);

@@ -15,7 +15,7 @@ assert a -> STOP :[deadlock free]
 ";
 
 /// Whether the program of the first word ends with this status and this output on the text, and says nothing of errors.
-pub(crate) fn is_told<'w, R: Threads + Wait + Sync, W: Watch>(
+pub(crate) fn is_told<'w, R: Threads + Wait + Sync, W: Watch + Sync>(
     alloc: Global,
     rt: &R,
     watch: &W,

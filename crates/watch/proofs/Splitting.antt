@@ -1,6 +1,6 @@
 -- Texts that are split at another one.
 use Rattle.std.proofs.Common.{◌≡◌, ◌++◌, ◌∙◌, ℕ, List, take, drop, sym, ap}
-use Rattle.std.specs.Str.Pattern.{FindsText, HasTextAt, SplitsAroundMatch}
+use Rattle.std.specs.Str.Pattern.{FindsText, SplitsAroundMatch}
 use Rattle.std.proofs.lemmas.List.{take-append-drop}
 use Rattle.watch.specs.Memory.{StandsBetween}
 

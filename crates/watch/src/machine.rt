@@ -24,7 +24,7 @@ impl<'r, R: Clock> MachineWatch<'r, R> {
     }
 }
 
-impl<R: Clock + Eprint + Files + Sync> Watch for MachineWatch<'_, R> {
+impl<R: Clock + Eprint + Files> Watch for MachineWatch<'_, R> {
     fn elapsed(&self) -> Option<u64> {
         let elapsed = self.begun?.elapsed(self.machine).ok()?;
         u64::try_from(elapsed.as_millis()).ok()

@@ -1,7 +1,7 @@
 //! The clock and the memory of a run, and who watches it.
 
 /// The clock and the memory of a run, and who watches it. No answer depends on what it tells.
-pub trait Watch: Sync {
+pub trait Watch {
     /// The milliseconds since the run began, where there is a clock.
     fn elapsed(&self) -> Option<u64>;
 
