@@ -58,7 +58,7 @@ steps_of_menu script t (Offers moves) is = each moves (λ i m at. step_of_move s
 
 -- so are those that a text names
 module _ (script : Script) (t : Process) where
-  IsStepIf : Option Move → Type 0
+  abbrev IsStepIf : Option Move → Type 0
   IsStepIf (Some m) = IsTaken script t m
   IsStepIf None = ⊤
 
@@ -139,7 +139,7 @@ module _ (script : Script) (start : Process) where
   trail_of : (p : Place) → IsOnRun script start p → IsTrail script start p.trail
   trail_of p on = record { from = on.from; taken = on.taken }
 
-  OnRunIf : Option Place → Type 0
+  abbrev OnRunIf : Option Place → Type 0
   OnRunIf (Some p) = IsOnRun script start p
   OnRunIf None = ⊤
 
