@@ -50,7 +50,7 @@ fn without_first_blanks(text: &[u8]) -> &[u8]
     let mut rest = text;
     while let Some((byte, others)) = rest.split_first() {
         if !is_blank(*byte) {
-            break;
+            return rest;
         }
         rest = others;
     }
@@ -63,7 +63,7 @@ fn without_last_blanks(text: &[u8]) -> &[u8]
     let mut rest = text;
     while let Some((byte, others)) = rest.split_last() {
         if !is_blank(*byte) {
-            break;
+            return rest;
         }
         rest = others;
     }

@@ -49,7 +49,7 @@ impl<A: AllocHandle> Menu<A> {
     /// The move at the place, to keep.
     pub(crate) fn into_move(self, place: usize) -> Move<A>
         requires { place < length (moves_in (menu_of self)) }
-        ensures { slice_get (moves_in (menu_of self.entry)) place ≡ Some (move_of result) }
+        ensures { slice_get (moves_in (menu_of self)) place ≡ Some (move_of result) }
     {
         match self {
             Menu::Offers(moves) => {

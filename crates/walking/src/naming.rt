@@ -17,7 +17,7 @@ use std::alloc::AllocError;
 
 /// Which move a text names.
 #[derive(Clone, Copy)]
-pub(crate) enum Named {
+pub(crate) enum Meant {
     /// None.
     Nothing,
     /// The one at this place alone.
@@ -32,13 +32,13 @@ pub(crate) fn named<A: AllocHandle>(
     names: &Names<'_, A>,
     moves: &[Move<A>],
     text: &[u8],
-) -> Result<Named, AllocError>
+) -> Result<Meant, AllocError>
     ensures { IfOk result (λ found. IsNamed (moves_listed moves.now) found
         (named (names_of names.now) (moves_listed moves.now) text.now)) }
 {
     let found = numbered(alloc, moves, text)?;
     match found {
-        Some(place) => Ok(Named::One(place)),
+        Some(place) => Ok(Meant::One(place)),
         None => doing(alloc, names, moves, text),
     }
 }
@@ -67,11 +67,11 @@ fn doing<A: AllocHandle>(
     names: &Names<'_, A>,
     moves: &[Move<A>],
     text: &[u8],
-) -> Result<Named, AllocError>
+) -> Result<Meant, AllocError>
     ensures { IfOk result (λ found. IsNamed (moves_listed moves.now) found
         (doing (names_of names.now) (moves_listed moves.now) text.now)) }
 {
-    let mut found = Named::Nothing;
+    let mut found = Meant::Nothing;
     for place in 0..moves.len() {
         let does = is_action(alloc, names, &moves[place].action, text)?;
         if does {
@@ -82,13 +82,13 @@ fn doing<A: AllocHandle>(
 }
 
 // With one more move that is named.
-fn with_place(found: Named, place: usize) -> Named
+fn with_place(found: Meant, place: usize) -> Meant
     ensures { result ≡ one_more found place }
 {
     match found {
-        Named::Nothing => Named::One(place),
-        Named::One(_) => Named::Several,
-        Named::Several => Named::Several,
+        Meant::Nothing => Meant::One(place),
+        Meant::One(_) => Meant::Several,
+        Meant::Several => Meant::Several,
     }
 }
 

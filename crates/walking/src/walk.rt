@@ -17,7 +17,7 @@ ghost use Rattle.walking.specs.Walks.{GoesBy, IsKept, IsSameScript, menu_of, pla
 use crate::answer::Answer;
 use crate::command::{Command, command_of};
 use crate::menu::{Menu, Move, menu_at};
-use crate::naming::{Named, named};
+use crate::naming::{Meant, named};
 use crate::trail::{behind, part_names};
 use crate::view::push_menu;
 use counterexample::{Width, push_mark, push_number, push_state};
@@ -130,11 +130,11 @@ impl<'s, A: AllocHandle> Walk<'s, A> {
     {
         let found = named(alloc, names, self.menu.moves(), text)?;
         match found {
-            Named::Nothing => Ok(Answer::Said(
+            Meant::Nothing => Ok(Answer::Said(
                 "no such step: a number, the text of an event, u or q\n",
             )),
-            Named::Several => Ok(Answer::Said("several steps do that: take one by its number\n")),
-            Named::One(place) => {
+            Meant::Several => Ok(Answer::Said("several steps do that: take one by its number\n")),
+            Meant::One(place) => {
                 self.go(alloc, place)?;
                 Ok(Answer::Shown)
             }
