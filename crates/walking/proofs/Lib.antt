@@ -1,2 +1,5 @@
 pub mod Blanks
+pub mod Choosing
 pub mod Following
+pub mod Listing
+pub mod Keeping
