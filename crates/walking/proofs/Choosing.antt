@@ -34,17 +34,17 @@ mapped_at f (y ∷ xs) (suc i) x at = mapped_at f xs i x at
 -- ---- by number
 
 module _ {A : Type 0} (moves : List (Move A)) (i : ℕ) (text : List ℕ) (low : i < length moves) where
-  there : (x : Move A) × (slice_get moves i ≡ Some x) × (drop i moves ≡ x ∷ drop (i + 1) moves)
-  there = at_place moves i low
+  pub standing : (x : Move A) × (slice_get moves i ≡ Some x) × (drop i moves ≡ x ∷ drop (i + 1) moves)
+  standing = at_place moves i low
 
   -- the number of the move at the place is compared with the text
-  pub compared : (b : Bool) → same text (decimal (i + 1)) ≡ b → numbered (i + 1) (moves_listed (drop i moves)) text ≡ (if b then Some (move_of there.0) else numbered (suc (i + 1)) (moves_listed (drop (i + 1) moves)) text)
+  pub compared : (b : Bool) → same text (decimal (i + 1)) ≡ b → numbered (i + 1) (moves_listed (drop i moves)) text ≡ (if b then Some (move_of standing.0) else numbered (suc (i + 1)) (moves_listed (drop (i + 1) moves)) text)
   compared b is =
-      ap (λ (ms : List (Move A)). numbered (i + 1) (moves_listed ms) text) there.2
-      ∙ ap (λ c. if c then Some (move_of there.0) else numbered (suc (i + 1)) (moves_listed (drop (i + 1) moves)) text) is
+      ap (λ (ms : List (Move A)). numbered (i + 1) (moves_listed ms) text) standing.2
+      ∙ ap (λ c. if c then Some (move_of standing.0) else numbered (suc (i + 1)) (moves_listed (drop (i + 1) moves)) text) is
 
   pub place_found : (all : Option pure.Move) → same text (decimal (i + 1)) ≡ true → numbered (i + 1) (moves_listed (drop i moves)) text ≡ all → IsPlaceOf (moves_listed moves) (Some i) all
-  place_found all is left = subst (IsPlaceOf (moves_listed moves) (Some i)) (sym (compared true is) ∙ left) (mapped_at move_of moves i there.0 there.1)
+  place_found all is left = subst (IsPlaceOf (moves_listed moves) (Some i)) (sym (compared true is) ∙ left) (mapped_at move_of moves i standing.0 standing.1)
 
   pub place_passed : (all : Option pure.Move) → same text (decimal (i + 1)) ≡ false → numbered (i + 1) (moves_listed (drop i moves)) text ≡ all → numbered (i + 1 + 1) (moves_listed (drop (i + 1) moves)) text ≡ all
   place_passed all is left =

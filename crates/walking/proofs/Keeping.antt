@@ -77,3 +77,50 @@ follows_nothing trail found p words is said = subst (λ f. Follows (answer_by tr
 pub follows_several : (moves : List pure.Move) (trail : Trail) (found : List pure.Move) (p : Place) (words : Bor (List ℕ)) → IsNamed moves meant.Several found →
     words.now ≡ codes "several steps do that: take one by its number\n" → Follows (answer_by trail found) p (answer.Said words) p
 follows_several moves trail found p words (m, other, others, is) said = subst (λ f. Follows (answer_by trail f) p (answer.Said words) p) (sym is) (said, refl)
+
+-- ---- walks
+
+module _ {A : Type 0} (script : Script) (start : Process) (menu : pure.Menu) where
+  -- what is so of a list of moves is so of the moves that were kept
+  pub menu_behind : (taken others : List (Move A)) (t : Process) → taken ≡ others → t ≡ behind start (moves_listed others) → IsMenu script t menu → IsMenu script (behind start (moves_listed taken)) menu
+  menu_behind taken others t same is offered = subst (λ (ms : List (Move A)). IsMenu script (behind start (moves_listed ms)) menu) (sym same) (subst (λ u. IsMenu script u menu) is offered)
+
+  pub menu_begun : (taken : List (Move A)) → taken ≡ [] → IsMenu script start menu → IsMenu script (behind start (moves_listed taken)) menu
+  menu_begun taken none offered = menu_behind taken [] start none refl offered
+
+pub taken_same : {A : Type 0} (script : Script) (start : Process) (taken others : List (Move A)) → taken ≡ others → AreTaken script start (moves_listed others) → AreTaken script start (moves_listed taken)
+taken_same {A} script start taken others same are = subst (λ (ms : List (Move A)). AreTaken script start (moves_listed ms)) (sym same) are
+
+-- the trail of a walk
+abbrev pub trail : {A : Type 0} → Process → List (Move A) → Trail
+trail start items = record { start = start; taken = moves_listed items }
+
+abbrev pub with_moves : Process → List pure.Move → Trail
+with_moves start moves = record { start = start; taken = moves }
+
+pub trail_back : {A : Type 0} (start : Process) (items before after : List (Move A)) (last : Move A) → items ≡ before ++ last ∷ [] → after ≡ before →
+    trail start after ≡ back (trail start items)
+trail_back start items before after last is left =
+    ap (λ (ms : List pure.Move). with_moves start ms) (ap moves_listed left ∙ back_before items before last is)
+
+-- ---- the move that is taken
+
+module _ {A : Type 0} (script : Script) (start : Process) (taken after : List (Move A)) (menu : pure.Menu) (place : ℕ) (m : Move A) (are : AreTaken script start (moves_listed taken))
+    (is : IsMenu script (behind start (moves_listed taken)) menu) (at : slice_get (pure.moves_in menu) place ≡ Some (move_of m)) where
+  -- it leads to a term of the script
+  pub leads_closed : IsTermOf script start → IsTermOf script (move_of m).target
+  leads_closed h = move_closed script start (moves_listed taken) menu place (move_of m) h are is at
+
+  pub taken_longer : after ≡ taken ++ m ∷ [] → AreTaken script start (moves_listed after)
+  taken_longer more = subst (AreTaken script start) (sym (listed_before after taken m more)) (move_taken script start (moves_listed taken) menu place (move_of m) are is at)
+
+  -- what is offered there
+  pub menu_longer : (other : Move A) (next : pure.Menu) → after ≡ taken ++ m ∷ [] → slice_get (pure.moves_in menu) place ≡ Some (move_of other) → IsMenu script (move_of other).target next →
+      IsMenu script (behind start (moves_listed after)) next
+  menu_longer other next more there offered =
+      let e : Some (move_of other) ≡ Some (move_of m) = sym there ∙ at in
+      let same : move_of other ≡ move_of m = cc e in
+      subst (λ t. IsMenu script t next) (ap (λ (k : pure.Move). k.target) same ∙ sym (leads_last after taken m more start)) offered
+
+  pub trail_longer : after ≡ taken ++ m ∷ [] → trail start after ≡ further (trail start taken) (move_of m)
+  trail_longer more = ap (λ (ms : List pure.Move). with_moves start ms) (listed_before after taken m more)

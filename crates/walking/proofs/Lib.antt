@@ -3,3 +3,4 @@ pub mod Choosing
 pub mod Following
 pub mod Listing
 pub mod Keeping
+pub mod Viewing

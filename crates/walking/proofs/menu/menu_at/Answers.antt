@@ -16,7 +16,7 @@ returns-in-Steps g c =
     let fired = c.in_ok-fire.ensures in
     let form = form_at c.in_ok-fire.field-0 script t _ fired.script fired.term (ap form_of (sym c.in-Steps.is) ∙ c.into_form.ensures) fired.exact in
     let moves = moves_listed c.in_ok-moves-in-Steps.moves.items in
-    moves_of_fired script t moves _ _ form c.in_ok-moves-in-Steps.ensures.steps (subst (λ s. AreTold s t moves) c.parts-in-Steps.ensures.value c.in_ok-moves-in-Steps.ensures.told)
+    moves_of_fired script t moves _ _ form c.in_ok-moves-in-Steps.ensures.steps (subst (λ s. AreTold s t moves) c.parts.ensures.value c.in_ok-moves-in-Steps.ensures.told)
 
 pub moves_by-requires : goal.moves_by-requires
 moves_by-requires g c = elim g.met.A.AllocHandle.small [ inl e ↦ rw (e.0, e.1) (search (lit<, lit≤)) | inr e ↦ rw (e.0, e.1) (search (lit<, lit≤)) ]

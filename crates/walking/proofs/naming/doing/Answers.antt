@@ -29,10 +29,10 @@ loop-place-preserved g c =
     elim c.if-does.branch [
       | then-does w ↦
           subst (λ (f : Meant). IsNamed all f after) (sym (w.found-is ∙ w.with_place-found.ensures))
-          (subst (IsNamed all (one_more found i)) (sym (doing_next names moves i text m true low read (sym c.in_ok-does.ensures ∙ w.if-does))) (one_named all found i (move_of m) before at c.loop-place.invariant))
+          (subst (IsNamed all (one_more found i)) (sym (doing_next names moves i text m true low read (sym c.in_ok-does.ensures ∙ w.if-does.true))) (one_named all found i (move_of m) before at c.loop-place.invariant))
       | else-does w ↦
           subst (λ (f : Meant). IsNamed all f after) (sym w.found-is)
-          (subst (IsNamed all found) (sym (doing_next names moves i text m false low read (sym c.in_ok-does.ensures ∙ w.if-does))) (same_named all found before c.loop-place.invariant))
+          (subst (IsNamed all found) (sym (doing_next names moves i text m false low read (sym c.in_ok-does.ensures ∙ w.if-does.false))) (same_named all found before c.loop-place.invariant))
     ]
 
 pub returns : goal.returns
