@@ -1,5 +1,5 @@
 -- The form tells what is offered.
-use Rattle.std.proofs.Common.{sym, ◌∙◌, ap, subst, inl, inr, lit<, lit≤}
+use Rattle.std.proofs.Common.{sym, ◌∙◌, ap, subst, inl, inr, lit≤}
 use Rattle.theory_walk.specs.Moves.{AreTold}
 use Rattle.theory_walk.proofs.Offered.{moves_of_fired}
 use Rattle.csp_term.specs.Script.{script_of}
@@ -19,10 +19,10 @@ returns-in-Steps g c =
     moves_of_fired script t moves _ _ form c.in_ok-moves-in-Steps.ensures.steps (subst (λ s. AreTold s t moves) c.parts.ensures.value c.in_ok-moves-in-Steps.ensures.told)
 
 pub moves_by-requires : goal.moves_by-requires
-moves_by-requires g c = elim g.met.A.AllocHandle.small [ inl e ↦ rw (e.0, e.1) (search (lit<, lit≤)) | inr e ↦ rw (e.0, e.1) (search (lit<, lit≤)) ]
+moves_by-requires g c = elim g.met.A.AllocHandle.small [ inl e ↦ rw (e.0, e.1) (search (lit≤)) | inr e ↦ rw (e.0, e.1) (search (lit≤)) ]
 
 pub drop-into_form-requires-room-T-Destruct : goal.drop-into_form-requires-room-T-Destruct
-drop-into_form-requires-room-T-Destruct g c κs within = elim g.met.A.AllocHandle.small [ inl e ↦ rw (e.0, e.1) (search (lit<, lit≤)) | inr e ↦ rw (e.0, e.1) (search (lit<, lit≤)) ]
+drop-into_form-requires-room-T-Destruct g c κs within = elim g.met.A.AllocHandle.small [ inl e ↦ rw (e.0, e.1) (search (lit≤)) | inr e ↦ rw (e.0, e.1) (search (lit≤)) ]
 
 pub drop-requires-room-T-Destruct : goal.drop-requires-room-T-Destruct
-drop-requires-room-T-Destruct g c κs within = elim g.met.A.AllocHandle.small [ inl e ↦ rw (e.0, e.1) (search (lit<, lit≤)) | inr e ↦ rw (e.0, e.1) (search (lit<, lit≤)) ]
+drop-requires-room-T-Destruct g c κs within = elim g.met.A.AllocHandle.small [ inl e ↦ rw (e.0, e.1) (search (lit≤)) | inr e ↦ rw (e.0, e.1) (search (lit≤)) ]

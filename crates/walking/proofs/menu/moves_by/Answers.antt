@@ -1,5 +1,5 @@
 -- One step after the other.
-use Rattle.std.proofs.Common.{◌≡◌, ◌++◌, ◌∷◌, [], List, length, map, option_map, refl, sym, ◌∙◌, ap, subst, arith, rules, inl, inr, lit<, lit≤}
+use Rattle.std.proofs.Common.{◌≡◌, ◌++◌, ◌∷◌, [], List, length, map, option_map, refl, sym, ◌∙◌, ap, subst, arith, rules, inl, inr, lit≤}
 use Rattle.std.specs.Vec.Iter.{into_iter_items}
 use Rattle.theory_origins.specs.Telling.{Tells}
 use Rattle.theory_walk.specs.Moves.{AreTold, step_in}
@@ -50,7 +50,7 @@ returns-clause-steps g c =
     all_listed l.moves.items (into_iter_items l.step-iterator) (map step_of c.args.steps.items) (none_left _ (sym l.invariant.left ∙ c.in-None.ensures.steps.0)) l.invariant.all
 
 pub origin_of_step-requires : goal.origin_of_step-requires
-origin_of_step-requires g c = elim g.met.A.AllocHandle.small [ inl e ↦ rw (e.0, e.1) (search (lit<, lit≤)) | inr e ↦ rw (e.0, e.1) (search (lit<, lit≤)) ]
+origin_of_step-requires g c = elim g.met.A.AllocHandle.small [ inl e ↦ rw (e.0, e.1) (search (lit≤)) | inr e ↦ rw (e.0, e.1) (search (lit≤)) ]
 
 pub array_drop-action-requires : goal.array_drop-action-requires
-array_drop-action-requires g c = elim g.met.A.AllocHandle.small [ inl e ↦ rw (e.0, e.1) (search (lit<, lit≤)) | inr e ↦ rw (e.0, e.1) (search (lit<, lit≤)) ]
+array_drop-action-requires g c = elim g.met.A.AllocHandle.small [ inl e ↦ rw (e.0, e.1) (search (lit≤)) | inr e ↦ rw (e.0, e.1) (search (lit≤)) ]

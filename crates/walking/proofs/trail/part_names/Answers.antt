@@ -1,5 +1,5 @@
 -- One move after the other.
-use Rattle.std.proofs.Common.{◌≡◌, ◌∷◌, ◌+◌, suc, List, drop, map, sym, ◌∙◌, ap, add-one, drop-cons, inl, inr, lit<, lit≤}
+use Rattle.std.proofs.Common.{◌≡◌, ◌∷◌, ◌+◌, suc, List, drop, map, sym, ◌∙◌, ap, add-one, drop-cons, inl, inr, lit≤}
 use Rattle.std.proofs.lemmas.List.{drop_all}
 use Rattle.theory_explanation.specs.PartNames as names
 use Rattle.theory_explanation.specs.PartNames.{names_along}
@@ -29,4 +29,4 @@ returns g c =
     sym (ap (λ (ms : List (Move g.row.A.Denot)). names_along parts (map origin_in ms)) (drop_all c.loop-one.one-index c.args.taken.now c.loop-one-test.false)) ∙ c.loop-one.invariant
 
 pub put_unfolded-requires : goal.put_unfolded-requires
-put_unfolded-requires g c = elim g.met.A.AllocHandle.small [ inl e ↦ rw (e.0, e.1) (search (lit<, lit≤)) | inr e ↦ rw (e.0, e.1) (search (lit<, lit≤)) ]
+put_unfolded-requires g c = elim g.met.A.AllocHandle.small [ inl e ↦ rw (e.0, e.1) (search (lit≤)) | inr e ↦ rw (e.0, e.1) (search (lit≤)) ]

@@ -1,5 +1,5 @@
 -- What is offered is the menu's.
-use Rattle.std.proofs.Common.{List, sym, ◌∙◌, ap, inl, inr, lit<, lit≤}
+use Rattle.std.proofs.Common.{List, sym, ◌∙◌, ap, inl, inr, lit≤}
 use Rattle.std.specs.String.{string_bytes}
 use Rattle.theory_explanation.specs.Legend.{legend}
 use Rattle.csp_term.specs.Term.{process_of}
@@ -14,7 +14,7 @@ use Rattle.walking.specs.declared.menu.Move.{Move}
 use Rattle.walking.proofs.view.push_menu.Goals as goal
 
 pub push_offers-requires : goal.push_offers-requires
-push_offers-requires g c = elim g.met.A.AllocHandle.small [ inl e ↦ rw (e.0, e.1) (search (lit<, lit≤)) | inr e ↦ rw (e.0, e.1) (search (lit<, lit≤)) ]
+push_offers-requires g c = elim g.met.A.AllocHandle.small [ inl e ↦ rw (e.0, e.1) (search (lit≤)) | inr e ↦ rw (e.0, e.1) (search (lit≤)) ]
 
 pub returns-in-Offers : goal.returns-in-Offers
 returns-in-Offers g c =

@@ -1,5 +1,5 @@
 -- The move at the place is taken, and leads to the state whose menu is next.
-use Rattle.std.proofs.Common.{◌≡◌, ◌<◌, ◌++◌, ◌∷◌, [], List, length, slice_get, Some, sym, ◌∙◌, ap, subst, arith, inl, inr, lit<, lit≤}
+use Rattle.std.proofs.Common.{◌≡◌, ◌<◌, ◌++◌, ◌∷◌, [], List, length, slice_get, Some, sym, ◌∙◌, ap, subst, arith, inl, inr, lit≤}
 use Rattle.std.proofs.lemmas.List.{length-map}
 use Rattle.theory_semantics.specs.Kinds.Scripts.{IsTermOf}
 use Rattle.theory_walk.specs.Moves.{IsMenu, moves_in}
@@ -42,7 +42,7 @@ menu_at-requires g c =
 pub into_move-chosen-requires : goal.into_move-chosen-requires
 into_move-chosen-requires g c =
     let inside = subst (λ (k : Menu g.row.A.Denot). c.args.place < length (moves_in (menu_of k))) (sym c.replace-offered.ensures.value) c.requires.inside in
-    elim g.met.A.AllocHandle.small [ inl e ↦ rw (e.0, e.1) (search (lit<, lit≤, inside)) | inr e ↦ rw (e.0, e.1) (search (lit<, lit≤, inside)) ]
+    elim g.met.A.AllocHandle.small [ inl e ↦ rw (e.0, e.1) (search (lit≤, inside)) | inr e ↦ rw (e.0, e.1) (search (lit≤, inside)) ]
 
 pub returns-clause-kept : goal.returns-clause-kept
 returns-clause-kept g c =
@@ -86,7 +86,7 @@ returns-clause-gone g c =
     (move_of chosen, at, trail_longer script (process_of w.start) taken after (menu_of w.menu) place chosen c.requires.kept.taken c.requires.kept.menu at more)
 
 pub moves-requires : goal.moves-requires
-moves-requires g c = elim g.met.A.AllocHandle.small [ inl e ↦ rw (e.0, e.1) (search (lit<, lit≤)) | inr e ↦ rw (e.0, e.1) (search (lit<, lit≤)) ]
+moves-requires g c = elim g.met.A.AllocHandle.small [ inl e ↦ rw (e.0, e.1) (search (lit≤)) | inr e ↦ rw (e.0, e.1) (search (lit≤)) ]
 
 pub drop-menu-requires-room-T-Destruct : goal.drop-menu-requires-room-T-Destruct
-drop-menu-requires-room-T-Destruct g c κs within = elim g.met.A.AllocHandle.small [ inl e ↦ rw (e.0, e.1) (search (lit<, lit≤)) | inr e ↦ rw (e.0, e.1) (search (lit<, lit≤)) ]
+drop-menu-requires-room-T-Destruct g c κs within = elim g.met.A.AllocHandle.small [ inl e ↦ rw (e.0, e.1) (search (lit≤)) | inr e ↦ rw (e.0, e.1) (search (lit≤)) ]

@@ -1,5 +1,5 @@
 -- Nothing is taken yet.
-use Rattle.std.proofs.Common.{[], sym, subst, inl, inr, lit<, lit≤}
+use Rattle.std.proofs.Common.{[], sym, subst, inl, inr, lit≤}
 use Rattle.theory_semantics.specs.Kinds.Scripts.{IsTermOf}
 use Rattle.theory_walk.specs.Moves.{IsMenu}
 use Rattle.csp_term.specs.Script.{script_of}
@@ -9,7 +9,7 @@ use Rattle.walking.proofs.Keeping.{menu_begun, taken_same}
 use Rattle.walking.proofs.walk.Walk.new.Goals as goal
 
 pub drop-menu-requires-room-T-Destruct : goal.drop-menu-requires-room-T-Destruct
-drop-menu-requires-room-T-Destruct g c κs within = elim g.met.A.AllocHandle.small [ inl e ↦ rw (e.0, e.1) (search (lit<, lit≤)) | inr e ↦ rw (e.0, e.1) (search (lit<, lit≤)) ]
+drop-menu-requires-room-T-Destruct g c κs within = elim g.met.A.AllocHandle.small [ inl e ↦ rw (e.0, e.1) (search (lit≤)) | inr e ↦ rw (e.0, e.1) (search (lit≤)) ]
 
 pub returns-clause-kept : goal.returns-clause-kept
 returns-clause-kept g c =

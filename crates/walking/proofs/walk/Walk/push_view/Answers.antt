@@ -1,5 +1,5 @@
 -- The texts one behind the other.
-use Rattle.std.proofs.Common.{◌≡◌, ◌++◌, [], List, length, map, decimal, sym, ◌∙◌, ap, subst, arith, inl, inr, lit<, lit≤}
+use Rattle.std.proofs.Common.{◌≡◌, ◌++◌, [], List, length, map, decimal, sym, ◌∙◌, ap, subst, arith, inl, inr, lit≤}
 use Rattle.std.proofs.lemmas.List.{length-map}
 use Rattle.std.specs.Prelude.{codes}
 use Rattle.std.specs.String.{string_bytes}
@@ -54,7 +54,7 @@ returns g c =
     (alike r four all _ menu (ap (λ (ps : List pure.PartName). menu_lines (legend names ps) t (menu_of w.menu)) parts ∙ ap (λ u. menu_lines (legend names (part_names trail)) u (menu_of w.menu)) there) c.push_menu.ensures))))
 
 pub behind-state-requires : goal.behind-state-requires
-behind-state-requires g c = elim g.met.A.AllocHandle.small [ inl e ↦ rw (e.0, e.1) (search (lit<, lit≤)) | inr e ↦ rw (e.0, e.1) (search (lit<, lit≤)) ]
+behind-state-requires g c = elim g.met.A.AllocHandle.small [ inl e ↦ rw (e.0, e.1) (search (lit≤)) | inr e ↦ rw (e.0, e.1) (search (lit≤)) ]
 
 pub part_names-requires : goal.part_names-requires
-part_names-requires g c = elim g.met.A.AllocHandle.small [ inl e ↦ rw (e.0, e.1) (search (lit<, lit≤)) | inr e ↦ rw (e.0, e.1) (search (lit<, lit≤)) ]
+part_names-requires g c = elim g.met.A.AllocHandle.small [ inl e ↦ rw (e.0, e.1) (search (lit≤)) | inr e ↦ rw (e.0, e.1) (search (lit≤)) ]

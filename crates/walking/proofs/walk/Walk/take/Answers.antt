@@ -1,5 +1,5 @@
 -- What is named stands there.
-use Rattle.std.proofs.Common.{◌<◌, List, length, subst, inl, inr, lit<, lit≤}
+use Rattle.std.proofs.Common.{◌<◌, List, length, subst, inl, inr, lit≤}
 use Rattle.std.proofs.lemmas.Option.{slice_get_within}
 use Rattle.theory_walk.specs.Answers.{named}
 use Rattle.theory_walk.specs.Moves as pure
@@ -11,10 +11,10 @@ use Rattle.walking.specs.declared.naming.Meant.{Meant}
 use Rattle.walking.proofs.walk.Walk.take.Goals as goal
 
 pub moves-requires : goal.moves-requires
-moves-requires g c = elim g.met.A.AllocHandle.small [ inl e ↦ rw (e.0, e.1) (search (lit<, lit≤)) | inr e ↦ rw (e.0, e.1) (search (lit<, lit≤)) ]
+moves-requires g c = elim g.met.A.AllocHandle.small [ inl e ↦ rw (e.0, e.1) (search (lit≤)) | inr e ↦ rw (e.0, e.1) (search (lit≤)) ]
 
 pub named-requires : goal.named-requires
-named-requires g c = elim g.met.A.AllocHandle.small [ inl e ↦ rw (e.0, e.1) (search (lit<, lit≤)) | inr e ↦ rw (e.0, e.1) (search (lit<, lit≤)) ]
+named-requires g c = elim g.met.A.AllocHandle.small [ inl e ↦ rw (e.0, e.1) (search (lit≤)) | inr e ↦ rw (e.0, e.1) (search (lit≤)) ]
 
 pub go-requires-clause-inside : goal.go-requires-clause-inside
 go-requires-clause-inside g c =
