@@ -1,0 +1,4 @@
+pub mod Offered
+pub mod Along
+pub mod Going
+pub mod Closing
