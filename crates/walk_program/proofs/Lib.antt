@@ -1,0 +1,5 @@
+mod Beginnings
+mod Lines
+mod Requests
+mod Sides
+mod Stopping
