@@ -1,5 +1,6 @@
 mod Beginnings
-mod Lines
+mod ReadLines
 mod Requests
 mod Sides
+mod Steps
 mod Stopping

@@ -1,9 +1,10 @@
 -- A walk through the side that is asked for, by the lines of an input, and what of it goes out.
-use Rattle.std.specs.Prelude.{◌≡◌, ◌<◌, ◌⊎◌, ◌++◌, ℕ, List, length, Option, None}
+use Rattle.std.specs.Prelude.{◌≡◌, ◌<◌, ◌⊎◌, ◌++◌, ℕ, Bool, true, false, List, length, Option, Some, None}
 use Rattle.std.specs.Io.KnownBytes.{Consumes, IsAtEnd}
 use Rattle.theory_syntax.specs.Process.{Process, Script}
 use Rattle.theory_notation.specs.Names.{Names}
-use Rattle.theory_walk.specs.Walks.{IsWalk, Place}
+use Rattle.theory_explanation.specs.Cutting.{Width}
+use Rattle.theory_walk.specs.Walks.{IsGiven, IsWalk, Place, answer_to}
 use Rattle.report.specs.Sending.{Sends, Breaks}
 use Rattle.program.specs.Given.{Sent}
 use Rattle.program.specs.declared.refusal.Refusal.TheVariants as refusal
@@ -49,3 +50,16 @@ IsUnwalked request script names input stop.Input out = IsBegun request script na
 IsUnwalked request script names input (stop.Refused refusal.Memory) out = out.Unchanged ⊎ IsBegun request script names input (Sends out.old out.new out.failed)
 IsUnwalked request script names input (stop.Refused refusal.Output) out = IsBegun request script names input (Breaks out.old out.new out.failed)
 IsUnwalked request script names input (stop.Refused _) out = ⊥
+
+-- ---- one command
+
+-- So much went out of what a command gives at a place. Behind it the walk is at the next one, if it goes on.
+pub record IsAnswered (script : Script) (names : Names) (width : Width) (p : Place) (command : List ℕ) (next : Option Place) (WentOut : List ℕ → Type 0) : Type 0 where
+  pub text : List ℕ
+  pub given : IsGiven script names width p (answer_to names p command) text next
+  pub sent : WentOut text
+
+-- the place, if the walk goes on
+abbrev pub next_at : Bool → Place → Option Place
+next_at true p = Some p
+next_at false p = None
