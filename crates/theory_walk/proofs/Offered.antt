@@ -1,13 +1,15 @@
 -- What is offered.
-use Rattle.std.proofs.Common.{◌≡◌, ℕ, zero, suc, List, [], ◌∷◌, map, slice_get, Option, Some, None, Contains, IsTrue, refl, ap, subst}
+use Rattle.std.proofs.Common.{◌≡◌, ℕ, zero, suc, List, [], ◌∷◌, ◌++◌, map, slice_get, Option, Some, None, Contains, IsTrue, refl, sym, ap, subst}
 use Rattle.theory_syntax.specs.Value.{Action}
 use Rattle.theory_syntax.specs.Process.{Process, Script}
 use Rattle.theory_semantics.specs.Meaning.Faults.{cause_in}
 use Rattle.theory_semantics.specs.Meaning.Limits.{fits}
+use Rattle.theory_semantics.specs.Meaning.Expansions.{IsFired}
 use Rattle.theory_semantics.specs.Meaning.Transitions.{RuleStep, IsNotStuck}
 use Rattle.theory_semantics.proofs.Rising.{Contains-from_stands}
 use Rattle.theory_origins.specs.Origin.{Origin, ComesFrom}
 use Rattle.theory_origins.specs.Telling.{Tells}
+use Rattle.theory_graph.specs.Graphs.{AreAllSteps}
 use Rattle.theory_walk.specs.Laws.{HaveOrigins, OfferSteps}
 use Rattle.theory_walk.specs.Moves.{Move, AreMoves, AreTold, step_in}
 
@@ -37,3 +39,14 @@ some_origin script t x u free step None told = absurd (told free.no_cause (free.
 pub have_origins : (script : Script) (t : Process) (moves : List Move) → AreMoves script t moves → HaveOrigins script t moves
 have_origins script t moves are i m at =
     some_origin script t m.action m.target are.steps.not_stuck (step_of_move script t moves are i m at) m.origin (told_at script t moves i m are.told at)
+
+-- what a firing shows is offered, where it is told
+pub moves_of_fired : (script : Script) (t : Process) (moves : List Move) (steps : List (Action × Process)) (offers : List (List Action)) → IsFired script t steps offers → map step_in moves ≡ steps →
+    AreTold script t moves → AreMoves script t moves
+moves_of_fired script t moves steps offers fired same told =
+    let all : AreAllSteps script t steps = record { not_stuck = fired.not_stuck; each = fired.each_step; rise = fired.steps_rise } in
+    record { steps = subst (AreAllSteps script t) (sym same) all; told = told }
+
+pub told_more : (script : Script) (t : Process) (moves : List Move) (m : Move) → AreTold script t moves → Tells script t m.action m.target m.origin → AreTold script t (moves ++ m ∷ [])
+told_more script t [] m told one = (one, tt)
+told_more script t (k ∷ moves) m told one = (told.0, told_more script t moves m told.1 one)
