@@ -1,8 +1,8 @@
 -- Lines that are read one after the other are those of all that was read.
-use Rattle.std.proofs.Common.{◌≡◌, ◌∙◌, ◌≤◌, ◌<◌, ℕ, zero, suc, Bool, true, false, nat_lt, List, [], ◌∷◌, ◌++◌, length, map, take, refl, sym, ap, append_assoc, arith, min}
+use Rattle.std.proofs.Common.{◌≡◌, ◌∙◌, ◌≤◌, ◌<◌, ℕ, zero, suc, Bool, true, false, nat_lt, List, [], ◌∷◌, ◌++◌, length, map, take, refl, sym, ap, append_assoc, arith, length-append, min}
 use Rattle.std.specs.Prelude.{if◌then◌else◌, codes}
 use Rattle.std.proofs.lemmas.Bool.{le-ltb, lt-ltb, ltb-false, ltb-true, ne_eqb}
-use Rattle.std.proofs.lemmas.List.{length-take, take_all}
+use Rattle.std.proofs.lemmas.List.{length-take, take_all, take_at}
 use Rattle.walk_program.specs.Lines.{IsWithin, as_command, before_first, commands_of, lines_of, with_end}
 
 -- ---- bytes that are no end of a line
@@ -66,6 +66,18 @@ take_twice : (n : ℕ) (line : List ℕ) (byte : ℕ) → take n (take n line ++
 take_twice zero line byte = refl
 take_twice (suc n) [] byte = refl
 take_twice (suc n) (b ∷ line) byte = ap (λ bs. b ∷ bs) (take_twice n line byte)
+
+-- no more is kept
+pub kept_few : (line kept : List ℕ) → kept ≡ take 4097 line → length kept ≤ 4097
+kept_few line kept is = let size = ap length is ∙ length-take 4097 line in omega (arith, size)
+
+-- where so much is kept, nothing more is
+pub kept_full : (kept : List ℕ) (byte : ℕ) → length kept ≡ 4097 → kept ≡ take 4097 (kept ++ byte ∷ [])
+kept_full kept byte full = sym (take_at kept (byte ∷ []) 4097 full)
+
+-- else all is
+pub kept_whole : (kept now : List ℕ) (byte : ℕ) → length kept ≤ 4096 → now ≡ kept ++ byte ∷ [] → now ≡ take 4097 (kept ++ byte ∷ [])
+kept_whole kept now byte few is = let size = length-append kept (byte ∷ []) in is ∙ sym (take_all 4097 (kept ++ byte ∷ []) (omega (arith, few, size)))
 
 pub kept_more : (line kept now : List ℕ) (byte : ℕ) → kept ≡ take 4097 line → now ≡ take 4097 (kept ++ byte ∷ []) → now ≡ take 4097 (line ++ byte ∷ [])
 kept_more line kept now byte is more = more ∙ ap (λ bs. take 4097 (bs ++ byte ∷ [])) is ∙ take_twice 4097 line byte

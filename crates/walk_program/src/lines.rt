@@ -1,6 +1,6 @@
 //! The lines of an input.
 
-ghost use Rattle.std.specs.Prelude.{◌≡◌, ◌∷◌, ◌++◌, ◌↔◌, [], None, IfErr, IfOk, IsTrue, OnOk, false, option_to_list, take};
+ghost use Rattle.std.specs.Prelude.{◌≡◌, ◌≤◌, ◌∷◌, ◌++◌, ◌↔◌, [], None, IfErr, IfOk, IsTrue, OnOk, false, length, option_to_list, take};
 ghost use Rattle.std.specs.Io.KnownBytes.{Consumes, IsAtEnd};
 ghost use Rattle.walk_program.specs.Lines.{IsLineRead, IsSomeRead, as_command, left};
 ghost use Rattle.walk_program.specs.Stops.{StopsReading};
@@ -66,6 +66,7 @@ pub(crate) fn read_line<A: Allocator, I: Read>(alloc: A, input: &mut I) -> Resul
 
 // The byte behind the others, unless so many are kept that the line is too long.
 fn keep<A: Allocator>(byte: u8, kept: &mut Vec<u8, A>) -> Result<(), AllocError>
+    requires { length kept.old.items ≤ 4097 }
     ensures { OnOk result (kept.new.items ≡ take 4097 (kept.old.items ++ byte ∷ [])) }
 {
     if kept.len() <= MOST_BYTES {
