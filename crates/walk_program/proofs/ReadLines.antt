@@ -8,8 +8,8 @@ use Rattle.walk_program.specs.Lines.{IsWithin, as_command, before_first, command
 -- ---- bytes that are no end of a line
 
 pub within_more : (line : List ℕ) (byte : ℕ) → IsWithin line → (byte ≡ 10 → ⊥) → IsWithin (line ++ byte ∷ [])
-within_more [] byte is no = (no, tt)
-within_more (b ∷ line) byte is no = (is.0, within_more line byte is.1 no)
+within_more [] byte is other = (other, tt)
+within_more (b ∷ line) byte is other = (is.0, within_more line byte is.1 other)
 
 -- ---- a line
 
@@ -21,8 +21,8 @@ first_line (b ∷ line) rest is =
 
 -- one without an end is all that there is
 last_line : (line : List ℕ) (byte : ℕ) → (byte ≡ 10 → ⊥) → IsWithin line → lines_of (byte ∷ line) ≡ (byte ∷ line) ∷ []
-last_line [] byte no is = rw (ne_eqb byte 10 no) refl
-last_line (b ∷ line) byte no is = rw (ne_eqb byte 10 no) (ap (before_first byte) (last_line line b is.0 is.1))
+last_line [] byte other is = rw (ne_eqb byte 10 other) refl
+last_line (b ∷ line) byte other is = rw (ne_eqb byte 10 other) (ap (before_first byte) (last_line line b is.0 is.1))
 
 -- ---- whole lines
 
@@ -100,4 +100,7 @@ command_of_kept line kept is =
 -- where nothing is kept there is nothing
 pub nothing_kept : (line kept : List ℕ) → kept ≡ take 4097 line → kept ≡ [] → line ≡ []
 nothing_kept [] kept is none = refl
-nothing_kept (b ∷ line) kept is none = absurd (cc (sym is ∙ none))
+nothing_kept (b ∷ line) kept is none =
+    let size = ap length is ∙ length-take 4097 (b ∷ line) in
+    let nothing = ap length none in
+    absurd (omega (arith, size, nothing))

@@ -40,11 +40,19 @@ given_said script names width (pure.Shows trail) p q words is = absurd is
 given_said script names width (pure.Says text) p q words is = (is.0, ap (λ r. Some r) is.1)
 given_said script names width pure.Ends p q words is = absurd is
 
--- and that the walk ends
-pub given_end : (script : Script) (names : Names) (width : Width) (a : pure.Answer) (p q : Place) → Follows a p answer.Ended q → IsGiven script names width p a [] None
-given_end script names width (pure.Shows trail) p q is = absurd is
-given_end script names width (pure.Says text) p q is = absurd is
-given_end script names width pure.Ends p q is = (refl, refl)
+-- what is left of an answer that does not go out
+pub answered_by : (why : Stop) (script : Script) (names : Names) (width : Width) (p : Place) (command text : List ℕ) (next : Option Place) (out : Sent) → IsGiven script names width p (answer_to names p command) text next →
+    LeavesText why (λ WentOut. WentOut text) out → LeavesText why (λ WentOut. (x : Option Place) × IsAnswered script names width p command x WentOut) out
+answered_by (stop.Refused (refusal.File f)) script names width p command text next out given left = absurd left
+answered_by (stop.Refused (refusal.Text f l)) script names width p command text next out given left = absurd left
+answered_by (stop.Refused (refusal.Grammar f l)) script names width p command text next out given left = absurd left
+answered_by (stop.Refused (refusal.Kinds f l)) script names width p command text next out given left = absurd left
+answered_by (stop.Refused refusal.Memory) script names width p command text next out given left = left
+answered_by (stop.Refused refusal.Thread) script names width p command text next out given left = absurd left
+answered_by (stop.Refused refusal.Output) script names width p command text next out given left = (next, record { text = text; given = given; sent = left })
+answered_by stop.NoAssertion script names width p command text next out given left = absurd left
+answered_by stop.NoSpecification script names width p command text next out given left = absurd left
+answered_by stop.Input script names width p command text next out given left = absurd left
 
 -- ---- on the way
 
@@ -197,15 +205,15 @@ module _ (request : Request) (script : Script) (names : Names) (start : Process)
         GoesOn request script names start first now (taken old) (taken mid) (has_failed mid) p → IsLineRead (record { old = now; new = later_on }) kept has_end → IsSome has_end kept →
         LeavesText why (λ WentOut. (next : Option Place) × IsAnswered script names request.width p (as_command kept) next WentOut) (sent taken has_failed mid new) →
         IsUnwalked request script names (record { old = first; new = later_on }) why (sent taken has_failed old new)
-    unanswered (stop.Refused (refusal.File f)) taken has_failed old mid new first now later_on kept has_end p g line some left = absurd left
-    unanswered (stop.Refused (refusal.Text f l)) taken has_failed old mid new first now later_on kept has_end p g line some left = absurd left
-    unanswered (stop.Refused (refusal.Grammar f l)) taken has_failed old mid new first now later_on kept has_end p g line some left = absurd left
-    unanswered (stop.Refused (refusal.Kinds f l)) taken has_failed old mid new first now later_on kept has_end p g line some left = absurd left
-    unanswered (stop.Refused refusal.Memory) taken has_failed old mid new first now later_on kept has_end p g line some left =
+    unanswered {S = S} (stop.Refused (refusal.File f)) taken has_failed old mid new first now later_on kept has_end p g line some left = absurd left
+    unanswered {S = S} (stop.Refused (refusal.Text f l)) taken has_failed old mid new first now later_on kept has_end p g line some left = absurd left
+    unanswered {S = S} (stop.Refused (refusal.Grammar f l)) taken has_failed old mid new first now later_on kept has_end p g line some left = absurd left
+    unanswered {S = S} (stop.Refused (refusal.Kinds f l)) taken has_failed old mid new first now later_on kept has_end p g line some left = absurd left
+    unanswered {S = S} (stop.Refused refusal.Memory) taken has_failed old mid new first now later_on kept has_end p g line some left =
         let G : S → Type 0 = λ s. GoesOn request script names start first now (taken old) (taken s) (has_failed s) p in
         inr (so_far first now later_on (taken old) (taken new) (has_failed new) p (with_end has_end line.line) (subst G (sym left) g) line.read)
-    unanswered (stop.Refused refusal.Thread) taken has_failed old mid new first now later_on kept has_end p g line some left = absurd left
-    unanswered (stop.Refused refusal.Output) taken has_failed old mid new first now later_on kept has_end p g line some left =
+    unanswered {S = S} (stop.Refused refusal.Thread) taken has_failed old mid new first now later_on kept has_end p g line some left = absurd left
+    unanswered {S = S} (stop.Refused refusal.Output) taken has_failed old mid new first now later_on kept has_end p g line some left =
         let bytes : List ℕ = g.bytes ++ with_end has_end line.line in
         record {
           bytes = bytes;
@@ -216,6 +224,6 @@ module _ (request : Request) (script : Script) (names : Names) (start : Process)
           read = subst (Consumes first later_on) (sym (append-nil bytes)) (Consumes-trans first now later_on g.bytes (with_end has_end line.line) g.read line.read);
           sent = later g.sent left.1.sent;
         }
-    unanswered stop.NoAssertion taken has_failed old mid new first now later_on kept has_end p g line some left = absurd left
-    unanswered stop.NoSpecification taken has_failed old mid new first now later_on kept has_end p g line some left = absurd left
-    unanswered stop.Input taken has_failed old mid new first now later_on kept has_end p g line some left = absurd left
+    unanswered {S = S} stop.NoAssertion taken has_failed old mid new first now later_on kept has_end p g line some left = absurd left
+    unanswered {S = S} stop.NoSpecification taken has_failed old mid new first now later_on kept has_end p g line some left = absurd left
+    unanswered {S = S} stop.Input taken has_failed old mid new first now later_on kept has_end p g line some left = absurd left

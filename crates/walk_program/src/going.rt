@@ -1,6 +1,6 @@
 //! A walk by the lines of an input.
 
-ghost use Rattle.std.specs.Prelude.{◌≡◌, Option, IfErr, IfOk, false};
+ghost use Rattle.std.specs.Prelude.{◌≡◌, [], Option, IfErr, IfOk, false};
 ghost use Rattle.theory_semantics.specs.Kinds.Scripts.{IsTermOf};
 ghost use Rattle.theory_walk.specs.Walks.{Place, shown};
 ghost use Rattle.report.specs.Sending.{IsSent, Sends};
@@ -8,7 +8,7 @@ ghost use Rattle.csp_print.specs.Names.{names_of};
 ghost use Rattle.csp_term.specs.Script.{script_of};
 ghost use Rattle.csp_term.specs.Term.{process_of};
 ghost use Rattle.counterexample.specs.Widths.{width_of};
-ghost use Rattle.walking.specs.Walks.{IsKept, IsSameScript, place_of};
+ghost use Rattle.walking.specs.Walks.{IsKept, IsSameScript, place_of, trail_of};
 ghost use Rattle.program.specs.Given.{sent};
 ghost use Rattle.walk_program.specs.Asking.{IsStart, request_of, width_of_number};
 ghost use Rattle.walk_program.specs.Lines.{left};
@@ -66,14 +66,48 @@ pub(crate) fn walk_from<A: AllocHandle, I: Read, O: Sink>(
         width: width(settings.width),
     };
     let mut walk = Walk::new(alloc, &named.script, start)?;
-    show(alloc, &view, &walk, out)?;
+    follow(alloc, settings, &view, &mut walk, input, out)
+}
+
+// Shows the start, and then answers the lines of the input, to the end of the walk.
+fn follow<A: AllocHandle, I: Read, O: Sink>(
+    alloc: A,
+    settings: &Settings<'_>,
+    view: &View<'_, '_, A>,
+    walk: &mut Walk<'_, A>,
+    input: &mut I,
+    out: &mut O,
+) -> Result<(), Stop>
+    requires works { O.has_failed out.old ≡ false }
+    requires width { width_of view.now.width ≡ (request_of settings.now).width }
+    requires kept { IsKept walk.old }
+    requires begun { (trail_of walk.old).taken ≡ [] }
+    requires asked { IsStart (request_of settings.now) (script_of walk.old.script.now)
+        (trail_of walk.old).start }
+    ensures walked { let request = request_of settings.now in
+        let it = script_of walk.old.script.now in
+        let names = names_of view.now.names.now in
+        let read = left I.remaining input.old input.new in
+        let output = sent O.taken O.has_failed out.old out.new in
+        IfOk result (λ _. IsWalked request it names read output) }
+    ensures stopped { let request = request_of settings.now in
+        let it = script_of walk.old.script.now in
+        let names = names_of view.now.names.now in
+        let read = left I.remaining input.old input.new in
+        let output = sent O.taken O.has_failed out.old out.new in
+        IfErr result (λ why. IsUnwalked request it names read why output) }
+{
+    show(alloc, view, walk, out)?;
     for _ in 0..u64::MAX {
         let line = read_line(alloc, input)?;
         if line.is_nothing() {
             return Ok(());
         }
-        let goes_on = obey(alloc, &view, line.command(), &mut walk, out)?;
-        if !goes_on || !line.has_end {
+        let goes_on = obey(alloc, view, line.command(), walk, out)?;
+        if !goes_on {
+            return Ok(());
+        }
+        if !line.has_end {
             return Ok(());
         }
     }

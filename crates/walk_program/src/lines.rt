@@ -56,9 +56,15 @@ pub(crate) fn read_line<A: Allocator, I: Read>(alloc: A, input: &mut I) -> Resul
     for _ in 0..u64::MAX {
         let byte = next_byte(input)?;
         match byte {
-            Some(b'\n') => return Ok(Line { kept, has_end: true }),
+            Some(b'\n') => return Ok(Line {
+                kept,
+                has_end: true,
+            }),
             Some(byte) => keep(byte, &mut kept)?,
-            None => return Ok(Line { kept, has_end: false }),
+            None => return Ok(Line {
+                kept,
+                has_end: false,
+            }),
         }
     }
     Err(Stop::Input)
