@@ -1,25 +1,25 @@
 -- A walk on its way, from one line to the next.
-use Rattle.std.proofs.Common.{◌≡◌, ◌∙◌, ℕ, Bool, true, false, List, [], ◌∷◌, ◌++◌, Some, None, take, refl, sym, ap, subst, append-nil, append_assoc, inl, inr}
+use Rattle.std.proofs.Common.{◌≡◌, ◌∙◌, ℕ, Bool, true, false, List, [], ◌++◌, Some, None, take, refl, sym, ap, subst, append-nil, inl, inr}
 use Rattle.std.specs.Prelude.{◌⊎◌, Option}
 use Rattle.std.specs.Borrow.{Bor}
-use Rattle.std.specs.Io.KnownBytes.{Consumes, IsAtEnd}
+use Rattle.std.specs.Io.KnownBytes.{Consumes}
 use Rattle.std.proofs.KnownBytes.{Consumes-nil, Consumes-trans}
 use Rattle.theory_syntax.specs.Process.{Process, Script}
 use Rattle.theory_notation.specs.Names.{Names}
 use Rattle.theory_explanation.specs.Cutting.{Width}
 use Rattle.theory_walk.specs.Answers as pure
 use Rattle.theory_walk.specs.Moves.{IsMenu}
-use Rattle.theory_walk.specs.Trails.{Trail, begun, here}
+use Rattle.theory_walk.specs.Trails.{begun, here}
 use Rattle.theory_walk.specs.Walks.{IsGiven, IsWalk, Place, answer_to, shown}
 use Rattle.theory_walk.proofs.Going.{walk_more}
-use Rattle.report.specs.Sending.{Sends, Breaks}
+use Rattle.report.specs.Sending.{Sends}
 use Rattle.report.proofs.Sending.{both, later}
 use Rattle.walking.specs.Answers.{Follows}
 use Rattle.walking.specs.declared.answer.Answer.TheVariants as answer
 use Rattle.program.specs.Given.{Sent, sent}
 use Rattle.program.specs.declared.refusal.Refusal.TheVariants as refusal
 use Rattle.walk_program.specs.Asking.{IsStart, Request}
-use Rattle.walk_program.specs.Lines.{IsLineRead, IsSomeRead, IsWithin, Left, as_command, commands_of, with_end}
+use Rattle.walk_program.specs.Lines.{IsLineRead, IsSomeRead, IsWithin, as_command, commands_of, with_end}
 use Rattle.walk_program.specs.Stops.{LeavesText, StopsReading}
 use Rattle.walk_program.specs.Walking.{IsAnswered, IsBegun, IsUnwalked, IsWalkText, IsWalked}
 use Rattle.walk_program.specs.declared.stop.Stop.{Stop}

@@ -1,5 +1,5 @@
 -- What stops a walk, with its cause, and what the output is left with.
-use Rattle.std.proofs.Common.{◌≡◌, ℕ, List, refl, ap, inl, inr}
+use Rattle.std.proofs.Common.{◌≡◌, ℕ, List, ap, inl, inr}
 use Rattle.std.specs.Prelude.{◌⊎◌, Result, IfErr}
 use Rattle.std.specs.Result.{IsErr, IsErrAnd}
 use Rattle.std.proofs.lemmas.Result.{err_from_is_err_and}

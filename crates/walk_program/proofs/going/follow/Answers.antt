@@ -142,8 +142,8 @@ returns-then-not-goes_on-clause-walked g c =
     is_over request script names start c.requires.asked (at c.args.input.now) (at c.loop.input) (at c.read_line.new.input) (taken c.loop.out) (failed c.loop.out) (sent taken failed c.args.out.now c.obey.new.out) kept has_end p next g_on c.in_ok-line.ensures.line some answered
     (inl (ap (λ b. next_at b q) ended))
 
-pub returns-then-not-has_end-clause-walked : goal.returns-then-not-has_end-clause-walked
-returns-then-not-has_end-clause-walked g c =
+pub returns-then-not-line-clause-walked : goal.returns-then-not-line-clause-walked
+returns-then-not-line-clause-walked g c =
     let request = request_of c.args.settings.now in
     let script = script_of c.args.walk.now.script.now in
     let names = names_of c.args.view.now.names.now in

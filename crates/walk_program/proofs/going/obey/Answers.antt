@@ -1,5 +1,5 @@
 -- What does not go out is the answer to the command.
-use Rattle.std.proofs.Common.{◌≡◌, subst}
+use Rattle.std.proofs.Common.{subst}
 use Rattle.std.specs.Prelude.{Option}
 use Rattle.theory_syntax.specs.Process.{Script}
 use Rattle.theory_walk.specs.Moves.{IsMenu}

@@ -39,8 +39,8 @@ returns-clause-stopped g c =
     let S : Script → Type 0 = λ s. IfErr c.follow.result (λ why. IsUnwalked request s names read why output) in
     subst S c.in_ok-walk.ensures.script c.follow.ensures.stopped
 
-pub drop-walk-requires-room-T-Destruct : goal.drop-walk-requires-room-T-Destruct
-drop-walk-requires-room-T-Destruct g c κs within = elim g.met.A.AllocHandle.small [ inl e ↦ rw (e.0, e.1) (lit< tt) | inr e ↦ rw (e.0, e.1) (lit< tt) ]
-
 pub drop-walk-requires-2-room-T-Destruct : goal.drop-walk-requires-2-room-T-Destruct
 drop-walk-requires-2-room-T-Destruct g c κs within = elim g.met.A.AllocHandle.small [ inl e ↦ rw (e.0, e.1) (lit< tt) | inr e ↦ rw (e.0, e.1) (lit< tt) ]
+
+pub drop-walk-requires-3-room-T-Destruct : goal.drop-walk-requires-3-room-T-Destruct
+drop-walk-requires-3-room-T-Destruct g c κs within = elim g.met.A.AllocHandle.small [ inl e ↦ rw (e.0, e.1) (lit< tt) | inr e ↦ rw (e.0, e.1) (lit< tt) ]

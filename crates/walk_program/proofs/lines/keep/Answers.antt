@@ -1,5 +1,5 @@
 -- The byte is kept behind the others, or there are enough of them.
-use Rattle.std.proofs.Common.{◌≤◌, length, arith}
+use Rattle.std.proofs.Common.{arith}
 use Rattle.walk_program.proofs.ReadLines.{kept_full, kept_whole}
 use Rattle.walk_program.proofs.lines.keep.Goals as goal
 

@@ -1,5 +1,5 @@
 -- Byte by byte a line is read.
-use Rattle.std.proofs.Common.{◌≡◌, ◌∙◌, ℕ, true, List, [], ◌∷◌, ◌++◌, ap, arith, rules, subst}
+use Rattle.std.proofs.Common.{◌≡◌, ◌∙◌, ℕ, List, [], ◌∷◌, ◌++◌, ap, arith, rules, subst}
 use Rattle.std.specs.Prelude.{Option, Some, Result, Ok, Err, IfErr, option_to_list}
 use Rattle.std.specs.Io.KnownBytes.{Consumes}
 use Rattle.std.proofs.KnownBytes.{Consumes-trans}
@@ -55,7 +55,7 @@ loop-preserved g c =
     let byte = c.in-Some.byte in
     let more = byte_read (at c.loop.input) (at c.next_byte.new.input) c.in_ok-byte.byte byte c.in-Some.is c.in_ok-byte.ensures.byte in (
       line ++ byte ∷ [],
-      within_more line byte c.loop.invariant.1 (λ e. c.in-Some.byte-test.1 (c.in-Some.byte-is ∙ e)),
+      within_more line byte c.loop.invariant.1 (λ e. c.in-Some.byte-test.1 (first_of (cc (c.in-Some.byte-is, e), cc (c.in-Some.byte-is, c.in-Some.is, e), grind (arith, c.in-Some.byte-is, c.in-Some.is, e), search rules))),
       kept_more line c.loop.kept.items c.keep.new.kept.items byte c.loop.invariant.2 c.in_ok-keep-in-Some.ensures,
       Consumes-trans (at c.args.input.now) (at c.loop.input) (at c.next_byte.new.input) line (byte ∷ []) c.loop.invariant.3 more,
     )

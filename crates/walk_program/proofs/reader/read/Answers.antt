@@ -1,4 +1,4 @@
-use Rattle.std.proofs.Common.{◌∙◌, ap, List, map}
+use Rattle.std.proofs.Common.{◌∙◌, ap, map}
 use Rattle.theory_text.specs.Reading.{IsRead, read}
 use Rattle.theory_notation.specs.Names.{names_in, with_types}
 use Rattle.csp_lex.specs.Places.{place_of}
