@@ -18,6 +18,10 @@ pub taken_more : (script : Script) (t : Process) (moves : List Move) (m : Move) 
 taken_more script t [] m taken is = (is.0, is.1, tt)
 taken_more script t (k ∷ moves) m taken is = (taken.0, taken.1, taken_more script k.target moves m taken.2 is)
 
+pub taken_front : (script : Script) (t : Process) (moves others : List Move) → AreTaken script t (moves ++ others) → AreTaken script t moves
+taken_front script t [] others taken = tt
+taken_front script t (k ∷ moves) others taken = (taken.0, taken.1, taken_front script k.target moves others taken.2)
+
 pub taken_few : (script : Script) (t : Process) (moves : List Move) (n : ℕ) → AreTaken script t moves → AreTaken script t (take n moves)
 taken_few script t moves zero taken = tt
 taken_few script t [] (suc n) taken = tt
@@ -36,7 +40,7 @@ pub taken_reach : (script : Script) (t : Process) (moves : List Move) → AreTak
 taken_reach script t moves taken = (map (λ m. m.action) moves, taken_run script t moves taken)
 
 -- all but the last one
-pub all_before : (moves : List Move) (m : Move) → take (length (moves ++ m ∷ []) - 1) (moves ++ m ∷ []) ≡ moves
+pub all_before : {X : Type 0} (moves : List X) (m : X) → take (length (moves ++ m ∷ []) - 1) (moves ++ m ∷ []) ≡ moves
 all_before moves m =
     let long = length-append moves (m ∷ []) in
     let few : length (moves ++ m ∷ []) - 1 ≡ length moves = omega (arith, long) in

@@ -1,3 +1,4 @@
 pub mod Offered
 pub mod Along
 pub mod Going
+pub mod Closing
