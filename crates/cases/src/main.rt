@@ -1,10 +1,10 @@
-//! Runs `refcheck`, `explain` and `graph` over cases that stand in files, and tells each that is answered otherwise than it
-//! says.
+//! Runs `refcheck`, `explain`, `graph` and `walk` over cases that stand in files, and tells each that is answered otherwise
+//! than it says.
 //!
 //! The words are the names of tables, each a text: what it is about, and then its cases, by the lines
 //!
 //! - `@@ ` with the words of a command line, the program's name first, and behind it the text of the file `script`, or of
-//!   standard input where the words name that by `-`;
+//!   standard input where the words name that by `-`, and of a walk behind the line `@>` the lines that it is given;
 //! - `@@ ` with the status, and behind it what the run gives: to its output, or, with the status 3, to its errors. `fine`
 //!   stands for any status but 3, whatever the run gives, `begins` for 0 with a beginning of what it gives, `noted` for 0
 //!   with what it gives to its errors alone, and `alike` for the words that the first run of the case gives: its lines,
@@ -20,6 +20,7 @@ mod aldebaran;
 mod case;
 mod judge;
 mod judging;
+mod lines;
 mod told;
 
 use anyhow::Result;
@@ -79,7 +80,7 @@ fn run<R: Threads + Wait + Sync>(
             _ => words.push(word)?,
         }
     }
-    Ok(told_by(rt, alloc, &words, case.text.as_bytes()))
+    Ok(told_by(rt, alloc, &words, case.text))
 }
 
 /// Whether each run of the case with names read so gives what it says, or the words of the first run, where it says so.

@@ -1,6 +1,7 @@
 //! What a run gives.
 
 use crate::case::Case;
+use crate::lines::script_and_lines;
 use program::{OneText, Resources, Stack};
 use report::Buffer;
 use std::alloc::Global;
@@ -89,13 +90,15 @@ fn file_name(words: &[&str]) -> &'static str {
     }
 }
 
-/// What the program of these words gives, where the file `script` holds the text, or where they name standard input that.
+/// What the program of these words gives, where the file `script` holds the text, or where they name standard input that. Of
+/// a walk the lines stand behind the script.
 pub(crate) fn told_by<'w, R: Threads + Wait + Sync>(
     rt: &R,
     alloc: Global,
     words: &'w [&'w str],
-    text: &[u8],
+    text: &str,
 ) -> Told {
+    let (script, lines) = script_and_lines(text);
     let resources = Resources {
         command_line: alloc,
         alloc,
@@ -104,9 +107,10 @@ pub(crate) fn told_by<'w, R: Threads + Wait + Sync>(
     };
     let mut files = OneText {
         name: file_name(words),
-        text,
+        text: script.as_bytes(),
         alloc,
     };
+    let mut input = lines.as_bytes();
     let (mut out, mut err) = (Buffer::new(alloc), Buffer::new(alloc));
     let status = match words {
         ["explain", rest @ ..] => {
@@ -115,6 +119,9 @@ pub(crate) fn told_by<'w, R: Threads + Wait + Sync>(
         ["graph", rest @ ..] => {
             graph_program::run(&resources, rest, &mut files, &Unwatched, &mut out, &mut err)
         }
+        ["walk", rest @ ..] => walk_program::run(
+            &resources, rest, &mut files, &mut input, &mut out, &mut err,
+        ),
         [_, rest @ ..] => program::run(&resources, rest, &mut files, &mut out, &mut err),
         [] => 3,
     };

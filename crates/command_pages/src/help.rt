@@ -36,6 +36,12 @@ pub(crate) fn help_of<R: Threads + Wait + Sync>(rt: &R, alloc: Global, program: 
                 &resources, &words, &mut files, &Unwatched, &mut out, &mut err,
             );
         }
+        "walk" => {
+            let mut none: &[u8] = b"";
+            walk_program::run(
+                &resources, &words, &mut files, &mut none, &mut out, &mut err,
+            );
+        }
         _ => {}
     }
     out.bytes

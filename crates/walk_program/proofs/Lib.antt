@@ -1,0 +1,6 @@
+mod Beginnings
+mod ReadLines
+mod Requests
+mod Sides
+mod Steps
+mod Stopping
