@@ -9,7 +9,7 @@ ghost use Rattle.explain_program.specs.Giving.{AreTold, GoesOut, LeavesText};
 ghost use Rattle.explain_program.specs.Naming.{labels_of};
 
 use crate::reader::NamedScript;
-use crate::searching::answer;
+use crate::searching::answer_together;
 use crate::statuses::outcome_status;
 use crate::stop::Stop;
 use crate::telling::explanation_text;
@@ -120,7 +120,7 @@ fn explain_one<A: AllocHandle + Send + Sync, R: Threads + Wait + Sync, W: Watch 
     let assertions = named.script.assertions();
     let written = &assertions[place];
     let asked = settled_assertion(alloc, named.script.parts(), written)?;
-    let answer = answer(resources, watch, settings, &named.script, &asked, place + 1);
+    let answer = answer_together(resources, watch, settings, &named.script, &asked, place + 1);
     let question = Question {
         number: place + 1,
         written,

@@ -42,7 +42,11 @@ pub(crate) struct Answer<A: AllocHandle> {
 /// the caller alone where what came back from them was no search for the assertion: a right outcome but for a `not`, how
 /// large the search for it was and what it took, and the path that stopped it. So `explore` answers too. Where it is asked
 /// for, or someone watches, the watch is told how far the search is.
-pub(crate) fn answer<A: AllocHandle + Send + Sync, R: Threads + Wait + Sync, W: Watch + Sync>(
+pub(crate) fn answer_together<
+    A: AllocHandle + Send + Sync,
+    R: Threads + Wait + Sync,
+    W: Watch + Sync,
+>(
     resources: &Resources<'_, A, R>,
     watch: &W,
     settings: &Settings<'_>,

@@ -24,8 +24,8 @@ use Rattle.explain_program.specs.Telling.{IsToldAsAsked}
 use Rattle.explain_program.proofs.Giving.{alone_at, one_told, right_has_violation, went_out}
 use Rattle.explain_program.proofs.explaining.explain_one.Goals as goal
 
-pub answer-answer-requires : goal.answer-answer-requires
-answer-answer-requires g c =
+pub answer_together-answer-requires : goal.answer_together-answer-requires
+answer_together-answer-requires g c =
     let script = script_of c.args.named.now.script in
     let items = c.assertions-assertions.result.now in
     let whole = ap length c.assertions-assertions.ensures.value in
@@ -74,14 +74,14 @@ explanation_text-requires g c =
     let is : assertion_of c.in_ok-asked.asked ≡ settled_assertion script written = c.in_ok-asked.ensures ∙ ap (λ s. settled_assertion s written) c.parts.ensures.value in
     let asked_sides = subst (IsAssertionOf script) (sym is) (sides_stay script written sides) in
     let asked = assertion_of c.in_ok-asked.asked in
-    let found = outcome_of c.answer-answer.result.found in
+    let found = outcome_of c.answer_together-answer.result.found in
     let bounds = (request_of c.args.settings.now).bounds in
-    let shown = right_has_violation script asked bounds found c.answer-answer.ensures.right in
-    let Z : Bool → Type 0 = λ negated. IsSizeFor script asked bounds (as_written negated found) c.answer-answer.result.size in
-    let size = subst Z (ap (λ (a : pure.Assertion). a.negated) is) c.answer-answer.ensures.size in
+    let shown = right_has_violation script asked bounds found c.answer_together-answer.ensures.right in
+    let Z : Bool → Type 0 = λ negated. IsSizeFor script asked bounds (as_written negated found) c.answer_together-answer.result.size in
+    let size = subst Z (ap (λ (a : pure.Assertion). a.negated) is) c.answer_together-answer.ensures.size in
     elim (g.met.A.AllocHandle g.world.𝓛 g.world.𝓜 g.world.𝓡 ((λ s x. x), (λ x. x), (λ x. x), λ x. x)).small [
-      | inl e ↦ rw (e.0, e.1) (lit< tt, (asked_sides, (sides, (shown, (size, c.answer-answer.ensures.stop)))))
-      | inr e ↦ rw (e.0, e.1) (lit< tt, (asked_sides, (sides, (shown, (size, c.answer-answer.ensures.stop)))))
+      | inl e ↦ rw (e.0, e.1) (lit< tt, (asked_sides, (sides, (shown, (size, c.answer_together-answer.ensures.stop)))))
+      | inr e ↦ rw (e.0, e.1) (lit< tt, (asked_sides, (sides, (shown, (size, c.answer_together-answer.ensures.stop)))))
     ]
 
 pub returns-in-Ok-clause-told : goal.returns-in-Ok-clause-told
@@ -92,7 +92,7 @@ returns-in-Ok-clause-told g c =
     let place = c.args.place in
     let items = c.assertions-assertions.result.now in
     let a = assertion_of c.index-assertions-place.result in
-    let found = outcome_of c.answer-answer.result.found in
+    let found = outcome_of c.answer_together-answer.result.found in
     let o = as_written a.negated found in
     let whole = ap length c.assertions-assertions.ensures.value in
     let mapped = length-map items assertion_of in
@@ -108,7 +108,7 @@ returns-in-Ok-clause-told g c =
     let B : pure.Assertion → Type 0 = λ x. IsToldAsAsked request script labels (suc place) a x o bytes in
     let told = subst B is (subst N next c.in_ok-text.ensures) in
     let R : pure.Assertion → Type 0 = λ x. IsRightAsWritten script x request.bounds (as_written x.negated found) in
-    let right = subst R is (right_as_written script b request.bounds found c.answer-answer.ensures.right) in
+    let right = subst R is (right_as_written script b request.bounds found c.answer_together-answer.ensures.right) in
     let old = g.O.Sink.taken c.args.out.now in
     let new = g.O.Sink.taken c.push_all.new.sink in
     let failed = g.O.Sink.has_failed c.push_all.new.sink in
@@ -129,7 +129,7 @@ returns-clause-left g c =
     let place = c.args.place in
     let items = c.assertions-assertions.result.now in
     let a = assertion_of c.index-assertions-place.result in
-    let found = outcome_of c.answer-answer.result.found in
+    let found = outcome_of c.answer_together-answer.result.found in
     let o = as_written a.negated found in
     let whole = ap length c.assertions-assertions.ensures.value in
     let mapped = length-map items assertion_of in
@@ -145,7 +145,7 @@ returns-clause-left g c =
     let B : pure.Assertion → Type 0 = λ x. IsToldAsAsked request script labels (suc place) a x o bytes in
     let told = subst B is (subst N next c.in_ok-text.ensures) in
     let R : pure.Assertion → Type 0 = λ x. IsRightAsWritten script x request.bounds (as_written x.negated found) in
-    let right = subst R is (right_as_written script b request.bounds found c.answer-answer.ensures.right) in
+    let right = subst R is (right_as_written script b request.bounds found c.answer_together-answer.ensures.right) in
     let old = g.O.Sink.taken c.args.out.now in
     let new = g.O.Sink.taken c.push_all.new.sink in
     let failed = g.O.Sink.has_failed c.push_all.new.sink in

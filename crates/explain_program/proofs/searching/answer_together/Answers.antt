@@ -14,7 +14,7 @@ use Rattle.explain_program.specs.Sizes.{IsSizeFor}
 use Rattle.explain_program.specs.Stops.{stop_kept}
 use Rattle.explain_program.proofs.Sizes.{no_size, told_size}
 use Rattle.explain_program.proofs.Stops.{not_begun_stop, stop_for}
-use Rattle.explain_program.proofs.searching.answer.Goals as goal
+use Rattle.explain_program.proofs.searching.answer_together.Goals as goal
 
 pub ended_together-requires-send-A : goal.ended_together-requires-send-A
 ended_together-requires-send-A g c κs within = let h = c.type_bounds.send-A in search sendable depth 20
