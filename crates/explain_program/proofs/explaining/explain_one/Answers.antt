@@ -40,6 +40,7 @@ answer_together-answer-requires g c =
     let sa = c.type_bounds.send-A in
     let ya = c.type_bounds.sync-A in
     let sr = c.type_bounds.sync-R in
+    let sw = c.type_bounds.sync-W in
     let small = (g.met.A.AllocHandle g.world.𝓛 g.world.𝓜 g.world.𝓡 ((λ s x. x), (λ x. x), (λ x. x), λ x. x)).small in (
       search sendable depth 20,
       (
@@ -47,13 +48,16 @@ answer_together-answer-requires g c =
         (
           search sendable depth 20,
           (
-            c.type_bounds.frees-A-Allocator,
+            search sendable depth 20,
             (
-              elim small [
-                | inl e ↦ rw (e.0, e.1) (lit< tt)
-                | inr e ↦ rw (e.0, e.1) (lit< tt)
-              ],
-              asked_sides,
+              c.type_bounds.frees-A-Allocator,
+              (
+                elim small [
+                  | inl e ↦ rw (e.0, e.1) (lit< tt)
+                  | inr e ↦ rw (e.0, e.1) (lit< tt)
+                ],
+                asked_sides,
+              ),
             ),
           ),
         ),

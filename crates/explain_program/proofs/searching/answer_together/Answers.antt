@@ -69,15 +69,15 @@ returns-in-Ok-None-clause-size g c =
     let S : Bounds → Type 0 = λ asked. IsSizeFor (script_of c.args.script.now) a asked (as_written a.negated (outcome_of c.answer_alone.result.found)) c.answer_alone.result.size in
     subst S c.limits-limits.ensures c.answer_alone.ensures.size
 
-pub returns-in-Err-clause-right : goal.returns-in-Err-clause-right
-returns-in-Err-clause-right g c =
+pub returns-clause-right : goal.returns-clause-right
+returns-clause-right g c =
     let script = script_of c.args.script.now in
     let a = assertion_of c.args.assertion.now in
     let R : Bounds → Type 0 = λ asked. IsRight script a asked (Unknown (why_of c.in-Err.why)) in
     subst R c.limits-limits.ensures (not_begun_right script a (bounds_of c.limits-limits.result) (why_of c.in-Err.why) c.in-Err.ensures.why)
 
-pub returns-in-Err-clause-size : goal.returns-in-Err-clause-size
-returns-in-Err-clause-size g c =
+pub returns-clause-size : goal.returns-clause-size
+returns-clause-size g c =
     let script = script_of c.args.script.now in
     let a = assertion_of c.args.assertion.now in
     let S : Bounds → Type 0 = λ asked. IsSizeFor script a asked (as_written a.negated (Unknown (why_of c.in-Err.why))) None in
@@ -91,8 +91,8 @@ returns-in-Ok-Some-clause-stop g c =
     let same = of_some (IsFor script a bounds) c.in-Ok-Some.field-0 c.in-Ok-Some.store c.in-Ok-Some.field-0-is c.in-Ok-Some.ensures.same in
     stop_for script a bounds c.in-Ok-Some.store (outcome_of c.concluded.result.found) (stop_kept c.concluded.result.stop) same c.concluded.ensures.stop
 
-pub returns-in-Err-clause-stop : goal.returns-in-Err-clause-stop
-returns-in-Err-clause-stop g c =
+pub returns-clause-stop : goal.returns-clause-stop
+returns-clause-stop g c =
     not_begun_stop (script_of c.args.script.now) (assertion_of c.args.assertion.now) (bounds_of c.limits-limits.result) (why_of c.in-Err.why) c.in-Err.ensures.why
 
 pub drop-store-inside-requires-in-Ok-Some-15-room-T-Destruct : goal.drop-store-inside-requires-in-Ok-Some-15-room-T-Destruct
