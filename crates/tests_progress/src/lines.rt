@@ -6,7 +6,7 @@ use std::test::Fail;
 
 const HOLDS: &str = "1 holds  assert a -> STOP [T= a -> STOP\n";
 
-const GRAPH: &str = "des (0,1,2)\n(0,\"a\",1)\n";
+const GRAPH: &str = "des (0, 1, 2)\n(0, \"a\", 1)\n";
 
 // A run: its words, the milliseconds of each look at the clock, whether someone watches, what it tells, and the lines that
 // the watch takes.
@@ -73,7 +73,7 @@ const ROWS: [Row; 6] = [
 #[test]
 fn watches_are_told_how_far_a_run_is(rt: HostRuntime) -> Result<(), Fail> {
     for row in &ROWS {
-        let watch = Ticking::new(row.step, row.is_watched, row.lines);
+        let watch = Ticking::new(row.step, u64::MAX, row.is_watched, row.lines);
         assert!(rt;
             is_told(rt.alloc(), &rt, &watch, row.words, 0, row.told) && watch.is_told(),
             "at {:?}",

@@ -1,13 +1,15 @@
-//! A watch whose clock goes on at each look.
+//! A watch whose clock goes on at each look, and may stand still at last.
 
 use std::sync::atomic::Ordering::SeqCst;
 use std::sync::atomic::{AtomicBool, AtomicU64, AtomicUsize};
 use watch::Watch;
 
-/// A watch whose clock goes on by a step at each look, and that compares each line it takes with the next of a list.
+/// A watch whose clock goes on by a step at each look until it stands still, and that compares each line it takes with the
+/// next of a list.
 #[derive(Drop)]
 pub(crate) struct Ticking<'l> {
     step: u64,
+    last: u64,
     is_watched: bool,
     lines: &'l [&'l str],
     time: AtomicU64,
@@ -16,10 +18,11 @@ pub(crate) struct Ticking<'l> {
 }
 
 impl<'l> Ticking<'l> {
-    /// That with a step of so many milliseconds, and with these lines.
-    pub(crate) fn new(step: u64, is_watched: bool, lines: &'l [&'l str]) -> Ticking<'l> {
+    /// That with a step of so many milliseconds up to the last one, and with these lines.
+    pub(crate) fn new(step: u64, last: u64, is_watched: bool, lines: &'l [&'l str]) -> Ticking<'l> {
         Ticking {
             step,
+            last,
             is_watched,
             lines,
             time: AtomicU64::new(0),
@@ -36,7 +39,7 @@ impl<'l> Ticking<'l> {
 
 impl Watch for Ticking<'_> {
     fn elapsed(&self) -> Option<u64> {
-        Some(self.time.fetch_add(self.step, SeqCst))
+        Some(self.time.fetch_add(self.step, SeqCst).min(self.last))
     }
 
     fn most_memory(&self) -> Option<u64> {
