@@ -13,7 +13,7 @@ const MANY: u64 = 100_000;
 /// For how many requests, each of which is refused in a run of its own, the program says so and has given nothing but a
 /// beginning. Of other requests it needs none, and gives all.
 fn refusals_of(rt: &impl Abort, alloc: Global, program: Program) -> Result<u64, Fail> {
-    let mut refusals = 0;
+    let mut refusals = 0u64;
     for request in 0..MANY {
         let memory = RefusesOnce::new(alloc, request);
         let mut taken = [0u8; 256];
@@ -31,7 +31,7 @@ fn refusals_of(rt: &impl Abort, alloc: Global, program: Program) -> Result<u64, 
                 memory.has_refused() && is_left(program, &taken),
                 "{program:?} at {request}"
             );
-            refusals += 1;
+            refusals = refusals.saturating_add(1);
         } else {
             assert!(rt;
                 told.is(0, "") && is_whole(program, &taken),
