@@ -44,7 +44,8 @@ static ROWS: [(&str, &str); 13] = [
     ),
     (
         "P =\n",
-        "script.csp:2:1: S03: the text ends within a declaration\n    \n    ^\nnote: the last token is the `=` at 1:3\nhelp: behind `=` stands a process, and behind that of a datatype or nametype its values\n",
+        "script.csp:2:1: S03: the text ends within a declaration\n    \n    ^\n\
+        note: the last token is the `=` at 1:3\nhelp: behind `=` stands a process, and behind that of a datatype or nametype its values\n",
     ),
     (
         "channel\n\n\n  ",
@@ -52,7 +53,9 @@ static ROWS: [(&str, &str); 13] = [
     ),
     (
         "-- 45678901234567890123456789012345678901234567890123456789012345678901234567890\nP = aaaaaaaaaaaaaaaaaaaabbbbbbbbbbbbbbbbbbbbccccccccccccccccccccdddddddddd $ eeeeeeeeeeeeeeeeeeee",
-        "script.csp:2:76: L01: no token begins with this character\n    aaaaaaaaabbbbbbbbbbbbbbbbbbbbccccccccccccccccccccdddddddddd $ eeeeeeeeeeeeee\n                                                                ^\nhelp: there is no `$`: write `|~| x:S @ c!x -> P` for `c$x:S -> P`\n",
+        "script.csp:2:76: L01: no token begins with this character\n    aaaaaaaaa\
+        bbbbbbbbbbbbbbbbbbbbccccccccccccccccccccdddddddddd $ eeeeeeeeeeeeee\n                                                                ^\n\
+        help: there is no `$`: write `|~| x:S @ c!x -> P` for `c$x:S -> P`\n",
     ),
     ("", "fine\n"),
 ];

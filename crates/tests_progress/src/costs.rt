@@ -12,7 +12,8 @@ const ROWS: [(&[&str], &str); 3] = [
     ),
     (
         &["explain", "--count", "--format", "json", "script", "1"],
-        "{\"number\":1,\"line\":2,\"column\":1,\"assertion\":\"a -> STOP [T= a -> STOP\",\"answer\":\"holds\",\"pairs\":2,\"nodes\":2,\"milliseconds\":1532,\"kilobytes\":216064,\"words\":\"1 holds  assert a -> STOP [T= a -> STOP\\n\"}\n",
+        "{\"number\":1,\"line\":2,\"column\":1,\"assertion\":\"a -> STOP [T= a -> STOP\",\"answer\":\"holds\",\
+        \"pairs\":2,\"nodes\":2,\"milliseconds\":1532,\"kilobytes\":216064,\"words\":\"1 holds  assert a -> STOP [T= a -> STOP\\n\"}\n",
     ),
     (
         &["explain", "script", "1"],
