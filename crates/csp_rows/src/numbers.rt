@@ -16,7 +16,7 @@ pub enum ActionId {
 }
 
 /// The number of a part.
-#[derive(Clone, Copy, PartialEq, Eq)]
+#[derive(Clone, Copy, Default, PartialEq, Eq)]
 pub struct PartId(pub u32);
 
 impl PartId {
