@@ -13,3 +13,4 @@ pub mod Judged
 pub mod Bits
 pub mod Sending
 pub mod Loose
+pub mod Bare

@@ -1,6 +1,6 @@
 //! Processes as rows of numbers.
 
-ghost use Rattle.std.specs.Prelude.{◌≡◌, ◌↔◌, ◌<◌, ◌+◌, ◌≤◌, Bool, Contains, IsFalse, List, [], ◌∷◌, max, length, map, Some, ℕ};
+ghost use Rattle.std.specs.Prelude.{◌≡◌, ◌↔◌, ◌<◌, ◌+◌, ◌≤◌, Bool, Contains, IsFalse, IsTrue, List, [], ◌∷◌, max, length, map, Some, ℕ};
 ghost use Rattle.std.specs.List.{AllByRecursion, sum_by};
 ghost use Rattle.theory_syntax.specs.Process.{Process, Script};
 ghost use Rattle.theory_syntax.specs.Value.{Action, Tau, Tick};
@@ -10,6 +10,7 @@ ghost use Rattle.theory_semantics.specs.Laws.Statements.{StepsAre};
 ghost use Rattle.theory_semantics.specs.Meaning.Stepping.{Steps};
 ghost use Rattle.theory_semantics.specs.Meaning.Transitions.{IsLarge, IsNotStuck, RuleStep};
 ghost use Rattle.theory_semantics.specs.Meaning.Limits.{depth, fits, size};
+ghost use Rattle.theory_spelling.specs.Spellable.{IsSpellable};
 ghost use Rattle.theory_spelling.specs.Spelling.{spelling};
 ghost use Rattle.theory_shapes.specs.Measures.{deepest, levels, own_depth, own_size};
 ghost use Rattle.theory_shapes.specs.Pieces.{in_turn, part_run, pieces};
@@ -17,6 +18,7 @@ ghost use Rattle.theory_rows.specs.Fired.{IsRowFired, TargetsFit};
 ghost use Rattle.theory_shapes.specs.Combining.{StepsTo};
 ghost use Rattle.theory_shapes.specs.Moves.{Move, changes_from, moved_from, moves_from};
 ghost use Rattle.theory_shapes.specs.ShapeSteps.{AreKnown};
+ghost use Rattle.theory_rows.specs.Bare.{bare};
 ghost use Rattle.theory_rows.specs.Tables.{AreAmong, AreTables, Extends, IsRowIn, IsRowOf, Row, Tables, parts_in, process_of, shape_in};
 ghost use Rattle.theory_rows.specs.Grafts.{Graft, grafts_from, grafts_of, parts_by, parts_to, shape_by, shape_to};
 ghost use Rattle.theory_rows.specs.GraftSteps.{graft_steps, led_to, steps_by};
@@ -47,6 +49,16 @@ pub fn processes_are_rows()
         → process_of t r ≡ process_of t q → r ≡ q }
     ensures each { (t : Tables) (p : Process) → Contains t.shapes (shape_of p)
         → AllByRecursion (λ q. Contains t.parts q) (parts_of p) → (r : Row) × IsRowOf t p r }
+{}
+
+/// A shape is known by one term, which has `STOP` in each hole. It is within the limits where a term of the shape is, and
+/// has a spelling of its own where such a term has one.
+pub fn shapes_are_terms()
+    ensures shape { (s : Shape) → shape_of (bare s) ≡ s }
+    ensures one { (s q : Shape) → bare s ≡ bare q → s ≡ q }
+    ensures fits { (p : Process) → IsTrue (fits p) → IsTrue (fits (bare (shape_of p))) }
+    ensures spellable { (p : Process) → IsSpellable p → IsSpellable (bare (shape_of p)) }
+    ensures spelled { (s : Shape) → spelling (bare s) ≡ in_turn 0 (pieces s) (part_run []) }
 {}
 
 /// What a move leads to is one shape with parts that have no operator that stays at their heads: those that come in are
