@@ -1,0 +1,3 @@
+pub mod ExactSteps
+pub mod ChangedRows
+pub mod FirstBytes

@@ -1,0 +1,16 @@
+pub mod Tables
+pub mod Grafts
+pub mod GraftSteps
+pub mod Targets
+pub mod Growing
+pub mod Keys
+pub mod InPlace
+pub mod Examples
+pub mod Fired
+pub mod Arranged
+pub mod Enough
+pub mod Judged
+pub mod Bits
+pub mod Sending
+pub mod Loose
+pub mod Bare
