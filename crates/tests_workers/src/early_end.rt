@@ -3,7 +3,7 @@
 ghost use Rattle.std.specs.Prelude.{◌≡◌, IsTrue};
 ghost use Rattle.theory_search.specs.Terms.{AreTermsOf};
 ghost use Rattle.csp_term.specs.Script.{script_of};
-ghost use Rattle.pair_store.specs.Level.{level_of};
+ghost use Rattle.numbered_rows.specs.Levels.{level_of};
 
 use crate::levels::unfinished;
 use crate::posts::Refusing;
@@ -13,7 +13,8 @@ use crate::seventy_rows::{at_second_level, limits, seen_alone};
 use claim_board::Cause;
 use csp_term::Script;
 use explore::{Locked, finish};
-use pair_store::{Closed, Level, PutFault, Store};
+use numbered_rows::Level;
+use pair_store::{Closed, PutFault, Store};
 use std::alloc::Global;
 use std::sync::{Mutex, Wait};
 use std::test::Fail;

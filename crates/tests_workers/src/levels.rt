@@ -3,10 +3,11 @@
 ghost use Rattle.std.specs.Prelude.{◌≡◌, IfOk};
 ghost use Rattle.theory_search.specs.Terms.{AreTermsOf};
 ghost use Rattle.csp_term.specs.Script.{script_of};
-ghost use Rattle.pair_store.specs.Level.{level_of};
+ghost use Rattle.numbered_rows.specs.Levels.{level_of};
 
 use csp_term::{AllocHandle, Memory, Script};
-use pair_store::{Level, Store};
+use numbered_rows::Level;
+use pair_store::Store;
 use std::alloc::{AllocError, Global};
 
 /// Copies of the rows of the level that are not finished. Their terms are terms of the script.

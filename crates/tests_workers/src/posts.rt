@@ -58,10 +58,10 @@ impl<'b, 'l> Post<Batch<'b, Global>> for Recorder<'l> {
     fn put(&self, batch: Batch<'b, Global>) -> Result<(), PutFault> {
         let put = self.puts.fetch_add(1, SeqCst);
         if let Some(length) = self.lengths.get(put as usize) {
-            length.store(batch.pairs().len() as u64, SeqCst);
+            length.store(batch.rows().len() as u64, SeqCst);
         }
-        for pair in batch.pairs() {
-            self.record(pair.place);
+        for entry in batch.rows() {
+            self.record(entry.row.place);
         }
         Ok(())
     }

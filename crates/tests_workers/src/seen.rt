@@ -1,8 +1,8 @@
 //! What can be seen of a store.
 
 use csp_term::AllocHandle;
-use normal_form::NodeId;
-use pair_store::{Level, Store, Verdict};
+use numbered_rows::Level;
+use pair_store::{Store, Verdict};
 use std::alloc::{AllocError, Global};
 use std::test::Fail;
 
@@ -12,7 +12,7 @@ use std::test::Fail;
 pub(crate) struct Seen {
     number: usize,
     verdict: Verdict,
-    rows: Vec<(usize, NodeId), Global>,
+    rows: Vec<(usize, usize), Global>,
 }
 
 impl Seen {
@@ -50,7 +50,7 @@ impl Seen {
 fn rows_of<A: AllocHandle>(
     alloc: Global,
     level: &Level<A>,
-) -> Result<Vec<(usize, NodeId), Global>, AllocError> {
+) -> Result<Vec<(usize, usize), Global>, AllocError> {
     let mut rows = Vec::new(alloc);
     for row in &level.rows {
         rows.push((row.place, row.node))?;
