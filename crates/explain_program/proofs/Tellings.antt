@@ -21,7 +21,7 @@ use Rattle.program.specs.Answering.{IsRightRead}
 use Rattle.program.specs.Running.{status_of}
 use Rattle.explain_program.specs.Asking.{Request, one_at, style_for}
 use Rattle.explain_program.specs.Giving.{AreTold, GoesOut}
-use Rattle.explain_program.specs.Naming.{Labels}
+use Rattle.named_scripts.specs.Naming.{Labels}
 use Rattle.explain_program.specs.Sizes.{IsSizeFor}
 use Rattle.explain_program.specs.Telling.{IsToldAsAsked, IsToldBy, IsToldIn, TellsEach, answered, size_asked, sizes_asked}
 use Rattle.explain_program.specs.declared.search_size.SearchSize.{SearchSize}

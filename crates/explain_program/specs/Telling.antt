@@ -15,7 +15,7 @@ use Rattle.explain_settings.specs.declared.format.Format.TheVariants as formats
 use Rattle.explanation.specs.Running.{HasViolation}
 use Rattle.explain_program.specs.Asking.{Request, style_for}
 use Rattle.explain_program.specs.Costs.{cost_text}
-use Rattle.explain_program.specs.Naming.{Labels}
+use Rattle.named_scripts.specs.Naming.{Labels}
 use Rattle.explain_program.specs.Sizes.{IsSizeFor}
 use Rattle.explain_program.specs.declared.search_size.SearchSize.{SearchSize}
 

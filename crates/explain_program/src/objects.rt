@@ -9,10 +9,10 @@ ghost use Rattle.csp_lex.specs.Places.{place_of};
 ghost use Rattle.csp_term.specs.Script.{assertion_of};
 ghost use Rattle.verdict.specs.Outcome.{outcome_of};
 ghost use Rattle.explanation_objects.specs.Answers.{sizes_told};
-ghost use Rattle.explain_program.specs.Naming.{labels_of};
+ghost use Rattle.named_scripts.specs.Naming.{labels_of};
 ghost use Rattle.explain_program.specs.Telling.{answered, place_at, sizes_asked, sizes_of};
 
-use crate::reader::NamedScript;
+use named_scripts::NamedScript;
 use crate::search_size::SearchSize;
 use crate::searching::Answer;
 use csp_lex::Place;

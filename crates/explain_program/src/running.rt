@@ -9,7 +9,7 @@ ghost use Rattle.explain_program.specs.Explaining.{IsExplained};
 
 use crate::explaining::explain_script;
 use crate::notes::note_none;
-use crate::reader::read;
+use named_scripts::read;
 use crate::refusals::{refuse_text, refuse_unread};
 use crate::stop::{Stop, report_stop};
 use csp_term::AllocHandle;

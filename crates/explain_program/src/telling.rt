@@ -14,12 +14,12 @@ ghost use Rattle.verdict.specs.Outcome.{outcome_of};
 ghost use Rattle.explain_program.specs.Asking.{bounds_asked, request_of, style_for, taus_told, telling_for, width_of_number};
 ghost use Rattle.explain_program.specs.Sizes.{IsSizeFor};
 ghost use Rattle.explain_program.specs.Stops.{stop_kept};
-ghost use Rattle.explain_program.specs.Naming.{labels_of};
+ghost use Rattle.named_scripts.specs.Naming.{labels_of};
 ghost use Rattle.explain_program.specs.Telling.{IsToldAsAsked, size_asked};
 
 use crate::counting::with_size;
 use crate::objects::object_line;
-use crate::reader::NamedScript;
+use named_scripts::NamedScript;
 use crate::searching::Answer;
 use counterexample::{Style, Telling, Width};
 use csp_print::Names;

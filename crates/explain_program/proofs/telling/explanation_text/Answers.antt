@@ -11,7 +11,7 @@ use Rattle.csp_term.specs.Script.{assertion_of, script_of}
 use Rattle.explanation.specs.Running.{HasStop}
 use Rattle.verdict.specs.Outcome.{outcome_of}
 use Rattle.explain_program.specs.Asking.{request_of}
-use Rattle.explain_program.specs.Naming.{labels_of}
+use Rattle.named_scripts.specs.Naming.{labels_of}
 use Rattle.explain_program.specs.Telling.{answered, sizes_asked}
 use Rattle.explain_program.proofs.Tellings.{told_by_object, told_in_words}
 use Rattle.explain_program.proofs.telling.explanation_text.Goals as goal
