@@ -12,7 +12,7 @@ pub struct Tally {
 
 impl Tally {
     /// That of no term.
-    pub(crate) fn new() -> Tally
+    pub fn new() -> Tally
         ensures { (result.trees ≡ 0) × (result.whole ≡ 0) }
     {
         Tally { trees: 0, whole: 0 }
@@ -33,7 +33,7 @@ impl Tally {
     }
 
     /// One more that was made as a tree.
-    pub(crate) fn add_tree(&mut self)
+    pub fn add_tree(&mut self)
         ensures trees { self.old.trees < 2 ^ 64 - 1 → self.new.trees ≡ suc self.old.trees }
         ensures whole { self.new.whole ≡ self.old.whole }
     {
@@ -41,7 +41,7 @@ impl Tally {
     }
 
     /// One more that was fired as a whole.
-    pub(crate) fn add_whole(&mut self)
+    pub fn add_whole(&mut self)
         ensures whole { self.old.whole < 2 ^ 64 - 1 → self.new.whole ≡ suc self.old.whole }
         ensures trees { self.new.trees ≡ self.old.trees }
     {
