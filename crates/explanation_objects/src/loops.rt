@@ -1,0 +1,102 @@
+//! Loops, as fields.
+
+ghost use Rattle.std.specs.Prelude.{◌≡◌, ◌<◌, ◌++◌, length, map, option_map, slice_get, take, drop, Some};
+ghost use Rattle.theory_objects.specs.Accounts.{loop_fields, step_fields, steps_fields, taus_of};
+ghost use Rattle.csp_term.specs.Term.{process_of};
+ghost use Rattle.csp_print.specs.Names.{names_of};
+ghost use Rattle.counterexample.specs.Counterexample.{loop_of};
+ghost use Rattle.explanation_objects.specs.Putting.{Puts, PutsTokens, objects_tokens};
+ghost use Rattle.explanation_objects.specs.Steps.{term_found};
+
+use crate::fields::put_number;
+use crate::steps::put_step;
+use counterexample::Looping;
+use csp_print::Names;
+use csp_term::{Action, AllocHandle, Term};
+use json::Writer;
+use std::alloc::AllocError;
+
+/// Puts the loop, if there is one.
+pub(crate) fn put_looping<A: AllocHandle>(
+    alloc: A,
+    names: &Names<'_, A>,
+    looping: &Option<Looping<A>>,
+    writer: &mut Writer<A>,
+) -> Result<(), AllocError>
+    ensures { Puts result writer.old writer.new
+        (loop_fields (names_of names.now) (option_map loop_of looping.now)) }
+{
+    match looping {
+        Some(looping) => put_loop(alloc, names, looping, writer),
+        None => Ok(()),
+    }
+}
+
+// The place of the state that the last tau leads back to, and the taus.
+fn put_loop<A: AllocHandle>(
+    alloc: A,
+    names: &Names<'_, A>,
+    looping: &Looping<A>,
+    writer: &mut Writer<A>,
+) -> Result<(), AllocError>
+    ensures { Puts result writer.old writer.new
+        (loop_fields (names_of names.now) (Some (loop_of looping.now))) }
+{
+    writer.key("loop")?;
+    writer.begin_object()?;
+    put_number("back", looping.back as u64, writer)?;
+    put_taus(alloc, names, looping, writer)?;
+    writer.end_object()
+}
+
+fn put_taus<A: AllocHandle>(
+    alloc: A,
+    names: &Names<'_, A>,
+    looping: &Looping<A>,
+    writer: &mut Writer<A>,
+) -> Result<(), AllocError>
+    ensures { Puts result writer.old writer.new
+        (steps_fields (names_of names.now) (taus_of (loop_of looping.now))) }
+{
+    writer.key("steps")?;
+    writer.begin_array()?;
+    put_each_tau(alloc, names, looping, writer)?;
+    writer.end_array()
+}
+
+fn put_each_tau<A: AllocHandle>(
+    alloc: A,
+    names: &Names<'_, A>,
+    looping: &Looping<A>,
+    writer: &mut Writer<A>,
+) -> Result<(), AllocError>
+    ensures { let taus = taus_of (loop_of looping.now) in
+        PutsTokens result writer.old writer.new
+        (objects_tokens (map (step_fields (names_of names.now)) taus)) }
+{
+    let tau = Action::Tau;
+    for place in 0..looping.states.len() {
+        let next = state_behind(&looping.states, place, looping.back);
+        let Some(state) = next else {
+            return Ok(());
+        };
+        let found = looping.origins.get(place);
+        let Some(origin) = found else {
+            return Ok(());
+        };
+        put_step(alloc, names, &tau, state, origin, writer)?;
+    }
+    Ok(())
+}
+
+// The state that the tau from the one at the place leads to: the next one, or behind the last one that at `back`.
+fn state_behind<A: AllocHandle>(states: &[Term<A>], place: usize, back: usize) -> Option<&Term<A>>
+    requires { place < length states.now }
+    ensures { let all = map process_of states.now in
+        term_found result ≡ slice_get (drop 1 all ++ take 1 (drop back all)) place }
+{
+    match states.get(place + 1) {
+        Some(next) => Some(next),
+        None => states.get(back),
+    }
+}
