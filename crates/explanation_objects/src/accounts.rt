@@ -1,8 +1,8 @@
 //! Accounts, as fields.
 
-ghost use Rattle.std.specs.Prelude.{◌∷◌, codes, map};
+ghost use Rattle.std.specs.Prelude.{◌∷◌, codes, map, option_map};
 ghost use Rattle.theory_explanation.specs.Accounts as pure;
-ghost use Rattle.theory_objects.specs.Accounts.{account_fields, run_fields, side_fields};
+ghost use Rattle.theory_objects.specs.Accounts.{account_fields, run_fields, side_fields, stuck_fields};
 ghost use Rattle.theory_objects.specs.Fields.{text_field};
 ghost use Rattle.csp_value.specs.Action.{action_of};
 ghost use Rattle.csp_term.specs.Term.{process_of};
@@ -39,8 +39,7 @@ pub(crate) fn put_account<A: AllocHandle>(
         Account::Bare => Ok(()),
         Account::Shown(shown, told) => put_counterexample(alloc, names, shown, told, writer),
         Account::WideEnd => Ok(()),
-        Account::Stuck(_, Some(run)) => put_side(alloc, names, run, writer),
-        Account::Stuck(_, None) => Ok(()),
+        Account::Stuck(_, run) => put_stuck(alloc, names, run, writer),
     }
 }
 
@@ -66,6 +65,22 @@ fn put_counterexample<A: AllocHandle>(
     )?;
     put_looping(alloc, names, &told.looping, writer)?;
     put_waiting(alloc, names, &told.waiting, writer)
+}
+
+// The run of a side, if there is one.
+fn put_stuck<A: AllocHandle>(
+    alloc: A,
+    names: &Names<'_, A>,
+    run: &Option<SideRun<A>>,
+    writer: &mut Writer<A>,
+) -> Result<(), AllocError>
+    ensures { Puts result writer.old writer.new
+        (stuck_fields (names_of names.now) (option_map side_run_of run.now)) }
+{
+    match run {
+        Some(run) => put_side(alloc, names, run, writer),
+        None => Ok(()),
+    }
 }
 
 // The side, and its run.

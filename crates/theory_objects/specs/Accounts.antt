@@ -113,9 +113,12 @@ abbrev pub side_fields : Names → SideRun → List Field
 side_fields names (OfImplementation path states origins) = text_field (codes "side") (codes "implementation") ∷ run_fields names path states origins
 side_fields names (OfSpecification path states origins) = text_field (codes "side") (codes "specification") ∷ run_fields names path states origins
 
+abbrev pub stuck_fields : Names → Option SideRun → List Field
+stuck_fields names (Some run) = side_fields names run
+stuck_fields names None = []
+
 abbrev pub account_fields : Names → Account → List Field
 account_fields names Bare = []
 account_fields names (Shown v c) = run_fields names v.path c.states c.origins ++ (loop_fields names c.loop ++ waiting_fields names c.waiting)
 account_fields names WideEnd = []
-account_fields names (Stuck h (Some run)) = side_fields names run
-account_fields names (Stuck h None) = []
+account_fields names (Stuck h run) = stuck_fields names run
