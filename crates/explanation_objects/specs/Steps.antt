@@ -1,7 +1,8 @@
 -- Steps, as those of the code stand for them.
-use Rattle.std.specs.Prelude.{List, Option, map, option_map}
+use Rattle.std.specs.Prelude.{ℕ, List, Option, map, option_map}
 use Rattle.std.specs.Borrow.{Bor}
 use Rattle.theory_syntax.specs.Process.{Process}
+use Rattle.theory_explanation.specs.Counterexamples.{Loop}
 use Rattle.theory_objects.specs.Accounts.{Step, steps_to}
 use Rattle.csp_value.specs.Action.{action_of}
 use Rattle.csp_value.specs.declared.action.Action.{Action}
@@ -16,6 +17,10 @@ step_of x t o = record { action = action_of x; state = process_of t; origin = op
 
 abbrev pub steps_of : {A : Type 0} → List (Action A) → List (Term A) → List (Option (Origin A)) → List Step
 steps_of path states origins = steps_to (map action_of path) (map process_of states) (origins_listed origins)
+
+-- the loop through these states
+abbrev pub loop_through : {A : Type 0} → List (Term A) → ℕ → List (Option (Origin A)) → Loop
+loop_through states back origins = record { states = map process_of states; back = back; origins = origins_listed origins }
 
 -- a state that is lent, if there is one
 abbrev pub term_found : {A : Type 0} → Option (Bor (Term A)) → Option Process

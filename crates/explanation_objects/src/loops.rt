@@ -6,11 +6,12 @@ ghost use Rattle.csp_term.specs.Term.{process_of};
 ghost use Rattle.csp_print.specs.Names.{names_of};
 ghost use Rattle.counterexample.specs.Counterexample.{loop_of};
 ghost use Rattle.explanation_objects.specs.Putting.{Puts, PutsTokens, objects_tokens};
-ghost use Rattle.explanation_objects.specs.Steps.{term_found};
+ghost use Rattle.explanation_objects.specs.Steps.{loop_through, term_found};
 
 use crate::fields::put_number;
 use crate::steps::put_step;
 use counterexample::Looping;
+use csp_moves::Origin;
 use csp_print::Names;
 use csp_term::{Action, AllocHandle, Term};
 use json::Writer;
@@ -60,27 +61,34 @@ fn put_taus<A: AllocHandle>(
 {
     writer.key("steps")?;
     writer.begin_array()?;
-    put_each_tau(alloc, names, looping, writer)?;
+    let Looping {
+        states,
+        back,
+        origins,
+    } = looping;
+    put_each_tau(alloc, names, states, *back, origins, writer)?;
     writer.end_array()
 }
 
 fn put_each_tau<A: AllocHandle>(
     alloc: A,
     names: &Names<'_, A>,
-    looping: &Looping<A>,
+    states: &[Term<A>],
+    back: usize,
+    origins: &[Option<Origin<A>>],
     writer: &mut Writer<A>,
 ) -> Result<(), AllocError>
-    ensures { let taus = taus_of (loop_of looping.now) in
+    ensures { let taus = taus_of (loop_through states.now back origins.now) in
         PutsTokens result writer.old writer.new
         (objects_tokens (map (step_fields (names_of names.now)) taus)) }
 {
     let tau = Action::Tau;
-    for place in 0..looping.states.len() {
-        let next = state_behind(&looping.states, place, looping.back);
+    for place in 0..states.len() {
+        let next = state_behind(states, place, back);
         let Some(state) = next else {
             return Ok(());
         };
-        let found = looping.origins.get(place);
+        let found = origins.get(place);
         let Some(origin) = found else {
             return Ok(());
         };
@@ -97,6 +105,16 @@ fn state_behind<A: AllocHandle>(states: &[Term<A>], place: usize, back: usize) -
 {
     match states.get(place + 1) {
         Some(next) => Some(next),
-        None => states.get(back),
+        None => state_at(states, back),
+    }
+}
+
+// The state at the place, if there is one.
+fn state_at<A: AllocHandle>(states: &[Term<A>], place: usize) -> Option<&Term<A>>
+    ensures { term_found result ≡ slice_get (map process_of states.now) place }
+{
+    match states.get(place) {
+        Some(state) => Some(state),
+        None => None,
     }
 }

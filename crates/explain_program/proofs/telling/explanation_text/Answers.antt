@@ -9,6 +9,7 @@ use Rattle.theory_explanation.specs.Telling.{IsAccount, IsTold}
 use Rattle.theory_objects.specs.Answers.{answer_fields}
 use Rattle.theory_objects.specs.Fields.{object_line}
 use Rattle.csp_term.specs.Script.{assertion_of, script_of}
+use Rattle.counterexample.specs.Styles.{style_of}
 use Rattle.explanation.specs.Accounts.{account_of}
 use Rattle.explanation.specs.Running.{HasStop}
 use Rattle.verdict.specs.Outcome.{outcome_of}
@@ -50,7 +51,7 @@ returns-in-Text g c =
     let account = account_of c.in_ok-account.account in
     let words = string_bytes c.in_ok-text.text in
     let W : Style → Type 0 = λ style. IsTold style script n w a o words in
-    let told = (found, account, refl, c.in_ok-account.ensures, c.in_ok-text.ensures) in
+    let told : IsTold (style_of c.style-style.result) script n w a o words = (found, account, refl, c.in_ok-account.ensures, c.in_ok-text.ensures) in
     told_in_words (request_of c.args.settings.now) script (labels_of c.args.named.now) n w a o c.in_words.result words c.args.answer.now.size c.in-Text.is
     (subst W c.style-style.ensures told) c.requires.size c.in_words.ensures
 

@@ -19,4 +19,11 @@ returns-in-Some g c =
     sym (next_at (map process_of states) c.args.back i low ∙ there)
 
 pub returns-in-None : goal.returns-in-None
-returns-in-None g c = ?
+returns-in-None g c =
+    let states = c.args.states.now in
+    let i = c.args.place in
+    let past = c.in-None.ensures.lookup.3 in
+    let low = c.requires in
+    let long = length-map states process_of in
+    let end : i + 1 ≡ length (map process_of states) = omega (arith, past, low, long) in
+    c.state_at.ensures ∙ sym (back_at (map process_of states) c.args.back i end)
