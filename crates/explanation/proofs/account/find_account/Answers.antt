@@ -1,5 +1,5 @@
 -- An account by the outcome.
-use Rattle.std.proofs.Common.{IfOk, sym, subst, refl, inl, inr, lit<}
+use Rattle.std.proofs.Common.{IfOk, sym, subst, refl, inl, inr, lit<, lit≤}
 use Rattle.theory_semantics.specs.Meaning.Violations.{IsViolation}
 use Rattle.theory_runs.proofs.Visiting.{has_end}
 use Rattle.theory_explanation.specs.Telling.{IsAccount, TellsViolation}
@@ -27,10 +27,9 @@ violation_account-requires g c =
     let V : Outcome g.row.A.Denot → Type 0 = λ o. HasViolation script a (outcome_of o) in
     let violation : IsViolation script a (violation_of c.in-Fails.shown) = subst V c.in-Fails.is c.requires.shown in
     let run = has_end script a (violation_of c.in-Fails.shown) violation in
-    elim g.met.A.AllocHandle.small [
-      | inl e ↦ rw (e.0, e.1) (lit< tt, (c.requires.terms, (c.requires.written, run)))
-      | inr e ↦ rw (e.0, e.1) (lit< tt, (c.requires.terms, (c.requires.written, run)))
-    ]
+    let terms = c.requires.terms in
+    let written = c.requires.written in
+    elim g.met.A.AllocHandle.small [ inl e ↦ rw (e.0, e.1) (search (lit≤, lit<, terms, written, run)) | inr e ↦ rw (e.0, e.1) (search (lit≤, lit<, terms, written, run)) ]
 
 pub returns-in-Fails : goal.returns-in-Fails
 returns-in-Fails g c =

@@ -46,3 +46,15 @@ returns-in-None g c =
     let F : Option (SideRun g.row.A.Denot) → Type 0 = λ found. IsFound script a h c.args.style.now.reach (option_map side_run_of found) in
     let is : IsFound script a h c.args.style.now.reach (Some run) = subst F c.in-Some.is c.in_ok-found.ensures in
     inr (refl, is)
+
+pub drop-run-requires-in_err-spread-2-room-T-Destruct : goal.drop-run-requires-in_err-spread-2-room-T-Destruct
+drop-run-requires-in_err-spread-2-room-T-Destruct g c κs within = elim g.met.A.AllocHandle.small [ inl e ↦ rw (e.0, e.1) (lit< tt) | inr e ↦ rw (e.0, e.1) (lit< tt) ]
+
+pub drop-run-requires-in_err-spread-2-3-room-T-Destruct : goal.drop-run-requires-in_err-spread-2-3-room-T-Destruct
+drop-run-requires-in_err-spread-2-3-room-T-Destruct g c κs within = elim g.met.A.AllocHandle.small [ inl e ↦ rw (e.0, e.1) (lit< tt) | inr e ↦ rw (e.0, e.1) (lit< tt) ]
+
+pub drop-run-requires-in-Some-spread-3-room-T-Destruct : goal.drop-run-requires-in-Some-spread-3-room-T-Destruct
+drop-run-requires-in-Some-spread-3-room-T-Destruct g c κs within = elim g.met.A.AllocHandle.small [ inl e ↦ rw (e.0, e.1) (lit< tt) | inr e ↦ rw (e.0, e.1) (lit< tt) ]
+
+pub drop-run-requires-in-Some-spread-2-3-room-T-Destruct : goal.drop-run-requires-in-Some-spread-2-3-room-T-Destruct
+drop-run-requires-in-Some-spread-2-3-room-T-Destruct g c κs within = elim g.met.A.AllocHandle.small [ inl e ↦ rw (e.0, e.1) (lit< tt) | inr e ↦ rw (e.0, e.1) (lit< tt) ]

@@ -1,5 +1,5 @@
 -- A run of the script as it is written is told, or one as names are read.
-use Rattle.std.proofs.Common.{Option, IfSome, inl, inr, subst, lit<}
+use Rattle.std.proofs.Common.{Option, IfSome, inl, inr, subst, lit<, lit≤}
 use Rattle.theory_explanation.specs.Telling.{TellsReplay, TellsViolation}
 use Rattle.csp_term.specs.Script.{assertion_of, script_of}
 use Rattle.verdict.specs.Outcome.{violation_of}
@@ -29,10 +29,9 @@ returns-in-Some g c =
 
 pub replay_account-requires : goal.replay_account-requires
 replay_account-requires g c =
-    elim g.met.A.AllocHandle.small [
-      | inl e ↦ rw (e.0, e.1) (lit< tt, (c.requires.terms, c.requires.run))
-      | inr e ↦ rw (e.0, e.1) (lit< tt, (c.requires.terms, c.requires.run))
-    ]
+    let terms = c.requires.terms in
+    let run = c.requires.run in
+    elim g.met.A.AllocHandle.small [ inl e ↦ rw (e.0, e.1) (search (lit≤, lit<, terms, run)) | inr e ↦ rw (e.0, e.1) (search (lit≤, lit<, terms, run)) ]
 
 pub returns-in-None : goal.returns-in-None
 returns-in-None g c =
