@@ -2,4 +2,4 @@ pub mod Closing
 pub mod Objects
 pub mod Parts
 pub mod Putting
-pub mod Steps
+pub mod StepsAt

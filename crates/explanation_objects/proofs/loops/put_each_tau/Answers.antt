@@ -12,7 +12,7 @@ use Rattle.counterexample.specs.Counterexample.{origins_listed}
 use Rattle.explanation_objects.specs.Putting.{object_tokens, objects_tokens}
 use Rattle.explanation_objects.specs.Steps.{loop_through, term_found}
 use Rattle.explanation_objects.proofs.Putting.{comes_to_end, goes_on}
-use Rattle.explanation_objects.proofs.Steps.{no_action_at, no_origin_at, no_state_at, step_at, tau_at}
+use Rattle.explanation_objects.proofs.StepsAt.{no_action_at, no_origin_at, no_state_at, step_at, tau_at}
 use Rattle.explanation_objects.proofs.loops.put_each_tau.Goals as goal
 
 pub returns-in_default : goal.returns-in_default

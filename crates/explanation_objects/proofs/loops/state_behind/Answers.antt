@@ -4,7 +4,7 @@ use Rattle.std.proofs.lemmas.List.{length-map}
 use Rattle.std.proofs.lemmas.Option.{slice_get_read}
 use Rattle.theory_syntax.proofs.Places.{get_some}
 use Rattle.csp_term.specs.Term.{process_of}
-use Rattle.explanation_objects.proofs.Steps.{back_at, next_at}
+use Rattle.explanation_objects.proofs.StepsAt.{back_at, next_at}
 use Rattle.explanation_objects.proofs.loops.state_behind.Goals as goal
 
 pub returns-in-Some : goal.returns-in-Some

@@ -11,7 +11,7 @@ use Rattle.counterexample.specs.Counterexample.{origins_listed}
 use Rattle.explanation_objects.specs.Putting.{object_tokens, objects_tokens}
 use Rattle.explanation_objects.specs.Steps.{step_of, steps_of}
 use Rattle.explanation_objects.proofs.Putting.{comes_to_end, goes_on}
-use Rattle.explanation_objects.proofs.Steps.{no_action_at, no_origin_at, no_state_at, step_at}
+use Rattle.explanation_objects.proofs.StepsAt.{no_action_at, no_origin_at, no_state_at, step_at}
 use Rattle.explanation_objects.proofs.steps.put_each_step.Goals as goal
 
 pub returns-in_default : goal.returns-in_default
