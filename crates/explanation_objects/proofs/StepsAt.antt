@@ -5,9 +5,10 @@ use Rattle.theory_syntax.specs.Process.{Process}
 use Rattle.theory_origins.specs.Origin.{Origin}
 use Rattle.theory_objects.specs.Accounts.{Step, steps_to}
 
-nothing_left : {X : Type 0} (i : ℕ) → drop i ([] {A = X}) ≡ []
-nothing_left zero = refl
-nothing_left (suc i) = refl
+nothing_left : (steps : List Step) (i : ℕ) → steps ≡ [] → drop i steps ≡ []
+nothing_left [] zero none = refl
+nothing_left [] (suc i) none = refl
+nothing_left (s ∷ steps) i none = absurd (cc none)
 
 -- the step at the place, and those behind it
 pub step_at : (path : List Action) (states : List Process) (origins : List (Option Origin)) (i : ℕ) (x : Action) (t : Process) (o : Option Origin) →
@@ -29,23 +30,23 @@ step_at (y ∷ path) (u ∷ states) (p ∷ origins) (suc i) x t o does stands fr
 
 -- where there is no action, no state or no origin, no step is left
 pub no_action_at : (path : List Action) (states : List Process) (origins : List (Option Origin)) (i : ℕ) → slice_get path i ≡ None → drop i (steps_to path states origins) ≡ []
-no_action_at [] states origins i none = nothing_left i
-no_action_at (x ∷ path) [] origins i none = nothing_left i
-no_action_at (x ∷ path) (t ∷ states) [] i none = nothing_left i
+no_action_at [] states origins i none = nothing_left [] i refl
+no_action_at (x ∷ path) [] origins i none = nothing_left [] i refl
+no_action_at (x ∷ path) (t ∷ states) [] i none = nothing_left [] i refl
 no_action_at (x ∷ path) (t ∷ states) (o ∷ origins) zero none = absurd (cc none)
 no_action_at (x ∷ path) (t ∷ states) (o ∷ origins) (suc i) none = no_action_at path states origins i none
 
 pub no_state_at : (path : List Action) (states : List Process) (origins : List (Option Origin)) (i : ℕ) → slice_get states i ≡ None → drop i (steps_to path states origins) ≡ []
-no_state_at [] states origins i none = nothing_left i
-no_state_at (x ∷ path) [] origins i none = nothing_left i
-no_state_at (x ∷ path) (t ∷ states) [] i none = nothing_left i
+no_state_at [] states origins i none = nothing_left [] i refl
+no_state_at (x ∷ path) [] origins i none = nothing_left [] i refl
+no_state_at (x ∷ path) (t ∷ states) [] i none = nothing_left [] i refl
 no_state_at (x ∷ path) (t ∷ states) (o ∷ origins) zero none = absurd (cc none)
 no_state_at (x ∷ path) (t ∷ states) (o ∷ origins) (suc i) none = no_state_at path states origins i none
 
 pub no_origin_at : (path : List Action) (states : List Process) (origins : List (Option Origin)) (i : ℕ) → slice_get origins i ≡ None → drop i (steps_to path states origins) ≡ []
-no_origin_at [] states origins i none = nothing_left i
-no_origin_at (x ∷ path) [] origins i none = nothing_left i
-no_origin_at (x ∷ path) (t ∷ states) [] i none = nothing_left i
+no_origin_at [] states origins i none = nothing_left [] i refl
+no_origin_at (x ∷ path) [] origins i none = nothing_left [] i refl
+no_origin_at (x ∷ path) (t ∷ states) [] i none = nothing_left [] i refl
 no_origin_at (x ∷ path) (t ∷ states) (o ∷ origins) zero none = absurd (cc none)
 no_origin_at (x ∷ path) (t ∷ states) (o ∷ origins) (suc i) none = no_origin_at path states origins i none
 

@@ -5,8 +5,8 @@ ghost use Rattle.theory_objects.specs.Accounts.{loop_fields, step_fields, steps_
 ghost use Rattle.csp_term.specs.Term.{process_of};
 ghost use Rattle.csp_print.specs.Names.{names_of};
 ghost use Rattle.counterexample.specs.Counterexample.{loop_of};
-ghost use Rattle.explanation_objects.specs.Putting.{Puts, PutsTokens, objects_tokens};
-ghost use Rattle.explanation_objects.specs.Steps.{loop_through, term_found};
+ghost use Rattle.explanation_objects.specs.Putting.{Puts, PutsTokens, object_tokens, objects_tokens};
+ghost use Rattle.explanation_objects.specs.Steps.{loop_through, tau_to, term_found};
 
 use crate::fields::put_number;
 use crate::steps::put_step;
@@ -82,7 +82,6 @@ fn put_each_tau<A: AllocHandle>(
         PutsTokens result writer.old writer.new
         (objects_tokens (map (step_fields (names_of names.now)) taus)) }
 {
-    let tau = Action::Tau;
     for place in 0..states.len() {
         let next = state_behind(states, place, back);
         let Some(state) = next else {
@@ -92,9 +91,24 @@ fn put_each_tau<A: AllocHandle>(
         let Some(origin) = found else {
             return Ok(());
         };
-        put_step(alloc, names, &tau, state, origin, writer)?;
+        put_tau(alloc, names, state, origin, writer)?;
     }
     Ok(())
+}
+
+// A tau, the state that it leads to, and where it comes from.
+fn put_tau<A: AllocHandle>(
+    alloc: A,
+    names: &Names<'_, A>,
+    state: &Term<A>,
+    origin: &Option<Origin<A>>,
+    writer: &mut Writer<A>,
+) -> Result<(), AllocError>
+    ensures { PutsTokens result writer.old writer.new
+        (object_tokens (step_fields (names_of names.now) (tau_to state.now origin.now))) }
+{
+    let tau = Action::Tau;
+    put_step(alloc, names, &tau, state, origin, writer)
 }
 
 // The state that the tau from the one at the place leads to: the next one, or behind the last one that at `back`.

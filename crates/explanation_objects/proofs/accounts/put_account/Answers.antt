@@ -30,3 +30,6 @@ pub returns-in-Stuck : goal.returns-in-Stuck
 returns-in-Stuck g c =
     let P : Account g.row.A.Denot → Type 0 = λ a. Puts c.put_stuck.result c.args.writer.now c.put_stuck.new.writer (account_fields (names_of c.args.names.now) (account_of a)) in
     subst P (sym c.in-Stuck.is) c.put_stuck.ensures
+
+pub put_counterexample-requires : goal.put_counterexample-requires
+put_counterexample-requires g c = elim g.met.A.AllocHandle.small [ inl e ↦ rw (e.0, e.1) (search (lit≤, lit<)) | inr e ↦ rw (e.0, e.1) (search (lit≤, lit<)) ]

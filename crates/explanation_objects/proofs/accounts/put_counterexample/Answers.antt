@@ -35,3 +35,6 @@ returns g c =
     (subst (λ (xs : List (Action g.row.A.Denot)). HasPut old one (field_tokens (fields xs c.deref-2.result.now c.deref-3.result.now))) c.deref.ensures.value c.in_ok-put_run.ensures)) in
     let last = subst (λ (ws : List (Waiting g.row.A.Denot)). Puts r two new (parts ws)) c.deref-4.ensures.value c.put_waiting.ensures in
     both r old one new (fields path states origins) (loop ++ parts told.waiting.items) first (both r one two new loop (parts told.waiting.items) c.in_ok-put_looping.ensures last)
+
+pub put_run-requires : goal.put_run-requires
+put_run-requires g c = elim g.met.A.AllocHandle.small [ inl e ↦ rw (e.0, e.1) (search (lit≤, lit<)) | inr e ↦ rw (e.0, e.1) (search (lit≤, lit<)) ]

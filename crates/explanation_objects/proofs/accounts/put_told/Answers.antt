@@ -29,3 +29,6 @@ returns g c =
     (subst (λ (ts : List (Term g.row.A.Denot)). Puts r one new (fields path ts c.deref-3.result.now)) c.deref-2.ensures.value
     (subst (λ (xs : List (Action g.row.A.Denot)). Puts r one new (fields xs c.deref-2.result.now c.deref-3.result.now)) c.deref.ensures.value c.put_run.ensures)) in
     both r c.args.writer.now one new side (fields path states told.origins.items) c.in_ok-put_text.ensures run
+
+pub put_run-requires : goal.put_run-requires
+put_run-requires g c = elim g.met.A.AllocHandle.small [ inl e ↦ rw (e.0, e.1) (search (lit≤, lit<)) | inr e ↦ rw (e.0, e.1) (search (lit≤, lit<)) ]

@@ -1,5 +1,5 @@
 -- Each group of fields behind the other.
-use Rattle.std.proofs.Common.{[], ◌∷◌, ◌++◌, inl, inr, lit<}
+use Rattle.std.proofs.Common.{[], ◌∷◌, ◌++◌, inl, inr, lit<, lit≤}
 use Rattle.std.specs.Prelude.{codes}
 use Rattle.theory_objects.specs.Accounts.{account_fields}
 use Rattle.theory_objects.specs.Answers.{found_fields, head_fields}
@@ -37,3 +37,6 @@ put_found-requires g c =
       | inl e ↦ rw (e.0, e.1) (lit< tt)
       | inr e ↦ rw (e.0, e.1) (lit< tt)
     ]
+
+pub put_account-requires : goal.put_account-requires
+put_account-requires g c = elim g.met.A.AllocHandle.small [ inl e ↦ rw (e.0, e.1) (search (lit≤, lit<)) | inr e ↦ rw (e.0, e.1) (search (lit≤, lit<)) ]

@@ -1,5 +1,5 @@
 -- The way, and the event, in braces.
-use Rattle.std.proofs.Common.{List, [], ◌∷◌, map, ap, subst}
+use Rattle.std.proofs.Common.{List, [], ◌∷◌, map, ap, subst, inl, inr, lit<, lit≤}
 use Rattle.std.specs.Prelude.{codes}
 use Rattle.theory_explanation.specs.Actions.{event_text}
 use Rattle.theory_objects.specs.Accounts.{doer_fields, way_field}
@@ -25,3 +25,6 @@ returns g c =
     let event = text_field (codes "event") (event_text names (event_of part.event.now)) ∷ [] in
     in_braces c.end_object.result c.args.writer.now one three c.end_object.new.self (doer_fields names [] (doer_of part)) (c.in_ok-begin_object.ensures.room.0, c.in_ok-begin_object.ensures.ok)
     (put_both one two three (way_field (map side_of part.way.items) ∷ []) event way c.in_ok-put_event.ensures) c.end_object.ensures
+
+pub put_event-requires : goal.put_event-requires
+put_event-requires g c = elim g.met.A.AllocHandle.small [ inl e ↦ rw (e.0, e.1) (search (lit≤, lit<)) | inr e ↦ rw (e.0, e.1) (search (lit≤, lit<)) ]

@@ -56,7 +56,7 @@ loop-place-preserved g c =
     let step : Step = record { action = Tau; state = t; origin = option_map origin_of o } in
     let first : drop i taus ≡ step ∷ drop (i + 1) taus = rw add-one (step_at (replicate (length states) Tau) (drop 1 states ++ take 1 (drop c.args.back states)) (origins_listed origins) i Tau t (option_map origin_of o) does stands from) in
     let left = λ (ss : List Step). objects_tokens (map (step_fields names) ss) in
-    goes_on c.args.writer.now c.loop-place.writer c.put_step.new.writer (object_tokens (step_fields names step)) (left (drop i taus)) (left (drop (i + 1) taus)) (left taus) c.loop-place.invariant (ap left first) c.in_ok-put_step.ensures
+    goes_on c.args.writer.now c.loop-place.writer c.put_tau.new.writer (object_tokens (step_fields names step)) (left (drop i taus)) (left (drop (i + 1) taus)) (left taus) c.loop-place.invariant (ap left first) c.in_ok-put_tau.ensures
 
 pub returns : goal.returns
 returns g c =

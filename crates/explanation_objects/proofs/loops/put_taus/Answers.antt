@@ -1,5 +1,5 @@
 -- The name, and the taus in brackets.
-use Rattle.std.proofs.Common.{List, Option, [], ◌∷◌, map, subst}
+use Rattle.std.proofs.Common.{List, Option, [], ◌∷◌, map, subst, inl, inr, lit<, lit≤}
 use Rattle.std.specs.Prelude.{codes}
 use Rattle.theory_objects.specs.Accounts.{step_fields, steps_fields, taus_of}
 use Rattle.csp_term.specs.declared.term.Term.{Term}
@@ -23,3 +23,6 @@ returns g c =
     (subst S c.deref.ensures.value
     (listed_objects r old c.key.new.self c.begin_array.new.self c.put_each_tau.new.writer new (codes "steps") (map (step_fields names) (taus_of (loop_through c.deref.result.now back c.deref-2.result.now)))
     (c.in_ok-key.ensures.room.0, c.in_ok-key.ensures.ok) (c.in_ok-begin_array.ensures.room.0, c.in_ok-begin_array.ensures.ok) c.in_ok-put_each_tau.ensures c.end_array.ensures))
+
+pub put_each_tau-requires : goal.put_each_tau-requires
+put_each_tau-requires g c = elim g.met.A.AllocHandle.small [ inl e ↦ rw (e.0, e.1) (search (lit≤, lit<)) | inr e ↦ rw (e.0, e.1) (search (lit≤, lit<)) ]

@@ -1,5 +1,5 @@
 -- Each form of an origin. The part is smaller than what it is a part of.
-use Rattle.std.proofs.Common.{◌≡◌, ◌+◌, ◌*◌, ◌<◌, List, ◌++◌, map, sym, subst, ◌∙◌, ap, inl, inr, lit≤, arith}
+use Rattle.std.proofs.Common.{◌≡◌, ◌+◌, ◌*◌, ◌<◌, List, ◌++◌, map, sym, subst, ◌∙◌, ap, inl, inr, lit≤, arith, lit<}
 use Rattle.std.specs.Prelude.{codes}
 use Rattle.theory_origins.specs.Doers.{doers}
 use Rattle.theory_origins.specs.Origin as pure
@@ -8,6 +8,7 @@ use Rattle.csp_value.specs.Action.{event_of}
 use Rattle.csp_moves.specs.Origin.{origin_of}
 use Rattle.csp_moves.specs.Passage.{passage_of, side_of}
 use Rattle.csp_moves.specs.declared.origin.Origin.{Origin}
+use Rattle.csp_moves.specs.declared.passage.Passage.{Passage}
 use Rattle.csp_moves.specs.declared.passage.Side.{Side}
 use Rattle.csp_moves.proofs.Origins.{of_below, of_chooses, of_does, of_ends, of_slides, of_together, of_unfolds}
 use Rattle.csp_print.specs.Names.{names_of}
@@ -80,3 +81,52 @@ put_on_side-returns g t c =
     let longer = ap (λ (w : List Side). map side_of w) c.deref.ensures.value ∙ c.in_ok-further.ensures in
     let W : List pure.Side → Type 0 = λ w. Puts c.put_origin.result c.args.writer.now c.put_origin.new.writer (origin_fields (names_of c.args.names.now) w (origin_of c.args.part.now)) in
     subst W longer c.put_origin.ensures
+
+pub put_origin-put_done-requires : goal.put_origin-put_done-requires
+put_origin-put_done-requires g t c = elim g.met.A.AllocHandle.small [ inl e ↦ rw (e.0, e.1) (search (lit≤, lit<)) | inr e ↦ rw (e.0, e.1) (search (lit≤, lit<)) ]
+
+pub put_below-put_done-requires : goal.put_below-put_done-requires
+put_below-put_done-requires g t c = elim g.met.A.AllocHandle.small [ inl e ↦ rw (e.0, e.1) (search (lit≤, lit<)) | inr e ↦ rw (e.0, e.1) (search (lit≤, lit<)) ]
+
+pub put_below-put_done-requires-in-Renames : goal.put_below-put_done-requires-in-Renames
+put_below-put_done-requires-in-Renames g t c = elim g.met.A.AllocHandle.small [ inl e ↦ rw (e.0, e.1) (search (lit≤, lit<)) | inr e ↦ rw (e.0, e.1) (search (lit≤, lit<)) ]
+
+pub put_below-returns-in-OnSide : goal.put_below-returns-in-OnSide
+put_below-returns-in-OnSide g t c =
+    let P : Passage g.row.A.Denot → Type 0 = λ p. Puts c.put_on_side.result c.args.writer.now c.put_on_side.new.writer (origin_fields (names_of c.args.names.now) (map side_of c.args.way.now) (pure.Below (passage_of p) (origin_of c.args.part.now))) in
+    subst P (sym c.in-OnSide.is) c.put_on_side.ensures
+
+pub put_below-returns-in-InBody : goal.put_below-returns-in-InBody
+put_below-returns-in-InBody g t c =
+    let P : Passage g.row.A.Denot → Type 0 = λ p. Puts c.put_origin.result c.args.writer.now c.put_origin.new.writer (origin_fields (names_of c.args.names.now) (map side_of c.args.way.now) (pure.Below (passage_of p) (origin_of c.args.part.now))) in
+    subst P (sym c.in-InBody.is) c.put_origin.ensures
+
+pub put_below-returns-in-OnBranch : goal.put_below-returns-in-OnBranch
+put_below-returns-in-OnBranch g t c =
+    let P : Passage g.row.A.Denot → Type 0 = λ p. Puts c.put_on_side-in-OnBranch.result c.args.writer.now c.put_on_side-in-OnBranch.new.writer (origin_fields (names_of c.args.names.now) (map side_of c.args.way.now) (pure.Below (passage_of p) (origin_of c.args.part.now))) in
+    subst P (sym c.in-OnBranch.is) c.put_on_side-in-OnBranch.ensures
+
+pub put_below-returns-in-UnderGuard : goal.put_below-returns-in-UnderGuard
+put_below-returns-in-UnderGuard g t c =
+    let P : Passage g.row.A.Denot → Type 0 = λ p. Puts c.put_origin-in-UnderGuard.result c.args.writer.now c.put_origin-in-UnderGuard.new.writer (origin_fields (names_of c.args.names.now) (map side_of c.args.way.now) (pure.Below (passage_of p) (origin_of c.args.part.now))) in
+    subst P (sym c.in-UnderGuard.is) c.put_origin-in-UnderGuard.ensures
+
+pub put_below-returns-in-InChain : goal.put_below-returns-in-InChain
+put_below-returns-in-InChain g t c =
+    let P : Passage g.row.A.Denot → Type 0 = λ p. Puts c.put_origin-in-InChain.result c.args.writer.now c.put_origin-in-InChain.new.writer (origin_fields (names_of c.args.names.now) (map side_of c.args.way.now) (pure.Below (passage_of p) (origin_of c.args.part.now))) in
+    subst P (sym c.in-InChain.is) c.put_origin-in-InChain.ensures
+
+pub put_below-returns-in-SideEnds : goal.put_below-returns-in-SideEnds
+put_below-returns-in-SideEnds g t c =
+    let P : Passage g.row.A.Denot → Type 0 = λ p. Puts c.put_on_side-in-SideEnds.result c.args.writer.now c.put_on_side-in-SideEnds.new.writer (origin_fields (names_of c.args.names.now) (map side_of c.args.way.now) (pure.Below (passage_of p) (origin_of c.args.part.now))) in
+    subst P (sym c.in-SideEnds.is) c.put_on_side-in-SideEnds.ensures
+
+pub put_below-returns-in-Hides : goal.put_below-returns-in-Hides
+put_below-returns-in-Hides g t c =
+    let P : Passage g.row.A.Denot → Type 0 = λ p. Puts c.put_done.result c.args.writer.now c.put_done.new.writer (origin_fields (names_of c.args.names.now) (map side_of c.args.way.now) (pure.Below (passage_of p) (origin_of c.args.part.now))) in
+    subst P (sym c.in-Hides.is) c.put_done.ensures
+
+pub put_below-returns-in-Renames : goal.put_below-returns-in-Renames
+put_below-returns-in-Renames g t c =
+    let P : Passage g.row.A.Denot → Type 0 = λ p. Puts c.put_done-in-Renames.result c.args.writer.now c.put_done-in-Renames.new.writer (origin_fields (names_of c.args.names.now) (map side_of c.args.way.now) (pure.Below (passage_of p) (origin_of c.args.part.now))) in
+    subst P (sym c.in-Renames.is) c.put_done-in-Renames.ensures

@@ -31,3 +31,6 @@ returns g c =
     let can = subst (λ (xs : List (Action g.row.A.Denot)). HasPut three four (field_tokens (initials xs))) c.deref-2.ensures.value c.in_ok-put_actions.ensures in
     in_braces c.end_object.result c.args.writer.now one four c.end_object.new.self (part_fields names (waiting_of part)) (c.in_ok-begin_object.ensures.room.0, c.in_ok-begin_object.ensures.ok)
     (put_both one two four (way_field (map side_of part.way.items) ∷ []) (process ++ initials part.initials.items) way (put_both two three four process (initials part.initials.items) c.in_ok-put_term.ensures can)) c.end_object.ensures
+
+pub put_actions-requires : goal.put_actions-requires
+put_actions-requires g c = elim g.met.A.AllocHandle.small [ inl e ↦ rw (e.0, e.1) (search (lit≤, lit<)) | inr e ↦ rw (e.0, e.1) (search (lit≤, lit<)) ]
