@@ -13,7 +13,6 @@ ghost use Rattle.explanation_objects.specs.Answers.{sizes_told};
 ghost use Rattle.named_scripts.specs.Naming.{labels_of};
 ghost use Rattle.explain_program.specs.Telling.{answered, place_at, sizes_asked, sizes_of};
 
-use named_scripts::NamedScript;
 use crate::search_size::SearchSize;
 use crate::searching::Answer;
 use csp_lex::Place;
@@ -21,6 +20,7 @@ use csp_term::AllocHandle;
 use explain_settings::Settings;
 use explanation::{Account, Question};
 use explanation_objects::{Answered, Size, answer_line};
+use named_scripts::NamedScript;
 use std::alloc::AllocError;
 
 /// What is told of an answered assertion.

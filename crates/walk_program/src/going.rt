@@ -16,17 +16,17 @@ ghost use Rattle.walk_program.specs.Stops.{LeavesText};
 ghost use Rattle.walk_program.specs.Walking.{IsAnswered, IsUnwalked, IsWalked, next_at};
 
 use crate::lines::read_line;
-use named_scripts::NamedScript;
 use crate::stop::Stop;
 use counterexample::Width;
 use csp_print::Names;
 use csp_term::{AllocHandle, Term};
+use named_scripts::NamedScript;
 use program::Refusal;
 use report::{Sink, push_all};
+use state_walk::{Answer, Walk};
 use std::alloc::Allocator;
 use std::io::Read;
 use walk_settings::Settings;
-use state_walk::{Answer, Walk};
 
 // How states are shown: by these names, and as wide.
 #[derive(Clone, Copy, Drop)]
