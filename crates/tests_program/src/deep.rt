@@ -317,11 +317,11 @@ fn is_high_answered<R: Threads + Wait + Sync>(
     Ok(told.is_answered(*status, lines.as_str()))
 }
 
-// Each row behind the nametypes is answered as it says.
-fn are_rows_answered(rt: &HostRuntime, layers: Layers) -> Result<(), Fail> {
+#[test]
+fn texts_with_deep_sets_are_answered_so(rt: HostRuntime) -> Result<(), Fail> {
     for place in 0..BEHIND.len() {
-        let is_so = on_large_stack(rt, move |stack| {
-            is_nested_answered(rt, rt.alloc(), stack, layers, place)
+        let is_so = on_large_stack(&rt, move |stack| {
+            is_nested_answered(&rt, rt.alloc(), stack, SETS, place)
         })?;
         assert!(rt; is_so, "at {place}");
     }
@@ -329,27 +329,49 @@ fn are_rows_answered(rt: &HostRuntime, layers: Layers) -> Result<(), Fail> {
 }
 
 #[test]
-fn texts_with_deep_values_are_answered_so(rt: HostRuntime) -> Result<(), Fail> {
-    are_rows_answered(&rt, SETS)?;
-    are_rows_answered(&rt, SEQUENCES)
+fn texts_with_deep_sequences_are_answered_so(rt: HostRuntime) -> Result<(), Fail> {
+    for place in 0..BEHIND.len() {
+        let is_so = on_large_stack(&rt, move |stack| {
+            is_nested_answered(&rt, rt.alloc(), stack, SEQUENCES, place)
+        })?;
+        assert!(rt; is_so, "at {place}");
+    }
+    Ok(())
 }
 
-// Deep values, and by how many workers they are shown.
-static SHOWN: [(Layers, &str); 4] = [
-    (DEEPEST, "--workers=1"),
-    (DEEPEST, "--workers=4"),
-    (SEQUENCES, "--workers=1"),
-    (SEQUENCES, "--workers=4"),
-];
+#[test]
+fn deep_sets_are_shown_by_one_worker(rt: HostRuntime) -> Result<(), Fail> {
+    let is_so = on_large_stack(&rt, move |stack| {
+        is_shown(&rt, rt.alloc(), stack, DEEPEST, "--workers=1")
+    })?;
+    assert!(rt; is_so);
+    Ok(())
+}
 
 #[test]
-fn deep_values_are_shown(rt: HostRuntime) -> Result<(), Fail> {
-    for (layers, workers) in &SHOWN {
-        let is_so = on_large_stack(&rt, move |stack| {
-            is_shown(&rt, rt.alloc(), stack, *layers, workers)
-        })?;
-        assert!(rt; is_so, "with {workers}");
-    }
+fn deep_sets_are_shown_by_four_workers(rt: HostRuntime) -> Result<(), Fail> {
+    let is_so = on_large_stack(&rt, move |stack| {
+        is_shown(&rt, rt.alloc(), stack, DEEPEST, "--workers=4")
+    })?;
+    assert!(rt; is_so);
+    Ok(())
+}
+
+#[test]
+fn deep_sequences_are_shown_by_one_worker(rt: HostRuntime) -> Result<(), Fail> {
+    let is_so = on_large_stack(&rt, move |stack| {
+        is_shown(&rt, rt.alloc(), stack, SEQUENCES, "--workers=1")
+    })?;
+    assert!(rt; is_so);
+    Ok(())
+}
+
+#[test]
+fn deep_sequences_are_shown_by_four_workers(rt: HostRuntime) -> Result<(), Fail> {
+    let is_so = on_large_stack(&rt, move |stack| {
+        is_shown(&rt, rt.alloc(), stack, SEQUENCES, "--workers=4")
+    })?;
+    assert!(rt; is_so);
     Ok(())
 }
 
