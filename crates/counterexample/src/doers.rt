@@ -26,11 +26,11 @@ use std::alloc::AllocError;
 
 /// A part that does an event.
 #[derive(Drop)]
-struct Doer<'o, A: AllocHandle> {
-    // The sides on the way down to it.
-    way: Vec<Side, A>,
-    // The event that it is there.
-    event: &'o Event<A>,
+pub struct Doer<'o, A: AllocHandle> {
+    /// The sides on the way down to it.
+    pub way: Vec<Side, A>,
+    /// The event that it is there.
+    pub event: &'o Event<A>,
 }
 
 /// The parts that do the event in a step from the origin, behind the string.
@@ -122,9 +122,9 @@ fn push_below<A: AllocHandle>(
     push_event(names, below, text)
 }
 
-// The parts that do an event in a step from the origin, below the way.
+/// The parts that do an event in a step from the origin, below the way.
 #[cycle(doers)]
-fn doers_in<'o, A: AllocHandle>(
+pub fn doers_in<'o, A: AllocHandle>(
     alloc: A,
     way: &[Side],
     origin: &'o Origin<A>,

@@ -15,7 +15,7 @@
 //! acceptances with what is lacking of each. `push_path` puts a path there alone, with the states on its way and where
 //! its steps come from. `push_state`, `push_action` and `push_step` put the texts of one state, of what a step does and of
 //! one step there, by the names of the parts that `put_unfolded` keeps. Where memory is refused, a beginning of the text
-//! may have been put there.
+//! may have been put there. `doers_in` answers which parts do an event.
 #![tactic(auto)]
 
 mod actions;
@@ -54,9 +54,10 @@ mod waiting_text;
 mod ways;
 mod width;
 
-pub use actions::push_action;
+pub use actions::{push_action, push_event};
 pub use counterexamples::{Counterexample, Replayed, counterexample_of};
 pub use counterparts::Counterpart;
+pub use doers::{Doer, doers_in};
 pub use looping::Looping;
 pub use marks::{push_amount, push_mark, push_number};
 pub use origins::origins_along;
@@ -70,4 +71,5 @@ pub use style::Style;
 pub use telling::Telling;
 pub use text::push_counterexample;
 pub use waiting::Waiting;
+pub use ways::longer;
 pub use width::Width;

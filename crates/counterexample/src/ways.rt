@@ -34,7 +34,7 @@ fn same_side(one: Side, other: Side) -> bool
 }
 
 /// The way, and behind it one more side.
-pub(crate) fn longer<A: AllocHandle>(
+pub fn longer<A: AllocHandle>(
     alloc: A,
     way: &[Side],
     side: Side,

@@ -27,7 +27,7 @@ const LARGE_NUMBER: &str = "numbers have 32 bits";
 const NOT_UTF8: &str = "save the file as UTF-8";
 
 /// The lines that tell what may be meant at the refusal of the text. It is an error where memory is refused.
-pub(crate) fn help<A: Allocator + Copy>(
+pub fn help<A: Allocator + Copy>(
     alloc: A,
     text: &[u8],
     refusal: Refusal,

@@ -2,7 +2,7 @@
 
 ghost use Rattle.std.specs.Prelude.{◌≡◌, IfOk};
 ghost use Rattle.std.specs.String.{string_bytes};
-ghost use Rattle.diagnostics.specs.Messages.{heading, IsMessage};
+ghost use Rattle.diagnostics.specs.Messages.{IsMessage, heading, message_text};
 
 use crate::excerpts::excerpt;
 use crate::faults::Refusal;
@@ -20,9 +20,23 @@ pub fn message<A: Allocator + Copy>(
 ) -> Result<String<A>, AllocError>
     ensures { IfOk result (λ message. IsMessage file.now text.now refusal (string_bytes message)) }
 {
+    let help = help(alloc, text, refusal)?;
+    message_with(alloc, file, text, refusal, help.as_str())
+}
+
+/// The same with these lines of what may be meant.
+pub fn message_with<A: Allocator + Copy>(
+    alloc: A,
+    file: &str,
+    text: &[u8],
+    refusal: Refusal,
+    help: &str,
+) -> Result<String<A>, AllocError>
+    ensures { let told = message_text file.now text.now refusal help.now in
+        IfOk result (λ message. string_bytes message ≡ told) }
+{
     let heading = heading(alloc, file, refusal)?;
     let excerpt = excerpt(alloc, readable(text), refusal.place)?;
-    let help = help(alloc, text, refusal)?;
     format!(in alloc; "{heading}{excerpt}{help}")
 }
 

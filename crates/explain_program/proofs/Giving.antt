@@ -11,7 +11,7 @@ use Rattle.program.specs.Running.{outcome_status}
 use Rattle.program.proofs.Answering.{right_read}
 use Rattle.explain_program.specs.Asking.{Request, one_at}
 use Rattle.explain_program.specs.Giving.{AreTold, GoesOut}
-use Rattle.explain_program.specs.Naming.{Labels}
+use Rattle.named_scripts.specs.Naming.{Labels}
 use Rattle.explain_program.specs.Telling.{IsToldAsAsked}
 
 -- the assertion at the place is the only one there

@@ -1,5 +1,4 @@
 pub mod Asking
-pub mod Beginnings
 pub mod Giving
 pub mod Placing
 pub mod Refusing

@@ -11,7 +11,6 @@ use Rattle.theory_objects.specs.Refusals.{refusal_fields}
 use Rattle.csp_lex.specs.declared.refusals.TextFault.TheVariants as tokens
 use Rattle.csp_parse.specs.declared.refusals.GrammarFault.TheVariants as grammar
 use Rattle.csp_names.specs.declared.refusals.KindFault.TheVariants as kinds
-use Rattle.diagnostics.specs.Messages.{IsMessage}
 use Rattle.diagnostics.specs.declared.faults.Refusal as text
 use Rattle.explain_settings.specs.declared.format.Format.{Format}
 use Rattle.explain_settings.specs.declared.format.Format.TheVariants as formats
@@ -60,7 +59,7 @@ unfolding json_on_literals
 note_in_json = refl
 
 -- the object of a refused text, where it is asked for
-pub by_object : {E A : Type 0} (f : Format) (made : Result (String A) E) (file bytes message : List ℕ) (refused : text.Refusal) → f ≡ formats.Json → IsMessage file bytes refused message →
-    IfOk made (λ line. string_bytes line ≡ refused_line formats.Json file refused message) → IfOk made (λ words. (told : List ℕ) × IsMessage file bytes refused told × (string_bytes words ≡ refused_line f file refused told))
-by_object f (Ok made) file bytes message refused json is line = (message, is, line ∙ ap (λ g. refused_line g file refused message) (sym json))
-by_object f (Err e) file bytes message refused json is line = tt
+pub by_object : {E A : Type 0} (f : Format) (made : Result (String A) E) (file bytes help : List ℕ) (refused : text.Refusal) → f ≡ formats.Json →
+    IfOk made (λ line. string_bytes line ≡ refused_line formats.Json file bytes refused help) → IfOk made (λ words. (meant : List ℕ) × (string_bytes words ≡ refused_line f file bytes refused meant))
+by_object f (Ok made) file bytes help refused json line = (help, line ∙ ap (λ g. refused_line g file bytes refused help) (sym json))
+by_object f (Err e) file bytes help refused json line = tt

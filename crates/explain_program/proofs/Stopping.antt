@@ -20,7 +20,7 @@ use Rattle.program.specs.declared.refusal.Refusal.TheVariants as refusal
 use Rattle.explain_program.specs.Asking.{Request, chosen, first_number, one_at}
 use Rattle.explain_program.specs.Explaining.{IsBegun, StopsBy, TellsAll, TellsFew}
 use Rattle.explain_program.specs.Giving.{AreTold, GoesOut, LeavesText}
-use Rattle.explain_program.specs.Naming.{IsNamedFile, Labels}
+use Rattle.named_scripts.specs.Naming.{IsNamedFile, Labels}
 use Rattle.explain_program.specs.Refusals.{TellsUnread}
 use Rattle.explain_program.specs.Refusals as refusals
 use Rattle.explain_program.specs.Running.{IsStopCause, Leaves, TellsStop, of_untold}
@@ -29,7 +29,7 @@ use Rattle.explain_program.specs.declared.untold.Untold.{Untold}
 use Rattle.explain_program.specs.declared.untold.Untold.TheVariants as untold
 use Rattle.explain_program.specs.declared.stop.Stop.{Stop}
 use Rattle.explain_program.specs.declared.stop.Stop.TheVariants as stop
-use Rattle.explain_program.proofs.Beginnings.{script_of_file}
+use Rattle.named_scripts.proofs.Beginnings.{script_of_file}
 use Rattle.explain_program.proofs.Tellings.{no_text, none_told, one_cut, told_so}
 
 -- ---- of a script

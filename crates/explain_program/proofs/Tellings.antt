@@ -9,19 +9,19 @@ use Rattle.theory_syntax.specs.Process.{Script, Assertion}
 use Rattle.theory_syntax.specs.Readings.{by_tau}
 use Rattle.theory_search.specs.Answer.{as_written}
 use Rattle.theory_search.specs.Outcome.{Outcome}
-use Rattle.theory_explanation.specs.Telling.{IsTold}
+use Rattle.theory_explanation.specs.Accounts.{Account, told_text}
+use Rattle.theory_explanation.specs.Telling.{IsAccount, IsTold}
 use Rattle.theory_objects.specs.Answers.{answer_fields}
 use Rattle.theory_objects.specs.Fields.{object_line}
 use Rattle.explain_settings.specs.declared.format.Format.{Format}
 use Rattle.explain_settings.specs.declared.format.Format.TheVariants as formats
-use Rattle.explanation.specs.Running.{HasViolation}
 use Rattle.report.specs.Sending.{Sends, Breaks}
 use Rattle.report.proofs.Sending.{appends_nothing, both, later}
 use Rattle.program.specs.Answering.{IsRightRead}
 use Rattle.program.specs.Running.{status_of}
 use Rattle.explain_program.specs.Asking.{Request, one_at, style_for}
 use Rattle.explain_program.specs.Giving.{AreTold, GoesOut}
-use Rattle.explain_program.specs.Naming.{Labels}
+use Rattle.named_scripts.specs.Naming.{Labels}
 use Rattle.explain_program.specs.Sizes.{IsSizeFor}
 use Rattle.explain_program.specs.Telling.{IsToldAsAsked, IsToldBy, IsToldIn, TellsEach, answered, size_asked, sizes_asked}
 use Rattle.explain_program.specs.declared.search_size.SearchSize.{SearchSize}
@@ -43,12 +43,12 @@ module _ (request : Request) (script : Script) (labels : Labels) (n : ℕ) (writ
   told_in_words (Err e) words size asked told is whole = tt
 
   -- by an object, where that is asked for
-  pub told_by_object : (text words : List ℕ) (found : Outcome) (size : Option SearchSize) → request.format ≡ formats.Json → o ≡ as_written written.negated found → HasViolation script a found →
-      IsTold (style_for request labels.names) script n written a o words → IsSizeFor script a request.bounds o size →
-      text ≡ object_line (answer_fields labels.names (answered labels n written found words) (sizes_asked request.count written.property size)) → IsToldAsAsked request script labels n written a o text
-  told_by_object text words found size asked is_found violation told is line =
+  pub told_by_object : (text words : List ℕ) (found : Outcome) (account : Account) (size : Option SearchSize) → request.format ≡ formats.Json → o ≡ as_written written.negated found →
+      IsAccount (style_for request labels.names) script written a found account → words ≡ told_text (style_for request labels.names) script n written a found account → IsSizeFor script a request.bounds o size →
+      text ≡ object_line (answer_fields labels.names (answered labels n written found account words) (sizes_asked request.count written.property size)) → IsToldAsAsked request script labels n written a o text
+  told_by_object text words found account size asked is_found told are is line =
       let T : Format → Type 0 = λ f. IsToldIn f request script labels n written a o text in
-      subst T (sym asked) (record { found = found; is_found = is_found; violation = violation; words = words; is_told = told; size = size; is_size = is; line = line })
+      subst T (sym asked) (record { found = found; is_found = is_found; account = account; is_account = told; words = words; are_words = are; size = size; is_size = is; line = line })
 
 -- ---- lists of them
 

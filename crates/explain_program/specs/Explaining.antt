@@ -9,7 +9,7 @@ use Rattle.program.specs.Running.{IsGiven}
 use Rattle.program.specs.declared.refusal.Refusal.TheVariants as refusal
 use Rattle.explain_program.specs.Asking.{Request, chosen, first_number}
 use Rattle.explain_program.specs.Giving.{AreTold, GoesOut}
-use Rattle.explain_program.specs.Naming.{IsNamedFile, Labels}
+use Rattle.named_scripts.specs.Naming.{IsNamedFile, Labels}
 use Rattle.explain_program.specs.Refusals.{none_text}
 use Rattle.explain_program.specs.declared.stop.Stop.{Stop}
 use Rattle.explain_program.specs.declared.stop.Stop.TheVariants as stop

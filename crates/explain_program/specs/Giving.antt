@@ -8,7 +8,7 @@ use Rattle.program.specs.Answering.{AreRight}
 use Rattle.program.specs.Given.{Sent}
 use Rattle.program.specs.Running.{status_of}
 use Rattle.explain_program.specs.Asking.{Request}
-use Rattle.explain_program.specs.Naming.{Labels}
+use Rattle.named_scripts.specs.Naming.{Labels}
 use Rattle.explain_program.specs.Telling.{TellsEach}
 use Rattle.explain_program.specs.declared.untold.Untold.{Untold}
 use Rattle.explain_program.specs.declared.untold.Untold.TheVariants as untold

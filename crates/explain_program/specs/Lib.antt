@@ -2,7 +2,6 @@ pub mod Asking
 pub mod Costs
 pub mod Explaining
 pub mod Giving
-pub mod Naming
 pub mod Refusals
 pub mod Running
 pub mod Sizes

@@ -4,7 +4,7 @@ use Rattle.theory_objects.specs.Fields.{object_line, text_field}
 use Rattle.theory_objects.specs.Refusals.{refusal_fields, text_fields, unread_fields}
 use Rattle.csp_lex.specs.Places.{place_of}
 use Rattle.diagnostics.specs.Faults.{fault_number, fault_rule}
-use Rattle.diagnostics.specs.Messages.{IsMessage}
+use Rattle.diagnostics.specs.Messages.{message_text}
 use Rattle.diagnostics.specs.declared.faults.Fault.TheVariants as fault
 use Rattle.diagnostics.specs.declared.faults.Refusal as text
 use Rattle.explain_settings.specs.declared.format.Format.{Format}
@@ -52,17 +52,16 @@ abbrev pub unread_text : Format → List ℕ → Lack → List ℕ
 unread_text formats.Text name why = unread_line name why
 unread_text formats.Json name why = object_line (unread_fields (shown_name name) (lack_text why))
 
--- of a text that is refused, by its message
-abbrev pub refused_line : Format → List ℕ → text.Refusal → List ℕ → List ℕ
-refused_line formats.Text name refused message = message
-refused_line formats.Json name refused message = object_line (text_fields name (fault_number refused.fault) (fault_rule refused.fault) (place_of refused.place) message)
+-- of a text that is refused, by its bytes and the lines of what may be meant
+abbrev pub refused_line : Format → List ℕ → List ℕ → text.Refusal → List ℕ → List ℕ
+refused_line formats.Text name bytes refused help = message_text name bytes refused help
+refused_line formats.Json name bytes refused help = object_line (text_fields name (fault_number refused.fault) (fault_rule refused.fault) (place_of refused.place) help (message_text name bytes refused help))
 
--- The line of the refusal was given, or where a text is refused what is told by its message on these bytes of the file, by the
--- name that is shown.
+-- The line of the refusal was given, or where a text is refused what is told by these bytes of the file, by the name that is
+-- shown, with some lines of what may be meant.
 pub data TellsRefusal (format : Format) (file bytes : List ℕ) (why : Refusal) (err : Sent) : Type 0 where
   by_line : IsGiven err (stop_line format (stop.Refused why)) → TellsRefusal format file bytes why err
-  in_words : (refused : text.Refusal) (message : List ℕ) → refused_text why ≡ Some refused → IsMessage (shown_name file) bytes refused message →
-      IsGiven err (refused_line format (shown_name file) refused message) → TellsRefusal format file bytes why err
+  in_words : (refused : text.Refusal) (help : List ℕ) → refused_text why ≡ Some refused → IsGiven err (refused_line format (shown_name file) bytes refused help) → TellsRefusal format file bytes why err
 
 -- The line of why a file is not read was given, or where it cannot be read what is told of it, with its name and the reason.
 pub data TellsUnread (format : Format) (file : List ℕ) (fault : Unread) (err : Sent) : Type 0 where

@@ -5,17 +5,17 @@ use Rattle.theory_syntax.specs.Process.{Property, Assertion, Script}
 use Rattle.theory_search.specs.Answer.{as_written}
 use Rattle.theory_search.specs.Outcome.{Outcome}
 use Rattle.theory_text.specs.Place.{Place}
+use Rattle.theory_explanation.specs.Accounts.{Account, told_text}
 use Rattle.theory_explanation.specs.Counting.{count_text}
-use Rattle.theory_explanation.specs.Telling.{IsTold}
+use Rattle.theory_explanation.specs.Telling.{IsAccount, IsTold}
 use Rattle.theory_unfolding.specs.Assertions.{settled_assertion}
 use Rattle.theory_objects.specs.Answers.{Answered, answer_fields, cost_fields, size_fields}
 use Rattle.theory_objects.specs.Fields.{Field, object_line}
 use Rattle.explain_settings.specs.declared.format.Format.{Format}
 use Rattle.explain_settings.specs.declared.format.Format.TheVariants as formats
-use Rattle.explanation.specs.Running.{HasViolation}
 use Rattle.explain_program.specs.Asking.{Request, style_for}
 use Rattle.explain_program.specs.Costs.{cost_text}
-use Rattle.explain_program.specs.Naming.{Labels}
+use Rattle.named_scripts.specs.Naming.{Labels}
 use Rattle.explain_program.specs.Sizes.{IsSizeFor}
 use Rattle.explain_program.specs.declared.search_size.SearchSize.{SearchSize}
 
@@ -62,20 +62,21 @@ abbrev pub place_at : List Place → ℕ → Option Place
 place_at places zero = None
 place_at places (suc before) = slice_get places before
 
-abbrev pub answered : Labels → ℕ → Assertion → Outcome → List ℕ → Answered
-answered labels n written found words = record { number = n; place = place_at labels.places n; assertion = written; found = found; words = words }
+abbrev pub answered : Labels → ℕ → Assertion → Outcome → Account → List ℕ → Answered
+answered labels n written found account words = record { number = n; place = place_at labels.places n; assertion = written; found = found; account = account; words = words }
 
--- The text is the line of the object of the assertion with this number and outcome, by what is found of it but for a `not`,
--- where a violation is one; with what is told of it in words.
+-- The text is the line of the object of the assertion with this number and outcome, by what is found of it but for a `not`, with
+-- an account of that, and the words that tell of both.
 pub record IsObjectOf (request : Request) (script : Script) (labels : Labels) (n : ℕ) (written a : Assertion) (o : Outcome) (text : List ℕ) : Type 0 where
   pub found : Outcome
   pub is_found : o ≡ as_written written.negated found
-  pub violation : HasViolation script a found
+  pub account : Account
+  pub is_account : IsAccount (style_for request labels.names) script written a found account
   pub words : List ℕ
-  pub is_told : IsTold (style_for request labels.names) script n written a o words
+  pub are_words : words ≡ told_text (style_for request labels.names) script n written a found account
   pub size : Option SearchSize
   pub is_size : IsSizeFor script a request.bounds o size
-  pub line : text ≡ object_line (answer_fields labels.names (answered labels n written found words) (sizes_asked request.count written.property size))
+  pub line : text ≡ object_line (answer_fields labels.names (answered labels n written found account words) (sizes_asked request.count written.property size))
 
 -- ---- as is asked
 

@@ -6,9 +6,8 @@ ghost use Rattle.program.specs.Given.{sent};
 ghost use Rattle.explain_program.specs.Asking.{one_at, request_of};
 ghost use Rattle.explain_program.specs.Explaining.{StopsBy, TellsAll};
 ghost use Rattle.explain_program.specs.Giving.{AreTold, GoesOut, LeavesText};
-ghost use Rattle.explain_program.specs.Naming.{labels_of};
+ghost use Rattle.named_scripts.specs.Naming.{labels_of};
 
-use crate::reader::NamedScript;
 use crate::searching::answer_together;
 use crate::statuses::outcome_status;
 use crate::stop::Stop;
@@ -18,6 +17,7 @@ use csp_settling::settled_assertion;
 use csp_term::AllocHandle;
 use explain_settings::Settings;
 use explanation::Question;
+use named_scripts::NamedScript;
 use program::Resources;
 use report::{Sink, push_all};
 use std::sync::Wait;

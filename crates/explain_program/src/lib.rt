@@ -14,7 +14,6 @@ mod counting;
 mod explaining;
 mod notes;
 mod objects;
-mod reader;
 mod refusals;
 mod running;
 mod search_size;
@@ -24,6 +23,5 @@ mod stop;
 mod telling;
 mod untold;
 
-pub use reader::{NamedScript, read};
 pub use running::run;
 pub use stop::Stop;

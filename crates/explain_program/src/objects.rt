@@ -8,35 +8,46 @@ ghost use Rattle.theory_objects.specs.Fields.{object_line};
 ghost use Rattle.csp_lex.specs.Places.{place_of};
 ghost use Rattle.csp_term.specs.Script.{assertion_of};
 ghost use Rattle.verdict.specs.Outcome.{outcome_of};
+ghost use Rattle.explanation.specs.Accounts.{account_of};
 ghost use Rattle.explanation_objects.specs.Answers.{sizes_told};
-ghost use Rattle.explain_program.specs.Naming.{labels_of};
+ghost use Rattle.named_scripts.specs.Naming.{labels_of};
 ghost use Rattle.explain_program.specs.Telling.{answered, place_at, sizes_asked, sizes_of};
 
-use crate::reader::NamedScript;
 use crate::search_size::SearchSize;
 use crate::searching::Answer;
 use csp_lex::Place;
 use csp_term::AllocHandle;
 use explain_settings::Settings;
-use explanation::Question;
+use explanation::{Account, Question};
 use explanation_objects::{Answered, Size, answer_line};
+use named_scripts::NamedScript;
 use std::alloc::AllocError;
 
-/// The line of the object of the assertion with this answer, and these words of it.
+/// What is told of an answered assertion.
+#[derive(Clone, Copy, Drop)]
+pub(crate) struct Told<'t, A: AllocHandle> {
+    /// The account of what is found.
+    pub(crate) account: &'t Account<A>,
+    /// What is told in words.
+    pub(crate) words: &'t str,
+}
+
+/// The line of the object of the assertion with this answer, of which this is told.
 pub(crate) fn object_line<A: AllocHandle>(
     alloc: A,
     settings: &Settings<'_>,
     named: &NamedScript<'_, A>,
     question: &Question<'_, A>,
     answer: &Answer<A>,
-    words: &str,
+    told: &Told<'_, A>,
 ) -> Result<String<A>, AllocError>
     ensures { let labels = labels_of named.now in
         let written = assertion_of question.now.written.now in
         let found = outcome_of answer.now.found in
-        let told = answered labels question.now.number written found words.now in
+        let account = account_of told.now.account.now in
+        let it = answered labels question.now.number written found account told.now.words.now in
         let sizes = sizes_asked settings.now.count written.property answer.now.size in
-        let fields = answer_fields labels.names told sizes in
+        let fields = answer_fields labels.names it sizes in
         IfOk result (λ line. string_bytes line ≡ object_line fields) }
 {
     let answered = Answered {
@@ -44,8 +55,9 @@ pub(crate) fn object_line<A: AllocHandle>(
         place: place_at(&named.places, question.number),
         assertion: question.written,
         found: &answer.found,
+        account: told.account,
         size: size_told(settings.count, answer.size),
-        words,
+        words: told.words,
     };
     answer_line(alloc, &named.names, &answered)
 }

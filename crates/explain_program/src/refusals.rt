@@ -2,7 +2,10 @@
 
 ghost use Rattle.std.specs.Prelude.{◌≡◌, IfOk, List, false, ℕ};
 ghost use Rattle.std.specs.String.{string_bytes};
-ghost use Rattle.diagnostics.specs.Messages.{IsMessage};
+ghost use Rattle.theory_objects.specs.Fields.{object_line};
+ghost use Rattle.theory_objects.specs.Refusals.{text_fields};
+ghost use Rattle.csp_lex.specs.Places.{place_of};
+ghost use Rattle.diagnostics.specs.Faults.{fault_number, fault_rule};
 ghost use Rattle.explain_settings.specs.declared.format.Format.TheVariants as formats;
 ghost use Rattle.program.specs.Given.{sent};
 ghost use Rattle.program.specs.declared.files.Unread.TheVariants as unread;
@@ -10,7 +13,7 @@ ghost use Rattle.told_refusals.specs.FileNames.{shown_name};
 ghost use Rattle.explain_program.specs.Refusals.{TellsRefusal, TellsUnread, refused_line, unread_text};
 
 use crate::stop::{Stop, report_stop};
-use diagnostics::message;
+use diagnostics::{help, message_with};
 use explain_settings::{Format, Settings};
 use explanation_objects::{RefusedText, text_line};
 use program::{Lack, Refusal, Unread, refuse_words};
@@ -113,33 +116,39 @@ fn words<A: Allocator + Copy>(
     refused: diagnostics::Refusal,
 ) -> Result<String<A>, AllocError>
     ensures { let file = shown_name settings.now.file.now in
-        IfOk result (λ words. (told : List ℕ) × IsMessage file text.now refused told
-        × (string_bytes words ≡ refused_line settings.now.format file refused told)) }
+        IfOk result (λ words. (meant : List ℕ) × (string_bytes words
+        ≡ refused_line settings.now.format file text.now refused meant)) }
 {
     let name = shown_name(alloc, settings.file)?;
     let file = name.as_str();
-    let told = message(alloc, file, text, refused)?;
+    let lines = help(alloc, text, refused)?;
+    let meant = lines.as_str();
+    let told = message_with(alloc, file, text, refused, meant)?;
     match settings.format {
         Format::Text => Ok(told),
-        Format::Json => refused_object(alloc, file, refused, told.as_str()),
+        Format::Json => refused_object(alloc, file, refused, meant, told.as_str()),
     }
 }
 
-// The line of the object of a refused text, with what is told of it in words.
+// The line of the object of a refused text, with what may be meant, and what is told of it in words.
 fn refused_object<A: Allocator>(
     alloc: A,
     file: &str,
     refused: diagnostics::Refusal,
+    meant: &str,
     words: &str,
 ) -> Result<String<A>, AllocError>
-    ensures { IfOk result (λ line. string_bytes line
-        ≡ refused_line formats.Json file.now refused words.now) }
+    ensures { let number = fault_number refused.fault in
+        let fields = text_fields file.now number (fault_rule refused.fault) (place_of refused.place)
+        meant.now words.now in
+        IfOk result (λ line. string_bytes line ≡ object_line fields) }
 {
     let it = RefusedText {
         file,
         number: refused.fault.number(),
         rule: refused.fault.rule(),
         place: refused.place,
+        help: meant,
         words,
     };
     text_line(alloc, &it)

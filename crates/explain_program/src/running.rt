@@ -9,11 +9,11 @@ ghost use Rattle.explain_program.specs.Explaining.{IsExplained};
 
 use crate::explaining::explain_script;
 use crate::notes::note_none;
-use crate::reader::read;
 use crate::refusals::{refuse_text, refuse_unread};
 use crate::stop::{Stop, report_stop};
 use csp_term::AllocHandle;
 use explain_settings::Settings;
+use named_scripts::read;
 use program::{Files, Refusal, Resources, refuse, refuse_words, show};
 use report::Sink;
 use settings::CommandLineFault;

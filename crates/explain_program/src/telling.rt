@@ -14,18 +14,18 @@ ghost use Rattle.verdict.specs.Outcome.{outcome_of};
 ghost use Rattle.explain_program.specs.Asking.{bounds_asked, request_of, style_for, taus_told, telling_for, width_of_number};
 ghost use Rattle.explain_program.specs.Sizes.{IsSizeFor};
 ghost use Rattle.explain_program.specs.Stops.{stop_kept};
-ghost use Rattle.explain_program.specs.Naming.{labels_of};
+ghost use Rattle.named_scripts.specs.Naming.{labels_of};
 ghost use Rattle.explain_program.specs.Telling.{IsToldAsAsked, size_asked};
 
 use crate::counting::with_size;
-use crate::objects::object_line;
-use crate::reader::NamedScript;
+use crate::objects::{Told, object_line};
 use crate::searching::Answer;
 use counterexample::{Style, Telling, Width};
 use csp_print::Names;
 use csp_term::{Action, AllocHandle, Memory};
 use explain_settings::{Format, Settings};
-use explanation::{Question, tell};
+use explanation::{Question, find_account, tell};
+use named_scripts::NamedScript;
 
 /// What is told of the assertion with this answer, in the format that is asked for, and where it is asked for, how large the
 /// search was.
@@ -58,17 +58,19 @@ pub(crate) fn explanation_text<A: AllocHandle>(
         IfOk result (λ text. told written asked outcome (string_bytes text)) }
 {
     let style = style(settings, &named.names);
-    let text = tell(
-        alloc,
-        &style,
-        &named.script,
-        question,
-        &answer.found,
-        lent(&answer.stop),
-    )?;
+    let script = &named.script;
+    let found = &answer.found;
+    let account = find_account(alloc, &style, script, question, found, lent(&answer.stop))?;
+    let text = tell(alloc, &style, script, question, found, &account)?;
     match settings.format {
         Format::Text => in_words(settings, question, answer, text),
-        Format::Json => Ok(object_line(alloc, settings, named, question, answer, text.as_str())?),
+        Format::Json => {
+            let told = Told {
+                account: &account,
+                words: text.as_str(),
+            };
+            Ok(object_line(alloc, settings, named, question, answer, &told)?)
+        }
     }
 }
 

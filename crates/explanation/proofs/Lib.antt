@@ -1,3 +1,4 @@
 pub mod ToldRuns
 pub mod FirstSides
 pub mod OnOks
+pub mod Rounds

@@ -1,6 +1,6 @@
 -- What holds where a call was well.
-use Rattle.std.proofs.Common.{Result, Ok, Err, OnOk}
+use Rattle.std.proofs.Common.{Result, Ok, Err, IfOk}
 
-pub on_ok_so : {T E : Type 0} (r : Result T E) (X Y : Type 0) → (X → Y) → OnOk r X → OnOk r Y
-on_ok_so (Ok t) X Y weaker is = weaker is
-on_ok_so (Err e) X Y weaker is = tt
+pub if_ok_so : {T E : Type 0} (r : Result T E) (P Q : T → Type 0) → ((t : T) → P t → Q t) → IfOk r P → IfOk r Q
+if_ok_so (Ok t) P Q weaker is = weaker t is
+if_ok_so (Err e) P Q weaker is = tt

@@ -1,3 +1,4 @@
 pub mod Running
 pub mod Sides
 pub mod ToldRuns
+pub mod Accounts

@@ -1,108 +1,55 @@
-//! Why an assertion has no answer, with a run to the state for which it has none.
+//! The texts of runs to states for which there is no answer.
 
-ghost use Rattle.std.specs.Prelude.{◌≡◌, ◌++◌, OnOk, Some, map};
-ghost use Rattle.std.specs.Option.{option_map};
-ghost use Rattle.std.specs.String.{string_bytes};
+ghost use Rattle.std.specs.Prelude.{◌≡◌, ◌++◌, map, option_map};
 ghost use Rattle.theory_syntax.specs.Models.{unfolding_of};
-ghost use Rattle.theory_search.specs.Terms.{IsAssertionOf};
-ghost use Rattle.csp_term.specs.Script.{assertion_of, script_of};
+ghost use Rattle.csp_term.specs.Script.{script_of};
 ghost use Rattle.csp_term.specs.Term.{process_of};
 ghost use Rattle.theory_explanation.specs.Faults as faults;
-ghost use Rattle.theory_explanation.specs.Telling.{TellsFound, TellsUnknown};
 ghost use Rattle.csp_print.specs.Names.{names_of};
 ghost use Rattle.csp_print.specs.Writing.{Writes};
 ghost use Rattle.counterexample.specs.Styles.{style_of};
 ghost use Rattle.csp_replay.specs.Hindrance.{hindrance_of};
-ghost use Rattle.verdict.specs.Outcome.{why_of};
-ghost use Rattle.theory_search.specs.Outcome.{Unknown};
-ghost use Rattle.explanation.specs.Running.{HasStop, IsStop, stop_in};
 ghost use Rattle.explanation.specs.Sides.{side_run_of, stuck_text, told_text};
 
 use crate::blame::push_blame;
-use crate::question::Question;
-use crate::reasons::reason;
-use crate::sides::{SideRun, side_run};
-use crate::spread_sides::spread_side;
+use crate::sides::SideRun;
 use crate::told_run::ToldRun;
 use counterexample::{Run, Style, push_mark, push_path};
 use csp_print::Names;
 use csp_replay::Hindrance;
-use csp_term::{Action, AllocHandle, Memory, Script, Term, Unfolding};
-use verdict::Why;
+use csp_term::{AllocHandle, Memory, Script, Term, Unfolding};
 
-/// Why there is no answer, and a run to a state that is faulty or large, where that is why.
-pub(crate) fn push_unknown<A: AllocHandle>(
+/// The run of a side to a state that is stuck by this, or that the specification has too many states for one.
+pub(crate) fn push_found<A: AllocHandle>(
     alloc: A,
     style: &Style<'_, '_, A>,
     script: &Script<A>,
-    question: &Question<'_, A>,
-    why: Why,
-    stop: Option<&[Action<A>]>,
-    text: &mut String<A>,
-) -> Result<(), Memory>
-    requires terms { IsAssertionOf (script_of script.now) (assertion_of question.now.asked.now) }
-    requires written { IsAssertionOf (script_of script.now)
-        (assertion_of question.now.written.now) }
-    requires stop { HasStop (script_of script.now) (assertion_of question.now.asked.now)
-        (Unknown (why_of why)) (stop_in stop) }
-    ensures { OnOk result (TellsUnknown (style_of style.now) (script_of script.now)
-        (assertion_of question.now.written.now) (assertion_of question.now.asked.now) (why_of why)
-        (string_bytes text.old) (string_bytes text.new)) }
-{
-    push_mark(reason(why), text)?;
-    let stuck_by = hindrance(why);
-    let Some(hindrance) = stuck_by else {
-        return Ok(());
-    };
-    push_found(alloc, style, script, question, hindrance, stop, text)
-}
-
-// What a state of a side is stuck by, where there is no answer for that.
-fn hindrance(why: Why) -> Option<Hindrance>
-    ensures { option_map hindrance_of result ≡ faults.hindrance (why_of why) }
-{
-    match why {
-        Why::Pairs => None,
-        Why::Nodes => None,
-        Why::Term => Some(Hindrance::Size),
-        Why::Fault(fault) => Some(Hindrance::Fault(fault)),
-        Why::Memory => None,
-    }
-}
-
-// A run of the side that stops, where one is found.
-fn push_found<A: AllocHandle>(
-    alloc: A,
-    style: &Style<'_, '_, A>,
-    script: &Script<A>,
-    question: &Question<'_, A>,
     hindrance: Hindrance,
-    stop: Option<&[Action<A>]>,
+    found: &Option<SideRun<A>>,
     text: &mut String<A>,
 ) -> Result<(), Memory>
-    requires terms { IsAssertionOf (script_of script.now) (assertion_of question.now.asked.now) }
-    requires written { IsAssertionOf (script_of script.now)
-        (assertion_of question.now.written.now) }
-    requires stop { IsStop (script_of script.now) (assertion_of question.now.asked.now)
-        (hindrance_of hindrance) (stop_in stop) }
-    ensures { OnOk result (TellsFound (style_of style.now) (script_of script.now)
-        (assertion_of question.now.written.now) (assertion_of question.now.asked.now)
-        (Some (hindrance_of hindrance)) (string_bytes text.old) (string_bytes text.new)) }
+    ensures { Writes result text.old text.new
+        (faults.found_text (style_of style.now) (script_of script.now) (hindrance_of hindrance)
+        (option_map side_run_of found.now)) }
 {
-    let asked = question.asked;
-    let found = side_run(alloc, script, asked, hindrance, stop, style.reach)?;
-    let Some(run) = found else {
-        push_mark(
+    match found {
+        Some(told) => push_side_run(alloc, style, script, hindrance, told, text),
+        None => push_sentence(
             "  the specification comes there, and has too many states to tell how\n",
             text,
-        )?;
-        return Ok(());
-    };
-    let spread = spread_side(alloc, script, question.written, &run)?;
-    match spread {
-        Some(told) => push_side_run(alloc, style, script, hindrance, &told, text),
-        None => push_side_run(alloc, style, script, hindrance, &run, text),
+        ),
     }
+}
+
+/// The sentence, behind the string.
+pub(crate) fn push_sentence<A: AllocHandle>(
+    sentence: &str,
+    text: &mut String<A>,
+) -> Result<(), Memory>
+    ensures { Writes result text.old text.new sentence.now }
+{
+    push_mark(sentence, text)?;
+    Ok(())
 }
 
 // The side, its run state by state, and what is wrong at the end.

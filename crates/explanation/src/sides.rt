@@ -17,7 +17,7 @@ use csp_term::{Action, AllocHandle, Assertion, Memory, Property, Script, copy_al
 
 /// A run of a side.
 #[derive(Drop)]
-pub(crate) enum SideRun<A: AllocHandle> {
+pub enum SideRun<A: AllocHandle> {
     /// One of the implementation.
     Implementation(ToldRun<A>),
     /// One of the specification.

@@ -1,35 +1,26 @@
 //! What is told of an assertion.
 
-ghost use Rattle.std.specs.Prelude.{◌≡◌, ◌++◌, IfOk, OnOk};
+ghost use Rattle.std.specs.Prelude.{◌≡◌, IfOk};
 ghost use Rattle.std.specs.String.{string_bytes};
-ghost use Rattle.theory_search.specs.Answer.{as_written};
-ghost use Rattle.theory_search.specs.Terms.{IsAssertionOf};
-ghost use Rattle.theory_runs.specs.States.{HasEnd};
 ghost use Rattle.csp_term.specs.Script.{assertion_of, script_of};
-ghost use Rattle.csp_term.specs.Term.{process_of};
-ghost use Rattle.verdict.specs.Outcome.{outcome_of, violation_of};
-ghost use Rattle.theory_explanation.specs.Telling.{IsTold, TellsFailing, TellsViolation, TellsWhy, failing_text, holding_text};
+ghost use Rattle.verdict.specs.Outcome.{outcome_of};
+ghost use Rattle.theory_explanation.specs.Accounts.{account_text, told_text};
+ghost use Rattle.theory_explanation.specs.Telling.{IsAccount};
 ghost use Rattle.csp_print.specs.Writing.{Writes};
 ghost use Rattle.counterexample.specs.Styles.{style_of};
-ghost use Rattle.explanation.specs.Running.{HasStop, HasViolation, stop_in};
+ghost use Rattle.explanation.specs.Accounts.{ComesRound, account_of};
 
-use crate::faults::push_unknown;
+use crate::account::Account;
+use crate::faults::{push_found, push_sentence};
 use crate::headline::headline_text;
+use crate::opening::opening;
 use crate::question::Question;
-use counterexample::{
-    Replayed, Style, counterexample_of, push_counterexample, push_mark, spread_counterexample_of,
-};
-use csp_term::{Action, AllocHandle, Assertion, Memory, Script};
-use verdict::{Outcome, Shown};
+use counterexample::{Style, push_counterexample, push_mark};
+use csp_term::{AllocHandle, Memory, Script};
+use verdict::Outcome;
 
-/// What is told of an assertion between terms of the script, with its number: the headline of the assertion as it is written,
-/// with its outcome, and why. `found` is the outcome that it has but for a `not`. Where that is a violation, a run by its path
-/// ends with its evidence, and such a run is told state by state, beside what the specification has along the path. Where
-/// there is no answer for a state, `stop` is the path of the implementation that stopped the search, and with none no search
-/// was begun, for the specification's sake.
-///
-/// Where names are unfolded at once, each such run is told by one of the script as it is written, if one is found: with more
-/// taus that does the same events, and comes to the same state.
+/// What is told of an assertion, with its number: the headline of the assertion as it is written, with its outcome, and
+/// behind it the account of that. `found` is the outcome that it has but for a `not`.
 ///
 /// `Memory` says that there is no room to tell.
 pub fn tell<A: AllocHandle>(
@@ -38,168 +29,45 @@ pub fn tell<A: AllocHandle>(
     script: &Script<A>,
     question: &Question<'_, A>,
     found: &Outcome<A>,
-    stop: Option<&[Action<A>]>,
+    account: &Account<A>,
 ) -> Result<String<A>, Memory>
-    requires terms { IsAssertionOf (script_of script.now) (assertion_of question.now.asked.now) }
-    requires written { IsAssertionOf (script_of script.now)
-        (assertion_of question.now.written.now) }
-    requires shown { HasViolation (script_of script.now) (assertion_of question.now.asked.now)
-        (outcome_of found.now) }
-    requires stop { HasStop (script_of script.now) (assertion_of question.now.asked.now)
-        (outcome_of found.now) (stop_in stop) }
-    ensures { let it = script_of script.now in
-        let written = assertion_of question.now.written.now in
+    requires { let written = assertion_of question.now.written.now in
         let asked = assertion_of question.now.asked.now in
-        let outcome = as_written written.negated (outcome_of found.now) in
-        let told = IsTold (style_of style.now) it question.now.number written asked outcome in
-        IfOk result (λ text. told (string_bytes text)) }
+        let is = IsAccount (style_of style.now) (script_of script.now) written asked in
+        is (outcome_of found.now) (account_of account.now) }
+    ensures { let written = assertion_of question.now.written.now in
+        let asked = assertion_of question.now.asked.now in
+        let told = told_text (style_of style.now) (script_of script.now) question.now.number
+        written asked (outcome_of found.now) (account_of account.now) in
+        IfOk result (λ text. string_bytes text ≡ told) }
 {
     let mut text = headline_text(alloc, style.names, question.number, question.written, found)?;
-    push_why(alloc, style, script, question, found, stop, &mut text)?;
+    push_mark(opening(question.asked.negated, found), &mut text)?;
+    push_account(alloc, style, script, account, &mut text)?;
     Ok(text)
 }
 
-// Why the assertion has its outcome.
-fn push_why<A: AllocHandle>(
+// The account, behind the string.
+fn push_account<A: AllocHandle>(
     alloc: A,
     style: &Style<'_, '_, A>,
     script: &Script<A>,
-    question: &Question<'_, A>,
-    found: &Outcome<A>,
-    stop: Option<&[Action<A>]>,
+    account: &Account<A>,
     text: &mut String<A>,
 ) -> Result<(), Memory>
-    requires terms { IsAssertionOf (script_of script.now) (assertion_of question.now.asked.now) }
-    requires written { IsAssertionOf (script_of script.now)
-        (assertion_of question.now.written.now) }
-    requires shown { HasViolation (script_of script.now) (assertion_of question.now.asked.now)
-        (outcome_of found.now) }
-    requires stop { HasStop (script_of script.now) (assertion_of question.now.asked.now)
-        (outcome_of found.now) (stop_in stop) }
-    ensures { OnOk result (TellsWhy (style_of style.now) (script_of script.now)
-        (assertion_of question.now.written.now) (assertion_of question.now.asked.now)
-        (outcome_of found.now) (string_bytes text.old) (string_bytes text.new)) }
+    requires round { ComesRound account.now }
+    ensures { Writes result text.old text.new
+        (account_text (style_of style.now) (script_of script.now) (account_of account.now)) }
 {
-    match found {
-        Outcome::Holds => push_sentence(holding_text(question.asked.negated), text),
-        Outcome::Fails(shown) => push_failing(alloc, style, script, question, shown, text),
-        Outcome::Unknown(why) => push_unknown(alloc, style, script, question, *why, stop, text),
-        Outcome::Denied => Ok(()),
-    }
-}
-
-// What is told where an assertion holds but for its `not`, if it has one.
-fn holding_text(negated: bool) -> &'static str
-    ensures { result.now ≡ holding_text negated }
-{
-    if negated {
-        "  without `not` it holds\n"
-    } else {
-        ""
-    }
-}
-
-// What is told before a violation of an assertion without its `not`, if it has one.
-fn failing_text(negated: bool) -> &'static str
-    ensures { result.now ≡ failing_text negated }
-{
-    if negated {
-        "  without `not` it fails:\n"
-    } else {
-        ""
-    }
-}
-
-fn push_sentence<A: AllocHandle>(sentence: &str, text: &mut String<A>) -> Result<(), Memory>
-    ensures { Writes result text.old text.new sentence.now }
-{
-    push_mark(sentence, text)?;
-    Ok(())
-}
-
-// The violation, behind the word that it is one without the `not`, if there is a `not`.
-fn push_failing<A: AllocHandle>(
-    alloc: A,
-    style: &Style<'_, '_, A>,
-    script: &Script<A>,
-    question: &Question<'_, A>,
-    shown: &Shown<A>,
-    text: &mut String<A>,
-) -> Result<(), Memory>
-    requires terms { IsAssertionOf (script_of script.now) (assertion_of question.now.asked.now) }
-    requires written { IsAssertionOf (script_of script.now)
-        (assertion_of question.now.written.now) }
-    requires run { HasEnd (script_of script.now) (process_of question.now.asked.now.implementation)
-        (violation_of shown.now) }
-    ensures { let before = string_bytes text.old ++ failing_text question.now.asked.now.negated in
-        let written = assertion_of question.now.written.now in
-        let asked = assertion_of question.now.asked.now in
-        OnOk result (TellsFailing (style_of style.now) (script_of script.now) written asked
-        (violation_of shown.now) before (string_bytes text.new)) }
-{
-    push_mark(failing_text(question.asked.negated), text)?;
-    push_violation(alloc, style, script, question, shown, text)
-}
-
-// The violation, by a run of the script as it is written, where that is another one than the script and such a run is
-// found, and else as the names of the script are read.
-fn push_violation<A: AllocHandle>(
-    alloc: A,
-    style: &Style<'_, '_, A>,
-    script: &Script<A>,
-    question: &Question<'_, A>,
-    shown: &Shown<A>,
-    text: &mut String<A>,
-) -> Result<(), Memory>
-    requires terms { IsAssertionOf (script_of script.now) (assertion_of question.now.asked.now) }
-    requires written { IsAssertionOf (script_of script.now)
-        (assertion_of question.now.written.now) }
-    requires run { HasEnd (script_of script.now) (process_of question.now.asked.now.implementation)
-        (violation_of shown.now) }
-    ensures { let written = assertion_of question.now.written.now in
-        let asked = assertion_of question.now.asked.now in
-        OnOk result (TellsFailing (style_of style.now) (script_of script.now) written asked
-        (violation_of shown.now) (string_bytes text.old) (string_bytes text.new)) }
-{
-    let start = &question.written.implementation;
-    let found = spread_counterexample_of(alloc, style, script, start, question.asked, shown)?;
-    match found {
-        Some(spread) => push_counterexample(
-            alloc,
-            style,
-            &spread.shown,
-            &spread.counterexample,
-            text,
-        ),
-        None => push_replayed(alloc, style, script, question.asked, shown, text),
-    }
-}
-
-// A counterexample of the violation: a run by its path, state by state, beside what the specification has along it.
-fn push_replayed<A: AllocHandle>(
-    alloc: A,
-    style: &Style<'_, '_, A>,
-    script: &Script<A>,
-    assertion: &Assertion<A>,
-    shown: &Shown<A>,
-    text: &mut String<A>,
-) -> Result<(), Memory>
-    requires terms { IsAssertionOf (script_of script.now) (assertion_of assertion.now) }
-    requires run { HasEnd (script_of script.now) (process_of assertion.now.implementation)
-        (violation_of shown.now) }
-    ensures { OnOk result (TellsViolation (style_of style.now) (script_of script.now)
-        (assertion_of assertion.now) (violation_of shown.now) (string_bytes text.old)
-        (string_bytes text.new)) }
-{
-    let found = counterexample_of(alloc, script, assertion, shown, style.most, style.reach)?;
-    match found {
-        Replayed::Counterexample(counterexample) => {
-            push_counterexample(alloc, style, shown, &counterexample, text)
+    match account {
+        Account::Bare => Ok(()),
+        Account::Shown(shown, counterexample) => {
+            push_counterexample(alloc, style, shown, counterexample, text)
         }
-        Replayed::Nowhere => unreachable!(),
-        Replayed::TooMany => push_sentence(
+        Account::WideEnd => push_sentence(
             "  behind its trace taus lead to too many states to tell one that goes on for ever\n",
             text,
         ),
+        Account::Stuck(hindrance, run) => push_found(alloc, style, script, *hindrance, run, text),
     }
 }

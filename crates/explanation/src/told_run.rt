@@ -11,11 +11,11 @@ use csp_term::{AllocHandle, Memory, Script};
 
 /// A run to a stuck state, with where each of its steps comes from.
 #[derive(Drop)]
-pub(crate) struct ToldRun<A: AllocHandle> {
+pub struct ToldRun<A: AllocHandle> {
     /// The path, and the states on its way.
-    pub(crate) run: StuckRun<A>,
+    pub run: StuckRun<A>,
     /// The origin of each step.
-    pub(crate) origins: Vec<Option<Origin<A>>, A>,
+    pub origins: Vec<Option<Origin<A>>, A>,
 }
 
 /// The run, with where its steps come from.

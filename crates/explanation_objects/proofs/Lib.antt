@@ -1,2 +1,5 @@
 pub mod Closing
+pub mod Objects
+pub mod Parts
 pub mod Putting
+pub mod StepsAt

@@ -31,6 +31,11 @@ further (Err e) old mid new ts us first second = tt
 pub both : {T E : Type 0} (r : Result T E) (old mid new : Written) (fs gs : List Field) → HasPut old mid (field_tokens fs) → Puts r mid new gs → Puts r old new (fs ++ gs)
 both r old mid new fs gs first second = subst (PutsTokens r old new) (sym (tokens_of_both fs gs)) (further r old mid new (field_tokens fs) (field_tokens gs) first second)
 
+-- so where both were well
+pub put_both : (old mid new : Written) (fs gs : List Field) → HasPut old mid (field_tokens fs) → HasPut mid new (field_tokens gs) → HasPut old new (field_tokens (fs ++ gs))
+put_both old mid new fs gs first second =
+    subst (HasPut old new) (sym (tokens_of_both fs gs)) (second.0 ∙ first.0, second.1 ∙ ap (λ xs. xs ++ field_tokens gs) first.1 ∙ append_assoc old.tokens (field_tokens fs) (field_tokens gs))
+
 -- nothing
 pub nothing : (w : Written) → HasPut w w []
 nothing w = (refl, sym (append-nil w.tokens))

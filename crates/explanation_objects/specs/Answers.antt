@@ -4,6 +4,7 @@ use Rattle.theory_syntax.specs.Process.{Property}
 use Rattle.csp_lex.specs.Places.{place_of}
 use Rattle.csp_term.specs.Script.{assertion_of}
 use Rattle.verdict.specs.Outcome.{outcome_of}
+use Rattle.explanation.specs.Accounts.{account_of}
 use Rattle.theory_objects.specs.Answers as objects
 use Rattle.theory_objects.specs.Answers.{cost_fields, size_fields}
 use Rattle.theory_objects.specs.Fields.{Field}
@@ -16,6 +17,7 @@ answered_of a = record {
   place = option_map place_of a.place;
   assertion = assertion_of a.assertion.now;
   found = outcome_of a.found.now;
+  account = account_of a.account.now;
   words = a.words.now;
 }
 

@@ -13,6 +13,7 @@ ghost use Rattle.verdict.specs.Outcome.{outcome_of};
 ghost use Rattle.explanation_objects.specs.Answers.{answered_of, sizes_told};
 ghost use Rattle.explanation_objects.specs.Putting.{Puts};
 
+use crate::accounts::put_account;
 use crate::fields::{put_number, put_text};
 use crate::found::put_found;
 use crate::lines::{begin_line, end_line};
@@ -21,7 +22,7 @@ use crate::sizes::{Size, put_size};
 use csp_lex::Place;
 use csp_print::Names;
 use csp_term::{AllocHandle, Assertion};
-use explanation::push_assertion;
+use explanation::{Account, push_assertion};
 use json::Writer;
 use std::alloc::AllocError;
 use verdict::Outcome;
@@ -37,6 +38,8 @@ pub struct Answered<'a, A: AllocHandle> {
     pub assertion: &'a Assertion<A>,
     /// The outcome that it has but for a `not`.
     pub found: &'a Outcome<A>,
+    /// The account of that.
+    pub account: &'a Account<A>,
     /// How large the search for it was, if that is told.
     pub size: Option<Size>,
     /// What is told of it in words.
@@ -72,6 +75,7 @@ fn put_answer<A: AllocHandle>(
 {
     put_head(alloc, names, answered, writer)?;
     put_found(alloc, names, answered.found, writer)?;
+    put_account(alloc, names, answered.account, writer)?;
     put_size(&answered.assertion.property, answered.size, writer)?;
     put_text("words", answered.words, writer)
 }

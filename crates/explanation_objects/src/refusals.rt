@@ -3,7 +3,7 @@
 ghost use Rattle.std.specs.Prelude.{◌≡◌, ◌∷◌, [], IfOk, codes};
 ghost use Rattle.std.specs.String.{string_bytes};
 ghost use Rattle.theory_objects.specs.Fields.{object_line, text_field};
-ghost use Rattle.theory_objects.specs.Refusals.{refusal_fields, text_fields, unread_fields};
+ghost use Rattle.theory_objects.specs.Refusals.{help_fields, refusal_fields, text_fields, unread_fields};
 ghost use Rattle.csp_lex.specs.Places.{place_of};
 ghost use Rattle.explanation_objects.specs.Putting.{Puts};
 
@@ -25,6 +25,8 @@ pub struct RefusedText<'a> {
     pub rule: &'a str,
     /// The place.
     pub place: Place,
+    /// What may be meant, or nothing.
+    pub help: &'a str,
     /// What is told of it in words.
     pub words: &'a str,
 }
@@ -47,7 +49,7 @@ pub fn unread_line<A: Allocator>(
 pub fn text_line<A: Allocator>(alloc: A, refused: &RefusedText<'_>) -> Result<String<A>, AllocError>
     ensures { let it = refused.now in
         let fields = text_fields it.file.now it.number.now it.rule.now (place_of it.place)
-        it.words.now in
+        it.help.now it.words.now in
         IfOk result (λ line. string_bytes line ≡ object_line fields) }
 {
     let mut writer = begin_line(alloc)?;
@@ -73,14 +75,25 @@ fn put_refused<A: Allocator>(
 ) -> Result<(), AllocError>
     ensures { let it = refused.now in
         let fields = text_fields it.file.now it.number.now it.rule.now (place_of it.place)
-        it.words.now in
+        it.help.now it.words.now in
         Puts result writer.old writer.new fields }
 {
     put_refusal(refused.number, writer)?;
     put_text("file", refused.file, writer)?;
     put_place(refused.place, writer)?;
     put_text("rule", refused.rule, writer)?;
+    put_help(refused.help, writer)?;
     put_text("words", refused.words, writer)
+}
+
+// What may be meant, if anything is told of that.
+fn put_help<A: Allocator>(help: &str, writer: &mut Writer<A>) -> Result<(), AllocError>
+    ensures { Puts result writer.old writer.new (help_fields help.now) }
+{
+    if help.is_empty() {
+        return Ok(());
+    }
+    put_text("help", help, writer)
 }
 
 // That it is refused, and by which word or number.

@@ -31,7 +31,9 @@ impl<'w, W: Watch> Seconds<'w, W> {
     pub(crate) fn due(&self) -> Option<u64>
         ensures { IfSome result (λ seconds. 1 ≤ seconds) }
     {
-        let elapsed = self.watch.elapsed()?.checked_sub(self.begun?)?;
+        // The clock is not looked at where nothing is ever due.
+        let begun = self.begun?;
+        let elapsed = self.watch.elapsed()?.checked_sub(begun)?;
         let seconds = due_after(self.told.load(SeqCst), elapsed)?;
         self.told.store(seconds, SeqCst);
         Some(seconds)

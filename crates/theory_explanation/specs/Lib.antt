@@ -1,3 +1,4 @@
+pub mod Accounts
 pub mod Actions
 pub mod Changing
 pub mod Comparing

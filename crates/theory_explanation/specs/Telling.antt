@@ -1,78 +1,70 @@
 -- What is told of an assertion.
-use Rattle.std.specs.Prelude.{◌≡◌, ◌⊎◌, ℕ, suc, Bool, true, false, List, [], ◌∷◌, ◌++◌, codes, Option, Some, None}
-use Rattle.theory_syntax.specs.Value.{Action}
+use Rattle.std.specs.Prelude.{◌≡◌, ◌⊎◌, ℕ, suc, List, [], ◌∷◌, ◌++◌, Option, Some, None}
 use Rattle.theory_syntax.specs.Process.{Script, Assertion}
 use Rattle.theory_semantics.specs.Meaning.Violations.{IsViolation, Violation}
 use Rattle.theory_search.specs.Answer.{as_written}
-use Rattle.theory_search.specs.Outcome.{Outcome, Holds, Fails, Unknown, Denied, Why}
+use Rattle.theory_search.specs.Outcome.{Outcome, Holds, Fails, Unknown, Denied}
 use Rattle.theory_runs.specs.Stuck.{Hindrance}
-use Rattle.theory_explanation.specs.Comparing.{counterexample_text, wide_end_text}
-use Rattle.theory_explanation.specs.Counterexamples.{Counterexample, HasWideEnd, IsCounterexample, IsSpreadCounterexample, by_path}
-use Rattle.theory_explanation.specs.Faults.{IsFound, IsSpreadSide, SideRun, fault_run_text, found_text, hindrance}
-use Rattle.theory_explanation.specs.Headline.{headline}
-use Rattle.theory_explanation.specs.Reasons.{reason}
+use Rattle.theory_explanation.specs.Accounts.{Account, Bare, Shown, Stuck, WideEnd, told_text}
+use Rattle.theory_explanation.specs.Counterexamples.{HasWideEnd, IsCounterexample, IsSpreadCounterexample, by_path}
+use Rattle.theory_explanation.specs.Faults.{IsFound, IsSpreadSide, SideRun, hindrance}
 use Rattle.theory_explanation.specs.Styles.{Style}
 
--- behind the old text stands what is told of a counterexample that is one of the violation
-abbrev pub TellsCounterexample : Style → Script → Assertion → Violation → List ℕ → List ℕ → Type 0
-TellsCounterexample style script a v old new =
-    (c : Counterexample) × IsCounterexample script a v style.most c × (new ≡ old ++ counterexample_text style v c)
+-- ---- of a violation
 
--- so it is; or of a divergence, that more states are to be looked at for its loop than are looked at
-abbrev pub TellsViolation : Style → Script → Assertion → Violation → List ℕ → List ℕ → Type 0
-TellsViolation style script a v old new = TellsCounterexample style script a v old new ⊎ (HasWideEnd script a v style.reach × (new ≡ old ++ wide_end_text))
+-- A counterexample of the violation is told; or of a divergence, that more states are to be looked at for its loop than are
+-- looked at.
+abbrev pub TellsReplay : Style → Script → Assertion → Violation → Account → Type 0
+TellsReplay style script a v (Shown w c) = (w ≡ v) × IsCounterexample script a v style.most c
+TellsReplay style script a v WideEnd = HasWideEnd script a v style.reach
+TellsReplay style script a v account = ⊥
 
--- behind the old text stands what is told of it where names are unfolded at once, by a run of the script as it is written
-abbrev pub TellsSpread : Style → Script → Assertion → Assertion → Violation → List ℕ → List ℕ → Type 0
-TellsSpread style script written a v old new =
-    (longer : List Action) × (c : Counterexample) × IsSpreadCounterexample script written.implementation a v style.most longer c ×
-    (new ≡ old ++ counterexample_text style (by_path longer v) c)
+-- It is told where names are unfolded at once, by a run of the script as it is written.
+abbrev pub TellsSpread : Style → Script → Assertion → Assertion → Violation → Account → Type 0
+TellsSpread style script written a v (Shown w c) = (w ≡ by_path w.path v) × IsSpreadCounterexample script written.implementation a v style.most w.path c
+TellsSpread style script written a v account = ⊥
 
 -- The violation is told by a run of the script as it is written, where that is another one and such a run is found, and else as
 -- names are read.
-abbrev pub TellsFailing : Style → Script → Assertion → Assertion → Violation → List ℕ → List ℕ → Type 0
-TellsFailing style script written a v old new = TellsSpread style script written a v old new ⊎ TellsViolation style script a v old new
+abbrev pub TellsViolation : Style → Script → Assertion → Assertion → Violation → Account → Type 0
+TellsViolation style script written a v account = TellsSpread style script written a v account ⊎ TellsReplay style script a v account
 
--- behind the old text stands what is told of a run of the side that has no answer
-abbrev pub TellsSide : Style → Script → Assertion → Hindrance → List ℕ → List ℕ → Type 0
-TellsSide style script a h old new = (found : Option SideRun) × IsFound script a h style.reach found × (new ≡ old ++ found_text style script h found)
+-- ---- of a state that is stuck
 
--- the same by a run of the script as it is written
-abbrev pub TellsSpreadSide : Style → Script → Assertion → Assertion → Hindrance → List ℕ → List ℕ → Type 0
-TellsSpreadSide style script written a h old new =
-    (run told : SideRun) × IsFound script a h style.reach (Some run) × IsSpreadSide script written run told × (new ≡ old ++ fault_run_text style script h told)
+-- a run of the side that has no answer
+abbrev pub TellsSide : Style → Script → Assertion → Hindrance → Account → Type 0
+TellsSide style script a h (Stuck k run) = (k ≡ h) × IsFound script a h style.reach run
+TellsSide style script a h account = ⊥
+
+-- such a run of the script as it is written, that spreads this one
+abbrev pub TellsSpreadOf : Style → Script → Assertion → Assertion → Hindrance → SideRun → Option SideRun → Type 0
+TellsSpreadOf style script written a h run (Some told) = IsFound script a h style.reach (Some run) × IsSpreadSide script written run told
+TellsSpreadOf style script written a h run None = ⊥
+
+abbrev pub TellsSpreadSide : Style → Script → Assertion → Assertion → Hindrance → Account → Type 0
+TellsSpreadSide style script written a h (Stuck k told) = (k ≡ h) × ((run : SideRun) × TellsSpreadOf style script written a h run told)
+TellsSpreadSide style script written a h account = ⊥
 
 -- the one or the other, if a state that is stuck so is why there is no answer
-abbrev pub TellsFound : Style → Script → Assertion → Assertion → Option Hindrance → List ℕ → List ℕ → Type 0
-TellsFound style script written a None old new = new ≡ old
-TellsFound style script written a (Some h) old new = TellsSpreadSide style script written a h old new ⊎ TellsSide style script a h old new
+abbrev pub TellsStuck : Style → Script → Assertion → Assertion → Option Hindrance → Account → Type 0
+TellsStuck style script written a None account = account ≡ Bare
+TellsStuck style script written a (Some h) account = TellsSpreadSide style script written a h account ⊎ TellsSide style script a h account
 
--- behind the old text stands why there is no answer, and a run to a state for which there is none
-abbrev pub TellsUnknown : Style → Script → Assertion → Assertion → Why → List ℕ → List ℕ → Type 0
-TellsUnknown style script written a why old new = TellsFound style script written a (hindrance why) (old ++ reason why) new
+-- ---- of an assertion
 
--- why an assertion with a `not` has its outcome: without it, it fails, or holds
-abbrev pub failing_text : (negated : Bool) → List ℕ
-failing_text true = codes "  without `not` it fails:\n"
-failing_text false = []
-
-abbrev pub holding_text : (negated : Bool) → List ℕ
-holding_text true = codes "  without `not` it holds\n"
-holding_text false = []
-
--- Behind the old text stands why the assertion, which is written as the first one and asked as the second, has its outcome, by
--- the one that it has but for a `not`: where that one is a violation, it is told.
-abbrev pub TellsWhy : Style → Script → Assertion → Assertion → (found : Outcome) → List ℕ → List ℕ → Type 0
-TellsWhy style script written a Holds old new = new ≡ old ++ holding_text a.negated
-TellsWhy style script written a (Fails v) old new = IsViolation script a v × TellsFailing style script written a v (old ++ failing_text a.negated) new
-TellsWhy style script written a (Unknown why) old new = TellsUnknown style script written a why old new
-TellsWhy style script written a Denied old new = new ≡ old
+-- The account is one of the assertion, which is written as the first one and asked as the second, and of the outcome that it has
+-- but for a `not`: where that one is a violation, it is told, and where it is that a state is stuck, a run to such a state.
+abbrev pub IsAccount : Style → Script → Assertion → Assertion → (found : Outcome) → Account → Type 0
+IsAccount style script written a Holds account = account ≡ Bare
+IsAccount style script written a (Fails v) account = IsViolation script a v × TellsViolation style script written a v account
+IsAccount style script written a (Unknown why) account = TellsStuck style script written a (hindrance why) account
+IsAccount style script written a Denied account = account ≡ Bare
 
 -- The text tells of the assertion with this number and outcome, which is written as the first one and asked as the second:
--- the headline of the first one, and why of the second, by the outcome that it has but for a `not`.
+-- behind its headline what is found but for a `not`, and an account of that.
 abbrev pub IsTold : Style → Script → ℕ → Assertion → Assertion → Outcome → List ℕ → Type 0
 IsTold style script n written a o text =
-    (found : Outcome) × (o ≡ as_written written.negated found) × TellsWhy style script written a found (headline style.names n written o) text
+    (found : Outcome) × (account : Account) × (o ≡ as_written written.negated found) × IsAccount style script written a found account × (text ≡ told_text style script n written a found account)
 
 -- The text tells of the assertions with these outcomes, one behind the other, numbered from n.
 abbrev pub Tells : Style → Script → ℕ → List Assertion → List Outcome → List ℕ → Type 0

@@ -9,8 +9,10 @@ use Rattle.theory_search.specs.Answer.{as_written}
 use Rattle.theory_search.specs.Outcome.{Outcome, Holds, Fails, Unknown, Denied, Why, TooManyPairs, TooManyNodes, LargeTerm, Fault, NoMemory}
 use Rattle.theory_text.specs.Place.{Place}
 use Rattle.theory_notation.specs.Names.{Names}
+use Rattle.theory_explanation.specs.Accounts.{Account}
 use Rattle.theory_explanation.specs.Actions.{action_text}
 use Rattle.theory_explanation.specs.Headline.{assertion_text, outcome_word}
+use Rattle.theory_objects.specs.Accounts.{account_fields}
 use Rattle.theory_objects.specs.Fields.{Field, number_field, text_field, texts_field}
 
 -- the line and the column of a place
@@ -64,13 +66,14 @@ known_fields name None = []
 abbrev pub cost_fields : (milliseconds kilobytes : Option ℕ) → List Field
 cost_fields milliseconds kilobytes = known_fields (codes "milliseconds") milliseconds ++ known_fields (codes "kilobytes") kilobytes
 
--- An answered assertion: its number, where it stands in the text, the assertion, what is found of it but for a `not`, and
--- what is told of it in words.
+-- An answered assertion: its number, where it stands in the text, the assertion, what is found of it but for a `not`, the
+-- account of that, and what is told of it in words.
 pub record Answered : Type 0 where
   pub number : ℕ
   pub place : Option Place
   pub assertion : Assertion
   pub found : Outcome
+  pub account : Account
   pub words : List ℕ
 
 -- the number, the place, the assertion, and its answer as it is written
@@ -81,4 +84,4 @@ head_fields names a =
 
 -- the object, with these fields on the size of the search and on what it took
 abbrev pub answer_fields : Names → Answered → List Field → List Field
-answer_fields names a size = head_fields names a ++ (found_fields names a.found ++ (size ++ (text_field (codes "words") a.words ∷ [])))
+answer_fields names a size = head_fields names a ++ (found_fields names a.found ++ (account_fields names a.account ++ (size ++ (text_field (codes "words") a.words ∷ []))))

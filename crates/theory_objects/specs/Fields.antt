@@ -32,6 +32,17 @@ members_of (f ∷ fs) = member f.name f.value (members_of fs)
 abbrev pub object_of : List Field → Json
 object_of fields = object (members_of fields)
 
+-- an object, and objects one behind the other
+abbrev pub object_field : List ℕ → List Field → Field
+object_field name fields = record { name = name; value = object_of fields }
+
+abbrev pub object_items : List (List Field) → Items
+object_items [] = no_items
+object_items (fs ∷ objects) = item (object_of fs) (object_items objects)
+
+abbrev pub objects_field : List ℕ → List (List Field) → Field
+objects_field name objects = record { name = name; value = array (object_items objects) }
+
 -- the object without spaces, with a line end behind it
 abbrev pub object_line : List Field → List ℕ
 object_line fields = print (json_tokens (object_of fields)) ++ codes "\n"

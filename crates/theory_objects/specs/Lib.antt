@@ -1,3 +1,4 @@
 pub mod Fields
+pub mod Accounts
 pub mod Answers
 pub mod Refusals

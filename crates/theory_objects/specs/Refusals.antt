@@ -12,8 +12,13 @@ refusal_fields refusal = text_field (codes "answer") (codes "refused") ∷ text_
 abbrev pub unread_fields : (name reason : List ℕ) → List Field
 unread_fields name reason = refusal_fields (codes "file") ++ (text_field (codes "file") name ∷ text_field (codes "reason") reason ∷ [])
 
--- Of a text, the name of its file, the place, the number and the rule, and what is told of it in words: the line with a mark
--- under the place, and what may be meant.
-abbrev pub text_fields : (name number rule : List ℕ) → Place → (words : List ℕ) → List Field
-text_fields name number rule place words =
-    refusal_fields number ++ (text_field (codes "file") name ∷ (place_fields place ++ (text_field (codes "rule") rule ∷ text_field (codes "words") words ∷ [])))
+-- what may be meant, if anything is told of that
+abbrev pub help_fields : List ℕ → List Field
+help_fields [] = []
+help_fields (c ∷ help) = text_field (codes "help") (c ∷ help) ∷ []
+
+-- Of a text, the name of its file, the place, the number and the rule, what may be meant, and what is told of it in words: the
+-- line with a mark under the place, and again what may be meant.
+abbrev pub text_fields : (name number rule : List ℕ) → Place → (help words : List ℕ) → List Field
+text_fields name number rule place help words =
+    refusal_fields number ++ (text_field (codes "file") name ∷ (place_fields place ++ (text_field (codes "rule") rule ∷ (help_fields help ++ (text_field (codes "words") words ∷ [])))))

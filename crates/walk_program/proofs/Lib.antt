@@ -1,4 +1,3 @@
-mod Beginnings
 mod ReadLines
 mod Requests
 mod Sides

@@ -14,8 +14,8 @@ use Rattle.theory_walk.specs.Walks.{IsGiven, IsWalk, Place, answer_to, shown}
 use Rattle.theory_walk.proofs.Going.{walk_more}
 use Rattle.report.specs.Sending.{Sends}
 use Rattle.report.proofs.Sending.{both, later}
-use Rattle.walking.specs.Answers.{Follows}
-use Rattle.walking.specs.declared.answer.Answer.TheVariants as answer
+use Rattle.state_walk.specs.Answers.{Follows}
+use Rattle.state_walk.specs.declared.answer.Answer.TheVariants as answer
 use Rattle.program.specs.Given.{Sent, sent}
 use Rattle.program.specs.declared.refusal.Refusal.TheVariants as refusal
 use Rattle.walk_program.specs.Asking.{IsStart, Request}

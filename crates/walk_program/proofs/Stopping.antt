@@ -20,13 +20,13 @@ use Rattle.told_refusals.specs.Refusals.{TellsUnread}
 use Rattle.told_refusals.specs.Refusals as refusals
 use Rattle.walk_program.specs.Asking.{Request}
 use Rattle.walk_program.specs.Lines.{Left}
-use Rattle.walk_program.specs.Naming.{IsNamedFile}
+use Rattle.named_scripts.specs.Naming.{IsNamedFile, Labels}
 use Rattle.walk_program.specs.Running.{IsLeft, IsSoOfFile, IsStopCause, Leaves, TellsStop}
 use Rattle.walk_program.specs.Running as running
 use Rattle.walk_program.specs.Walking.{IsBegun, IsUnwalked}
 use Rattle.walk_program.specs.declared.stop.Stop.{Stop}
 use Rattle.walk_program.specs.declared.stop.Stop.TheVariants as stop
-use Rattle.walk_program.proofs.Beginnings.{script_of_file}
+use Rattle.named_scripts.proofs.Beginnings.{script_of_file}
 
 -- what stops it is handed on
 pub handed : {T : Type 0} (r : Result T Stop) {why : Stop} (P : Stop → Type 0) → IsErr r × IsErrAnd r (λ e. e ≡ why) → P why → IfErr r P
@@ -34,19 +34,19 @@ handed r P same said = let p = err_from_is_err_and r same.1 in rw (p.1, p.2) sai
 
 -- ---- of a file
 
-module _ (given : Given) (request : Request) (script : Script) (names : Names) (file : IsNamedFile given.may_hold request.name script names) where
-  pub so_of_file : (IsSo : Script → Names → Type 0) → IsSo (reading request.names script) names → IsSoOfFile given request IsSo
-  so_of_file IsSo so = record { script = script; names = names; of_file = file; is_so = so }
+module _ (given : Given) (request : Request) (script : Script) (labels : Labels) (file : IsNamedFile given.may_hold request.name script labels) where
+  pub so_of_file : (IsSo : Script → Names → Type 0) → IsSo (reading request.names script) labels.names → IsSoOfFile given request IsSo
+  so_of_file IsSo so = record { script = script; labels = labels; of_file = file; is_so = so }
 
-  begun : (input : Left) (P : List ℕ → Type 0) → IsBegun request (reading request.names script) names input P → IsLeft given request input P
+  begun : (input : Left) (P : List ℕ → Type 0) → IsBegun request (reading request.names script) labels.names input P → IsLeft given request input P
   begun input P is = so_of_file (λ s ns. IsBegun request s ns input P) is
 
-  begun_or_not : (input : Left) (Same : Type 0) (P : List ℕ → Type 0) → Same ⊎ IsBegun request (reading request.names script) names input P → Same ⊎ IsLeft given request input P
+  begun_or_not : (input : Left) (Same : Type 0) (P : List ℕ → Type 0) → Same ⊎ IsBegun request (reading request.names script) labels.names input P → Same ⊎ IsLeft given request input P
   begun_or_not input Same P (inl same) = inl same
   begun_or_not input Same P (inr is) = inr (begun input P is)
 
   -- what stops the walk through the file's script stops that of the file
-  pub stop_cause : (why : Stop) (input : Left) (out : Sent) → IsUnwalked request (reading request.names script) names input why out → IsStopCause given request why
+  pub stop_cause : (why : Stop) (input : Left) (out : Sent) → IsUnwalked request (reading request.names script) labels.names input why out → IsStopCause given request why
   stop_cause stop.NoAssertion input out is = so_of_file _ is.0
   stop_cause stop.NoSpecification input out is = so_of_file _ is.0
   stop_cause stop.Input input out is = tt
@@ -56,9 +56,9 @@ module _ (given : Given) (request : Request) (script : Script) (names : Names) (
   stop_cause (stop.Refused (refusal.Kinds f p)) input out is = absurd is
   stop_cause (stop.Refused refusal.Memory) input out is = tt
   stop_cause (stop.Refused refusal.Thread) input out is = absurd is
-  stop_cause (stop.Refused refusal.Output) input out is = (script, script_of_file given.may_hold request.name script names file)
+  stop_cause (stop.Refused refusal.Output) input out is = (script, script_of_file given.may_hold request.name script labels file)
 
-  pub stop_leaves : (why : Stop) (input : Left) (out : Sent) → IsUnwalked request (reading request.names script) names input why out → Leaves given request input why out
+  pub stop_leaves : (why : Stop) (input : Left) (out : Sent) → IsUnwalked request (reading request.names script) labels.names input why out → Leaves given request input why out
   stop_leaves stop.NoAssertion input out is = is.1
   stop_leaves stop.NoSpecification input out is = is.1
   stop_leaves stop.Input input out is = begun input (Sends out.old out.new out.failed) is

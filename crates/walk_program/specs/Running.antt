@@ -16,7 +16,7 @@ use Rattle.told_refusals.specs.Refusals.{TellsRefusal}
 use Rattle.walk_settings.specs.Faults.{AreWrong}
 use Rattle.walk_program.specs.Asking.{AskForText, AskForWalk, Request}
 use Rattle.walk_program.specs.Lines.{Left}
-use Rattle.walk_program.specs.Naming.{IsNamedFile}
+use Rattle.named_scripts.specs.Naming.{IsNamedFile, Labels}
 use Rattle.walk_program.specs.Stops.{LacksSide, stop_line}
 use Rattle.walk_program.specs.Walking.{IsBegun, IsWalked}
 use Rattle.walk_program.specs.declared.stop.Stop.{Stop}
@@ -25,9 +25,9 @@ use Rattle.walk_program.specs.declared.stop.Stop.TheVariants as stop
 -- this is so of the file's script, with its names read as is asked, and of their spellings
 pub record IsSoOfFile (given : Given) (request : Request) (IsSo : Script → Names → Type 0) : Type 0 where
   pub script : Script
-  pub names : Names
-  pub of_file : IsNamedFile given.may_hold request.name script names
-  pub is_so : IsSo (reading request.names script) names
+  pub labels : Labels
+  pub of_file : IsNamedFile given.may_hold request.name script labels
+  pub is_so : IsSo (reading request.names script) labels.names
 
 -- the text of the walk that is asked for went out, to its end
 abbrev pub IsShown : Given → Request → Left → Sent → Type 0

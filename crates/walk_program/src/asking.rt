@@ -10,10 +10,10 @@ ghost use Rattle.walk_program.specs.Lines.{left};
 ghost use Rattle.walk_program.specs.Walking.{IsUnwalked, IsWalked};
 
 use crate::going::walk_from;
-use crate::reader::NamedScript;
 use crate::stop::Stop;
 use csp_settling::settled_assertion;
 use csp_term::{AllocHandle, Assertion, Term};
+use named_scripts::NamedScript;
 use report::Sink;
 use std::io::Read;
 use walk_settings::Settings;

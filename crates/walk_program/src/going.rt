@@ -8,7 +8,7 @@ ghost use Rattle.csp_print.specs.Names.{names_of};
 ghost use Rattle.csp_term.specs.Script.{script_of};
 ghost use Rattle.csp_term.specs.Term.{process_of};
 ghost use Rattle.counterexample.specs.Widths.{width_of};
-ghost use Rattle.walking.specs.Walks.{IsKept, IsSameScript, place_of, trail_of};
+ghost use Rattle.state_walk.specs.Walks.{IsKept, IsSameScript, place_of, trail_of};
 ghost use Rattle.program.specs.Given.{sent};
 ghost use Rattle.walk_program.specs.Asking.{IsStart, request_of, width_of_number};
 ghost use Rattle.walk_program.specs.Lines.{left};
@@ -16,17 +16,17 @@ ghost use Rattle.walk_program.specs.Stops.{LeavesText};
 ghost use Rattle.walk_program.specs.Walking.{IsAnswered, IsUnwalked, IsWalked, next_at};
 
 use crate::lines::read_line;
-use crate::reader::NamedScript;
 use crate::stop::Stop;
 use counterexample::Width;
 use csp_print::Names;
 use csp_term::{AllocHandle, Term};
+use named_scripts::NamedScript;
 use program::Refusal;
 use report::{Sink, push_all};
+use state_walk::{Answer, Walk};
 use std::alloc::Allocator;
 use std::io::Read;
 use walk_settings::Settings;
-use walking::{Answer, Walk};
 
 // How states are shown: by these names, and as wide.
 #[derive(Clone, Copy, Drop)]

@@ -12,7 +12,6 @@
 mod asking;
 mod going;
 mod lines;
-mod reader;
 mod running;
 mod stop;
 

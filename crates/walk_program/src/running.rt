@@ -8,9 +8,9 @@ ghost use Rattle.walk_program.specs.Lines.{left};
 ghost use Rattle.walk_program.specs.Running.{IsRefused, IsServed, IsShown, IsStopped};
 
 use crate::asking::walk_asked;
-use crate::reader::read;
 use crate::stop::report_stop;
 use csp_term::AllocHandle;
+use named_scripts::read;
 use program::{Files, Refusal, Resources, refuse, refuse_words, show};
 use report::Sink;
 use settings::CommandLineFault;

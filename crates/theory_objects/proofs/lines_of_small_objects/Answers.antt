@@ -30,3 +30,11 @@ returns-clause-refused c = refl
 pub returns-clause-unread : goal.returns-clause-unread
 unfolding json_on_literals
 returns-clause-unread c = refl
+
+pub returns-clause-help : goal.returns-clause-help
+unfolding json_on_literals
+returns-clause-help c = refl
+
+pub returns-clause-no_help : goal.returns-clause-no_help
+unfolding json_on_literals
+returns-clause-no_help c = refl

@@ -12,7 +12,7 @@ use Rattle.explain_program.specs.Giving.{AreTold, GoesOut}
 use Rattle.explain_program.proofs.Tellings.{none_out, none_told, one_more}
 use Rattle.program.proofs.Reporting.{status_at_most}
 use Rattle.explain_program.specs.Explaining.{StopsBy}
-use Rattle.explain_program.specs.Naming.{labels_of}
+use Rattle.named_scripts.specs.Naming.{labels_of}
 use Rattle.explain_program.specs.declared.stop.Stop.{Stop}
 use Rattle.explain_program.proofs.Stopping.{all_told, handed, stops_in_all}
 use Rattle.explain_program.proofs.explaining.explain_each.Goals as goal

@@ -3,7 +3,7 @@ use Rattle.csp_term.specs.Script.{script_of}
 use Rattle.explain_program.specs.Asking.{request_of}
 use Rattle.explain_program.specs.Giving.{AreTold, GoesOut}
 use Rattle.explain_program.proofs.explaining.explain_each.Given as goal
-use Rattle.explain_program.specs.Naming.{labels_of}
+use Rattle.named_scripts.specs.Naming.{labels_of}
 
 abbrev pub invariant-loop-place : goal.invariant-loop-place
 invariant-loop-place g l =

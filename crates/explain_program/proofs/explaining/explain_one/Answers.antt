@@ -18,7 +18,7 @@ use Rattle.program.proofs.Answering.{sides_at}
 use Rattle.program.proofs.Reporting.{status_at_most}
 use Rattle.explain_program.specs.Asking.{one_at, request_of}
 use Rattle.explain_program.specs.Giving.{AreTold, GoesOut}
-use Rattle.explain_program.specs.Naming.{labels_of}
+use Rattle.named_scripts.specs.Naming.{labels_of}
 use Rattle.explain_program.specs.Sizes.{IsSizeFor}
 use Rattle.explain_program.specs.Telling.{IsToldAsAsked}
 use Rattle.explain_program.proofs.Giving.{alone_at, one_told, right_has_violation, went_out}

@@ -5,7 +5,7 @@ use Rattle.csp_term.specs.Script.{assertion_of, script_of}
 use Rattle.program.specs.Given.{sent}
 use Rattle.explain_program.specs.Asking.{request_of}
 use Rattle.explain_program.specs.Explaining.{StopsBy}
-use Rattle.explain_program.specs.Naming.{labels_of}
+use Rattle.named_scripts.specs.Naming.{labels_of}
 use Rattle.explain_program.specs.declared.stop.Stop.{Stop}
 use Rattle.explain_program.proofs.Stopping.{asked_told, handed, stops_in_one}
 use Rattle.explain_program.proofs.explaining.explain_script.Goals as goal

@@ -10,11 +10,11 @@ use Rattle.program.specs.declared.refusal.Refusal.TheVariants as refusal
 use Rattle.program.proofs.Beginnings.{cause_of_text, too_long}
 use Rattle.explain_program.specs.Asking.{request_of}
 use Rattle.explain_program.specs.Explaining.{StopsBy, TellsAll}
-use Rattle.explain_program.specs.Naming.{IsNamedText, Labels, labels_of}
+use Rattle.named_scripts.specs.Naming.{IsNamedText, Labels, labels_of}
 use Rattle.explain_program.specs.Refusals.{TellsRefusal}
 use Rattle.explain_program.specs.Running as running
 use Rattle.explain_program.specs.declared.stop.Stop.TheVariants as stop
-use Rattle.explain_program.proofs.Beginnings.{named_file}
+use Rattle.named_scripts.proofs.Beginnings.{named_file}
 use Rattle.explain_program.proofs.Stopping.{stop_cause, stop_leaves, unread_cause, unread_leaves, unread_told, untouched}
 use Rattle.explain_program.proofs.running.explain.Goals as goal
 

@@ -10,7 +10,7 @@ use Rattle.theory_walk.specs.Walks.{Place, shown}
 use Rattle.csp_print.specs.Names.{names_of}
 use Rattle.csp_term.specs.Script.{script_of}
 use Rattle.counterexample.specs.Widths.{width_of}
-use Rattle.walking.specs.Walks.{place_of, trail_of}
+use Rattle.state_walk.specs.Walks.{place_of, trail_of}
 use Rattle.report.specs.Sending.{Sends}
 use Rattle.program.specs.Given.{sent}
 use Rattle.walk_program.specs.Asking.{request_of}

@@ -2,7 +2,7 @@
 use Rattle.std.proofs.Common.{◌≡◌}
 use Rattle.csp_print.specs.Names.{names_of}
 use Rattle.csp_term.specs.Script.{script_of}
-use Rattle.walking.specs.Walks.{IsKept, place_of, trail_of}
+use Rattle.state_walk.specs.Walks.{IsKept, place_of, trail_of}
 use Rattle.walk_program.specs.Asking.{request_of}
 use Rattle.walk_program.proofs.Steps.{GoesOn}
 use Rattle.walk_program.proofs.going.follow.Given as goal

@@ -8,9 +8,9 @@ use Rattle.theory_walk.specs.Walks.{Place, answer_to, shown}
 use Rattle.csp_print.specs.Names.{names_of}
 use Rattle.csp_term.specs.Script.{script_of}
 use Rattle.counterexample.specs.Widths.{width_of}
-use Rattle.walking.specs.Answers.{Follows}
-use Rattle.walking.specs.Walks.{menu_of, place_of, trail_of}
-use Rattle.walking.specs.declared.answer.Answer.{Answer}
+use Rattle.state_walk.specs.Answers.{Follows}
+use Rattle.state_walk.specs.Walks.{menu_of, place_of, trail_of}
+use Rattle.state_walk.specs.declared.answer.Answer.{Answer}
 use Rattle.program.specs.Given.{sent}
 use Rattle.walk_program.specs.Stops.{LeavesText}
 use Rattle.walk_program.specs.Walking.{IsAnswered}

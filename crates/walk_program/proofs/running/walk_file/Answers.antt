@@ -1,8 +1,7 @@
 -- What is shown of the file's script is shown of the file.
-use Rattle.std.proofs.Common.{ℕ, List, subst, refl, rules}
+use Rattle.std.proofs.Common.{ℕ, List, ap, subst, refl, rules}
 use Rattle.theory_syntax.specs.Process.{Script}
 use Rattle.theory_notation.specs.Names.{Names}
-use Rattle.csp_print.specs.Names.{names_of}
 use Rattle.csp_term.specs.Script.{script_of}
 use Rattle.program.specs.Given.{given_of, sent}
 use Rattle.program.specs.Reading.{IsRefusalOf}
@@ -12,11 +11,11 @@ use Rattle.program.proofs.Beginnings.{cause_of_text, too_long}
 use Rattle.told_refusals.specs.Refusals.{TellsRefusal}
 use Rattle.walk_program.specs.Asking.{request_of}
 use Rattle.walk_program.specs.Lines.{left}
-use Rattle.walk_program.specs.Naming.{IsNamedText}
+use Rattle.named_scripts.specs.Naming.{IsNamedText, labels_of}
 use Rattle.walk_program.specs.Running as running
 use Rattle.walk_program.specs.Walking.{IsUnwalked, IsWalked}
 use Rattle.walk_program.specs.declared.stop.Stop.TheVariants as stop
-use Rattle.walk_program.proofs.Beginnings.{named_file}
+use Rattle.named_scripts.proofs.Beginnings.{named_file}
 use Rattle.walk_program.proofs.Stopping.{so_of_file, stop_cause, stop_leaves, unread_cause, unread_leaves, unread_told, untouched}
 use Rattle.walk_program.proofs.running.walk_file.Goals as goal
 
@@ -67,33 +66,33 @@ returns-in-Ok-walk_asked-clause-shown g c zero =
     let request = request_of c.args.settings.now in
     let given = given_of g.F.Files.may_hold g.F.Files.may_lack c.args.files.now c.args.resources.now.stack in
     let script = script_of c.in-Ok-read.named.script in
-    let names = names_of c.in-Ok-read.named.names in
-    let named = subst (λ bs. IsNamedText bs script names) c.deref.ensures.value c.in-Ok-read.ensures.named in
-    let file = named_file given.may_hold request.name c.in-Ok.text.items script names c.in-Ok.ensures.holds named in
+    let labels = labels_of c.in-Ok-read.named in
+    let named = subst (λ bs. IsNamedText bs script labels) c.deref.ensures.value c.in-Ok-read.ensures.named in
+    let file = named_file given.may_hold request.name c.in-Ok.text.items script labels c.in-Ok.ensures.holds named in
     let input = left g.I.Read.remaining c.args.input.now c.walk_asked.new.input in
     let out = sent g.O.Sink.taken g.O.Sink.has_failed c.args.out.now c.walk_asked.new.out in
     let N : Names → Type 0 = λ ns. IsWalked request (script_of c.as_asked-named.result.script) ns input out in
-    let S : Script → Type 0 = λ s. IsWalked request s names input out in
-    so_of_file given request script names file (λ s ns. IsWalked request s ns input out)
-    (subst S (c.as_asked-named.ensures.script named.checked.script_of.unfolds) (subst N c.as_asked-named.ensures.names c.in-Ok-walk_asked.ensures.walked))
+    let S : Script → Type 0 = λ s. IsWalked request s labels.names input out in
+    so_of_file given request script labels file (λ s ns. IsWalked request s ns input out)
+    (subst S (c.as_asked-named.ensures.script named.checked.script_of.unfolds) (subst N (ap (λ l. l.names) c.as_asked-named.ensures.labels) c.in-Ok-walk_asked.ensures.walked))
 
 pub returns-clause-stopped : goal.returns-clause-stopped
 returns-clause-stopped g c three =
     let request = request_of c.args.settings.now in
     let given = given_of g.F.Files.may_hold g.F.Files.may_lack c.args.files.now c.args.resources.now.stack in
     let script = script_of c.in-Ok-read.named.script in
-    let names = names_of c.in-Ok-read.named.names in
+    let labels = labels_of c.in-Ok-read.named in
     let why = c.in-Err-walk_asked.why in
-    let named = subst (λ bs. IsNamedText bs script names) c.deref.ensures.value c.in-Ok-read.ensures.named in
-    let file = named_file given.may_hold request.name c.in-Ok.text.items script names c.in-Ok.ensures.holds named in
+    let named = subst (λ bs. IsNamedText bs script labels) c.deref.ensures.value c.in-Ok-read.ensures.named in
+    let file = named_file given.may_hold request.name c.in-Ok.text.items script labels c.in-Ok.ensures.holds named in
     let input = left g.I.Read.remaining c.args.input.now c.walk_asked.new.input in
     let out = sent g.O.Sink.taken g.O.Sink.has_failed c.args.out.now c.walk_asked.new.out in
     let N : Names → Type 0 = λ ns. IsUnwalked request (script_of c.as_asked-named.result.script) ns input why out in
-    let S : Script → Type 0 = λ s. IsUnwalked request s names input why out in
-    let is = subst S (c.as_asked-named.ensures.script named.checked.script_of.unfolds) (subst N c.as_asked-named.ensures.names c.in-Err-walk_asked.ensures.stopped) in
+    let S : Script → Type 0 = λ s. IsUnwalked request s labels.names input why out in
+    let is = subst S (c.as_asked-named.ensures.script named.checked.script_of.unfolds) (subst N (ap (λ l. l.names) c.as_asked-named.ensures.labels) c.in-Err-walk_asked.ensures.stopped) in
     record {
       why = why;
-      cause = stop_cause given request script names file why input out is;
-      output = stop_leaves given request script names file why input out is;
+      cause = stop_cause given request script labels file why input out is;
+      output = stop_leaves given request script labels file why input out is;
       told = running.by_line c.report_stop.ensures.line;
     }

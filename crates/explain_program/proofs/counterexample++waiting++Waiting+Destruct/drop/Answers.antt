@@ -1,0 +1,6 @@
+-- What is held has a known size.
+use Rattle.std.proofs.Common.{inl, inr, lit≤}
+use Rattle.explain_program.proofs.counterexample++waiting++Waiting+Destruct.drop.Goals as goal
+
+pub drop-requires-3-room-T-Destruct : goal.drop-requires-3-room-T-Destruct
+drop-requires-3-room-T-Destruct g c κs within = elim g.met.A.AllocHandle.small [ inl e ↦ rw (e.0, e.1) (search (lit≤)) | inr e ↦ rw (e.0, e.1) (search (lit≤)) ]
