@@ -1,7 +1,7 @@
 use Rattle.std.proofs.Common.{subst}
 use Rattle.theory_syntax.specs.Process.{Script}
 use Rattle.theory_search.specs.Terms.{AreTermsOf}
-use Rattle.pair_store.specs.Level.{level_of}
+use Rattle.numbered_rows.specs.Levels.{level_of}
 use Rattle.tests_workers.proofs.levels.unfinished.Goals as goal
 
 pub returns : goal.returns

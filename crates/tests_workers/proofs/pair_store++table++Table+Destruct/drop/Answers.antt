@@ -2,8 +2,8 @@
 use Rattle.std.proofs.Common.{inl, inr, lit<}
 use Rattle.tests_workers.proofs.pair_store++table++Table+Destruct.drop.Goals as goal
 
-pub drop-requires-2-room-T-Destruct : goal.drop-requires-2-room-T-Destruct
-drop-requires-2-room-T-Destruct g c κs within =
+pub drop-requires-3-room-T-Destruct : goal.drop-requires-3-room-T-Destruct
+drop-requires-3-room-T-Destruct g c κs within =
     elim g.met.A.AllocHandle.small [
       | inl e ↦ rw (e.0, e.1) (lit< tt)
       | inr e ↦ rw (e.0, e.1) (lit< tt)
