@@ -54,8 +54,8 @@ drop-store-inside-requires-in-Ok-16-room-T-Destruct g c κs within =
       | inr e ↦ rw (e.0, e.1) (lit< tt)
     ]
 
-pub drop-store-inside-requires-in-Ok-21-room-T-Destruct : goal.drop-store-inside-requires-in-Ok-21-room-T-Destruct
-drop-store-inside-requires-in-Ok-21-room-T-Destruct g c κs within =
+pub drop-store-inside-requires-in-Ok-30-room-T-Destruct : goal.drop-store-inside-requires-in-Ok-30-room-T-Destruct
+drop-store-inside-requires-in-Ok-30-room-T-Destruct g c κs within =
     elim g.met.A.AllocHandle.small [
       | inl e ↦ rw (e.0, e.1) (lit< tt)
       | inr e ↦ rw (e.0, e.1) (lit< tt)

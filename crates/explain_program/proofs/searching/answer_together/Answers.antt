@@ -111,8 +111,8 @@ drop-store-inside-requires-in-Ok-Some-16-room-T-Destruct g c κs within =
       | inr e ↦ rw (e.0, e.1) (lit< tt)
     ]
 
-pub drop-store-inside-requires-in-Ok-Some-21-room-T-Destruct : goal.drop-store-inside-requires-in-Ok-Some-21-room-T-Destruct
-drop-store-inside-requires-in-Ok-Some-21-room-T-Destruct g c κs within =
+pub drop-store-inside-requires-in-Ok-Some-30-room-T-Destruct : goal.drop-store-inside-requires-in-Ok-Some-30-room-T-Destruct
+drop-store-inside-requires-in-Ok-Some-30-room-T-Destruct g c κs within =
     let met = g.met.A.AllocHandle g.world.𝓛 g.world.𝓜 g.world.𝓡 ((λ s x. x), (λ x. x), (λ x. x), λ x. x) in
     elim met.small [
       | inl e ↦ rw (e.0, e.1) (lit< tt)
