@@ -71,7 +71,7 @@ const ROWS: &[Advice] = &[
     },
     Advice {
         when: &[],
-        text: "a process by its name is an equation, an event begins with a channel, and a value is a bound name, a constructor, a datatype or a nametype; where an equation, an assertion or a set begins here, its parts are of kinds that do not fit",
+        text: "a process by its name is an equation, an event begins with a channel, and a value is a bound name, a constructor, a datatype or a nametype; what begins here has parts of kinds that do not fit",
     },
 ];
 

@@ -26,5 +26,5 @@ channel c : {0..1}.5
 behind `->` stands a process: an event is none, as the `b` of `a -> b -> STOP`, and a parameter stands for a value
 channel a, b P = a -> b
 
-a process by its name is an equation, an event begins with a channel, and a value is a bound name, a constructor, a datatype or a nametype; where an equation, an assertion or a set begins here, its parts are of kinds that do not fit
+a process by its name is an equation, an event begins with a channel, and a value is a bound name, a constructor, a datatype or a nametype; what begins here has parts of kinds that do not fit
 channel a P = a";
