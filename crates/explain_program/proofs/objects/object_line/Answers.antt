@@ -1,13 +1,13 @@
 -- The place and the sizes are those that are told.
-use Rattle.std.proofs.Common.{◌≡◌, ℕ, List, Option, map, sym, subst, ap, ◌∙◌}
-use Rattle.std.specs.Prelude.{IfOk, option_map}
+use Rattle.std.proofs.Common.{◌≡◌, List, Option, map, subst, ap, ◌∙◌}
+use Rattle.std.specs.Prelude.{IfOk}
 use Rattle.std.specs.String.{string_bytes}
 use Rattle.theory_text.specs.Place as pure
 use Rattle.theory_objects.specs.Answers.{answer_fields}
 use Rattle.theory_objects.specs.Fields.{Field, object_line}
 use Rattle.csp_lex.specs.Places.{place_of}
 use Rattle.csp_lex.specs.declared.places.Place.{Place}
-use Rattle.csp_term.specs.Script.{assertion_of, property_of}
+use Rattle.csp_term.specs.Script.{assertion_of}
 use Rattle.csp_print.specs.Names.{names_of}
 use Rattle.verdict.specs.Outcome.{outcome_of}
 use Rattle.explanation.specs.Accounts.{account_of}

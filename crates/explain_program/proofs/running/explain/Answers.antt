@@ -1,7 +1,6 @@
 -- What is told of the file's script is told of the file.
 use Rattle.std.proofs.Common.{ℕ, List, subst, sym, ap, ◌∙◌, refl, rules}
 use Rattle.theory_syntax.specs.Process.{Script}
-use Rattle.theory_syntax.specs.Readings.{reading}
 use Rattle.csp_term.specs.Script.{script_of}
 use Rattle.program.specs.Given.{given_of, sent}
 use Rattle.program.specs.Reading.{IsRefusalOf}
