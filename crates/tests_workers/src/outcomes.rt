@@ -54,9 +54,9 @@ const DRAWS: usize = 4;
 // A script without a deadlock, and of the one worker: its draws, one a level, the parts that its firing knows in the end,
 // with the process that has ended, the terms that it made as trees, and those that it fired as a whole.
 static COUNTED: [(&str, [u64; 4]); 3] = [
-    (TWO_PARTS, [5, 7, 1, 0]),
-    (TWO_COPIERS, [7, 9, 1, 0]),
-    (ONE_PART, [3, 1, 3, 3]),
+    (TWO_PARTS, [5, 7, 0, 0]),
+    (TWO_COPIERS, [7, 9, 0, 0]),
+    (ONE_PART, [3, 4, 0, 0]),
 ];
 
 // The answer to the assertion, by so many workers, or by the caller alone where no number is given.
